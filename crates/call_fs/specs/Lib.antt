@@ -1,0 +1,24 @@
+-- maps as functions, and values changed at one key
+pub mod Maps
+-- what a disk holds
+pub mod Disk
+-- calls and answers as owned data
+pub mod Calls
+-- what each call does, and which answers it may give
+pub mod Apply
+-- what survives a machine stop
+pub mod Survival
+-- meanings that a disk may tell, and the causes of faults
+pub mod Told
+-- what a program needs and what came of it, as owned data
+pub mod Program
+-- numbers as decimal text
+pub mod Decimal
+-- bytes as printable text
+pub mod Escape
+-- bytes that come in and go out
+pub mod Streams
+-- children and their posts
+pub mod Children
+-- forms in memory of what lies outside
+pub mod Forms

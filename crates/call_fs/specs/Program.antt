@@ -1,0 +1,39 @@
+-- The shape of a program, as owned data: what it needs next, and what came of it.
+use Rattle.std.specs.Prelude.{ℕ, List}
+use Rattle.call_fs.specs.declared.calls.CallData.{CallData}
+use Rattle.call_fs.specs.declared.calls.Answer.{Answer}
+use Rattle.call_fs.specs.declared.program.Ready.{Ready}
+use Rattle.call_fs.specs.declared.program.Port.{Port}
+use Rattle.call_fs.specs.declared.program.Need.{Need}
+use Rattle.call_fs.specs.declared.program.Need.TheVariants as need
+use Rattle.call_fs.specs.Calls.{data_of}
+
+-- what a program must do next
+pub data Due : Type 0 where
+  File : CallData → Due
+  Take : Port → Due
+  Give : Port → List ℕ → Due
+  Start : Due
+  Command : List ℕ → Due
+  Wait : Due
+  Ended : (status : ℕ) → Due
+
+-- what a machine asks for, with its bytes
+abbrev pub due_of : Need → Due
+due_of (need.File call) = File (data_of call)
+due_of (need.Take port) = Take port
+due_of (need.Give port bytes) = Give port bytes.now
+due_of (need.Start child) = Start
+due_of (need.Command bytes) = Command bytes.now
+due_of need.Wait = Wait
+due_of (need.Ended status) = Ended status
+
+-- what came of one need
+pub data Did : Type 0 where
+  Called : CallData → Answer → List ℕ → Did
+
+-- One event of a program's own past: the moment that it read, what it found ready, and what it did.
+pub record Own : Type 0 where
+  pub read : ℕ
+  pub ready : Ready
+  pub did : Did

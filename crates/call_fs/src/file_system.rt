@@ -1,0 +1,168 @@
+// What carries out file calls.
+ghost use Rattle.std.specs.Prelude.{◌≡◌, ℕ, List, [], Option};
+ghost use Rattle.call_fs.specs.declared.calls.CallData.TheVariants as call;
+ghost use Rattle.call_fs.specs.declared.calls.Answer.TheVariants as answer;
+ghost use Rattle.call_fs.specs.declared.calls.Recorded.{Recorded as Entry};
+ghost use Rattle.call_fs.specs.Disk.{Disk, IsMoment, MayUse, MayAppend};
+ghost use Rattle.call_fs.specs.Calls.{data_of, created, done, stated, next_found, entry};
+ghost use Rattle.call_fs.specs.Apply.{Apply, MayCall};
+ghost use Rattle.call_fs.specs.Told.{HasCause, AnswerHasCause, Meets, OnTold, Records};
+
+use crate::{Answer, Call, Fd, FsError, NameBuf, Stat};
+use std::alloc::Global;
+
+/// The last moment, in seconds since 1 January 1970 UTC.
+pub const LAST_MOMENT: u64 = 250_000_000_000;
+
+/// Files are written and read in pieces of this many bytes, the last one shorter.
+pub const PIECE: usize = 8192;
+
+/// A file system, by its calls.
+///
+/// A name is a path of bytes with `/` between its parts, each part 1 to 255 bytes without NUL. `now` is the moment
+/// that the caller read. Each call has one contract, the relation `Apply` between the disk before it, the call, the
+/// answer and the disk after it: which answers may come, and what each leaves. After `NotThere`, `Exists` or `Memory`
+/// nothing changed. After `Fault` no name changed, a sync has synced nothing and a write has written a prefix; a
+/// fault comes only where `faults` rose in that call, or stands at its last value.
+pub trait CallFs {
+    /// What it holds, where it tells.
+    ghost disk: { Self → Option Disk };
+
+    /// The calls made so far with their answers, in order, where it tells.
+    ghost calls: { Self → Option (List Entry) };
+
+    /// How often it has failed; the count never falls, and stands still at u64's last value.
+    ghost faults: { Self → ℕ };
+
+    /// How often it has failed.
+    fn faults(&self) -> u64
+        ensures { result ≡ faults self.now };
+
+    /// Makes a new empty file under this name, open, as open(2) with `O_CREAT` and `O_EXCL`. `NotThere` exactly where
+    /// its directory is missing, `Exists` exactly where the name is there; `Memory` may come.
+    fn create_excl(&mut self, alloc: Global, now: u64, name: &[u8]) -> Result<(Fd, u64), FsError>
+        requires { IsMoment now }
+        ensures told { Meets (disk self.old) (disk self.new)
+            (λ before after. Apply before now (call.CreateExcl name.now) (created result) after) }
+        ensures recorded { Records (calls self.old) (calls self.new) (entry (call.CreateExcl name.now) (created result)) }
+        ensures cause { HasCause (faults self.old) (faults self.new) result };
+
+    /// Writes bytes at the end, as write(2). The condition: the descriptor was created. `Memory` may come.
+    fn append(&mut self, alloc: Global, now: u64, fd: Fd, bytes: &[u8]) -> Result<(), FsError>
+        requires moment { IsMoment now }
+        requires fits { OnTold (disk self.old) (λ before. MayAppend before fd.0) }
+        ensures told { Meets (disk self.old) (disk self.new)
+            (λ before after. Apply before now (call.Append fd bytes.now) (done result) after) }
+        ensures recorded { Records (calls self.old) (calls self.new) (entry (call.Append fd bytes.now) (done result)) }
+        ensures cause { HasCause (faults self.old) (faults self.new) result };
+
+    /// Waits until the contents are on the disk, as fsync(2). The condition: the descriptor is open.
+    fn sync(&mut self, fd: Fd) -> Result<(), FsError>
+        requires { OnTold (disk self.old) (λ before. MayUse before fd.0) }
+        ensures told { Meets (disk self.old) (disk self.new)
+            (λ before after. Apply before 0 (call.Sync fd) (done result) after) }
+        ensures recorded { Records (calls self.old) (calls self.new) (entry (call.Sync fd) (done result)) }
+        ensures cause { HasCause (faults self.old) (faults self.new) result };
+
+    /// Closes the descriptor, as close(2); it never fails. The condition: the descriptor is open.
+    fn close(&mut self, fd: Fd)
+        requires { OnTold (disk self.old) (λ before. MayUse before fd.0) }
+        ensures told { Meets (disk self.old) (disk self.new)
+            (λ before after. Apply before 0 (call.Close fd) answer.Done after) }
+        ensures recorded { Records (calls self.old) (calls self.new) (entry (call.Close fd) answer.Done) }
+        ensures cause { faults self.new ≡ faults self.old };
+
+    /// Gives the file of `old` the name `new` too, as link(2). `NotThere` exactly where `old` or the directory of
+    /// `new` is missing, `Exists` exactly where both are there; `Memory` may come.
+    fn link(&mut self, alloc: Global, old: &[u8], new: &[u8]) -> Result<(), FsError>
+        ensures told { Meets (disk self.old) (disk self.new)
+            (λ before after. Apply before 0 (call.Link old.now new.now) (done result) after) }
+        ensures recorded { Records (calls self.old) (calls self.new) (entry (call.Link old.now new.now) (done result)) }
+        ensures cause { HasCause (faults self.old) (faults self.new) result };
+
+    /// Takes the name away, as unlink(2). `NotThere` exactly where it is missing.
+    fn unlink(&mut self, name: &[u8]) -> Result<(), FsError>
+        ensures told { Meets (disk self.old) (disk self.new)
+            (λ before after. Apply before 0 (call.Unlink name.now) (done result) after) }
+        ensures recorded { Records (calls self.old) (calls self.new) (entry (call.Unlink name.now) (done result)) }
+        ensures cause { HasCause (faults self.old) (faults self.new) result };
+
+    /// Tells the number, length and moment of the file of this name, as stat(2). `NotThere` exactly where the name is
+    /// missing.
+    fn stat(&mut self, name: &[u8]) -> Result<Stat, FsError>
+        ensures told { Meets (disk self.old) (disk self.new)
+            (λ before after. Apply before 0 (call.Stat name.now) (stated result) after) }
+        ensures recorded { Records (calls self.old) (calls self.new) (entry (call.Stat name.now) (stated result)) }
+        ensures cause { HasCause (faults self.old) (faults self.new) result };
+
+    /// Puts the least name of the directory that comes after `after` in byte order into the buffer and answers true,
+    /// or answers false where there is none. Directories are passed over. `NotThere` exactly where the directory is
+    /// missing.
+    fn next_name(&mut self, dir: &[u8], after: &[u8], into: &mut NameBuf) -> Result<bool, FsError>
+        ensures told { Meets (disk self.old) (disk self.new)
+            (λ before later. Apply before 0 (call.NextName dir.now after.now) (next_found result into.new) later) }
+        ensures recorded { Records (calls self.old) (calls self.new)
+            (entry (call.NextName dir.now after.now) (next_found result into.new)) }
+        ensures cause { HasCause (faults self.old) (faults self.new) result };
+}
+
+/// Makes the call on this disk at this moment. The bytes of a read stand in `into`. The conditions: those of the call.
+pub fn perform<D: CallFs>(
+    alloc: Global,
+    disk: &mut D,
+    now: u64,
+    call: Call<'_>,
+    _into: &mut [u8; 8192],
+) -> Answer
+    requires moment { IsMoment now }
+    requires fits { OnTold (D.disk disk.old) (λ before. MayCall before (data_of call)) }
+    ensures told { Meets (D.disk disk.old) (D.disk disk.new)
+        (λ before after. Apply before now (data_of call.entry) result after) }
+    ensures recorded { Records (D.calls disk.old) (D.calls disk.new) (entry (data_of call.entry) result) }
+    ensures cause { AnswerHasCause (D.faults disk.old) (D.faults disk.new) result }
+{
+    match call {
+        Call::CreateExcl(name) => match disk.create_excl(alloc, now, name) {
+            Ok((fd, number)) => Answer::Created(fd, number),
+            Err(why) => Answer::Refused(why),
+        },
+        Call::Append(fd, bytes) => done(disk.append(alloc, now, fd, bytes)),
+        Call::Sync(fd) => done(disk.sync(fd)),
+        Call::Close(fd) => {
+            disk.close(fd);
+            Answer::Done
+        }
+        Call::Link(old, new) => done(disk.link(alloc, old, new)),
+        Call::Unlink(name) => done(disk.unlink(name)),
+        Call::Stat(name) => match disk.stat(name) {
+            Ok(stat) => Answer::Stat(stat),
+            Err(why) => Answer::Refused(why),
+        },
+        Call::NextName(dir, after) => next_name(disk, dir, after),
+    }
+}
+
+/// Asks for the next name.
+fn next_name<D: CallFs>(disk: &mut D, dir: &[u8], after: &[u8]) -> Answer
+    ensures told { Meets (D.disk disk.old) (D.disk disk.new)
+        (λ before later. Apply before 0 (call.NextName dir.now after.now) result later) }
+    ensures recorded { Records (D.calls disk.old) (D.calls disk.new) (entry (call.NextName dir.now after.now) result) }
+    ensures cause { AnswerHasCause (D.faults disk.old) (D.faults disk.new) result }
+{
+    let mut name = NameBuf::new();
+    match disk.next_name(dir, after, &mut name) {
+        Ok(true) => Answer::Name(name),
+        Ok(false) => Answer::NoName,
+        Err(why) => Answer::Refused(why),
+    }
+}
+
+/// The answer of a call that tells nothing.
+fn done(outcome: Result<(), FsError>) -> Answer
+    ensures { result ≡ done outcome }
+{
+    match outcome {
+        Ok(()) => Answer::Done,
+        Err(why) => Answer::Refused(why),
+    }
+}

@@ -1,0 +1,162 @@
+-- What the world knows and has open, as one actor makes a call, ends, or starts.
+use Rattle.std.proofs.Common.{◌≡◌, ◌≢◌, ℕ, List, [], ◌∷◌, ◌++◌, length, true, false, if◌then◌else◌, Option, Some, None, refl, sym, ap, ◌∙◌, subst, ⊎_elim, arith, bytes_eq}
+use Rattle.std.proofs.lemmas.Bool.Decides.{eqb_tells}
+use Rattle.call_fs.specs.declared.calls.CallData.{CallData}
+use Rattle.call_fs.specs.declared.calls.CallData.TheVariants as call
+use Rattle.call_fs.specs.declared.calls.Answer.{Answer}
+use Rattle.call_fs.specs.declared.calls.Answer.TheVariants as told
+use Rattle.call_fs.specs.declared.program.Ready.{Ready}
+use Rattle.call_fs.specs.Maps.{put}
+use Rattle.call_fs.specs.Program.Did.{Called}
+use Rattle.queue_inject.specs.declared.injection.Arguments.{Arguments}
+use Rattle.mail_world.specs.declared.actor.Actor.{Actor as Held}
+use Rattle.mail_world.specs.declared.event.Event.{Event as Kept}
+use Rattle.mail_world.specs.declared.event.Event.TheVariants as kept
+use Rattle.mail_world.specs.declared.event.Program.TheVariants.{Injector}
+use Rattle.mail_world.specs.History.{State, Actor, called, finished, happens, held_by, unless_by}
+use Rattle.mail_world.specs.History.Event.{Start}
+use Rattle.mail_world.specs.History.Life.{Alive, Over}
+use Rattle.mail_world.specs.World.{IsEndOf, EndsAt}
+use Rattle.mail_world.specs.Inside.{IsMember, IsStranger, Follows, is_by}
+use Rattle.mail_world.proofs.Lists.{some_pushed, some_last}
+use Rattle.mail_world.proofs.Maps.{put_same, put_other, put_at_same, put_at_other}
+use Rattle.mail_world.proofs.Crew.{ActsAlone, StartsAlone, other_text, ends_other, ends_still}
+
+-- the descriptors of others
+others_put : (h : ℕ → Option (List ℕ)) (b : List ℕ) (k : ℕ) (v : Option (List ℕ)) (fd : ℕ) → is_by b v ≡ false → is_by b (h fd) ≡ false → is_by b (put h k v fd) ≡ false
+others_put h b k v fd none was = ⊎_elim
+    (λ f. subst (λ (q : ℕ). is_by b (put h k v q) ≡ false) (sym f.1) (ap (is_by b) (put_same h k v) ∙ none))
+    (λ f. ap (is_by b) (put_other h k v fd f.1) ∙ was)
+    (eqb_tells fd k)
+
+held_other : (h : ℕ → Option (List ℕ)) (a b : List ℕ) (c : CallData) (answer : Answer) (fd : ℕ) → b ≢ a → is_by b (h fd) ≡ false → is_by b (held_by h a c answer fd) ≡ false
+held_other h a b c (told.Created made n) fd apart was = others_put h b made.0 (Some a) fd (other_text a b (λ e. apart (sym e))) was
+held_other h a b c (told.Opened made) fd apart was = others_put h b made.0 (Some a) fd (other_text a b (λ e. apart (sym e))) was
+held_other h a b (call.Close made) told.Done fd apart was = others_put h b made.0 None fd refl was
+held_other h a b (call.CreateExcl name) told.Done fd apart was = was
+held_other h a b (call.Append made bytes) told.Done fd apart was = was
+held_other h a b (call.Sync made) told.Done fd apart was = was
+held_other h a b (call.Link old new) told.Done fd apart was = was
+held_other h a b (call.Unlink name) told.Done fd apart was = was
+held_other h a b (call.Stat name) told.Done fd apart was = was
+held_other h a b (call.NextName dir last) told.Done fd apart was = was
+held_other h a b c (told.Count n) fd apart was = was
+held_other h a b c (told.Stat stat) fd apart was = was
+held_other h a b c (told.Name name) fd apart was = was
+held_other h a b c told.NoName fd apart was = was
+held_other h a b c (told.Refused why) fd apart was = was
+
+-- a call is its actor's alone
+pub call_alone : (s : State) (a : List ℕ) (x : Actor) (p : ℕ) (ready : Ready) (c : CallData) (answer : Answer)
+    → ActsAlone a s (called s a p ready c answer 0 (Some x)) (kept.Call a p ready c (record { answer = answer; bytes = [] }))
+call_alone s a x p ready c answer = record {
+  actors = λ b apart. put_at_other s.actors a _ b apart;
+  holder = λ b apart fd was. held_other s.holder a b c answer fd apart was;
+  no_end = λ b apart h. h;
+}
+
+pub freed : (a : List ℕ) (o : Option (List ℕ)) → is_by a (unless_by a o o) ≡ false
+freed a None = refl
+freed a (Some b) = elim (bytes_eq b a) as (λ t. bytes_eq b a ≡ t → is_by a (if t then None else Some b) ≡ false) [ true ↦ λ e. refl | false ↦ λ e. e ] refl
+
+pub kept_on : (a b : List ℕ) (o : Option (List ℕ)) → b ≢ a → is_by b (unless_by a o o) ≡ is_by b o
+kept_on a b None apart = refl
+kept_on a b (Some c) apart = elim (bytes_eq c a) as (λ t. bytes_eq c a ≡ t → is_by b (if t then None else Some c) ≡ bytes_eq c b) [
+  | true ↦ λ e. sym (other_text c b (λ same. absurd (cc (sym e ∙ other_text c a (λ f. apart (sym same ∙ f))))))
+  | false ↦ λ e. refl
+] refl
+
+-- and so is an end
+pub end_alone : (s : State) (a : List ℕ) (x : Actor) (p : ℕ) (ready : Ready) (status : ℕ)
+    → ActsAlone a s (finished s a (Over status) (Some x)) (kept.End a p ready status)
+end_alone s a x p ready status = record {
+  actors = λ b apart. put_at_other s.actors a _ b apart;
+  holder = λ b apart fd was. kept_on a b (s.holder fd) apart ∙ was;
+  no_end = λ b apart h. apart (sym h);
+}
+
+pub start_alone : (s : State) (a : List ℕ) (args : Arguments) → StartsAlone a s (happens s (Start a args)) (kept.Start a (Injector args))
+start_alone s a args = record {
+  actors = λ b apart. put_at_other s.actors a _ b apart;
+  holder = refl;
+  no_end = λ b h. h;
+  start = λ b. refl;
+}
+
+-- the actor that made a call
+pub call_member : (s : State) (events : List Kept) (p : ℕ) (x y : Held) (ready : Ready) (c : CallData) (answer : Answer) (m : IsMember s events p x)
+    → x.ended ≡ None → y.name ≡ x.name → y.ended ≡ x.ended
+    → Follows y.machine m.actor.args ((record { read = p; ready = ready; did = Called c answer [] }) ∷ m.actor.past)
+    → IsMember (called s x.name p ready c answer 0 (Some m.actor)) (events ++ kept.Call x.name p ready c (record { answer = answer; bytes = [] }) ∷ []) p y
+call_member s events p x y ready c answer m alive name ended follows =
+    let k : Kept = kept.Call x.name p ready c (record { answer = answer; bytes = [] }) in
+    let t = called s x.name p ready c answer 0 (Some m.actor) in
+    record {
+      actor = record { args = m.actor.args; past = (record { read = p; ready = ready; did = Called c answer [] }) ∷ m.actor.past; life = m.actor.life };
+      is = ap t.actors name ∙ put_at_same s.actors x.name _;
+      follows = follows;
+      in_order = omega arith;
+      alive = λ e. m.alive alive;
+      ends = λ at. (
+        (λ h. ended ∙ (m.ends at).0 (ends_other events k x.name at (λ h. h) (subst (λ (a : List ℕ). EndsAt (events ++ k ∷ []) a at) name h))),
+        (λ e. subst (λ (a : List ℕ). EndsAt (events ++ k ∷ []) a at) (sym name) (ends_still events k x.name at ((m.ends at).1 (sym ended ∙ e)))),
+      );
+    }
+
+-- the actor that ended
+pub end_member : (s : State) (events : List Kept) (p : ℕ) (x y : Held) (ready : Ready) (status : ℕ) (m : IsMember s events p x)
+    → x.ended ≡ None → y.name ≡ x.name → y.ended ≡ Some (length events) → Follows y.machine m.actor.args m.actor.past
+    → IsMember (finished s x.name (Over status) (Some m.actor)) (events ++ kept.End x.name p ready status ∷ []) p y
+end_member s events p x y ready status m alive name ended follows =
+    let k : Kept = kept.End x.name p ready status in
+    let t = finished s x.name (Over status) (Some m.actor) in
+    record {
+      actor = record { args = m.actor.args; past = m.actor.past; life = Over status };
+      is = ap t.actors name ∙ put_at_same s.actors x.name _;
+      follows = follows;
+      in_order = m.in_order;
+      alive = λ e. let both : ◌≡◌ {A = Option ℕ} None (Some (length events)) = sym e ∙ ended in absurd (cc);
+      ends = λ at. (
+        (λ h. ⊎_elim
+            (λ f. ended ∙ ap Some (sym f.0))
+            (λ f. let both : ◌≡◌ {A = Option ℕ} None (Some at) = sym alive ∙ (m.ends at).0 f in absurd (cc))
+            (some_pushed (IsEndOf x.name) events k at (subst (λ (a : List ℕ). EndsAt (events ++ k ∷ []) a at) name h))),
+        (λ e. let both : ◌≡◌ {A = Option ℕ} (Some (length events)) (Some at) = sym ended ∙ e in
+            let last : length events ≡ at = cc in
+            subst (λ (at : ℕ). EndsAt (events ++ k ∷ []) y.name at) last (some_last (IsEndOf y.name) events k (sym name))),
+      );
+    }
+
+-- a new actor
+pub start_member : (s : State) (events : List Kept) (p : ℕ) (y : Held) (a : List ℕ) (args : Arguments)
+    → IsStranger s events a → y.name ≡ a → y.ended ≡ None → Follows y.machine args [] → args.start ≡ p
+    → IsMember (happens s (Start a args)) (events ++ kept.Start a (Injector args) ∷ []) p y
+start_member s events p y a args stranger name ended follows now =
+    let k : Kept = kept.Start a (Injector args) in
+    let t = happens s (Start a args) in
+    record {
+      actor = record { args = args; past = []; life = Alive };
+      is = ap t.actors name ∙ put_at_same s.actors a _;
+      follows = follows;
+      in_order = omega arith;
+      alive = λ e. refl;
+      ends = λ at. (
+        (λ h. absurd (stranger.no_end at (ends_other events k a at (λ h. h) (subst (λ (a : List ℕ). EndsAt (events ++ k ∷ []) a at) name h)))),
+        (λ e. let both : ◌≡◌ {A = Option ℕ} None (Some at) = sym ended ∙ e in absurd (cc)),
+      );
+    }
+
+-- a machine that looked stands as before
+pub look_member : (s : State) (events : List Kept) (p : ℕ) (x y : Held) (m : IsMember s events p x)
+    → y.name ≡ x.name → y.ended ≡ x.ended → Follows y.machine m.actor.args m.actor.past → IsMember s events p y
+look_member s events p x y m name ended follows = record {
+  actor = m.actor;
+  is = ap s.actors name ∙ m.is;
+  follows = follows;
+  in_order = m.in_order;
+  alive = λ e. m.alive (sym ended ∙ e);
+  ends = λ at. (
+    (λ h. ended ∙ (m.ends at).0 (subst (λ (a : List ℕ). EndsAt events a at) name h)),
+    (λ e. subst (λ (a : List ℕ). EndsAt events a at) (sym name) ((m.ends at).1 (sym ended ∙ e))),
+  );
+}

@@ -1,0 +1,128 @@
+-- A machine stop: what was synced survives as it was.
+use Rattle.std.proofs.Common.{◌≡◌, ℕ, suc, ◌<◌, ◌≤◌, List, [], ◌∷◌, length, Option, Some, None, refl, sym, ap, ◌∙◌, subst, ⊎_elim, arith, slice_get, le_antisymm}
+use Rattle.call_fs.specs.Disk.{File, Among, IsSynced}
+use Rattle.call_fs.specs.Survival.{Survives, AllSurvive, settled, halted}
+use Rattle.queue_inject.specs.Names.{Name}
+use Rattle.queue_inject.specs.Names.Name.{Of}
+use Rattle.queue_inject.specs.Names.Part.{Mess, Intd, Todo}
+use Rattle.mail_world.specs.History.{happens, State, Life, stopped, cut_off}
+use Rattle.mail_world.specs.History.Event.{Halt}
+use Rattle.mail_world.specs.History.Life.{Alive, Over, Stopped}
+use Rattle.mail_world.proofs.Looks.{Entry, entry, find_some, find_none, not_found, found, mapped_some}
+use Rattle.mail_world.proofs.Invariant.{Role, Queue, look, IsRecent, about, Phase, Sound, Fares, Inv, queue}
+use Rattle.mail_world.proofs.Invariant.Role.{AsMessage, AsPart, AsOld}
+use Rattle.mail_world.proofs.Invariant.Phase.{Free, Queued}
+
+same_lists : (xs ys : List ℕ) → length xs ≡ length ys → ((k : ℕ) → k < length ys → slice_get xs k ≡ slice_get ys k) → xs ≡ ys
+same_lists [] [] l h = refl
+same_lists [] (y ∷ ys) l h = absurd (omega arith)
+same_lists (x ∷ xs) [] l h = absurd (omega arith)
+same_lists (x ∷ xs) (y ∷ ys) l h =
+    let first : ◌≡◌ {A = Option ℕ} (Some x) (Some y) = h 0 (omega arith) in
+    let head : x ≡ y = cc in
+    let tail : xs ≡ ys = same_lists xs ys (omega arith) (λ k lt. h (suc k) (omega arith)) in
+    λ i. head i ∷ tail i
+
+-- what survives of a synced file
+survives_synced : (f : File) (bytes text : List ℕ) → IsSynced f text → Survives f bytes → bytes ≡ text
+survives_synced f bytes text h s = go (subst (λ (g : File). Survives g bytes) (λ i. record { bytes = h.holds i; older = h.all i; moment = f.moment }) s)
+  where
+    only : (v : List ℕ) → Among v (text ∷ []) → v ≡ text
+    only v w = ⊎_elim (λ e. e) (λ w. absurd w) w
+
+    go : Survives (record { bytes = text; older = []; moment = f.moment }) bytes → bytes ≡ text
+    go s =
+        let low : length text ≤ length bytes = subst (λ (v : List ℕ). length v ≤ length bytes) (only _ s.no_shorter.1) s.no_shorter.2 in
+        let high : length bytes ≤ length text = subst (λ (v : List ℕ). length bytes ≤ length v) (only _ s.no_longer.1) s.no_longer.2 in
+        same_lists bytes text (le_antisymm high low) (λ k lt. let w = s.below k lt (omega arith) in w.2 ∙ ap (λ v. slice_get v k) (only _ w.1))
+
+settled_synced : (f : File) (bytes text : List ℕ) → IsSynced f text → Survives f bytes → IsSynced (settled bytes f) text
+settled_synced f bytes text h s = record { holds = survives_synced f bytes text h s; all = refl }
+
+settled_recent : (role : Role) (f : File) (bytes : List ℕ) → IsRecent f role → IsRecent (settled bytes f) role
+settled_recent (AsMessage actor args) f bytes h = h
+settled_recent (AsPart part n) f bytes h = h
+settled_recent AsOld f bytes h = h
+
+never_alive : (l : Life) → cut_off l ≡ Alive → ⊥
+never_alive Alive h = cc
+never_alive (Over status) h = cc
+never_alive Stopped h = cc
+
+still_over : (l : Life) → cut_off l ≡ Over 0 → l ≡ Over 0
+still_over Alive h = absurd (cc)
+still_over (Over status) h = h
+still_over Stopped h = absurd (cc)
+
+-- the queue afterwards
+abbrev after_halt : (ℕ → List ℕ) → Queue → Queue
+after_halt contents q = record { disk = halted contents q.disk; holder = λ _. None; books = q.books; role = q.role }
+
+module _ (q : Queue) (contents : ℕ → List ℕ) (survives : AllSurvive q.disk contents) where
+  after_file : Entry → Entry
+  after_file y = record { number = y.number; file = settled (contents y.number) y.file }
+
+  still_absent : (x : Name) → look q x ≡ None → look (after_halt contents q) x ≡ None
+  still_absent x h = find_none q.disk.names _ x (not_found q.disk.names q.disk.files x h)
+
+  was_absent : (x : Name) → look (after_halt contents q) x ≡ None → look q x ≡ None
+  was_absent x h = find_none q.disk.names q.disk.files x (not_found q.disk.names _ x h)
+
+  still_there : (x : Name) (y : Entry) → look q x ≡ Some y → look (after_halt contents q) x ≡ Some (after_file y)
+  unfolding after_file
+  still_there x y h =
+      let w = found q.disk.names q.disk.files x y h in
+      find_some q.disk.names _ x y.number w.0 ∙ ap (λ (z : Entry). Some (record { number = y.number; file = settled (contents y.number) z.file })) (sym w.1)
+
+  still_synced : (x : Name) (y : Entry) (text : List ℕ) → look q x ≡ Some y → IsSynced y.file text → IsSynced (after_file y).file text
+  unfolding after_file
+  still_synced x y text h synced =
+      let w = found q.disk.names q.disk.files x y h in
+      let s = survives _ y.number w.0 in
+      settled_synced y.file (contents y.number) text synced (subst (λ (z : Entry). Survives z.file (contents y.number)) (sym w.1) s)
+
+  phase_after : (n : ℕ) → Phase (about q n) → Phase (about (after_halt contents q) n)
+  phase_after n (Free h) = Free (record {
+    not_accepted = h.not_accepted;
+    no_todo = still_absent (Of Todo n) h.no_todo;
+    intd_below = λ none. still_absent (Of Intd n) (h.intd_below (was_absent (Of Mess n) none));
+  })
+  phase_after n (Queued h) = Queued (record {
+    injection = h.injection;
+    lives = h.lives;
+    accepted = h.accepted;
+    mess = after_file h.mess;
+    mess_there = still_there (Of Mess n) h.mess h.mess_there;
+    message = still_synced (Of Mess n) h.mess _ h.mess_there h.message;
+    todo = after_file h.todo;
+    todo_there = still_there (Of Todo n) h.todo h.todo_there;
+    text = still_synced (Of Todo n) h.todo _ h.todo_there h.text;
+    valid = h.valid;
+  })
+
+  sound_after : Sound q → Sound (after_halt contents q)
+  sound_after G = record {
+    suits = λ x y h.
+        let w = found q.disk.names _ x y h in
+        let right = G.suits x (entry q.disk.files y.number) (find_some q.disk.names q.disk.files x y.number w.0) in
+        let recent = settled_recent (q.role y.number) (q.disk.files y.number) (contents y.number) right.1 in
+        (right.0, subst (λ (z : Entry). IsRecent z.file (q.role y.number)) (sym w.1) recent);
+    fine = λ n. phase_after n (G.fine n);
+    over = G.over;
+  }
+
+-- no actor lives on, and what ended stays ended
+pub kept_halt : (s : State) (contents : ℕ → List ℕ) → AllSurvive s.disk contents → Inv s → Inv (happens s (Halt contents))
+kept_halt s contents survives I = record {
+  role = I.role;
+  sound = sound_after (queue s I.role) contents survives I.sound;
+  actors = λ a y h.
+      let w = mapped_some stopped (s.actors a) y h in
+      let F = I.actors a w.0 w.1 in
+      subst (Fares s.now (after_halt contents (queue s I.role)) a) w.2 (record {
+        stands = λ alive. absurd (never_alive w.0.life alive);
+        queued = F.queued;
+        ends = λ over. F.ends (still_over w.0.life over);
+        reads = F.reads;
+      });
+}

@@ -1,0 +1,232 @@
+-- What the actors have open, as one of them makes a call, ends, or starts.
+use Rattle.std.proofs.Common.{◌≡◌, ◌≢◌, inl, inr, ℕ, List, [], ◌∷◌, ◌++◌, set, Bool, true, false, ◌||◌, if◌then◌else◌, Option, Some, None, IsSome, refl, sym, ap, ◌∙◌, subst, ⊎_elim, bytes_eq, append-nil}
+use Rattle.std.proofs.Math.Bool.{or-false, or-true}
+use Rattle.std.proofs.lemmas.Bool.Decides.{eqb_tells}
+use Rattle.std.specs.List.{slice_get}
+use Rattle.call_fs.specs.declared.calls.Fd.{Fd}
+use Rattle.call_fs.specs.declared.calls.CallData.{CallData}
+use Rattle.call_fs.specs.declared.calls.Answer.{Answer}
+use Rattle.call_fs.specs.declared.program.Ready.{Ready}
+use Rattle.call_fs.specs.Disk.{Disk, Open, Mode}
+use Rattle.call_fs.specs.Maps.{put}
+use Rattle.call_fs.specs.Program.{Own}
+use Rattle.call_fs.specs.Program.Did.{Called}
+use Rattle.queue_inject.specs.declared.injection.Arguments.{Arguments}
+use Rattle.queue_inject.specs.declared.row.Row.{Row}
+use Rattle.queue_inject.specs.declared.row.Row.TheVariants as at
+use Rattle.queue_inject.specs.Table.{row_after}
+use Rattle.mail_world.specs.declared.actor.Actor.{Actor as Held}
+use Rattle.mail_world.specs.declared.event.Event.{Event as Kept}
+use Rattle.mail_world.specs.History.{State, Actor, Life, called, finished, happens, held_by, unless_by, shut_by}
+use Rattle.mail_world.specs.History.Event.{Start}
+use Rattle.mail_world.specs.History.Life.{Alive, Over}
+use Rattle.mail_world.specs.Inside.{IsMember, AreActors, HasOpen, IsOpenTo, IsOwn, HasRow, AreApart, has, is_by}
+use Rattle.mail_world.specs.Acting.{AreOpen, opened}
+use Rattle.mail_world.proofs.Lists.{each_set, each_push}
+use Rattle.mail_world.proofs.Maps.{same_text, put_same, put_other, put_at_same, put_at_other}
+use Rattle.mail_world.proofs.Descriptors.{has_push, apart_push, all_open}
+use Rattle.mail_world.proofs.Opens.{Opens, has_made, row_stays, row_moves}
+use Rattle.mail_world.proofs.Crew.{other_text, apart_by}
+use Rattle.mail_world.proofs.Acts.{freed, kept_on}
+
+-- what is held stays open
+held_stays : (d e : Disk) (h g : ℕ → Option (List ℕ)) (a : List ℕ) (answer : Answer) → Opens d e h g a answer
+    → ((fd : ℕ) (b : List ℕ) → h fd ≡ Some b → IsSome (d.opens fd)) → (fd : ℕ) (b : List ℕ) → g fd ≡ Some b → IsSome (e.opens fd)
+held_stays d e h g a answer (inl s) held fd b is = subst (λ (m : ℕ → Option Open). IsSome (m fd)) (sym s.opens) (held fd b (ap (λ (m : ℕ → Option (List ℕ)). m fd) (sym s.holder) ∙ is))
+held_stays d e h g a answer (inr s) held fd b is =
+    let made : Option Open = Some (record { number = s.number; mode = Mode.Created }) in
+    subst (λ (m : ℕ → Option Open). IsSome (m fd)) (sym s.opens) (⊎_elim
+    (λ f. subst (λ (q : ℕ). IsSome (put d.opens s.fd.0 made q)) (sym f.1) (subst IsSome (sym (put_same d.opens s.fd.0 made)) refl))
+    (λ f. subst IsSome (sym (put_other d.opens s.fd.0 made fd f.1)) (held fd b (sym (put_other h s.fd.0 (Some a) fd f.1) ∙ ap (λ (m : ℕ → Option (List ℕ)). m fd) (sym s.holder) ∙ is)))
+    (eqb_tells fd s.fd.0))
+
+-- a descriptor that isn't open is nobody's
+nobody : (d : Disk) (o : Option (List ℕ)) (b : List ℕ) (fd : ℕ) → d.opens fd ≡ None → ((c : List ℕ) → o ≡ Some c → IsSome (d.opens fd)) → is_by b o ≡ false
+nobody d None b fd new held = refl
+nobody d (Some c) b fd new held = absurd (cc (subst IsSome new (held c refl)))
+
+-- another actor's list
+other_list : (d e : Disk) (h g : ℕ → Option (List ℕ)) (a b : List ℕ) (answer : Answer) (fds : List Fd) → Opens d e h g a answer → b ≢ a
+    → ((fd : ℕ) (b : List ℕ) → h fd ≡ Some b → IsSome (d.opens fd)) → ((fd : ℕ) → has fd fds ≡ is_by b (h fd)) → (fd : ℕ) → has fd fds ≡ is_by b (g fd)
+other_list d e h g a b answer fds (inl s) apart held lists fd = lists fd ∙ ap (λ (m : ℕ → Option (List ℕ)). is_by b (m fd)) (sym s.holder)
+other_list d e h g a b answer fds (inr s) apart held lists fd =
+    lists fd ∙ ⊎_elim
+    (λ f. subst (λ (q : ℕ). is_by b (h q) ≡ is_by b (put h s.fd.0 (Some a) q)) (sym f.1)
+    (nobody d (h s.fd.0) b s.fd.0 s.new (held s.fd.0) ∙ sym (ap (is_by b) (put_same h s.fd.0 (Some a)) ∙ other_text a b (λ e. apart (sym e)))))
+    (λ f. ap (is_by b) (sym (put_other h s.fd.0 (Some a) fd f.1)))
+    (eqb_tells fd s.fd.0)
+    ∙ ap (λ (m : ℕ → Option (List ℕ)). is_by b (m fd)) (sym s.holder)
+
+-- its own list
+own_list : (d e : Disk) (h g : ℕ → Option (List ℕ)) (a : List ℕ) (answer : Answer) (fds : List Fd) → Opens d e h g a answer
+    → ((fd : ℕ) → has fd fds ≡ is_by a (h fd)) → (fd : ℕ) → has fd (fds ++ opened answer) ≡ is_by a (g fd)
+own_list d e h g a answer fds (inl s) lists fd =
+    ap (λ (l : List Fd). has fd (fds ++ l)) s.none ∙ ap (has fd) (append-nil fds) ∙ lists fd ∙ ap (λ (m : ℕ → Option (List ℕ)). is_by a (m fd)) (sym s.holder)
+own_list d e h g a answer fds (inr s) lists fd =
+    ap (λ (r : Answer). has fd (fds ++ opened r)) s.is ∙ has_push fd fds s.fd ∙ ⊎_elim
+    (λ f. ap (λ b. has fd fds || b) f.0 ∙ or-true (has fd fds) ∙ sym (ap (λ (q : ℕ). is_by a (put h s.fd.0 (Some a) q)) (sym f.1) ∙ ap (is_by a) (put_same h s.fd.0 (Some a)) ∙ same_text a))
+    (λ f. ap (λ b. has fd fds || b) f.0 ∙ or-false (has fd fds) ∙ lists fd ∙ ap (is_by a) (sym (put_other h s.fd.0 (Some a) fd (λ same. f.1 (sym same)))))
+    (eqb_tells s.fd.0 fd)
+    ∙ ap (λ (m : ℕ → Option (List ℕ)). is_by a (m fd)) (sym s.holder)
+
+own_apart : (d e : Disk) (h g : ℕ → Option (List ℕ)) (a : List ℕ) (answer : Answer) (fds : List Fd) → Opens d e h g a answer
+    → ((fd : ℕ) (b : List ℕ) → h fd ≡ Some b → IsSome (d.opens fd)) → ((fd : ℕ) → has fd fds ≡ is_by a (h fd)) → AreApart fds → AreApart (fds ++ opened answer)
+own_apart d e h g a answer fds (inl s) held lists apart = subst AreApart (sym (ap (λ (l : List Fd). fds ++ l) s.none ∙ append-nil fds)) apart
+own_apart d e h g a answer fds (inr s) held lists apart =
+    subst (λ (r : Answer). AreApart (fds ++ opened r)) (sym s.is)
+    (apart_push fds s.fd apart (lists s.fd.0 ∙ nobody d (h s.fd.0) a s.fd.0 s.new (held s.fd.0)))
+
+-- one actor makes a call
+pub call_opens : (places : List ℕ → Option ℕ) (actors : List Held) (s : State) (events : List Kept) (p i : ℕ) (x y : Held) (m : IsMember s events p x) (d e : Disk) (ready : Ready) (c : CallData) (answer : Answer)
+    → AreActors places actors s events p → slice_get actors i ≡ Some x → m.actor.life ≡ Alive
+    → y.name ≡ x.name → y.descriptors.items ≡ x.descriptors.items ++ opened answer
+    → Opens d e s.holder (held_by s.holder x.name c answer) x.name answer
+    → IsOpenTo d actors s → IsOpenTo e (set actors i y) (called s x.name p ready c answer 0 (Some m.actor))
+call_opens places actors s events p i x y m d e ready c answer crew is alive name list opens open_to =
+    let t = called s x.name p ready c answer 0 (Some m.actor) in
+    let mine = open_to.each i x is in
+    let own : Own = record { read = p; ready = ready; did = Called c answer [] } in
+    let now : Actor = record { args = m.actor.args; past = own ∷ m.actor.past; life = m.actor.life } in
+    let row : HasRow e t.holder x.name (row_after m.actor.args (own ∷ m.actor.past)) =
+    row_moves e t.holder x.name m.actor.args (row_after m.actor.args m.actor.past) answer
+    (row_stays d e s.holder t.holder x.name x.name answer (row_after m.actor.args m.actor.past) opens (mine.needs m.actor m.is alive))
+    (has_made d e s.holder t.holder x.name answer opens) in
+    record {
+      held = held_stays d e s.holder t.holder x.name answer opens open_to.held;
+      each = each_set (λ j (z : Held). HasOpen e t z) actors i y
+          (record {
+            lists = λ fd. ap (has fd) list ∙ own_list d e s.holder t.holder x.name answer x.descriptors.items opens mine.lists fd ∙ ap (λ (a : List ℕ). is_by a (t.holder fd)) (sym name);
+            apart = subst AreApart (sym list) (own_apart d e s.holder t.holder x.name answer x.descriptors.items opens open_to.held mine.lists mine.apart);
+            needs = λ actor at lives.
+                let both : ◌≡◌ {A = Option Actor} (Some now) (Some actor) = sym (put_at_same s.actors x.name (Some now)) ∙ ap t.actors (sym name) ∙ at in
+                let same : now ≡ actor = cc in
+                subst (λ (a : List ℕ). HasRow e t.holder a (row_after actor.args actor.past)) (sym name)
+                (subst (λ (z : Actor). HasRow e t.holder x.name (row_after z.args z.past)) same row);
+          })
+          (λ j z other at.
+          let old = open_to.each j z at in
+          let apart : z.name ≢ x.name = apart_by places x.name z.name i j (crew.placed i x is) (crew.placed j z at) other in
+          record {
+            lists = other_list d e s.holder t.holder x.name z.name answer z.descriptors.items opens apart open_to.held old.lists;
+            apart = old.apart;
+            needs = λ actor known lives. row_stays d e s.holder t.holder x.name z.name answer (row_after actor.args actor.past) opens
+                (old.needs actor (sym (put_at_other s.actors x.name _ z.name apart) ∙ known) lives);
+          });
+    }
+
+-- what is still held after an end was held before, by another
+held_on : (a : List ℕ) (o : Option (List ℕ)) (b : List ℕ) → unless_by a o o ≡ Some b → (o ≡ Some b) × ((file : Option Open) → unless_by a o file ≡ file)
+held_on a None b h = absurd cc
+held_on a (Some c) b h = elim (bytes_eq c a) as (λ t. (if t then None else Some c) ≡ Some b → (Some c ≡ Some b) × ((file : Option Open) → (if t then None else file) ≡ file)) [
+  | true ↦ λ e. absurd cc
+  | false ↦ λ e. (e, λ file. refl)
+] h
+
+others_own : (a b : List ℕ) (o : Option (List ℕ)) (X : Type 0) (file : Option X) → b ≢ a → o ≡ Some b → unless_by a o file ≡ file
+others_own a b o X file apart is = subst (λ (o : Option (List ℕ)). unless_by a o file ≡ file) (sym is) (ap (λ (t : Bool). if t then None else file) (other_text b a apart))
+
+own_after : (d : Disk) (h : ℕ → Option (List ℕ)) (a b : List ℕ) (fd : ℕ) → b ≢ a → IsOwn d h b fd → IsOwn (shut_by a h d) (λ fd. unless_by a (h fd) (h fd)) b fd
+own_after d h a b fd apart own = record {
+  held = others_own a b (h fd) (List ℕ) (h fd) apart own.held ∙ own.held;
+  file = own.file;
+  is = others_own a b (h fd) Open (d.opens fd) apart own.held ∙ own.is;
+  created = own.created;
+}
+
+row_after_end : (d : Disk) (h : ℕ → Option (List ℕ)) (a b : List ℕ) (row : Row) → b ≢ a → HasRow d h b row → HasRow (shut_by a h d) (λ fd. unless_by a (h fd) (h fd)) b row
+row_after_end d h a b (at.LinkMess seq n fd) apart own = own_after d h a b fd.0 apart own
+row_after_end d h a b (at.UnlinkPid seq n fd) apart own = own_after d h a b fd.0 apart own
+row_after_end d h a b (at.AppendMess n fd done) apart own = own_after d h a b fd.0 apart own
+row_after_end d h a b (at.SyncMess n fd) apart own = own_after d h a b fd.0 apart own
+row_after_end d h a b (at.AppendTodo n fd done) apart own = own_after d h a b fd.0 apart own
+row_after_end d h a b (at.SyncTodo n fd) apart own = own_after d h a b fd.0 apart own
+row_after_end d h a b (at.Create seq) apart own = tt
+row_after_end d h a b (at.CreateIntd n) apart own = tt
+row_after_end d h a b (at.LinkTodo n) apart own = tt
+row_after_end d h a b (at.CleanIntd n status) apart own = tt
+row_after_end d h a b (at.CleanMess n status) apart own = tt
+row_after_end d h a b at.Queued apart own = tt
+row_after_end d h a b (at.Failed status) apart own = tt
+
+-- one actor ends
+pub end_opens : (places : List ℕ → Option ℕ) (actors : List Held) (s : State) (events : List Kept) (p i : ℕ) (x y : Held) (m : IsMember s events p x) (d : Disk) (status : ℕ)
+    → AreActors places actors s events p → slice_get actors i ≡ Some x → y.name ≡ x.name → y.descriptors.items ≡ []
+    → IsOpenTo d actors s → IsOpenTo (shut_by x.name s.holder d) (set actors i y) (finished s x.name (Over status) (Some m.actor))
+end_opens places actors s events p i x y m d status crew is name none open_to =
+    let t = finished s x.name (Over status) (Some m.actor) in
+    let e = shut_by x.name s.holder d in
+    let now : Actor = record { args = m.actor.args; past = m.actor.past; life = Over status } in
+    record {
+      held = λ fd b at. let on = held_on x.name (s.holder fd) b at in subst IsSome (sym (on.1 (d.opens fd))) (open_to.held fd b on.0);
+      each = each_set (λ j (z : Held). HasOpen e t z) actors i y
+          (record {
+            lists = λ fd. ap (has fd) none ∙ sym (ap (λ (a : List ℕ). is_by a (t.holder fd)) name ∙ freed x.name (s.holder fd));
+            apart = subst AreApart (sym none) tt;
+            needs = λ actor at lives.
+                let both : ◌≡◌ {A = Option Actor} (Some now) (Some actor) = sym (put_at_same s.actors x.name (Some now)) ∙ ap t.actors (sym name) ∙ at in
+                let same : now ≡ actor = cc in
+                let over : ◌≡◌ {A = Life} (Over status) Alive = ap (λ (z : Actor). z.life) same ∙ lives in absurd (cc);
+          })
+          (λ j z other at.
+          let old = open_to.each j z at in
+          let apart : z.name ≢ x.name = apart_by places x.name z.name i j (crew.placed i x is) (crew.placed j z at) other in
+          record {
+            lists = λ fd. old.lists fd ∙ sym (kept_on x.name z.name (s.holder fd) apart);
+            apart = old.apart;
+            needs = λ actor known lives. row_after_end d s.holder x.name z.name (row_after actor.args actor.past) apart
+                (old.needs actor (sym (put_at_other s.actors x.name _ z.name apart) ∙ known) lives);
+          });
+    }
+
+-- a new actor has nothing open
+pub start_opens : (places : List ℕ → Option ℕ) (actors : List Held) (s : State) (events : List Kept) (p : ℕ) (y : Held) (a : List ℕ) (args : Arguments) (d : Disk)
+    → AreActors places actors s events p → places a ≡ None → y.name ≡ a → y.descriptors.items ≡ []
+    → IsOpenTo d actors s → IsOpenTo d (actors ++ y ∷ []) (happens s (Start a args))
+start_opens places actors s events p y a args d crew new name none open_to =
+    let t = happens s (Start a args) in
+    let now : Actor = record { args = args; past = []; life = Alive } in
+    record {
+      held = open_to.held;
+      each = each_push (λ j (z : Held). HasOpen d t z) actors y
+          (record {
+            lists = λ fd. ap (has fd) none ∙ sym (ap (λ (a : List ℕ). is_by a (s.holder fd)) name ∙ (crew.strangers a new).holds_none fd);
+            apart = subst AreApart (sym none) tt;
+            needs = λ actor at lives.
+                let both : ◌≡◌ {A = Option Actor} (Some now) (Some actor) = sym (put_at_same s.actors a (Some now)) ∙ ap t.actors (sym name) ∙ at in
+                let same : now ≡ actor = cc in
+                subst (λ (z : Actor). HasRow d t.holder y.name (row_after z.args z.past)) same tt;
+          })
+          (λ j z at.
+          let old = open_to.each j z at in
+          let apart : z.name ≢ a = λ e. let both : ◌≡◌ {A = Option ℕ} None (Some j) = sym new ∙ ap places (sym e) ∙ crew.placed j z at in absurd (cc) in
+          record {
+            lists = old.lists;
+            apart = old.apart;
+            needs = λ actor known lives. old.needs actor (sym (put_at_other s.actors a _ z.name apart) ∙ known) lives;
+          });
+    }
+
+-- a look opens nothing
+pub look_opens : (actors : List Held) (s : State) (i : ℕ) (x y : Held) (d : Disk) → slice_get actors i ≡ Some x → y.name ≡ x.name → y.descriptors.items ≡ x.descriptors.items
+    → IsOpenTo d actors s → IsOpenTo d (set actors i y) s
+look_opens actors s i x y d is name list open_to =
+    let old = open_to.each i x is in record {
+      held = open_to.held;
+      each = each_set (λ j (z : Held). HasOpen d s z) actors i y
+          (record {
+            lists = λ fd. ap (has fd) list ∙ old.lists fd ∙ ap (λ (a : List ℕ). is_by a (s.holder fd)) (sym name);
+            apart = subst AreApart (sym list) old.apart;
+            needs = λ actor known lives. subst (λ (a : List ℕ). HasRow d s.holder a (row_after actor.args actor.past)) (sym name) (old.needs actor (ap s.actors (sym name) ∙ known) lives);
+          })
+          (λ j z other at. open_to.each j z at);
+    }
+
+by_holder : (a : List ℕ) (o : Option (List ℕ)) → is_by a o ≡ true → (b : List ℕ) × (o ≡ Some b)
+by_holder a None h = absurd cc
+by_holder a (Some b) h = (b, refl)
+
+-- what an actor has open can be closed
+pub may_close : (d : Disk) (actors : List Held) (s : State) (i : ℕ) (x : Held) → slice_get actors i ≡ Some x → IsOpenTo d actors s → AreOpen d x.descriptors.items
+may_close d actors s i x is open_to =
+    let old = open_to.each i x is in
+    all_open d x.descriptors.items old.apart (λ fd on. let by = by_holder x.name (s.holder fd) (sym (old.lists fd) ∙ on) in open_to.held fd by.0 by.1)

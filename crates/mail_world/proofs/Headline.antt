@@ -1,0 +1,123 @@
+-- The invariant says that each state is safe.
+use Rattle.std.proofs.Common.{◌≡◌, ◌≢◌, ℕ, List, [], ◌∷◌, ◌++◌, Bool, true, false, Option, Some, None, is_some, refl, ap, subst, subst₂, ⊎_elim}
+use Rattle.call_fs.specs.Disk.{Disk, Among, IsSynced}
+use Rattle.queue_inject.specs.declared.injection.Arguments.{Arguments}
+use Rattle.queue_inject.specs.Names.{Part, path, NamesAreExact}
+use Rattle.queue_inject.specs.Names.Name.{Of}
+use Rattle.queue_inject.specs.Names.Part.{Mess, Intd, Todo, Info, Local, Remote, Bounce}
+use Rattle.queue_inject.specs.Texts.{message_text, intd_text, entered, todo_of}
+use Rattle.mail_world.specs.declared.queue_states.State.TheVariants.{Other}
+use Rattle.mail_world.specs.States.{state_by, is_there, state_of}
+use Rattle.mail_world.specs.History.{Event, Injection, State, after, Legal}
+use Rattle.mail_world.specs.Headline.{IsInjected, IsValid, IsPending, Safe, Headline}
+use Rattle.mail_world.specs.Headline.Accounted.{Pending}
+use Rattle.mail_world.proofs.Looks.{Entry, find_some, find_none, not_found, found}
+use Rattle.mail_world.proofs.Invariant.{look, About, about, IsQueued, Phase, Inv, queue}
+use Rattle.mail_world.proofs.Invariant.Phase.{Free, Queued}
+use Rattle.mail_world.proofs.Kept.{always}
+
+none_where : {A : Type 0} (o : Option A) → ((x : A) → o ≡ Some x → ⊥) → is_some o ≡ false
+none_where None h = refl
+none_where (Some x) h = absurd (h x refl)
+
+is_none : {A : Type 0} (o : Option A) → is_some o ≡ false → o ≡ None
+is_none None h = refl
+is_none (Some x) h = absurd (cc)
+
+-- the states of a number whose later parts aren't there
+known_state : (mess intd todo : Bool) → (mess ≡ false → intd ≡ false) → (mess ≡ false → todo ≡ false)
+    → state_by mess intd todo false false false false ≢ Other
+known_state false false false hi ht e = cc
+known_state false false true hi ht e = let w = ht refl in cc
+known_state false true todo hi ht e = let w = hi refl in cc
+known_state true false false hi ht e = cc
+known_state true true false hi ht e = cc
+known_state true false true hi ht e = cc
+known_state true true true hi ht e = cc
+
+-- what an accepted message reads as
+entered_is : (args : Arguments) → (message_text args).bytes ≡ entered args
+unfolding entered
+entered_is args = refl
+
+todo_is : (args : Arguments) → (intd_text args).bytes ≡ todo_of args
+unfolding todo_of
+todo_is args = refl
+
+-- a number without a message has neither envelope
+bare_below : (w : About) → Phase w → w.parts Mess ≡ None → (w.parts Intd ≡ None) × (w.parts Todo ≡ None)
+bare_below w (Free h) none = (h.intd_below none, h.no_todo)
+bare_below w (Queued h) none = let t = h.mess_there in absurd (cc)
+
+-- an accepted injection whose life lasts is queued
+record IsKept (d : Disk) (i : Injection) : Type 0 where
+  message : (n : ℕ) → d.names (path (Of Mess i.number)) ≡ Some n → IsSynced (d.files n) (entered i.args)
+  pending : IsPending d i
+  valid : IsValid i.args
+
+module _ (s : State) (I : Inv s) where
+  states : (n : ℕ) → state_of s.disk n ≢ Other
+  states n =
+      let d = s.disk in
+      let later = λ (part : Part) (none : (y : Entry) → look (queue s I.role) (Of part n) ≡ Some y → ⊥).
+      none_where (d.names (path (Of part n))) (λ i h. none _ (find_some d.names d.files (Of part n) i h)) in
+      let below = λ (h : is_there d Mess n ≡ false). bare_below _ (I.sound.fine n) (find_none d.names d.files (Of Mess n) (is_none _ h)) in
+      let known = known_state (is_there d Mess n) (is_there d Intd n) (is_there d Todo n)
+      (λ h. ap is_some (not_found d.names d.files (Of Intd n) (below h).0))
+      (λ h. ap is_some (not_found d.names d.files (Of Todo n) (below h).1)) in
+      let S = I.sound.suits in
+      let info = later Info (λ y h. (S (Of Info n) y h).0) in
+      let local = later Local (λ y h. (S (Of Local n) y h).0) in
+      let remote = later Remote (λ y h. (S (Of Remote n) y h).0) in
+      let bounce = later Bounce (λ y h. (S (Of Bounce n) y h).0) in
+      rw (info, local, remote, bounce) known
+
+  -- the message and the envelope of a queued number
+  kept_queued : (i : Injection) → IsQueued (about (queue s I.role) i.number) → s.books.living i.number ≡ Some i → IsKept s.disk i
+  kept_queued i h lives =
+      let d = s.disk in
+      let same : h.injection ≡ i = (let w = h.lives in cc) in
+      let mess = found d.names d.files (Of Mess i.number) h.mess h.mess_there in
+      let todo = found d.names d.files (Of Todo i.number) h.todo h.todo_there in
+      record {
+        valid = subst (λ (z : Injection). IsValid z.args) same h.valid;
+        message = λ n e.
+            let number : h.mess.number ≡ n = (let w = mess.0 in cc) in
+            let message = subst₂ (λ (y : Entry) (z : Injection). IsSynced y.file (message_text z.args).bytes) mess.1 same h.message in
+            subst₂ (λ (k : ℕ) (text : List ℕ). IsSynced (d.files k) text) number (entered_is i.args) message;
+        pending = record {
+          file = h.todo.number;
+          there = todo.0;
+          text =
+              let text = subst₂ (λ (y : Entry) (z : Injection). IsSynced y.file (intd_text z.args).bytes) todo.1 same h.text in
+              subst (IsSynced (d.files h.todo.number)) (todo_is i.args) text;
+        };
+      }
+
+  is_kept : (i : Injection) → s.books.living i.number ≡ Some i → i.accepted ≡ true → IsKept s.disk i
+  is_kept i lives accepted = by_phase (I.sound.fine i.number)
+    where
+      by_phase : Phase (about (queue s I.role) i.number) → IsKept s.disk i
+      by_phase (Free h) = absurd (h.not_accepted i lives accepted)
+      by_phase (Queued h) = kept_queued i h lives
+
+  lives_on : (i : Injection) → IsInjected s.books i → i.accepted ≡ true → s.books.living i.number ≡ Some i
+  lives_on i h accepted = ⊎_elim (λ (l : s.books.living i.number ≡ Some i). l) (λ (o : Among i s.books.over). absurd (I.sound.over i o accepted)) h
+
+  pub safe : Safe s
+  safe = record {
+    states = states;
+    numbers = λ n i h. (I.sound.suits (Of Mess n) _ (find_some s.disk.names s.disk.files (Of Mess n) i h)).0.0;
+    messages = λ i n lives accepted h. (is_kept i lives accepted).message n h;
+    valid = λ i h accepted. (is_kept i (lives_on i h accepted) accepted).valid;
+    accounted = λ i h accepted recipient lt. let lives = lives_on i h accepted in Pending lives (is_kept i lives accepted).pending;
+    queued = λ a x h row. (I.actors a x h).queued row;
+    ends = λ a x h over. let F = I.actors a x h in F.queued (F.ends over);
+  }
+
+legal_before : (d : Disk) (later before : List Event) → Legal d (later ++ before) → Legal d before
+legal_before d [] before l = l
+legal_before d (e ∷ later) before l = legal_before d later before l.0
+
+pub headline : NamesAreExact → Headline
+headline N d later before l = safe (after d before) (always N d before (legal_before d later before l))

@@ -1,0 +1,76 @@
+-- What kept events tell is the same of each history that they tell, but for the disk and the books.
+use Rattle.std.proofs.Common.{◌≡◌, ℕ, List, [], ◌∷◌, ◌++◌, Option, Some, None, refl, sym, ap, subst, map, reverse}
+use Rattle.std.proofs.lemmas.List.{reverse-append}
+use Rattle.std.specs.List.{AllZip}
+use Rattle.call_fs.specs.declared.calls.CallData.{CallData}
+use Rattle.call_fs.specs.declared.calls.Answer.{Answer}
+use Rattle.call_fs.specs.declared.program.Ready.{Ready}
+use Rattle.call_fs.specs.Disk.{Disk}
+use Rattle.call_fs.specs.Maps.{put_at}
+use Rattle.mail_world.specs.declared.event.Event.{Event as Kept}
+use Rattle.mail_world.specs.History.{Event, Actor, Life, State, happens, called, finished, after, held_by, unless_by}
+use Rattle.mail_world.specs.History.Event.{Start, Call, End, Stop, Moment, Halt}
+use Rattle.mail_world.specs.World.{Tells}
+use Rattle.mail_world.specs.Inside.{event_of, nowhere, known}
+
+-- the same actors, holders and moment
+pub record AreAlike (s t : State) : Type 0 where
+  pub holder : s.holder ≡ t.holder
+  pub now : s.now ≡ t.now
+  pub actors : s.actors ≡ t.actors
+
+put_alike : (m n : List ℕ → Option Actor) (a : List ℕ) (v : Option Actor) → m ≡ n → put_at m a v ≡ put_at n a v
+put_alike m n a v e = ap (λ (m : List ℕ → Option Actor). put_at m a v) e
+
+freed_alike : (h g : ℕ → Option (List ℕ)) (a : List ℕ) → h ≡ g → ◌≡◌ {A = ℕ → Option (List ℕ)} (λ fd. unless_by a (h fd) (h fd)) (λ fd. unless_by a (g fd) (g fd))
+freed_alike h g a e = let freed : (ℕ → Option (List ℕ)) → ℕ → Option (List ℕ) = λ h fd. unless_by a (h fd) (h fd) in ap freed e
+
+called_alike : (s t : State) (a : List ℕ) (read : ℕ) (ready : Ready) (call : CallData) (answer : Answer) (w v : ℕ) (x : Option Actor)
+    → AreAlike s t → AreAlike (called s a read ready call answer w x) (called t a read ready call answer v x)
+called_alike s t a read ready call answer w v None c = c
+called_alike s t a read ready call answer w v (Some x) c = record {
+  holder = ap (λ (h : ℕ → Option (List ℕ)). held_by h a call answer) c.holder;
+  now = c.now;
+  actors = put_alike s.actors t.actors a _ c.actors;
+}
+
+finished_alike : (s t : State) (a : List ℕ) (life : Life) (x : Option Actor) → AreAlike s t → AreAlike (finished s a life x) (finished t a life x)
+finished_alike s t a life None c = c
+finished_alike s t a life (Some x) c = record {
+  holder = freed_alike s.holder t.holder a c.holder;
+  now = c.now;
+  actors = put_alike s.actors t.actors a _ c.actors;
+}
+
+happens_alike : (s t : State) (k : Kept) (e : Event) → Tells k e → AreAlike s t → AreAlike (happens s e) (happens t (event_of k))
+happens_alike s t k (Start a args) told c =
+    subst (λ (k : Kept). AreAlike (happens s (Start a args)) (happens t (event_of k))) (sym told) (record {
+      holder = c.holder;
+      now = c.now;
+      actors = put_alike s.actors t.actors a _ c.actors;
+    })
+happens_alike s t k (Call a read ready call answer wrote) told c =
+    subst (λ (k : Kept). AreAlike (happens s (Call a read ready call answer wrote)) (happens t (event_of k))) (sym told)
+    (subst (λ (x : Option Actor). AreAlike (called s a read ready call answer wrote (s.actors a)) (called t a read ready call answer 0 x))
+    (ap (λ (m : List ℕ → Option Actor). m a) c.actors) (called_alike s t a read ready call answer wrote 0 (s.actors a) c))
+happens_alike s t k (End a read ready status) told c =
+    subst (λ (k : Kept). AreAlike (happens s (End a read ready status)) (happens t (event_of k))) (sym told)
+    (subst (λ (x : Option Actor). AreAlike (finished s a (Life.Over status) (s.actors a)) (finished t a (Life.Over status) x))
+    (ap (λ (m : List ℕ → Option Actor). m a) c.actors) (finished_alike s t a (Life.Over status) (s.actors a) c))
+happens_alike s t k (Stop a) told c = absurd told
+happens_alike s t k (Moment m) told c = absurd told
+happens_alike s t k (Halt contents) told c = absurd told
+
+told_alike : (d : Disk) (events : List Kept) (h : List Event) → AllZip Tells events h → AreAlike (after d h) (after nowhere (map event_of events))
+told_alike d [] [] told = record { holder = refl; now = refl; actors = refl }
+told_alike d [] (e ∷ h) told = absurd told
+told_alike d (k ∷ events) [] told = absurd told
+told_alike d (k ∷ events) (e ∷ h) told = happens_alike (after d h) (after nowhere (map event_of events)) k e told.0 (told_alike d events h told.1)
+
+-- what is known is so after each history that is told
+pub after_known : (d : Disk) (events : List Kept) (h : List Event) → AllZip Tells (reverse events) h → AreAlike (after d h) (known events)
+after_known d events h told = told_alike d (reverse events) h told
+
+-- what is known after one event more
+pub known_push : (events : List Kept) (k : Kept) → known (events ++ k ∷ []) ≡ happens (known events) (event_of k)
+known_push events k = ap (λ (l : List Kept). after nowhere (map event_of l)) (reverse-append events (k ∷ []))

@@ -1,0 +1,48 @@
+-- changed functions, and names
+pub mod Maps
+-- pieces of a text, and statuses
+pub mod Texts
+-- names and their files
+pub mod Looks
+-- what holds after each legal history
+pub mod Invariant
+-- what a step leaves of the others
+pub mod Frame
+-- what one call does to the queue
+pub mod Deeds
+-- the rows at which a file is made or written
+pub mod Rows
+-- the rows at which a name comes or goes
+pub mod Links
+-- one call of one injector
+pub mod Step
+-- a machine stop
+pub mod Halts
+-- each event
+pub mod Kept
+-- each state is safe
+pub mod Headline
+-- what kept events tell, whatever the disk is
+pub mod Known
+-- a history goes on with one event more
+pub mod Histories
+-- lists of open descriptors
+pub mod Descriptors
+-- what calls open, and what rows need open
+pub mod Opens
+-- injectors that were told their whole input
+pub mod Machines
+-- lists by their places
+pub mod Lists
+-- the actors that a world keeps
+pub mod Crew
+-- one actor calls, ends or starts
+pub mod Acts
+-- what the actors have open
+pub mod Hands
+-- a map whose keys are texts
+pub mod Index
+-- what a world keeps
+pub mod Worlds
+-- when a step is refused
+pub mod Refusals

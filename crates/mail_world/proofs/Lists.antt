@@ -1,0 +1,65 @@
+-- Lists by their places.
+use Rattle.std.proofs.Common.{◌≡◌, ◌≢◌, ◌⊎◌, inl, inr, ℕ, zero, suc, List, [], ◌∷◌, ◌++◌, length, set, Option, Some, None, IsSomeAnd, refl, sym, ap, subst, ⊎_elim, arith}
+use Rattle.std.specs.List.{slice_get}
+
+-- what stands at a place after one item was changed
+get_set : {X : Type 0} (xs : List X) (i : ℕ) (y : X) (j : ℕ) (z : X) → slice_get (set xs i y) j ≡ Some z → ((j ≡ i) × (y ≡ z)) ⊎ ((j ≢ i) × (slice_get xs j ≡ Some z))
+get_set [] i y j z h = absurd cc
+get_set (x ∷ xs) zero y zero z h = inl (refl, cc)
+get_set (x ∷ xs) zero y (suc j) z h = inr ((λ e. absurd (omega arith)), h)
+get_set (x ∷ xs) (suc i) y zero z h = inr ((λ e. absurd (omega arith)), h)
+get_set (x ∷ xs) (suc i) y (suc j) z h = ⊎_elim
+    (λ f. inl (ap suc f.0, f.1))
+    (λ f. inr ((λ e. f.0 (omega arith)), f.1))
+    (get_set xs i y j z h)
+
+-- what holds of each item and of the new one
+pub each_set : {X : Type 0} (P : ℕ → X → Type 0) (xs : List X) (i : ℕ) (y : X) → P i y → ((j : ℕ) (z : X) → j ≢ i → slice_get xs j ≡ Some z → P j z)
+    → (j : ℕ) (z : X) → slice_get (set xs i y) j ≡ Some z → P j z
+each_set P xs i y new old j z h = ⊎_elim
+    (λ f. subst (P j) f.1 (subst (λ (j : ℕ). P j y) (sym f.0) new))
+    (λ f. old j z f.0 f.1)
+    (get_set xs i y j z h)
+
+-- what holds of an item holds of the one that took its place
+pub some_set : {X : Type 0} (P : X → Type 0) (xs : List X) (i : ℕ) (x y : X) (j : ℕ) → slice_get xs i ≡ Some x → (P x → P y) → IsSomeAnd (slice_get xs j) P → IsSomeAnd (slice_get (set xs i y) j) P
+some_set P [] i x y j is f h = absurd h
+some_set P (z ∷ zs) zero x y zero is f h = let same : z ≡ x = cc in f (subst P same h)
+some_set P (z ∷ zs) zero x y (suc j) is f h = h
+some_set P (z ∷ zs) (suc i) x y zero is f h = h
+some_set P (z ∷ zs) (suc i) x y (suc j) is f h = some_set P zs i x y j is f h
+
+-- what stands at a place after one item was added
+pub get_push : {X : Type 0} (xs : List X) (y : X) (j : ℕ) (z : X) → slice_get (xs ++ y ∷ []) j ≡ Some z → ((j ≡ length xs) × (y ≡ z)) ⊎ (slice_get xs j ≡ Some z)
+get_push [] y zero z h = inl (refl, cc)
+get_push [] y (suc j) z h = absurd cc
+get_push (x ∷ xs) y zero z h = inr h
+get_push (x ∷ xs) y (suc j) z h = ⊎_elim (λ f. inl (ap suc f.0, f.1)) (λ f. inr f) (get_push xs y j z h)
+
+pub each_push : {X : Type 0} (P : ℕ → X → Type 0) (xs : List X) (y : X) → P (length xs) y → ((j : ℕ) (z : X) → slice_get xs j ≡ Some z → P j z)
+    → (j : ℕ) (z : X) → slice_get (xs ++ y ∷ []) j ≡ Some z → P j z
+each_push P xs y new old j z h = ⊎_elim
+    (λ f. subst (P j) f.1 (subst (λ (j : ℕ). P j y) (sym f.0) new))
+    (λ f. old j z f)
+    (get_push xs y j z h)
+
+pub some_push : {X : Type 0} (P : X → Type 0) (xs : List X) (y : X) (j : ℕ) → IsSomeAnd (slice_get xs j) P → IsSomeAnd (slice_get (xs ++ y ∷ []) j) P
+some_push P [] y j h = absurd h
+some_push P (x ∷ xs) y zero h = h
+some_push P (x ∷ xs) y (suc j) h = some_push P xs y j h
+
+pub some_last : {X : Type 0} (P : X → Type 0) (xs : List X) (y : X) → P y → IsSomeAnd (slice_get (xs ++ y ∷ []) (length xs)) P
+some_last P [] y h = h
+some_last P (x ∷ xs) y h = some_last P xs y h
+
+-- and back
+pub some_pushed : {X : Type 0} (P : X → Type 0) (xs : List X) (y : X) (j : ℕ) → IsSomeAnd (slice_get (xs ++ y ∷ []) j) P → ((j ≡ length xs) × P y) ⊎ IsSomeAnd (slice_get xs j) P
+some_pushed P [] y zero h = inl (refl, h)
+some_pushed P [] y (suc j) h = absurd h
+some_pushed P (x ∷ xs) y zero h = inr h
+some_pushed P (x ∷ xs) y (suc j) h = ⊎_elim (λ f. inl (ap suc f.0, f.1)) (λ f. inr f) (some_pushed P xs y j h)
+
+-- the item itself
+pub some_at : {X : Type 0} (P : X → Type 0) (o : Option X) → IsSomeAnd o P → (x : X) × (o ≡ Some x) × P x
+some_at P None h = absurd h
+some_at P (Some x) h = (x, refl, h)

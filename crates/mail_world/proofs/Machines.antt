@@ -1,0 +1,83 @@
+-- What an injector that was told its whole input stands for, and what it needs.
+use Rattle.std.proofs.Common.{◌≡◌, ℕ, List, [], drop, Bool, ◌&&◌, is_some, IsTrue, refl, sym, ap, ◌∙◌, subst, arith, append-nil}
+use Rattle.call_fs.specs.declared.calls.Call.{Call}
+use Rattle.call_fs.specs.declared.program.Need.{Need}
+use Rattle.call_fs.specs.declared.program.Need.TheVariants as need
+use Rattle.call_fs.specs.declared.program.Ready.{Ready}
+use Rattle.call_fs.specs.Program.{Own, due_of}
+use Rattle.queue_inject.specs.declared.injection.Arguments.{Arguments}
+use Rattle.queue_inject.specs.declared.injection.InputEnd.TheVariants.{Whole}
+use Rattle.queue_inject.specs.Table.{Next, has_input}
+use Rattle.queue_inject.specs.Machine.{Machine, Progress, begun, fed_on, ended_on, is_told}
+use Rattle.queue_inject.specs.Stands.{Stands, Continues, Ends}
+use Rattle.mail_world.specs.World.{input_ready}
+use Rattle.mail_world.specs.Inside.{Follows}
+use Rattle.mail_world.proofs.Opens.{IsAct, next_act}
+
+told_by : Progress → Bool
+told_by p = is_some p.message_end && is_some p.envelope_end
+
+-- a machine of the same input was told as much
+pub told_still : (m n : Machine) → n.heard ≡ m.heard → IsTrue (is_told m) → IsTrue (is_told n)
+unfolding told_by
+told_still m n same told = let progress : n.heard.progress ≡ m.heard.progress = cc in subst (λ (p : Progress). IsTrue (told_by p)) (sym progress) told
+
+-- a machine that looked needs what is next
+pub next_of : (m n : Machine) (r : Need) (p : ℕ) (args : Arguments) (past : List Own) → n ≡ record m { present = p; ready = input_ready }
+    → (Stands m args past → Stands n args past)
+    → (Stands n args past → (IsTrue (has_input n.ready) → IsTrue (is_told n)) → due_of r ≡ Next args past n.present n.ready)
+    → Follows m args past → due_of r ≡ Next args past p input_ready
+next_of m n r p args past is stands needs f =
+    let present : n.present ≡ p = ap (λ (m : Machine). m.present) is in
+    let ready : n.ready ≡ input_ready = ap (λ (m : Machine). m.ready) is in
+    needs (stands f.stands) (λ h. told_still m n (ap (λ (m : Machine). m.heard) is) f.told)
+    ∙ ap (λ (k : ℕ). Next args past k n.ready) present ∙ ap (λ (r : Ready). Next args past p r) ready
+
+-- an injector that finds its input ready neither waits nor needs anything but a call
+pub calls_or_ends : (n : Need) (args : Arguments) (past : List Own) (now : ℕ) → due_of n ≡ Next args past now input_ready
+    → ((c : Call) → n ≡ need.File c → ⊥) → ((status : ℕ) → n ≡ need.Ended status → ⊥) → ⊥
+calls_or_ends n args past now is no_call no_status = by_need n (subst IsAct (sym is) (next_act args past now)) no_call no_status where
+  by_need : (n : Need) → IsAct (due_of n) → ((c : Call) → n ≡ need.File c → ⊥) → ((status : ℕ) → n ≡ need.Ended status → ⊥) → ⊥
+  by_need (need.File c) act no_file no_end = no_file c refl
+  by_need (need.Take port) act no_file no_end = act
+  by_need (need.Give port bytes) act no_file no_end = act
+  by_need (need.Start child) act no_file no_end = act
+  by_need (need.Command bytes) act no_file no_end = act
+  by_need need.Wait act no_file no_end = act
+  by_need (need.Ended status) act no_file no_end = no_end status refl
+
+-- An injector that was fed a message and told its end, and then an envelope and its end, stands for them.
+pub fed_whole : (m f e g n : Machine) (args : Arguments) (room : ℕ)
+    → m.heard.progress ≡ begun room → Stands m args []
+    → f.heard.progress ≡ fed_on m.heard.progress args.message → (Stands m args [] → Continues m.heard.progress args args.message → Stands f args [])
+    → e.heard.progress ≡ ended_on f.heard.progress Whole → (Stands f args [] → Ends f.heard.progress args Whole → Stands e args [])
+    → g.heard.progress ≡ fed_on e.heard.progress args.envelope → (Stands e args [] → Continues e.heard.progress args args.envelope → Stands g args [])
+    → n.heard.progress ≡ ended_on g.heard.progress Whole → (Stands g args [] → Ends g.heard.progress args Whole → Stands n args [])
+    → args.message_end ≡ Whole → args.envelope_end ≡ Whole → Follows n args []
+unfolding told_by
+fed_whole m f e g n args room p₀ s₀ p₁ s₁ p₂ s₂ p₃ s₃ p₄ s₄ message_whole envelope_whole =
+    let a = begun room in
+    let b = fed_on a args.message in
+    let c = ended_on b Whole in
+    let d = fed_on c args.envelope in
+    let q₁ : f.heard.progress ≡ b = p₁ ∙ ap (λ (p : Progress). fed_on p args.message) p₀ in
+    let q₂ : e.heard.progress ≡ c = p₂ ∙ ap (λ (p : Progress). ended_on p Whole) q₁ in
+    let q₃ : g.heard.progress ≡ d = p₃ ∙ ap (λ (p : Progress). fed_on p args.envelope) q₂ in
+    let q₄ : n.heard.progress ≡ ended_on d Whole = p₄ ∙ ap (λ (p : Progress). ended_on p Whole) q₃ in
+    let first : Continues a args args.message = record {
+      message = record { rest = []; next = sym (append-nil args.message) };
+      envelope = record { rest = args.envelope; next = refl };
+    } in
+    let second : Ends b args Whole = (omega arith, message_whole) in
+    let third : Continues c args args.envelope = record {
+      message = record { rest = drop c.message_fed args.message; next = refl };
+      envelope = record { rest = []; next = sym (append-nil args.envelope) };
+    } in
+    let fourth : Ends d args Whole = (omega arith, envelope_whole) in
+    let t₁ = s₁ s₀ (subst (λ (p : Progress). Continues p args args.message) (sym p₀) first) in
+    let t₂ = s₂ t₁ (subst (λ (p : Progress). Ends p args Whole) (sym q₁) second) in
+    let t₃ = s₃ t₂ (subst (λ (p : Progress). Continues p args args.envelope) (sym q₂) third) in
+    record {
+      stands = s₄ t₃ (subst (λ (p : Progress). Ends p args Whole) (sym q₃) fourth);
+      told = subst (λ (p : Progress). IsTrue (told_by p)) (sym q₄) refl;
+    }

@@ -1,0 +1,290 @@
+-- A world keeps what it keeps, as one actor makes a call, ends, or starts.
+use Rattle.std.proofs.Common.{◌≡◌, ℕ, ◌+◌, ◌-◌, ◌^◌, ◌<◌, min, List, [], ◌∷◌, ◌++◌, length, set, Option, Some, None, IsSomeAnd, is_some, refl, sym, ap, ◌∙◌, subst, arith, get_or}
+use Rattle.std.proofs.lemmas.Option.{slice_get_within, get_or_from_slice_get}
+use Rattle.std.proofs.lemmas.List.Sums.{sum_by-append}
+use Rattle.std.specs.Prelude.{count_by, if◌then◌else◌}
+use Rattle.std.specs.List.{slice_get}
+use Rattle.call_fs.specs.declared.calls.CallData.{CallData}
+use Rattle.call_fs.specs.declared.calls.Answer.{Answer}
+use Rattle.call_fs.specs.Disk.{Disk}
+use Rattle.call_fs.specs.Maps.{put_at}
+use Rattle.call_fs.specs.Apply.{Apply}
+use Rattle.call_fs.specs.Told.{OnTold, Meets}
+use Rattle.call_fs.specs.Program.{Due}
+use Rattle.call_fs.specs.Program.Did.{Called}
+use Rattle.queue_inject.specs.declared.injection.Arguments.{Arguments}
+use Rattle.queue_inject.specs.Table.{Next}
+use Rattle.mail_world.specs.declared.actor.Actor.{Actor as Held}
+use Rattle.mail_world.specs.declared.event.Event.{Event as Kept}
+use Rattle.mail_world.specs.declared.event.Event.TheVariants as kept
+use Rattle.mail_world.specs.declared.event.Program.TheVariants.{Injector}
+use Rattle.mail_world.specs.History.{Event, State, called, finished, happens, held_by, shut_by}
+use Rattle.mail_world.specs.History.Event.{Start}
+use Rattle.mail_world.specs.History.Life.{Over}
+use Rattle.mail_world.specs.World.{next_pid, is_start, input_ready, IsHistory, IsStep}
+use Rattle.mail_world.specs.Inside.{known, Follows, IsMember, AreActors, IsOpenTo, IsWorld}
+use Rattle.mail_world.specs.Acting.{MayAct, MayMake, AreOpen, HasActed, call_event, opened, shut}
+use Rattle.mail_world.proofs.Known.{known_push}
+use Rattle.mail_world.proofs.Histories.{IsActing, call_told, end_told, start_told}
+use Rattle.mail_world.proofs.Descriptors.{shut_listed}
+use Rattle.mail_world.proofs.Opens.{Opens, MayDo, opens_by, next_may}
+use Rattle.mail_world.proofs.Lists.{some_at}
+use Rattle.mail_world.proofs.Crew.{crew_acts, crew_looks, crew_starts}
+use Rattle.mail_world.proofs.Acts.{call_alone, end_alone, start_alone, call_member, end_member, start_member, look_member}
+use Rattle.mail_world.proofs.Hands.{call_opens, end_opens, start_opens, look_opens, may_close}
+
+-- where the disk tells
+on_told : {X : Type 0} (t : Option X) (P Q : X → Type 0) → ((x : X) → P x → Q x) → OnTold t P → OnTold t Q
+on_told None P Q f h = tt
+on_told (Some x) P Q f h = f x h
+
+on_both : {X : Type 0} (t u : Option X) (P Q : X → Type 0) (R : X → X → Type 0) → ((x y : X) → R x y → P x → Q y) → Meets t u R → OnTold t P → OnTold u Q
+on_both None None P Q R f met h = tt
+on_both None (Some y) P Q R f met h = absurd met
+on_both (Some x) None P Q R f met h = absurd met
+on_both (Some x) (Some y) P Q R f met h = f x y met h
+
+met_on : {X : Type 0} (t u : Option X) (P : X → Type 0) (R S : X → X → Type 0) → ((x y : X) → P x → R x y → S x y) → OnTold t P → Meets t u R → Meets t u S
+met_on None None P R S f h met = tt
+met_on None (Some y) P R S f h met = absurd met
+met_on (Some x) None P R S f h met = absurd met
+met_on (Some x) (Some y) P R S f h met = f x y h met
+
+pid_push : (events : List Kept) (k : Kept) → next_pid (events ++ k ∷ []) ≡ min (77 + (count_by is_start events + (if is_start k then 1 else 0))) (2 ^ 32 - 1)
+pid_push events k = ap (λ (n : ℕ). min (77 + n) (2 ^ 32 - 1)) (sum_by-append (λ e. if is_start e then 1 else 0) events (k ∷ []) ∙ omega arith)
+
+-- the actor at a place
+pub record StandsAt (places : List ℕ → Option ℕ) (actors : List Held) (s : State) (events : List Kept) (p i : ℕ) (x : Held) : Type 0 where
+  pub is : slice_get actors i ≡ Some x
+  pub member : IsMember s events p x
+  pub lives : x.ended ≡ None
+
+-- what an injector may do next closes nothing
+may_do : (d : Disk) (s : State) (actors : List Held) (events : List Kept) (i : ℕ) (x : Held) (p : ℕ) (m : IsMember s events p x) → x.ended ≡ None → slice_get actors i ≡ Some x
+    → IsOpenTo d actors s → MayDo d (Next m.actor.args m.actor.past p input_ready)
+may_do d s actors events i x p m lives is o =
+    next_may d s.holder x.name m.actor.args m.actor.past p input_ready ((o.each i x is).needs m.actor m.is (m.alive lives))
+
+-- what is due may be made
+pub may_act : (told : Option Disk) (places : List ℕ → Option ℕ) (actors : List Held) (s : State) (events : List Kept) (p n i : ℕ) (x : Held)
+    → IsWorld told places actors s events p n → StandsAt places actors s events p i x → MayAct told x.machine p
+may_act told places actors s events p n i x w at = record {
+  args = at.member.actor.args;
+  past = at.member.actor.past;
+  follows = at.member.follows;
+  may = on_told told (λ d. IsOpenTo d actors s) (λ d. MayMake d (Next at.member.actor.args at.member.actor.past p input_ready))
+      (λ d o. may_make d (Next at.member.actor.args at.member.actor.past p input_ready) (may_do d s actors events i x p at.member at.lives at.is o)) w.opens;
+} where
+  may_make : (d : Disk) (due : Due) → MayDo d due → MayMake d due
+  may_make d (Due.File c) may = may.0
+  may_make d (Due.Take port) may = tt
+  may_make d (Due.Give port bytes) may = tt
+  may_make d Due.Start may = tt
+  may_make d (Due.Command bytes) may = tt
+  may_make d Due.Wait may = tt
+  may_make d (Due.Ended status) may = tt
+
+-- an actor's machine looked
+pub look_keeps : (told : Option Disk) (places : List ℕ → Option ℕ) (actors : List Held) (s : State) (events : List Kept) (p n i : ℕ) (x y : Held)
+    → IsWorld told places actors s events p n → (at : StandsAt places actors s events p i x)
+    → y.name ≡ x.name → y.ended ≡ x.ended → y.descriptors.items ≡ x.descriptors.items → Follows y.machine at.member.actor.args at.member.actor.past
+    → IsWorld told places (set actors i y) s events p n
+look_keeps told places actors s events p n i x y w at name ended list follows = record {
+  moment = w.moment;
+  now = w.now;
+  pid = w.pid;
+  kept = crew_looks places actors s events p i x y w.kept at.is name (look_member s events p x y at.member name ended follows);
+  opens = on_told told (λ d. IsOpenTo d actors s) (λ d. IsOpenTo d (set actors i y) s) (λ d o. look_opens actors s i x y d at.is name list o) w.opens;
+}
+
+acting : (s : State) (p : ℕ) (x : Held) (events : List Kept) (m : IsMember s events p x) → x.ended ≡ None → IsActing s x.name p m.actor
+acting s p x events m lives = record { is = m.is; alive = m.alive lives; in_order = m.in_order }
+
+-- what is open after a call
+call_open : (d e : Disk) (places : List ℕ → Option ℕ) (actors : List Held) (s : State) (events : List Kept) (p i : ℕ) (x y : Held) (at : StandsAt places actors s events p i x) (c : CallData) (answer : Answer)
+    → AreActors places actors s events p → y.name ≡ x.name → y.descriptors.items ≡ x.descriptors.items ++ opened answer
+    → Next at.member.actor.args at.member.actor.past p input_ready ≡ Due.File c → Apply d p c answer e
+    → IsOpenTo d actors s → IsOpenTo e (set actors i y) (called s x.name p input_ready c answer 0 (Some at.member.actor))
+call_open d e places actors s events p i x y at c answer crew name list due applied o =
+    let may : MayDo d (Due.File c) = subst (MayDo d) due (may_do d s actors events i x p at.member at.lives at.is o) in
+    let opens : Opens d e s.holder (held_by s.holder x.name c answer) x.name answer =
+    subst (λ (e : Disk). Opens d e s.holder (held_by s.holder x.name c answer) x.name answer) (sym applied.2) (opens_by d p c answer applied.0 s.holder x.name may.1 applied.1) in
+    call_opens places actors s events p i x y at.member d e input_ready c answer crew at.is (at.member.alive at.lives) name list opens o
+
+-- an actor made a call
+pub call_keeps : (old new : Option Disk) (places : List ℕ → Option ℕ) (actors : List Held) (events : List Kept) (p n i : ℕ) (x y : Held) (c : CallData) (answer : Answer)
+    → IsWorld old places actors (known events) events p n → (at : StandsAt places actors (known events) events p i x)
+    → y.name ≡ x.name → y.ended ≡ x.ended → y.descriptors.items ≡ x.descriptors.items ++ opened answer
+    → Next at.member.actor.args at.member.actor.past p input_ready ≡ Due.File c
+    → Follows y.machine at.member.actor.args ((record { read = p; ready = input_ready; did = Called c answer [] }) ∷ at.member.actor.past)
+    → Meets old new (λ d e. Apply d p c answer e)
+    → IsWorld new places (set actors i y) (known (events ++ call_event x.name p c answer ∷ [])) (events ++ call_event x.name p c answer ∷ []) p n
+call_keeps old new places actors events p n i x y c answer w at name ended list due follows made =
+    let s = known events in
+    let m = at.member in
+    let k = call_event x.name p c answer in
+    let t = called s x.name p input_ready c answer 0 (Some m.actor) in
+    let is : known (events ++ k ∷ []) ≡ t = known_push events k ∙ ap (called s x.name p input_ready c answer 0) m.is in
+    subst (λ (s : State). IsWorld new places (set actors i y) s (events ++ k ∷ []) p n) (sym is) (record {
+      moment = w.moment;
+      now = w.now;
+      pid = w.pid ∙ sym (pid_push events k ∙ omega arith);
+      kept = crew_acts places actors s t events k p i x y w.kept at.is name (call_alone s x.name m.actor p input_ready c answer) (λ a. refl)
+          (call_member s events p x y input_ready c answer m at.lives name ended follows);
+      opens = on_both old new (λ d. IsOpenTo d actors s) (λ d. IsOpenTo d (set actors i y) t) (λ d e. Apply d p c answer e)
+          (λ d e applied o. call_open d e places actors s events p i x y at c answer w.kept name list due applied o) made w.opens;
+    })
+
+-- and its history goes on
+pub call_goes_on : (o : Disk) (old new : Option Disk) (places : List ℕ → Option ℕ) (actors : List Held) (events : List Kept) (p : ℕ) (h : List Event) (n i : ℕ) (x : Held) (c : CallData) (answer : Answer)
+    → (at : StandsAt places actors (known events) events p i x)
+    → Next at.member.actor.args at.member.actor.past p input_ready ≡ Due.File c
+    → Meets old new (λ d e. Apply d p c answer e)
+    → IsSomeAnd old (λ d. IsHistory o d events p h)
+    → (e : Event) × IsSomeAnd new (λ d. IsHistory o d (events ++ call_event x.name p c answer ∷ []) p (e ∷ h))
+call_goes_on o old new places actors events p h n i x c answer at due made begun =
+    call_told o old new events p h x.name at.member.actor input_ready c answer (acting (known events) p x events at.member at.lives) due made begun
+
+-- what an actor has open can be closed
+pub may_end : (told : Option Disk) (places : List ℕ → Option ℕ) (actors : List Held) (s : State) (events : List Kept) (p n i : ℕ) (x : Held)
+    → IsWorld told places actors s events p n → StandsAt places actors s events p i x → OnTold told (λ d. AreOpen d x.descriptors.items)
+may_end told places actors s events p n i x w at =
+    on_told told (λ d. IsOpenTo d actors s) (λ d. AreOpen d x.descriptors.items) (λ d o. may_close d actors s i x at.is o) w.opens
+
+-- to close its list is to close what it holds
+shut_is : (old new : Option Disk) (places : List ℕ → Option ℕ) (actors : List Held) (s : State) (events : List Kept) (p n i : ℕ) (x : Held)
+    → IsWorld old places actors s events p n → StandsAt places actors s events p i x
+    → Meets old new (λ d e. e ≡ shut x.descriptors.items d) → Meets old new (λ d e. e ≡ shut_by x.name s.holder d)
+shut_is old new places actors s events p n i x w at met =
+    met_on old new (λ d. IsOpenTo d actors s) (λ d e. e ≡ shut x.descriptors.items d) (λ d e. e ≡ shut_by x.name s.holder d)
+    (λ d e o is. is ∙ shut_listed d x.name s.holder x.descriptors.items (o.each i x at.is).lists) w.opens met
+
+-- an actor ended
+pub end_keeps : (old new : Option Disk) (places : List ℕ → Option ℕ) (actors : List Held) (events : List Kept) (p n i : ℕ) (x y : Held) (status : ℕ)
+    → IsWorld old places actors (known events) events p n → (at : StandsAt places actors (known events) events p i x)
+    → y.name ≡ x.name → y.ended ≡ Some (length events) → y.descriptors.items ≡ []
+    → Follows y.machine at.member.actor.args at.member.actor.past
+    → Meets old new (λ d e. e ≡ shut x.descriptors.items d)
+    → IsWorld new places (set actors i y) (known (events ++ kept.End x.name p input_ready status ∷ [])) (events ++ kept.End x.name p input_ready status ∷ []) p n
+end_keeps old new places actors events p n i x y status w at name ended list follows made =
+    let s = known events in
+    let m = at.member in
+    let k = kept.End x.name p input_ready status in
+    let t = finished s x.name (Over status) (Some m.actor) in
+    let is : known (events ++ k ∷ []) ≡ t = known_push events k ∙ ap (finished s x.name (Over status)) m.is in
+    subst (λ (s : State). IsWorld new places (set actors i y) s (events ++ k ∷ []) p n) (sym is) (record {
+      moment = w.moment;
+      now = w.now;
+      pid = w.pid ∙ sym (pid_push events k ∙ omega arith);
+      kept = crew_acts places actors s t events k p i x y w.kept at.is name (end_alone s x.name m.actor p input_ready status) (λ a. refl)
+          (end_member s events p x y input_ready status m at.lives name ended follows);
+      opens = on_both old new (λ d. IsOpenTo d actors s) (λ d. IsOpenTo d (set actors i y) t) (λ d e. e ≡ shut_by x.name s.holder d)
+          (λ d e is o. subst (λ (d : Disk). IsOpenTo d (set actors i y) t) (sym is) (end_opens places actors s events p i x y m d status w.kept at.is name list o))
+          (shut_is old new places actors s events p n i x w at made) w.opens;
+    })
+
+pub end_goes_on : (o : Disk) (old new : Option Disk) (places : List ℕ → Option ℕ) (actors : List Held) (events : List Kept) (p : ℕ) (h : List Event) (n i : ℕ) (x : Held) (status : ℕ)
+    → IsWorld old places actors (known events) events p n → (at : StandsAt places actors (known events) events p i x)
+    → Next at.member.actor.args at.member.actor.past p input_ready ≡ Due.Ended status
+    → Meets old new (λ d e. e ≡ shut x.descriptors.items d)
+    → IsSomeAnd old (λ d. IsHistory o d events p h)
+    → (e : Event) × IsSomeAnd new (λ d. IsHistory o d (events ++ kept.End x.name p input_ready status ∷ []) p (e ∷ h))
+end_goes_on o old new places actors events p h n i x status w at due made begun =
+    end_told o old new events p h x.name at.member.actor input_ready status (acting (known events) p x events at.member at.lives) due
+    (shut_is old new places actors (known events) events p n i x w at made) begun
+
+-- a step of an actor
+pub acted_keeps : (did : Option ℕ) (old new : Option Disk) (places : List ℕ → Option ℕ) (actors : List Held) (events later : List Kept) (p n i : ℕ) (x y : Held)
+    → IsWorld old places actors (known events) events p n → StandsAt places actors (known events) events p i x → HasActed did old new x y events later p
+    → IsWorld new places (set actors i y) (known later) later p n
+acted_keeps None old new places actors events later p n i x y w at acted =
+    subst (λ (l : List Kept). IsWorld new places (set actors i y) (known l) l p n) (sym acted.event)
+    (call_keeps old new places actors events p n i x y acted.call acted.told w at acted.name acted.ended acted.descriptors
+    (acted.due at.member.actor.args at.member.actor.past at.member.follows)
+    (acted.follows at.member.actor.args at.member.actor.past at.member.follows) acted.made)
+acted_keeps (Some status) old new places actors events later p n i x y w at acted =
+    subst (λ (l : List Kept). IsWorld new places (set actors i y) (known l) l p n) (sym acted.event)
+    (end_keeps old new places actors events p n i x y status w at acted.name acted.ended acted.descriptors
+    (acted.follows at.member.actor.args at.member.actor.past at.member.follows) acted.closed)
+
+pub acted_goes_on : (o : Disk) (did : Option ℕ) (old new : Option Disk) (places : List ℕ → Option ℕ) (actors : List Held) (events later : List Kept) (p : ℕ) (h : List Event) (n i : ℕ) (x y : Held)
+    → IsWorld old places actors (known events) events p n → StandsAt places actors (known events) events p i x → HasActed did old new x y events later p
+    → IsSomeAnd old (λ d. IsHistory o d events p h)
+    → (e : Event) × IsSomeAnd new (λ d. IsHistory o d later p (e ∷ h))
+acted_goes_on o None old new places actors events later p h n i x y w at acted begun =
+    subst (λ (l : List Kept). (e : Event) × IsSomeAnd new (λ d. IsHistory o d l p (e ∷ h))) (sym acted.event)
+    (call_goes_on o old new places actors events p h n i x acted.call acted.told at (acted.due at.member.actor.args at.member.actor.past at.member.follows) acted.made begun)
+acted_goes_on o (Some status) old new places actors events later p h n i x y w at acted begun =
+    subst (λ (l : List Kept). (e : Event) × IsSomeAnd new (λ d. IsHistory o d l p (e ∷ h))) (sym acted.event)
+    (end_goes_on o old new places actors events p h n i x status w at (acted.due at.member.actor.args at.member.actor.past at.member.follows) acted.closed begun)
+
+-- the actor that a place has
+pub stands_at : (told : Option Disk) (places : List ℕ → Option ℕ) (actors : List Held) (s : State) (events : List Kept) (p n i : ℕ) (a : List ℕ) (x : Held)
+    → IsWorld told places actors s events p n → places a ≡ Some i → IsSomeAnd (slice_get actors i) (λ x. x.ended ≡ None) → x ≡ get_or actors i x
+    → StandsAt places actors s events p i x × (x.name ≡ a)
+stands_at told places actors s events p n i a x w place lives read =
+    let named = some_at (λ (x : Held). x.name ≡ a) (slice_get actors i) (w.kept.named a i place) in
+    let same : named.0 ≡ x = sym (get_or_from_slice_get actors i named.0 x named.1) ∙ sym read in
+    let is : slice_get actors i ≡ Some x = named.1 ∙ ap Some same in (
+      record { is = is; member = w.kept.members i x is; lives = subst (λ (o : Option Held). IsSomeAnd o (λ x. x.ended ≡ None)) is lives },
+      ap (λ (x : Held). x.name) (sym same) ∙ named.2,
+    )
+
+pub in_range : (told : Option Disk) (places : List ℕ → Option ℕ) (actors : List Held) (s : State) (events : List Kept) (p n : ℕ) (a : List ℕ)
+    → IsWorld told places actors s events p n → (i : ℕ) → places a ≡ Some i → i < length actors
+in_range told places actors s events p n a w i place =
+    let named = some_at (λ (x : Held). x.name ≡ a) (slice_get actors i) (w.kept.named a i place) in
+    slice_get_within actors i named.0 named.1
+
+-- an actor started
+pub start_keeps : (told : Option Disk) (places next : List ℕ → Option ℕ) (actors : List Held) (events : List Kept) (p n q : ℕ) (y : Held) (a : List ℕ) (args : Arguments)
+    → IsWorld told places actors (known events) events p n → places a ≡ None → ((b : List ℕ) → next b ≡ put_at places a (Some (length actors)) b)
+    → y.name ≡ a → y.ended ≡ None → y.descriptors.items ≡ [] → Follows y.machine args [] → args.start ≡ p → q ≡ min (n + 1) (2 ^ 32 - 1)
+    → IsWorld told next (actors ++ y ∷ []) (known (events ++ kept.Start a (Injector args) ∷ [])) (events ++ kept.Start a (Injector args) ∷ []) p q
+start_keeps told places next actors events p n q y a args w new put name ended list follows start pid =
+    let s = known events in
+    let k = kept.Start a (Injector args) in
+    let t = happens s (Start a args) in
+    let was = w.pid in
+    subst (λ (s : State). IsWorld told next (actors ++ y ∷ []) s (events ++ k ∷ []) p q) (sym (known_push events k)) (record {
+      moment = w.moment;
+      now = w.now;
+      pid = omega (arith, pid_push events k);
+      kept = crew_starts places actors s t events k p a y next w.kept new put name (start_alone s a args)
+          (start_member s events p y a args (w.kept.strangers a new) name ended follows start);
+      opens = on_told told (λ d. IsOpenTo d actors s) (λ d. IsOpenTo d (actors ++ y ∷ []) t)
+          (λ d o. start_opens places actors s events p y a args d w.kept new name list o) w.opens;
+    })
+
+pub start_goes_on : (o : Disk) (told : Option Disk) (places : List ℕ → Option ℕ) (actors : List Held) (events : List Kept) (p : ℕ) (h : List Event) (n : ℕ) (a : List ℕ) (args : Arguments)
+    → IsWorld told places actors (known events) events p n → places a ≡ None → args.start ≡ p
+    → IsSomeAnd told (λ d. IsHistory o d events p h)
+    → (e : Event) × IsSomeAnd told (λ d. IsHistory o d (events ++ kept.Start a (Injector args) ∷ []) p (e ∷ h))
+start_goes_on o told places actors events p h n a args w new start begun = start_told o told events p h a args (w.kept.strangers a new).unknown start begun
+
+-- a world without actors
+pub new_keeps : (told : Option Disk) (places : List ℕ → Option ℕ) → ((a : List ℕ) → places a ≡ None) → IsWorld told places [] (known []) [] 0 77
+new_keeps told places none = record {
+  moment = omega arith;
+  now = refl;
+  pid = refl;
+  kept = record {
+    placed = λ i x is. absurd (cc);
+    members = λ i x is. absurd (cc);
+    named = λ a i at. let both : ◌≡◌ {A = Option ℕ} None (Some i) = sym (none a) ∙ at in absurd (cc);
+    strangers = λ a is. record { unknown = refl; no_end = λ at h. h; holds_none = λ fd. refl };
+    started = λ a. sym (ap is_some (none a));
+  };
+  opens = every told (λ d. IsOpenTo d [] (known [])) (λ d. record { held = λ fd a is. absurd (cc); each = λ i x is. absurd (cc) });
+} where
+  every : {X : Type 0} (t : Option X) (P : X → Type 0) → ((x : X) → P x) → OnTold t P
+  every None P f = tt
+  every (Some x) P f = f x
+
+-- the event of a step
+pub acted_step : {D : Type 0} (d e : D) (did : Option ℕ) (old new : Option Disk) (events later : List Kept) (p : ℕ) (a : List ℕ) (x y : Held)
+    → x.name ≡ a → HasActed did old new x y events later p → IsStep a did (record { disk = d; events = events; present = p }) (record { disk = e; events = later; present = p })
+acted_step d e None old new events later p a x y name acted =
+    (acted.call, acted.told, acted.event ∙ ap (λ (a : List ℕ). events ++ call_event a p acted.call acted.told ∷ []) name)
+acted_step d e (Some status) old new events later p a x y name acted =
+    acted.event ∙ ap (λ (a : List ℕ). events ++ kept.End a p input_ready status ∷ []) name

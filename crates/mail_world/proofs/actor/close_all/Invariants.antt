@@ -1,0 +1,14 @@
+use Rattle.std.proofs.Common.{◌≡◌, vec_len}
+use Rattle.call_fs.specs.Told.{OnTold, Meets}
+use Rattle.mail_world.specs.Acting.{AreOpen, shut}
+use Rattle.mail_world.proofs.actor.close_all.Given as goal
+
+-- the rest is open; to close it is to close all from the begin
+abbrev pub invariant-loop-fd : goal.invariant-loop-fd
+invariant-loop-fd g l = record {
+  rest : OnTold (g.D.CallFs.disk l.disk) (λ now. AreOpen now l.descriptors.items);
+  closed : Meets (g.D.CallFs.disk l.initial.disk) (g.D.CallFs.disk l.disk) (λ before now. shut l.descriptors.items now ≡ shut l.initial.descriptors.items before);
+}
+
+abbrev pub decreases-loop-fd : goal.decreases-loop-fd
+decreases-loop-fd g l = vec_len l.descriptors

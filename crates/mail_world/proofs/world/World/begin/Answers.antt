@@ -1,0 +1,58 @@
+use Rattle.std.proofs.Common.{◌≡◌, ℕ, List, [], ◌∷◌, ◌++◌, length, false, is_some, Option, Some, None, refl, sym, ap, ◌∙◌, subst}
+use Rattle.call_fs.specs.Maps.{put_at}
+use Rattle.queue_inject.specs.Machine.{Machine}
+use Rattle.mail_world.specs.declared.event.Event.{Event as Kept}
+use Rattle.mail_world.specs.declared.event.Event.TheVariants as kept
+use Rattle.mail_world.specs.declared.event.Program.TheVariants.{Injector}
+use Rattle.mail_world.specs.Places.{place_of}
+use Rattle.mail_world.specs.World.{mail, Seen, was_started}
+use Rattle.mail_world.specs.Inside.{Follows}
+use Rattle.mail_world.proofs.Worlds.{start_keeps, start_goes_on}
+use Rattle.mail_world.proofs.world.World.begin.Goals as goal
+use Rattle.mail_world.proofs.world.World.begin.Goals.{After-saturating_add-self-inside}
+
+none_is : (o : Option ℕ) → is_some o ≡ false → o ≡ None
+none_is None h = refl
+none_is (Some i) h = absurd cc
+
+-- no actor of the name stands anywhere
+new_name : (g : _) (c : After-saturating_add-self-inside g) → place_of c.self.inside.places c.args.name.now ≡ None
+new_name g c =
+    let i = c.self.inside in
+    none_is (place_of i.places c.args.name.now) (sym (c.self.invariant.kept.started c.args.name.now) ∙ ap (λ (w : Seen _). was_started w.events c.args.name.now) c.self.view_is ∙ c.requires)
+
+-- the event that was put
+started : (g : _) (c : After-saturating_add-self-inside g) →
+    c.put.new.self.events.items ≡ c.self.inside.history.events.items ++ kept.Start c.args.name.now (Injector (mail c.self.inside.next_pid c.self.inside.present c.args.message.now c.args.envelope.now)) ∷ []
+started g c =
+    let copied = c.copy-2.ensures in
+    let args = c.in_ok-arguments.ensures in
+    let told : Kept = kept.Start c.copy-2.result (Injector c.in_ok-arguments.arguments) in
+    let same : told ≡ kept.Start c.args.name.now (Injector (mail c.self.inside.next_pid c.self.inside.present c.args.message.now c.args.envelope.now)) = cc in
+    c.put.ensures ∙ ap (λ (l : List Kept). l ++ told ∷ []) c.in_ok-reserve.ensures.same ∙ ap (λ (k : Kept). c.self.inside.history.events.items ++ k ∷ []) same
+
+pub invariant_of-self-2 : goal.invariant_of-self-2
+invariant_of-self-2 g c =
+    let i = c.self.inside in
+    let a = c.args.name.now in
+    let args = mail i.next_pid i.present c.args.message.now c.args.envelope.now in
+    let at = (goal.at.invariant_of-self-2 g c).After-saturating_add-self-inside in
+    let new = new_name g at in
+    let held = c.in_ok-reserve-2.ensures.items in
+    let pushed = rw c.unwrap.ensures at c.push.ensures.items in
+    let actors : c.push.new.self.items ≡ i.actors.items ++ c.new-actor.result ∷ [] = cc in
+    let event = started g at in
+    let name : c.new-actor.result.name ≡ a = c.new-actor.ensures.name ∙ c.copy.ensures in
+    let many : c.len.result ≡ length i.actors.items = c.len.ensures ∙ c.reserve-2.new.self.ok.0 ∙ ap length held in
+    let put : (b : List ℕ) → place_of c.add.new.self b ≡ put_at (place_of i.places) a (Some (length i.actors.items)) b =
+    λ b. c.in_ok-add.ensures.ok b ∙ ap (λ (n : List ℕ). put_at (place_of i.places) n (Some c.len.result) b) c.as_slice.ensures ∙ ap (λ (n : ℕ). put_at (place_of i.places) a (Some n) b) many in
+    let machine = subst (λ (m : Machine). Follows m args []) (sym c.new-actor.ensures.machine) c.in_ok-machine.ensures in
+    rw (actors, event) (start_keeps (g.D.CallFs.disk i.disk) (place_of i.places) (place_of c.add.new.self) i.actors.items i.history.events.items i.present i.next_pid c.saturating_add-self-inside.result
+    c.new-actor.result a args c.self.invariant new put name c.new-actor.ensures.ended c.new-actor.ensures.descriptors machine refl c.saturating_add-self-inside.ensures)
+
+pub returns-clause-goes_on : goal.returns-clause-goes_on
+returns-clause-goes_on g c = λ opening h.
+    let i = c.self.inside in
+    let args = mail i.next_pid i.present c.args.message.now c.args.envelope.now in
+    let at = (goal.at.returns-clause-goes_on g c).After-saturating_add-self-inside in
+    rw (← c.self.view_is, started g at) (start_goes_on opening (g.D.CallFs.disk i.disk) (place_of i.places) i.actors.items i.history.events.items i.present h i.next_pid c.args.name.now args c.self.invariant (new_name g at) refl)

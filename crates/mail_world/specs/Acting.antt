@@ -1,0 +1,108 @@
+-- One step of an actor: what it needs, and what it does to the disk, to the actor and to the history.
+use Rattle.std.specs.Prelude.{◌≡◌, ℕ, List, [], ◌∷◌, ◌++◌, length, false, if◌then◌else◌, Option, Some, None, IsSome, IsSomeAnd}
+use Rattle.std.specs.List.{slice_get}
+use Rattle.call_fs.specs.declared.calls.Fd.{Fd}
+use Rattle.call_fs.specs.declared.calls.CallData.{CallData}
+use Rattle.call_fs.specs.declared.calls.Answer.{Answer}
+use Rattle.call_fs.specs.declared.calls.Answer.TheVariants as answer
+use Rattle.call_fs.specs.Disk.{Disk}
+use Rattle.call_fs.specs.Told.{OnTold, Meets}
+use Rattle.call_fs.specs.Apply.{Apply, MayCall}
+use Rattle.call_fs.specs.Program.{Due, Own}
+use Rattle.call_fs.specs.Program.Did.{Called}
+use Rattle.queue_inject.specs.declared.injection.Arguments.{Arguments}
+use Rattle.queue_inject.specs.Table.{Next}
+use Rattle.queue_inject.specs.Machine.{Machine}
+use Rattle.mail_world.specs.declared.event.Event.{Event as Kept}
+use Rattle.mail_world.specs.declared.event.Event.TheVariants as kept
+use Rattle.mail_world.specs.declared.actor.Actor.{Actor as Held}
+use Rattle.mail_world.specs.declared.actor.Came.{Came}
+use Rattle.mail_world.specs.declared.actor.Came.TheVariants as came
+use Rattle.mail_world.specs.declared.error.WorldError.{WorldError}
+use Rattle.mail_world.specs.declared.error.WorldError.TheVariants as why
+use Rattle.mail_world.specs.World.{input_ready}
+use Rattle.mail_world.specs.Inside.{Follows, has}
+
+-- what an answer opened
+abbrev pub opened : Answer → List Fd
+opened (answer.Created fd n) = fd ∷ []
+opened (answer.Opened fd) = fd ∷ []
+opened other = []
+
+-- each is open, and there once
+abbrev pub AreOpen : Disk → List Fd → Type 0
+AreOpen d [] = Unit {0}
+AreOpen d (fd ∷ fds) = IsSome (d.opens fd.0) × (has fd.0 fds ≡ false) × AreOpen d fds
+
+-- the disk without these open descriptors
+abbrev pub shut : List Fd → Disk → Disk
+shut fds d = record { dirs = d.dirs; names = d.names; files = d.files; opens = λ fd. if has fd fds then None else d.opens fd }
+
+-- the call that is due may be made
+abbrev pub MayMake : Disk → Due → Type 0
+MayMake d (Due.File c) = MayCall d c
+MayMake d other = Unit {0}
+
+-- a machine that may act at this moment
+pub record MayAct (disk : Option Disk) (machine : Machine) (now : ℕ) : Type 0 where
+  pub args : Arguments
+  pub past : List Own
+  pub follows : Follows machine args past
+  pub may : OnTold disk (λ d. MayMake d (Next args past now input_ready))
+
+-- what came was due
+abbrev pub due_by : Came → Due
+due_by (came.Called call answer) = Due.File call
+due_by (came.Ended status) = Due.Ended status
+
+-- what it did to the disk
+abbrev pub IsMade : Came → ℕ → Option Disk → Option Disk → Type 0
+IsMade (came.Called call answer) now old new = Meets old new (λ before after. Apply before now call answer after)
+IsMade (came.Ended status) now old new = new ≡ old
+
+-- the call that was due and its answer as the newest event of a past
+abbrev pub with_call : Machine → List Own → CallData → Answer → List Own
+with_call machine past call answer = (record { read = machine.present; ready = machine.ready; did = Called call answer [] }) ∷ past
+
+-- a call that came, as it is kept
+abbrev pub call_event : List ℕ → ℕ → CallData → Answer → Kept
+call_event a now call answer = kept.Call a now input_ready call (record { answer = answer; bytes = [] })
+
+-- a step made a call, and the machine was told its answer
+pub record HasCalled (old new : Option Disk) (x y : Held) (before now_kept : List Kept) (now : ℕ) : Type 0 where
+  pub call : CallData
+  pub told : Answer
+  pub event : now_kept ≡ before ++ call_event x.name now call told ∷ []
+  pub due : (args : Arguments) (past : List Own) → Follows x.machine args past → Next args past now input_ready ≡ Due.File call
+  pub follows : (args : Arguments) (past : List Own) → Follows x.machine args past → Follows y.machine args ((record { read = now; ready = input_ready; did = Called call told [] }) ∷ past)
+  pub made : Meets old new (λ d e. Apply d now call told e)
+  pub name : y.name ≡ x.name
+  pub descriptors : y.descriptors.items ≡ x.descriptors.items ++ opened told
+  pub ended : y.ended ≡ x.ended
+
+-- a step was the actor's end, and what it had open is closed
+pub record HasEnded (status : ℕ) (old new : Option Disk) (x y : Held) (before now_kept : List Kept) (now : ℕ) : Type 0 where
+  pub event : now_kept ≡ before ++ kept.End x.name now input_ready status ∷ []
+  pub due : (args : Arguments) (past : List Own) → Follows x.machine args past → Next args past now input_ready ≡ Due.Ended status
+  pub follows : (args : Arguments) (past : List Own) → Follows x.machine args past → Follows y.machine args past
+  pub closed : Meets old new (λ d e. e ≡ shut x.descriptors.items d)
+  pub name : y.name ≡ x.name
+  pub descriptors : y.descriptors.items ≡ []
+  pub ended : y.ended ≡ Some (length before)
+
+abbrev pub HasActed : Option ℕ → Option Disk → Option Disk → Held → Held → List Kept → List Kept → ℕ → Type 0
+HasActed None old new x y before now_kept now = HasCalled old new x y before now_kept now
+HasActed (Some status) old new x y before now_kept now = HasEnded status old new x y before now_kept now
+
+-- the machine has looked, and nothing came of it
+pub record HasLooked (x y : Held) : Type 0 where
+  pub follows : (args : Arguments) (past : List Own) → Follows x.machine args past → Follows y.machine args past
+  pub name : y.name ≡ x.name
+  pub descriptors : y.descriptors.items ≡ x.descriptors.items
+  pub ended : y.ended ≡ x.ended
+
+-- why no living actor has this name
+abbrev pub IsNoLiving : (List ℕ → Option ℕ) → List Held → List ℕ → WorldError → Type 0
+IsNoLiving places actors a why.Unknown = places a ≡ None
+IsNoLiving places actors a (why.Gone b at) = (b ≡ a) × (i : ℕ) × (places a ≡ Some i) × IsSomeAnd (slice_get actors i) (λ x. x.ended ≡ Some at)
+IsNoLiving places actors a other = ⊥

@@ -1,0 +1,54 @@
+-- What is claimed of each state, and the headline: no accepted message is lost.
+use Rattle.std.specs.Prelude.{◌≡◌, ◌≢◌, ◌⊎◌, ℕ, ◌<◌, List, ◌++◌, length, true, Some, None}
+use Rattle.call_fs.specs.Disk.{Disk, Among, IsSynced}
+use Rattle.queue_inject.specs.Names.{path}
+use Rattle.queue_inject.specs.Names.Part.{Mess, Todo}
+use Rattle.queue_inject.specs.Names.Name.{Of}
+use Rattle.queue_inject.specs.declared.injection.Arguments.{Arguments}
+use Rattle.queue_inject.specs.declared.row.Row.TheVariants as Row
+use Rattle.queue_inject.specs.Table.{row_after}
+use Rattle.queue_inject.specs.Texts.{message_text, intd_text, entered, todo_of, recipients_of}
+use Rattle.mail_world.specs.declared.queue_states.State.TheVariants.{Other}
+use Rattle.mail_world.specs.States.{state_of}
+use Rattle.mail_world.specs.History.{Event, Actor, Injection, Books, State, after, Legal}
+use Rattle.mail_world.specs.History.Life.{Over}
+
+-- an injection, whether its life lasts or is over
+abbrev pub IsInjected : Books → Injection → Type 0
+IsInjected b q = (b.living q.number ≡ Some q) ⊎ Among q b.over
+
+-- todo is there, with the injection's text, and all of it is on the disk
+pub record IsPending (d : Disk) (q : Injection) : Type 0 where
+  pub file : ℕ
+  pub there : d.names (path (Of Todo q.number)) ≡ Some file
+  pub text : IsSynced (d.files file) (todo_of q.args)
+
+-- the message was read to its end, and a front of the envelope's bytes is an envelope
+pub record IsValid (args : Arguments) : Type 0 where
+  pub message : (message_text args).fault ≡ None
+  pub envelope : (intd_text args).fault ≡ None
+
+-- how a recipient of an injection is accounted for
+pub data Accounted (s : State) (q : Injection) (recipient : ℕ) : Type 0 where
+  Pending : s.books.living q.number ≡ Some q → IsPending s.disk q → Accounted s q recipient
+
+pub record Safe (s : State) : Type 0 where
+  -- each number is in one of the states S1 to S5
+  pub states : (n : ℕ) → state_of s.disk n ≢ Other
+  -- the name of a message is the file of its own number
+  pub numbers : (n i : ℕ) → s.disk.names (path (Of Mess n)) ≡ Some i → i ≡ n
+  -- while the life of an accepted injection lasts and its message is there, the message reads as entered, and all of it
+  -- is on the disk
+  pub messages : (q : Injection) (i : ℕ) → s.books.living q.number ≡ Some q → q.accepted ≡ true → s.disk.names (path (Of Mess q.number)) ≡ Some i → IsSynced (s.disk.files i) (entered q.args)
+  -- what was accepted is valid
+  pub valid : (q : Injection) → IsInjected s.books q → q.accepted ≡ true → IsValid q.args
+  -- each recipient of each accepted injection is accounted for
+  pub accounted : (q : Injection) → IsInjected s.books q → q.accepted ≡ true → (recipient : ℕ) → recipient < length (recipients_of q.args) → Accounted s q recipient
+  -- an injector's Ok link to todo accepts its injection, however it ends
+  pub queued : (a : List ℕ) (x : Actor) → s.actors a ≡ Some x → row_after x.args x.past ≡ Row.Queued → (q : Injection) × IsInjected s.books q × (q.actor ≡ a) × (q.args ≡ x.args) × (q.accepted ≡ true)
+  -- an end with 0 comes only of an accepted injection
+  pub ends : (a : List ℕ) (x : Actor) → s.actors a ≡ Some x → x.life ≡ Over 0 → (q : Injection) × IsInjected s.books q × (q.actor ≡ a) × (q.args ≡ x.args) × (q.accepted ≡ true)
+
+-- However the calls interleave and wherever a program or the machine stops: each prefix of a legal history is safe.
+abbrev pub Headline : Type 0
+Headline = (d : Disk) (later before : List Event) → Legal d (later ++ before) → Safe (after d before)

@@ -1,0 +1,239 @@
+-- Histories: what happens, the state after it, and which histories are legal. A history is the list of its events,
+-- the newest first, so that what is left of it is a history too.
+use Rattle.std.specs.Prelude.{◌≡◌, ℕ, zero, suc, ◌+◌, ◌≤◌, List, [], ◌∷◌, ◌++◌, Bool, true, false, Option, Some, None, option_map, option_to_list, if◌then◌else◌, bytes_eq, Contains, codes}
+use Rattle.call_fs.specs.declared.calls.CallData.{CallData}
+use Rattle.call_fs.specs.declared.calls.CallData.TheVariants.{Close, Link}
+use Rattle.call_fs.specs.declared.calls.Answer.{Answer}
+use Rattle.call_fs.specs.declared.calls.Answer.TheVariants.{Created, Opened, Done}
+use Rattle.call_fs.specs.declared.program.Ready.{Ready}
+use Rattle.call_fs.specs.Maps.{put, put_at}
+use Rattle.call_fs.specs.Disk.{Disk, IsMoment}
+use Rattle.call_fs.specs.Apply.{effect, Fits}
+use Rattle.call_fs.specs.Survival.{AllSurvive, halted}
+use Rattle.call_fs.specs.Program.{Due, Own}
+use Rattle.call_fs.specs.Program.Did.{Called}
+use Rattle.call_fs.specs.Decimal.{digits}
+use Rattle.queue_inject.specs.declared.injection.Arguments.{Arguments}
+use Rattle.queue_inject.specs.Names.{Name, Part, path, parse}
+use Rattle.queue_inject.specs.Names.Name.{Of}
+use Rattle.queue_inject.specs.Names.Part.{Mess, Intd, Todo}
+use Rattle.queue_inject.specs.Table.{Next}
+
+-- One event. `wrote` is how many bytes a failed write had written, which no program is told. `contents` is what a
+-- machine stop left of each file.
+pub data Event : Type 0 where
+  Start : (actor : List ℕ) (args : Arguments) → Event
+  Call : (actor : List ℕ) (read : ℕ) (ready : Ready) (call : CallData) (answer : Answer) (wrote : ℕ) → Event
+  End : (actor : List ℕ) (read : ℕ) (ready : Ready) (status : ℕ) → Event
+  Stop : (actor : List ℕ) → Event
+  Moment : ℕ → Event
+  Halt : (contents : ℕ → List ℕ) → Event
+
+-- alive, ended with a status, or stopped from outside
+pub data Life : Type 0 where
+  Alive : Life
+  Over : (status : ℕ) → Life
+  Stopped : Life
+
+-- an actor: an injector with its arguments, its own past, newest event first, and whether it lives
+pub record Actor : Type 0 where
+  pub args : Arguments
+  pub past : List Own
+  pub life : Life
+
+-- An injection: an Ok link by an injector to the name of a message. It is accepted where that injector's link of intd
+-- to todo answered Ok.
+pub record Injection : Type 0 where
+  pub number : ℕ
+  pub actor : List ℕ
+  pub args : Arguments
+  pub accepted : Bool
+
+-- The injections: of each number the one whose life lasts, and those whose life is over. A life lasts until the next
+-- link to the name of that number.
+pub record Books : Type 0 where
+  pub living : ℕ → Option Injection
+  pub over : List Injection
+
+-- The state after a history: the disk, whose each open descriptor is, the present moment, the actors and the books.
+pub record State : Type 0 where
+  pub disk : Disk
+  pub holder : ℕ → Option (List ℕ)
+  pub now : ℕ
+  pub actors : List ℕ → Option Actor
+  pub books : Books
+
+abbrev pub begun : List ℕ → Arguments → ℕ → Injection
+begun a args n = record { number = n; actor = a; args = args; accepted = false }
+
+-- the injection of that actor is accepted
+abbrev pub accept : List ℕ → Option Injection → Option Injection
+accept a None = None
+accept a (Some q) =
+    if bytes_eq q.actor a then Some (record { number = q.number; actor = q.actor; args = q.args; accepted = true }) else Some q
+
+-- what an Ok link to this name means
+abbrev pub linked : Books → List ℕ → Arguments → List ℕ → Option Name → Books
+linked b a args old (Some (Of Mess n)) =
+    record { living = put b.living n (Some (begun a args n)); over = option_to_list (b.living n) ++ b.over }
+linked b a args old (Some (Of Todo n)) =
+    if bytes_eq old (path (Of Intd n)) then record { living = put b.living n (accept a (b.living n)); over = b.over } else b
+linked b a args old name = b
+
+-- what the books say after a call of an injector
+abbrev pub booked : Books → List ℕ → Arguments → CallData → Answer → Books
+booked b a args (Link old new) Done = linked b a args old (parse new)
+booked b a args call answer = b
+
+-- whose each descriptor is after a call
+abbrev pub held_by : (ℕ → Option (List ℕ)) → List ℕ → CallData → Answer → ℕ → Option (List ℕ)
+held_by holder a call (Created fd n) = put holder fd.0 (Some a)
+held_by holder a call (Opened fd) = put holder fd.0 (Some a)
+held_by holder a (Close fd) Done = put holder fd.0 None
+held_by holder a call answer = holder
+
+abbrev pub called : State → List ℕ → ℕ → Ready → CallData → Answer → ℕ → Option Actor → State
+called s a read ready call answer wrote None = s
+called s a read ready call answer wrote (Some x) = record {
+  disk = effect s.disk read call answer wrote;
+  holder = held_by s.holder a call answer;
+  now = s.now;
+  actors = put_at s.actors a (Some (record {
+    args = x.args;
+    past = (record { read = read; ready = ready; did = Called call answer [] }) ∷ x.past;
+    life = x.life;
+  }));
+  books = booked s.books a x.args call answer;
+}
+
+-- a descriptor of that actor is gone
+abbrev pub unless_by : {X : Type 0} → List ℕ → Option (List ℕ) → Option X → Option X
+unless_by a None o = o
+unless_by a (Some b) o = if bytes_eq b a then None else o
+
+-- the descriptors of one actor are closed
+abbrev pub shut_by : List ℕ → (ℕ → Option (List ℕ)) → Disk → Disk
+shut_by a holder d = record { dirs = d.dirs; names = d.names; files = d.files; opens = λ fd. unless_by a (holder fd) (d.opens fd) }
+
+-- an actor that ends or is stopped has its descriptors closed with that event
+abbrev pub finished : State → List ℕ → Life → Option Actor → State
+finished s a life None = s
+finished s a life (Some x) = record {
+  disk = shut_by a s.holder s.disk;
+  holder = λ fd. unless_by a (s.holder fd) (s.holder fd);
+  now = s.now;
+  actors = put_at s.actors a (Some (record { args = x.args; past = x.past; life = life }));
+  books = s.books;
+}
+
+abbrev pub cut_off : Life → Life
+cut_off Alive = Stopped
+cut_off (Over status) = Over status
+cut_off Stopped = Stopped
+
+abbrev pub stopped : Actor → Actor
+stopped x = record { args = x.args; past = x.past; life = cut_off x.life }
+
+-- the state after one event more
+abbrev pub happens : State → Event → State
+happens s (Start a args) = record {
+  disk = s.disk;
+  holder = s.holder;
+  now = s.now;
+  actors = put_at s.actors a (Some (record { args = args; past = []; life = Alive }));
+  books = s.books;
+}
+happens s (Call a read ready call answer wrote) = called s a read ready call answer wrote (s.actors a)
+happens s (End a read ready status) = finished s a (Over status) (s.actors a)
+happens s (Stop a) = finished s a Stopped (s.actors a)
+happens s (Moment m) = record { disk = s.disk; holder = s.holder; now = m; actors = s.actors; books = s.books }
+happens s (Halt contents) = record {
+  disk = halted contents s.disk;
+  holder = λ _. None;
+  now = s.now;
+  actors = λ a. option_map stopped (s.actors a);
+  books = s.books;
+}
+
+-- the last moment that an actor read
+abbrev pub latest : Arguments → List Own → ℕ
+latest args [] = args.start
+latest args (event ∷ before) = event.read
+
+-- A living actor may read this moment: none that lies before one that it read, or after the present one, and none
+-- that lies over twelve hours back.
+pub record MayRead (s : State) (a : List ℕ) (x : Actor) (read : ℕ) : Type 0 where
+  pub is : s.actors a ≡ Some x
+  pub alive : x.life ≡ Alive
+  pub no_earlier : latest x.args x.past ≤ read
+  pub no_later : read ≤ s.now
+  pub no_stall : s.now ≤ read + 43200
+
+-- a new actor that starts now
+pub record MayStart (s : State) (a : List ℕ) (args : Arguments) : Type 0 where
+  pub new : s.actors a ≡ None
+  pub no_later : args.start ≤ s.now
+  pub no_stall : s.now ≤ args.start + 43200
+
+-- a call that is next by the actor's table, with an answer that the disk may give
+pub record MayCall (s : State) (a : List ℕ) (read : ℕ) (ready : Ready) (call : CallData) (answer : Answer) (wrote : ℕ) : Type 0 where
+  pub actor : Actor
+  pub reads : MayRead s a actor read
+  pub due : Next actor.args actor.past read ready ≡ Due.File call
+  pub fits : Fits s.disk call answer wrote
+
+-- an end that is next by the actor's table
+pub record MayEnd (s : State) (a : List ℕ) (read : ℕ) (ready : Ready) (status : ℕ) : Type 0 where
+  pub actor : Actor
+  pub reads : MayRead s a actor read
+  pub due : Next actor.args actor.past read ready ≡ Due.Ended status
+
+pub record IsLiving (s : State) (a : List ℕ) : Type 0 where
+  pub actor : Actor
+  pub is : s.actors a ≡ Some actor
+  pub alive : actor.life ≡ Alive
+
+-- a moment that comes: moments don't fall
+pub record MayCome (s : State) (m : ℕ) : Type 0 where
+  pub moment : IsMoment m
+  pub no_earlier : s.now ≤ m
+
+-- which events may happen in a state
+abbrev pub Allowed : State → Event → Type 0
+Allowed s (Start a args) = MayStart s a args
+Allowed s (Call a read ready call answer wrote) = MayCall s a read ready call answer wrote
+Allowed s (End a read ready status) = MayEnd s a read ready status
+Allowed s (Stop a) = IsLiving s a
+Allowed s (Moment m) = MayCome s m
+Allowed s (Halt contents) = AllSurvive s.disk contents
+
+-- the directories of the queue: four plain ones, and twenty-three below each of mess, info, local and remote
+abbrev pub splits_of : List ℕ → ℕ → List (List ℕ)
+splits_of dir zero = []
+splits_of dir (suc n) = (dir ++ 47 ∷ digits n) ∷ splits_of dir n
+
+abbrev pub queue_dirs : List (List ℕ)
+queue_dirs =
+    (codes "pid" ∷ codes "intd" ∷ codes "todo" ∷ codes "bounce" ∷ [])
+    ++ (splits_of (codes "mess") 23 ++ (splits_of (codes "info") 23 ++ (splits_of (codes "local") 23 ++ splits_of (codes "remote") 23)))
+
+-- A disk to begin with: the queue's directories are there, of the queue's names there are pid names at most, nothing
+-- is open, and each file is synced.
+pub record Opening (d : Disk) : Type 0 where
+  pub dirs : (dir : List ℕ) → Contains queue_dirs dir → Contains d.dirs dir
+  pub empty : (part : Part) (n : ℕ) → d.names (path (Of part n)) ≡ None
+  pub shut : (fd : ℕ) → d.opens fd ≡ None
+  pub settled : (name : List ℕ) (n : ℕ) → d.names name ≡ Some n → (d.files n).older ≡ []
+
+abbrev pub opening : Disk → State
+opening d = record { disk = d; holder = λ _. None; now = 0; actors = λ _. None; books = record { living = λ _. None; over = [] } }
+
+-- the state after a history that began with this disk
+abbrev pub after : Disk → List Event → State
+after d [] = opening d
+after d (event ∷ before) = happens (after d before) event
+
+-- A legal history: it began with an opening disk, and each event might happen when it did.
+abbrev pub Legal : Disk → List Event → Type 0
+Legal d [] = Opening d
+Legal d (event ∷ before) = Legal d before × Allowed (after d before) event

@@ -1,0 +1,114 @@
+-- What the fields of a world mean, and what they keep.
+use Rattle.std.specs.Prelude.{◌≡◌, ◌↔◌, ℕ, ◌≤◌, ◌==◌, List, [], ◌∷◌, map, reverse, Bool, false, Option, Some, None, IsSome, IsSomeAnd, is_some, IsTrue, bytes_eq}
+use Rattle.std.specs.List.{list_any, slice_get}
+use Rattle.call_fs.specs.declared.calls.Fd.{Fd}
+use Rattle.call_fs.specs.Disk.{Disk, Open, Mode, IsMoment}
+use Rattle.call_fs.specs.Told.{OnTold}
+use Rattle.call_fs.specs.Program.{Own}
+use Rattle.queue_inject.specs.declared.injection.Arguments.{Arguments}
+use Rattle.queue_inject.specs.declared.row.Row.{Row}
+use Rattle.queue_inject.specs.declared.row.Row.TheVariants as at
+use Rattle.queue_inject.specs.Table.{row_after}
+use Rattle.queue_inject.specs.Machine.{Machine, is_told}
+use Rattle.queue_inject.specs.Stands.{Stands}
+use Rattle.mail_world.specs.declared.event.Event.{Event as Kept}
+use Rattle.mail_world.specs.declared.event.Event.TheVariants as kept
+use Rattle.mail_world.specs.declared.event.Program.TheVariants.{Injector}
+use Rattle.mail_world.specs.declared.actor.Actor.{Actor as Held}
+use Rattle.mail_world.specs.History.{Event, Actor, State, after, latest}
+use Rattle.mail_world.specs.History.Event.{Start, Call, End}
+use Rattle.mail_world.specs.History.Life.{Alive}
+use Rattle.mail_world.specs.World.{EndsAt, was_started, next_pid}
+
+-- a kept event, read as one whose failed write had written nothing
+abbrev pub event_of : Kept → Event
+event_of (kept.Start a (Injector args)) = Start a args
+event_of (kept.Call a read ready call told) = Call a read ready call told.answer 0
+event_of (kept.End a read ready status) = End a read ready status
+
+-- any disk
+abbrev pub nowhere : Disk
+nowhere = record { dirs = []; names = λ _. None; files = λ _. record { bytes = []; older = []; moment = 0 }; opens = λ _. None }
+
+-- What the kept events tell of the actors, of whose each descriptor is, and of the moment, whatever the disk is.
+abbrev pub known : List Kept → State
+known events = after nowhere (map event_of (reverse events))
+
+-- a machine stands for this past, and was told its whole input
+pub record Follows (machine : Machine) (args : Arguments) (past : List Own) : Type 0 where
+  pub stands : Stands machine args past
+  pub told : IsTrue (is_told machine)
+
+-- what is kept of an actor is what is known of it
+pub record IsMember (s : State) (events : List Kept) (present : ℕ) (x : Held) : Type 0 where
+  pub actor : Actor
+  pub is : s.actors x.name ≡ Some actor
+  pub follows : Follows x.machine actor.args actor.past
+  pub in_order : latest actor.args actor.past ≤ present
+  pub alive : x.ended ≡ None → actor.life ≡ Alive
+  pub ends : (at : ℕ) → EndsAt events x.name at ↔ (x.ended ≡ Some at)
+
+-- it is that actor's
+abbrev pub is_by : List ℕ → Option (List ℕ) → Bool
+is_by a None = false
+is_by a (Some b) = bytes_eq b a
+
+-- no actor has this name
+pub record IsStranger (s : State) (events : List Kept) (a : List ℕ) : Type 0 where
+  pub unknown : s.actors a ≡ None
+  pub no_end : (at : ℕ) → ¬ EndsAt events a at
+  pub holds_none : (fd : ℕ) → is_by a (s.holder fd) ≡ false
+
+-- The actors that are kept, each at its place, are those that are known.
+pub record AreActors (places : List ℕ → Option ℕ) (actors : List Held) (s : State) (events : List Kept) (present : ℕ) : Type 0 where
+  pub placed : (i : ℕ) (x : Held) → slice_get actors i ≡ Some x → places x.name ≡ Some i
+  pub members : (i : ℕ) (x : Held) → slice_get actors i ≡ Some x → IsMember s events present x
+  pub named : (a : List ℕ) (i : ℕ) → places a ≡ Some i → IsSomeAnd (slice_get actors i) (λ x. x.name ≡ a)
+  pub strangers : (a : List ℕ) → places a ≡ None → IsStranger s events a
+  pub started : (a : List ℕ) → was_started events a ≡ is_some (places a)
+
+-- the list has this descriptor
+abbrev pub has : ℕ → List Fd → Bool
+has fd fds = list_any (λ one. one.0 == fd) fds
+
+-- each once
+abbrev pub AreApart : List Fd → Type 0
+AreApart [] = Unit {0}
+AreApart (fd ∷ fds) = (has fd.0 fds ≡ false) × AreApart fds
+
+-- that actor's, open, and of a file that it created
+pub record IsOwn (d : Disk) (holder : ℕ → Option (List ℕ)) (a : List ℕ) (fd : ℕ) : Type 0 where
+  pub held : holder fd ≡ Some a
+  pub file : Open
+  pub is : d.opens fd ≡ Some file
+  pub created : file.mode ≡ Mode.Created
+
+-- the descriptor that this row, or one after it, writes to
+abbrev pub HasRow : Disk → (ℕ → Option (List ℕ)) → List ℕ → Row → Type 0
+HasRow d holder a (at.LinkMess seq n fd) = IsOwn d holder a fd.0
+HasRow d holder a (at.UnlinkPid seq n fd) = IsOwn d holder a fd.0
+HasRow d holder a (at.AppendMess n fd done) = IsOwn d holder a fd.0
+HasRow d holder a (at.SyncMess n fd) = IsOwn d holder a fd.0
+HasRow d holder a (at.AppendTodo n fd done) = IsOwn d holder a fd.0
+HasRow d holder a (at.SyncTodo n fd) = IsOwn d holder a fd.0
+HasRow d holder a row = Unit {0}
+
+-- what an actor has open is its own, and what it needs is open
+pub record HasOpen (d : Disk) (s : State) (x : Held) : Type 0 where
+  pub lists : (fd : ℕ) → has fd x.descriptors.items ≡ is_by x.name (s.holder fd)
+  pub apart : AreApart x.descriptors.items
+  pub needs : (actor : Actor) → s.actors x.name ≡ Some actor → actor.life ≡ Alive → HasRow d s.holder x.name (row_after actor.args actor.past)
+
+-- what an actor holds is open
+pub record IsOpenTo (d : Disk) (actors : List Held) (s : State) : Type 0 where
+  pub held : (fd : ℕ) (a : List ℕ) → s.holder fd ≡ Some a → IsSome (d.opens fd)
+  pub each : (i : ℕ) (x : Held) → slice_get actors i ≡ Some x → HasOpen d s x
+
+-- What the fields of a world keep together: the disk, the places, the actors, the events with what they tell, the moment
+-- and the next process number.
+pub record IsWorld (disk : Option Disk) (places : List ℕ → Option ℕ) (actors : List Held) (s : State) (events : List Kept) (present next : ℕ) : Type 0 where
+  pub moment : IsMoment present
+  pub now : s.now ≡ present
+  pub pid : next ≡ next_pid events
+  pub kept : AreActors places actors s events present
+  pub opens : OnTold disk (λ d. IsOpenTo d actors s)

@@ -1,0 +1,18 @@
+-- the states of a message number
+pub mod States
+-- histories: what happens, the state after it, and which are legal
+pub mod History
+-- what is claimed of each state, and the headline
+pub mod Headline
+-- the history that a world keeps
+pub mod Kept
+-- the names of mails
+pub mod MailNames
+-- what is promised of a world
+pub mod World
+-- what the fields of a world mean
+pub mod Inside
+-- one step of an actor
+pub mod Acting
+-- where each actor stands
+pub mod Places

@@ -1,0 +1,113 @@
+-- A world: what it keeps of its history, and what is promised of that.
+use Rattle.std.specs.Prelude.{◌≡◌, ℕ, ◌+◌, ◌-◌, ◌^◌, min, List, [], ◌∷◌, ◌++◌, reverse, count_by, Bool, true, false, bytes_eq, Option, Some, None, IsSomeAnd}
+use Rattle.std.specs.List.{AllZip, list_any, slice_get}
+use Rattle.call_fs.specs.declared.calls.CallData.{CallData}
+use Rattle.call_fs.specs.declared.calls.Answer.{Answer}
+use Rattle.call_fs.specs.declared.program.Ready.{Ready}
+use Rattle.call_fs.specs.Disk.{Disk}
+use Rattle.queue_inject.specs.declared.injection.Arguments.{Arguments}
+use Rattle.queue_inject.specs.declared.injection.InputEnd.TheVariants.{Whole}
+use Rattle.queue_inject.specs.declared.received_line.Invoked.TheVariants.{Uid}
+use Rattle.mail_world.specs.declared.event.Event.{Event as Kept}
+use Rattle.mail_world.specs.declared.event.Event.TheVariants as kept
+use Rattle.mail_world.specs.declared.event.Program.TheVariants.{Injector}
+use Rattle.mail_world.specs.History.{Event, after, Legal}
+use Rattle.mail_world.specs.History.Event.{Start, Call, End, Stop, Moment, Halt}
+use Rattle.mail_world.specs.Headline.{Safe}
+
+-- A kept event tells an event: all of it but how much a failed write had written, which no program is told.
+abbrev pub Tells : Kept → Event → Type 0
+Tells event (Start a args) = event ≡ kept.Start a (Injector args)
+Tells event (Call a read ready call answer wrote) = event ≡ kept.Call a read ready call (record { answer = answer; bytes = [] })
+Tells event (End a read ready status) = event ≡ kept.End a read ready status
+Tells event (Stop a) = ⊥
+Tells event (Moment m) = ⊥
+Tells event (Halt contents) = ⊥
+
+-- What happened in a world that began with one disk and now has another one, at this moment: a legal history, of which
+-- the world kept each event, the oldest first.
+pub record IsHistory (opening now : Disk) (events : List Kept) (present : ℕ) (h : List Event) : Type 0 where
+  pub legal : Legal opening h
+  pub told : AllZip Tells (reverse events) h
+  pub disk : (after opening h).disk ≡ now
+  pub moment : (after opening h).now ≡ present
+
+-- a world: its disk, the events that it kept, the oldest first, and the present moment
+pub record Seen (D : Type 0) : Type 0 where
+  pub disk : D
+  pub events : List Kept
+  pub present : ℕ
+
+-- What happened in the world since it began with this disk: the disk tells, and this history led from the one to the
+-- other.
+abbrev pub Happened : {D : Type 0} → (D → Option Disk) → Disk → Seen D → List Event → Type 0
+Happened tells opening w h = IsSomeAnd (tells w.disk) (λ now. IsHistory opening now w.events w.present h)
+
+-- whatever happened in the old world, one event more happened in the new one
+abbrev pub GoesOn : {D : Type 0} → (D → Option Disk) → Seen D → Seen D → Type 0
+GoesOn tells old new = (opening : Disk) (h : List Event) → Happened tells opening old h → (e : Event) × Happened tells opening new (e ∷ h)
+
+-- each prefix of a history is safe
+abbrev pub EachSafe : Disk → List Event → Type 0
+EachSafe opening h = (later before : List Event) → later ++ before ≡ h → Safe (after opening before)
+
+-- a start of that actor
+abbrev pub starts : List ℕ → Kept → Bool
+starts a (kept.Start b program) = bytes_eq b a
+starts a (kept.Call b read ready call told) = false
+starts a (kept.End b read ready status) = false
+
+-- an actor of that name was started
+abbrev pub was_started : List Kept → List ℕ → Bool
+was_started events a = list_any (starts a) events
+
+-- an end of that actor
+abbrev pub IsEndOf : List ℕ → Kept → Type 0
+IsEndOf a (kept.Start b program) = ⊥
+IsEndOf a (kept.Call b read ready call told) = ⊥
+IsEndOf a (kept.End b read ready status) = b ≡ a
+
+-- that actor ended with the event at this index
+abbrev pub EndsAt : List Kept → List ℕ → ℕ → Type 0
+EndsAt events a at = IsSomeAnd (slice_get events at) (IsEndOf a)
+
+-- any start
+abbrev pub is_start : Kept → Bool
+is_start (kept.Start b program) = true
+is_start (kept.Call b read ready call told) = false
+is_start (kept.End b read ready status) = false
+
+-- the process number of the next actor: 77 and on, in order of start; it stands still at the last u32
+abbrev pub next_pid : List Kept → ℕ
+next_pid events = min (77 + count_by is_start events) (2 ^ 32 - 1)
+
+-- what the injector of a mail is started with
+abbrev pub mail : ℕ → ℕ → List ℕ → List ℕ → Arguments
+mail pid start message envelope = record {
+  uid = 1000;
+  pid = pid;
+  invoked = Uid 1000;
+  start = start;
+  message = message;
+  message_end = Whole;
+  envelope = envelope;
+  envelope_end = Whole;
+}
+
+-- an injector finds its input ready
+abbrev pub input_ready : Ready
+input_ready = record { links = true ∷ false ∷ false ∷ false ∷ []; child = None }
+
+-- the world after the start of a mail
+abbrev pub started_world : {D : Type 0} → Seen D → List ℕ → List ℕ → List ℕ → Seen D
+started_world old name message envelope = record {
+  disk = old.disk;
+  events = old.events ++ kept.Start name (Injector (mail (next_pid old.events) old.present message envelope)) ∷ [];
+  present = old.present;
+}
+
+-- A step of that actor appends one event: a file call with its answer, or the end that was told.
+abbrev pub IsStep : {D : Type 0} → List ℕ → Option ℕ → Seen D → Seen D → Type 0
+IsStep a None old new =
+    (call : CallData) × (answer : Answer) × (new.events ≡ old.events ++ kept.Call a old.present input_ready call (record { answer = answer; bytes = [] }) ∷ [])
+IsStep a (Some status) old new = new.events ≡ old.events ++ kept.End a old.present input_ready status ∷ []

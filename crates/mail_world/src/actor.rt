@@ -1,0 +1,262 @@
+// One actor: its machine, and what it has open.
+ghost use Rattle.std.specs.Prelude.{◌≡◌, ◌++◌, ◌∷◌, ◌<◌, [], List, ℕ, IfOk, IsTrue, OnOk, OnErr, Some, None, false, length, vec_len, vec_capacity};
+ghost use Rattle.call_fs.specs.declared.calls.CallData.{CallData as Made};
+ghost use Rattle.call_fs.specs.Disk.{IsMoment};
+ghost use Rattle.call_fs.specs.Told.{OnTold, Meets};
+ghost use Rattle.call_fs.specs.Program.{Own};
+ghost use Rattle.queue_inject.specs.declared.injection.Arguments.{Arguments as Started};
+ghost use Rattle.queue_inject.specs.Table.{Next};
+ghost use Rattle.queue_inject.specs.Machine.{due_now, is_call};
+ghost use Rattle.mail_world.specs.World.{mail, input_ready};
+ghost use Rattle.mail_world.specs.Inside.{Follows};
+ghost use Rattle.mail_world.specs.Acting.{MayAct, AreOpen, due_by, IsMade, HasActed, HasLooked, with_call, opened, shut};
+ghost use Rattle.mail_world.specs.Kept.{events_of};
+
+use crate::{ActorName, Did, Event, History};
+use call_fs::mail_bytes::{ByteText, Memory};
+use call_fs::{Answer, CallData, CallFs, Fd, Got, Need, Ready, Told, perform};
+use queue_inject::received_line::Invoked;
+use queue_inject::{Arguments, Injector, InputEnd};
+use std::alloc::{AllocError, Global};
+
+/// The user whose mails a script starts.
+pub const MAIL_USER: u32 = 1000;
+
+/// What an injector finds ready: its input, which was told to its end when it was started.
+pub const READY: Ready = Ready {
+    links: [true, false, false, false],
+    child: None,
+};
+
+/// An actor of the world.
+#[derive(Drop)]
+pub struct Actor {
+    /// Its name.
+    pub name: ActorName,
+    /// Its machine.
+    pub machine: Injector,
+    /// Its open descriptors.
+    pub descriptors: Vec<Fd>,
+    /// The index of its end in the history, where it has ended.
+    pub ended: Option<u64>,
+}
+
+/// What came of asking a machine.
+#[derive(Drop)]
+pub enum Came {
+    /// It made this call, with this answer.
+    Called(CallData, Answer),
+    /// It has ended with this status.
+    Ended(u8),
+}
+
+impl Actor {
+    /// A living actor that has nothing open. Takes no memory.
+    pub fn new(alloc: Global, name: ActorName, machine: Injector) -> Actor
+        ensures name { result.name ≡ name }
+        ensures machine { result.machine ≡ machine }
+        ensures descriptors { result.descriptors.items ≡ [] }
+        ensures ended { result.ended ≡ None }
+    {
+        Actor {
+            name,
+            machine,
+            descriptors: Vec::new(alloc),
+            ended: None,
+        }
+    }
+
+    /// Asks its machine what it does next at this moment, and makes the call. Room for a descriptor is made first. The
+    /// condition: what is next may be made.
+    fn ask<D: CallFs>(&mut self, alloc: Global, disk: &mut D, now: u64) -> Result<Came, Memory>
+        requires moment { IsMoment now }
+        requires may { MayAct (D.disk disk.old) self.old.machine now }
+        ensures due { IfOk result (λ came. (args : Started) (past : List Own)
+            → Follows self.old.machine args past → Next args past now input_ready ≡ due_by came) }
+        ensures made { IfOk result (λ came. IsMade came now (D.disk disk.old) (D.disk disk.new)) }
+        ensures room { OnOk result (vec_len self.new.descriptors < vec_capacity self.new.descriptors) }
+
+        // The machine stands as before, and has read this moment.
+        ensures follows { (args : Started) (past : List Own)
+            → Follows self.old.machine args past → Follows self.new.machine args past }
+        ensures present { OnOk result (self.new.machine.present ≡ now) }
+        ensures ready { OnOk result (self.new.machine.ready ≡ input_ready) }
+        ensures due_now { IfOk result (λ came. due_now self.new.machine ≡ due_by came) }
+
+        // The rest stays.
+        ensures name { self.new.name ≡ self.old.name }
+        ensures descriptors { self.new.descriptors.items ≡ self.old.descriptors.items }
+        ensures ended { self.new.ended ≡ self.old.ended }
+        ensures err { OnErr result (disk.new ≡ disk.old) }
+    {
+        self.descriptors.reserve(1)?;
+        self.machine.look(now, READY);
+        match self.machine.need() {
+            Need::File(call) => {
+                let owned = CallData::of(alloc, call)?;
+                let mut bytes = [0; 8192];
+                let answer = perform(alloc, disk, now, call, &mut bytes);
+                Ok(Came::Called(owned, answer))
+            }
+            Need::Ended(status) => Ok(Came::Ended(status)),
+            _ => unreachable!(),
+        }
+    }
+
+    /// One step at this moment: its next file call, or its end, in which its descriptors are closed. The event is
+    /// appended before the answer is handed to the machine. The conditions: what is next may be made, and what it has
+    /// open is open.
+    pub fn act<D: CallFs>(
+        &mut self,
+        alloc: Global,
+        disk: &mut D,
+        history: &mut History,
+        now: u64,
+    ) -> Result<Did, Memory>
+        requires moment { IsMoment now }
+        requires may { MayAct (D.disk disk.old) self.old.machine now }
+        requires opens { OnTold (D.disk disk.old) (λ before. AreOpen before self.old.descriptors.items) }
+        ensures acted { IfOk result (λ did. HasActed did.ended (D.disk disk.old) (D.disk disk.new)
+            self.old self.new (events_of history.old) (events_of history.new) now) }
+        ensures at { IfOk result (λ did. did.at ≡ length (events_of history.old)) }
+        ensures idle { IfOk result (λ did. did.idle ≡ false) }
+        ensures err { OnErr result (disk.new ≡ disk.old) }
+        ensures looked { OnErr result (HasLooked self.old self.new) }
+        ensures same { OnErr result (events_of history.new ≡ events_of history.old) }
+    {
+        history.reserve()?;
+        let at = history.len() as u64;
+        match self.ask(alloc, disk, now)? {
+            Came::Called(call, answer) => {
+                let told = told(alloc, &answer);
+                history.put(Event::Call {
+                    actor: self.name.copy(),
+                    read: now,
+                    ready: READY,
+                    call,
+                    told,
+                });
+                self.take(answer);
+                Ok(Did::new(at, None))
+            }
+            Came::Ended(status) => {
+                history.put(Event::End {
+                    actor: self.name.copy(),
+                    read: now,
+                    ready: READY,
+                    status,
+                });
+                self.end(disk, at);
+                Ok(Did::new(at, Some(status)))
+            }
+        }
+    }
+
+    /// Hands the answer to its call to its machine, and keeps what was opened. The conditions: a call is due, and there
+    /// is room for a descriptor.
+    fn take(&mut self, answer: Answer)
+        requires due { IsTrue (is_call (due_now self.old.machine)) }
+        requires room { vec_len self.old.descriptors < vec_capacity self.old.descriptors }
+        ensures follows { (args : Started) (past : List Own) (call : Made) → Follows self.old.machine args past
+            → Follows self.new.machine args (with_call self.old.machine past call answer) }
+        ensures descriptors { self.new.descriptors.items ≡ self.old.descriptors.items ++ opened answer }
+        ensures name { self.new.name ≡ self.old.name }
+        ensures ended { self.new.ended ≡ self.old.ended }
+    {
+        keep_open(&mut self.descriptors, &answer);
+        self.machine.done(Got::File(answer, &[])).unwrap();
+    }
+
+    /// It has ended, with the event of this index, and its descriptors are closed. The condition: they are open.
+    fn end<D: CallFs>(&mut self, disk: &mut D, at: u64)
+        requires { OnTold (D.disk disk.old) (λ before. AreOpen before self.old.descriptors.items) }
+        ensures closed { Meets (D.disk disk.old) (D.disk disk.new)
+            (λ before after. after ≡ shut self.old.descriptors.items before) }
+        ensures descriptors { self.new.descriptors.items ≡ [] }
+        ensures ended { self.new.ended ≡ Some at }
+        ensures name { self.new.name ≡ self.old.name }
+        ensures machine { self.new.machine ≡ self.old.machine }
+    {
+        self.ended = Some(at);
+        close_all(disk, &mut self.descriptors);
+    }
+}
+
+/// An answer that reads no bytes, as a history keeps it.
+fn told(alloc: Global, answer: &Answer) -> Told
+    ensures { result ≡ record { answer = answer.now; bytes = [] } }
+{
+    Told {
+        answer: answer.copy(),
+        bytes: ByteText::new(alloc),
+    }
+}
+
+/// Keeps what a call opened. The condition: there is room for it.
+fn keep_open(descriptors: &mut Vec<Fd>, answer: &Answer)
+    requires { vec_len descriptors.old < vec_capacity descriptors.old }
+    ensures { descriptors.new.items ≡ descriptors.old.items ++ opened answer.now }
+{
+    if let Answer::Created(fd, _) | Answer::Opened(fd) = answer {
+        descriptors.push(*fd).unwrap();
+    }
+}
+
+/// Closes each descriptor. The condition: each is open, and there once.
+fn close_all<D: CallFs>(disk: &mut D, descriptors: &mut Vec<Fd>)
+    requires { OnTold (D.disk disk.old) (λ before. AreOpen before descriptors.old.items) }
+    ensures closed { Meets (D.disk disk.old) (D.disk disk.new)
+        (λ before after. after ≡ shut descriptors.old.items before) }
+    ensures none { descriptors.new.items ≡ [] }
+{
+    while let Some(fd) = descriptors.pop() {
+        disk.close(fd);
+    }
+}
+
+/// An injector that was fed its whole input.
+pub fn injector_of(
+    alloc: Global,
+    pid: u32,
+    start: u64,
+    message: &[u8],
+    envelope: &[u8],
+) -> Result<Injector, Memory>
+    requires { IsMoment start }
+    ensures { IfOk result (λ machine. Follows machine (mail pid start message.now envelope.now) []) }
+{
+    let Some(room) = message.len().checked_add(envelope.len()) else {
+        return Err(AllocError);
+    };
+    let invoked = Invoked::Uid(MAIL_USER);
+    let mut injector = Injector::new(alloc, MAIL_USER, pid, invoked, start, room)?;
+    injector.feed(message);
+    injector.end_input();
+    injector.feed(envelope);
+    injector.end_input();
+    Ok(injector)
+}
+
+/// What the injector of a mail is started with.
+pub fn mail_of(
+    alloc: Global,
+    pid: u32,
+    start: u64,
+    message: &[u8],
+    envelope: &[u8],
+) -> Result<Arguments, Memory>
+    ensures { IfOk result (λ args. args ≡ mail pid start message.now envelope.now) }
+{
+    let message = ByteText::from_slice(alloc, message)?;
+    let envelope = ByteText::from_slice(alloc, envelope)?;
+    Ok(Arguments {
+        uid: MAIL_USER,
+        pid,
+        invoked: Invoked::Uid(MAIL_USER),
+        start,
+        message,
+        message_end: InputEnd::Whole,
+        envelope,
+        envelope_end: InputEnd::Whole,
+    })
+}

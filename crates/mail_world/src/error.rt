@@ -1,0 +1,47 @@
+// Why the world refuses.
+
+use crate::ActorName;
+use std::alloc::{AllocError, AllocFailed};
+use thiserror::Error;
+
+/// Why the world refuses; it is then as before.
+#[derive(Debug, Drop, Error)]
+pub enum WorldError {
+    /// The actor has ended; with the index of its end in the history, from 0.
+    #[error("the actor has ended")]
+    Gone(ActorName, u64),
+    /// The actor can't do anything yet.
+    #[error("the actor waits")]
+    NotWaiting(ActorName),
+    /// No actor of this name was started.
+    #[error("there is no actor of this name")]
+    Unknown,
+    /// The name of a mail was used, or is no name of a mail.
+    #[error("the name is taken")]
+    Taken,
+    /// Want of memory.
+    #[error("out of memory")]
+    Memory,
+}
+
+impl From<AllocError> for WorldError {
+    ghost use Rattle.std.specs.Prelude.{◌≡◌};
+    ghost use Rattle.mail_world.specs.declared.error.WorldError.TheVariants.{Memory};
+
+    ghost from_gives = { λ _ why. why ≡ Memory };
+
+    fn from(_: AllocError) -> Self {
+        WorldError::Memory
+    }
+}
+
+impl<T: Drop> From<AllocFailed<T>> for WorldError {
+    ghost use Rattle.std.specs.Prelude.{◌≡◌};
+    ghost use Rattle.mail_world.specs.declared.error.WorldError.TheVariants.{Memory};
+
+    ghost from_gives = { λ _ why. why ≡ Memory };
+
+    fn from(_: AllocFailed<T>) -> Self {
+        WorldError::Memory
+    }
+}

@@ -1,0 +1,22 @@
+//! The world of the queue's programs: one disk, the actors that use it, and the history of all that they did.
+//!
+//! Each step of the world is one file call, or one start or end, of one actor. It is appended to the history, which
+//! is legal by the definition in `specs/History.antt`; and the headline, `specs/Headline.antt`, says that every
+//! prefix of a legal history is safe: no accepted message is lost.
+#![tactic(auto)]
+
+mod actor;
+mod actor_name;
+mod error;
+mod event;
+pub mod laws;
+mod mail_name;
+mod places;
+pub mod queue_states;
+mod world;
+
+pub use actor_name::ActorName;
+pub use error::WorldError;
+pub use event::{Event, History, Program};
+pub use mail_name::{is_mail_name, is_member};
+pub use world::{Did, World};

@@ -1,0 +1,205 @@
+// The world: the disk, the actors, the history.
+ghost use Rattle.std.specs.Prelude.{◌≡◌, ◌≢◌, ◌∷◌, ◌++◌, ◌⊎◌, ◌↔◌, ◌<◌, [], List, ℕ, Some, None, true, false, length, IsTrue, IsSomeAnd, IsOk, IfOk, IfErr, OnOk, OnErr};
+ghost use Rattle.std.specs.List.{slice_get};
+ghost use Rattle.call_fs.specs.Disk.{Disk};
+ghost use Rattle.call_fs.specs.Told.{OnTold};
+ghost use Rattle.mail_world.specs.History.{Opening, Event as Happening};
+ghost use Rattle.mail_world.specs.Kept.{events_of};
+ghost use Rattle.mail_world.specs.MailNames.{IsMailName};
+ghost use Rattle.mail_world.specs.World.{Happened, GoesOn, EachSafe, was_started, EndsAt, started_world, IsStep};
+ghost use Rattle.mail_world.specs.Acting.{IsNoLiving};
+ghost use Rattle.mail_world.specs.Places.{place_of};
+
+use crate::actor::{Actor, injector_of, mail_of};
+use crate::laws::headline;
+use crate::mail_name::is_mail_name;
+use crate::places::Places;
+use crate::{ActorName, Event, History, Program, WorldError};
+use call_fs::CallFs;
+use call_fs::mail_bytes::Memory;
+use std::alloc::Global;
+use std::marker::Model;
+
+/// The process number of the first actor.
+const FIRST_PID: u32 = 77;
+
+/// What a step did.
+#[derive(Clone, Copy, Debug, PartialEq, Eq)]
+pub struct Did {
+    /// The index of its event in the history, from 0.
+    pub at: u64,
+    /// The exit status, where the actor ended.
+    pub ended: Option<u8>,
+    /// Whether an idle turn has just ended.
+    pub idle: bool,
+}
+
+impl Did {
+    /// A step with this event, of a program that has no turns.
+    pub(crate) fn new(at: u64, ended: Option<u8>) -> Did
+        ensures { result ≡ record { at = at; ended = ended; idle = false } }
+    {
+        Did {
+            at,
+            ended,
+            idle: false,
+        }
+    }
+}
+
+/// A disk, the actors that use it, and the history of what they did.
+#[derive(Drop)]
+pub struct World<D: CallFs> {
+    disk: D,
+    actors: Vec<Actor>,
+    places: Places,
+    history: History,
+    present: u64,
+    next_pid: u32,
+}
+
+impl<D: CallFs> Model for World<D> {
+    ghost use Rattle.mail_world.specs.World.{Seen};
+
+    ghost Value = { Seen D };
+
+    ghost use Rattle.mail_world.specs.Inside.{IsWorld, known};
+    ghost use Rattle.mail_world.specs.Places.{place_of};
+
+    ghost view = { λ w. record { disk = w.disk; events = w.history.events.items; present = w.present } };
+
+    ghost invariant = { λ w. IsWorld (D.disk w.disk) (place_of w.places) w.actors.items (known w.history.events.items) w.history.events.items w.present w.next_pid };
+}
+
+impl<D: CallFs> World<D> {
+    /// A world without actors over this disk, at moment 0, in which nothing has happened. It always succeeds.
+    pub fn new(alloc: Global, disk: D) -> Result<World<D>, Memory>
+        ensures ok { IsOk result }
+        ensures world { IfOk result (λ world. world ≡ record { disk = disk; events = []; present = 0 }) }
+        ensures begun { IfOk result (λ world.
+            OnTold (D.disk disk) (λ opening. Opening opening → Happened D.disk opening world [])) }
+    {
+        Ok(World {
+            disk,
+            actors: Vec::new(alloc),
+            places: Places::new(alloc),
+            history: History::new(alloc),
+            present: 0,
+            next_pid: FIRST_PID,
+        })
+    }
+
+    /// The disk.
+    pub fn disk(&self) -> &D
+        ensures { result.now ≡ self.now.disk }
+    {
+        &self.disk
+    }
+
+    /// What happened so far. Where the disk tells and was one to begin with, it is a legal history, and the queue was
+    /// safe at each moment of it.
+    pub fn history(&self) -> &History
+        ensures events { events_of result.now ≡ self.now.events }
+        ensures safe { (opening : Disk) (h : List Happening)
+            → Happened D.disk opening self.now h → EachSafe opening h }
+    {
+        headline();
+        &self.history
+    }
+
+    /// Starts an injector of this message and envelope for user 1000, at the present moment. `Taken` exactly where the
+    /// name was used, or is none that a mail may have.
+    pub fn start_mail(
+        &mut self,
+        alloc: Global,
+        name: &ActorName,
+        message: &[u8],
+        envelope: &[u8],
+    ) -> Result<(), WorldError>
+        ensures started { OnOk result (self.new ≡ started_world self.old name.now message.now envelope.now) }
+        ensures goes_on { OnOk result (GoesOn D.disk self.old self.new) }
+
+        ensures taken { (result ≡ Err WorldError.Taken)
+            ↔ ((was_started self.old.events name.now ≡ true) ⊎ (¬ (IsMailName name.now))) }
+        ensures others { IfErr result (λ why. (why ≡ WorldError.Taken) ⊎ (why ≡ WorldError.Memory)) }
+        ensures err { OnErr result (self.new ≡ self.old) }
+    {
+        if !self.is_free(name) {
+            return Err(WorldError::Taken);
+        }
+        Ok(self.begin(alloc, name, message, envelope)?)
+    }
+
+    /// Whether a mail may start under this name.
+    fn is_free(&self, name: &ActorName) -> bool
+        ensures { IsTrue result ↔ (IsMailName name.now × (was_started self.now.events name.now ≡ false)) }
+    {
+        is_mail_name(name.as_slice()) && self.places.find(name.as_slice()).is_none()
+    }
+
+    /// Starts an injector. The condition: no actor of that name was started.
+    fn begin(
+        &mut self,
+        alloc: Global,
+        name: &ActorName,
+        message: &[u8],
+        envelope: &[u8],
+    ) -> Result<(), Memory>
+        requires { was_started self.old.events name.now ≡ false }
+        ensures started { OnOk result (self.new ≡ started_world self.old name.now message.now envelope.now) }
+        ensures goes_on { OnOk result (GoesOn D.disk self.old self.new) }
+        ensures err { OnErr result (self.new ≡ self.old) }
+    {
+        let machine = injector_of(alloc, self.next_pid, self.present, message, envelope)?;
+        let arguments = mail_of(alloc, self.next_pid, self.present, message, envelope)?;
+        self.history.reserve()?;
+        self.actors.reserve(1)?;
+        self.places.add(alloc, name.as_slice(), self.actors.len())?;
+        let actor = Actor::new(alloc, name.copy(), machine);
+        self.actors.push(actor).unwrap();
+        self.history.put(Event::Start {
+            actor: name.copy(),
+            program: Program::Injector(arguments),
+        });
+        self.next_pid = self.next_pid.saturating_add(1);
+        Ok(())
+    }
+
+    /// One step of an actor: its next file call, or its end, in which its descriptors are closed. `Unknown` exactly
+    /// where no actor of this name was started, `Gone` exactly where it has ended. `NotWaiting` would come where an
+    /// actor waits, and never does: each is an injector that has its whole input.
+    pub fn step(&mut self, alloc: Global, actor: &ActorName) -> Result<Did, WorldError>
+        ensures event { IfOk result (λ did. IsStep actor.now did.ended self.old self.new) }
+        ensures present { self.new.present ≡ self.old.present }
+        ensures at { IfOk result (λ did. did.at ≡ length self.old.events) }
+        ensures idle { IfOk result (λ did. did.idle ≡ false) }
+        ensures goes_on { OnOk result (GoesOn D.disk self.old self.new) }
+
+        ensures unknown { (result ≡ Err WorldError.Unknown) ↔ (was_started self.old.events actor.now ≡ false) }
+        ensures gone { (name : List ℕ) (at : ℕ) → (result ≡ Err (WorldError.Gone name at))
+            ↔ ((name ≡ actor.now) × EndsAt self.old.events actor.now at) }
+        ensures waits { (name : List ℕ) → result ≢ Err (WorldError.NotWaiting name) }
+        ensures taken { result ≢ Err WorldError.Taken }
+        ensures err { OnErr result (self.new ≡ self.old) }
+    {
+        let place = living(&self.places, &self.actors, actor)?;
+        let acting = &mut self.actors[place];
+        Ok(acting.act(alloc, &mut self.disk, &mut self.history, self.present)?)
+    }
+}
+
+/// The place of the living actor of this name. The condition: each place is one of the actors'.
+fn living(places: &Places, actors: &[Actor], name: &ActorName) -> Result<usize, WorldError>
+    requires { (i : ℕ) → place_of places.now name.now ≡ Some i → i < length actors.now }
+    ensures ok { IfOk result (λ i. (place_of places.now name.now ≡ Some i)
+        × IsSomeAnd (slice_get actors.now i) (λ x. x.ended ≡ None)) }
+    ensures err { IfErr result (λ why. IsNoLiving (place_of places.now) actors.now name.now why) }
+{
+    let Some(place) = places.find(name.as_slice()) else {
+        return Err(WorldError::Unknown);
+    };
+    match actors[place].ended {
+        Some(at) => Err(WorldError::Gone(name.copy(), at)),
+        None => Ok(place),
+    }
+}

@@ -1,0 +1,15 @@
+pub mod Tables
+pub mod NumberTable
+pub mod Counting
+pub mod NameTable
+pub mod Parts
+pub mod NextName
+pub mod Versions
+pub mod FileTable
+pub mod Idle
+pub mod Uses
+pub mod Changes
+pub mod Steps
+pub mod NextNumber
+pub mod InTurn
+pub mod TwoNames

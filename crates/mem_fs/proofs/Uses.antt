@@ -1,0 +1,132 @@
+-- What uses a number, and how its entry counts that.
+use Rattle.std.proofs.Common.{◌≡◌, ◌≢◌, ⊎_elim, ℕ, suc, ◌^◌, ◌↔◌, IsTrue, ◌<◌, ◌≤◌, Bool, true, false, cond, List, [], ◌∷◌, length, get_or, filter, Option, Some, None, IsSome, unwrap_or, nat_eq, bytes_eq, refl, ap, ◌∙◌, arith}
+use Rattle.std.specs.Option.{option_map, IfSome, IfNone}
+use Rattle.std.proofs.lemmas.Bool.Decides.{Decides-eqb}
+use Rattle.std.proofs.lemmas.Bool.{cases_eq}
+use Rattle.std.proofs.lemmas.List.{get_or_default}
+use Rattle.std.proofs.lemmas.List.Sums.{sum_by-remove, length-filter}
+use Rattle.mem_fs.specs.declared.file.Inode.{Inode}
+use Rattle.call_fs.specs.Disk.{Open, IsUnused}
+use Rattle.mem_fs.specs.Tables.{at_name, at_number}
+use Rattle.mem_fs.specs.MemDisk.{Held, disk_of, opened, links_of, holds_of, count_of, IsSound, IsIdle, IsFree, IsLeastFree, IsGreatestFree, NoneFree}
+use Rattle.call_fs.proofs.Maps.{bytes_eq-decides}
+use Rattle.mem_fs.proofs.Tables.{place_of_found}
+use Rattle.mem_fs.proofs.NameTable.{name-at}
+use Rattle.mem_fs.proofs.NumberTable.{number-at}
+
+-- ---- counts
+
+-- an entry of the number is counted
+count-there : {K : Type 0} (es : List (K × ℕ)) (n i : ℕ) (e : K × ℕ) → i < length es → get_or es i e ≡ e → e.1 ≡ n → 1 ≤ count_of es n
+count-there es n i e within read is =
+    let here : ◌≡◌ {A = ℕ} (cond (nat_eq (get_or es i e).1 n) 1 0) 1 = ap (λ (b : Bool). cond b 1 0) ((Decides-eqb (get_or es i e).1 n).1 (ap (λ (x : _ × ℕ). x.1) read ∙ is)) in
+    omega (arith, sum_by-remove (λ x. cond (nat_eq x.1 n) 1 0) es i e within, here)
+
+-- what is counted has an entry
+passes : {X : Type 0} (p : X → Bool) (xs : List X) → 1 ≤ length (filter p xs) → (i : ℕ) × (i < length xs) × ((d : X) → p (get_or xs i d) ≡ true)
+passes p [] h = absurd (omega arith)
+passes {X} p (x ∷ xs) h =
+    elim (p x) as (λ b. p x ≡ b → 1 ≤ length (cond b (x ∷ filter p xs) (filter p xs)) → (i : ℕ) × (i < suc (length xs)) × ((d : X) → p (get_or (x ∷ xs) i d) ≡ true)) [
+      | true ↦ λ t s. (0, omega arith, λ d. t)
+      | false ↦ λ t s. let deeper = passes p xs s in (suc deeper.0, omega (arith, deeper.1), deeper.2)
+    ] refl h
+
+counted : {K : Type 0} (es : List (K × ℕ)) (n : ℕ) → 1 ≤ count_of es n → (i : ℕ) × (i < length es) × ((d : K × ℕ) → (get_or es i d).1 ≡ n)
+counted es n h =
+    let p : _ × ℕ → Bool = λ e. nat_eq e.1 n in
+    let found = passes p es (omega (arith, length-filter p es)) in
+    (found.0, found.1, λ d. (Decides-eqb (get_or es found.0 d).1 n).0 (found.2 d))
+
+pub name_counted : (names : List (List ℕ × ℕ)) (name : List ℕ) (n : ℕ) → at_name names name ≡ Some n → 1 ≤ count_of names n
+name_counted names name n found =
+    let place = place_of_found bytes_eq bytes_eq-decides names name n found in
+    count-there names n place.0 (name, n) place.1 (place.2 (name, n)) refl
+
+pub open_counted : (opens : List (ℕ × ℕ)) (fd n : ℕ) → at_number opens fd ≡ Some n → 1 ≤ count_of opens n
+open_counted opens fd n found =
+    let place = place_of_found nat_eq Decides-eqb opens fd n found in
+    count-there opens n place.0 (fd, n) place.1 (place.2 (fd, n)) refl
+
+-- ---- entries
+
+pub entry_of_links : (files : List (ℕ × Inode)) (n : ℕ) → 1 ≤ links_of files n → IsSome (at_number files n)
+entry_of_links files n h =
+    elim (at_number files n) as (λ (o : Option Inode). 1 ≤ unwrap_or (option_map (λ (i : Inode). i.links) o) 0 → IsSome o) [ None ↦ λ t. absurd (omega arith) | Some i ↦ λ t. refl ] h
+
+pub entry_of_holds : (files : List (ℕ × Inode)) (n : ℕ) → 1 ≤ holds_of files n → IsSome (at_number files n)
+entry_of_holds files n h =
+    elim (at_number files n) as (λ (o : Option Inode). 1 ≤ unwrap_or (option_map (λ (i : Inode). i.opens) o) 0 → IsSome o) [ None ↦ λ t. absurd (omega arith) | Some i ↦ λ t. refl ] h
+
+-- ---- what is used
+
+module _ (h : Held) (sound : IsSound h) where
+  pub named_links : (name : List ℕ) (n : ℕ) → at_name h.names name ≡ Some n → 1 ≤ links_of h.files n
+  named_links name n found = omega (arith, name_counted h.names name n found, sound.links n)
+
+  pub named_entry : (name : List ℕ) (n : ℕ) → at_name h.names name ≡ Some n → IsSome (at_number h.files n)
+  named_entry name n found = entry_of_links h.files n (named_links name n found)
+
+  pub opened_holds : (fd n : ℕ) → at_number h.opens fd ≡ Some n → 1 ≤ holds_of h.files n
+  opened_holds fd n found = omega (arith, open_counted h.opens fd n found, sound.holds n)
+
+  pub opened_entry : (fd n : ℕ) → at_number h.opens fd ≡ Some n → IsSome (at_number h.files n)
+  opened_entry fd n found = entry_of_holds h.files n (opened_holds fd n found)
+
+  -- a number that nothing uses is idle, and the other way round
+  pub unused_idle : (n : ℕ) → IsUnused (disk_of h) n → IsIdle h.files n
+  unused_idle n unused = (
+    zero_of (links_of h.files n) (λ some.
+        let found = counted h.names n (omega (arith, sound.links n, some)) in
+        let name = (get_or h.names found.0 ([], 0)).0 in
+        unused.unnamed name (name-at h.names sound.names name found.0 (record { within = found.1; has_key = λ d. key_same found.0 found.1 d }) ([], 0) ∙ ap (λ (m : ℕ). Some m) (found.2 ([], 0)))),
+    zero_of (holds_of h.files n) (λ some.
+        let found = counted h.opens n (omega (arith, sound.holds n, some)) in
+        let fd = (get_or h.opens found.0 (0, 0)).0 in
+        unused.unopened fd (opened n)
+        (ap (option_map opened) (number-at h.opens sound.opens fd found.0 (record { within = found.1; has_key = λ d. number_same found.0 found.1 d }) (0, 0) ∙ ap (λ (m : ℕ). Some m) (found.2 (0, 0)))) refl),
+  )
+    where
+      zero_of : (m : ℕ) → (1 ≤ m → ⊥) → m ≡ 0
+      zero_of m not = ⊎_elim (λ (is : m ≡ 0). is) (λ differs. absurd (not (omega arith))) (cases_eq m 0)
+
+      key_same : (i : ℕ) → i < length h.names → (d : List ℕ × ℕ) → (get_or h.names i d).0 ≡ (get_or h.names i ([], 0)).0
+      key_same i within d = ap (λ (e : List ℕ × ℕ). e.0) (get_or_default h.names i d ([], 0) within)
+
+      number_same : (i : ℕ) → i < length h.opens → (d : ℕ × ℕ) → (get_or h.opens i d).0 ≡ (get_or h.opens i (0, 0)).0
+      number_same i within d = ap (λ (e : ℕ × ℕ). e.0) (get_or_default h.opens i d (0, 0) within)
+
+  pub idle_unused : (n : ℕ) → IsIdle h.files n → IsUnused (disk_of h) n
+  idle_unused n idle = record {
+    unnamed = λ name found. omega (arith, named_links name n found, idle.0);
+    unopened = λ fd o found is.
+        let there = open_is (at_number h.opens fd) o found in
+        omega (arith, opened_holds fd there.0 there.1, idle.1, ap (λ m. holds_of h.files m) (ap (λ (x : Open). x.number) there.2 ∙ is));
+  }
+    where
+      open_is : (a : Option ℕ) (o : Open) → option_map opened a ≡ Some o → (m : ℕ) × (a ≡ Some m) × (opened m ≡ o)
+      open_is None o e = absurd cc
+      open_is (Some m) o e = (m, refl, cc)
+
+-- ---- which numbers are free
+
+pub is_free_from : {h : Held} → IsSound h → (n : ℕ) (b : Bool) → n ≢ 0 → IsTrue b ↔ IsIdle h.files n → IsTrue b ↔ IsFree (disk_of h) n
+is_free_from {h} sound n b positive idle = ((λ t. (omega arith, idle_unused h sound n (idle.0 t))), λ free. idle.1 (unused_idle h sound n free.1))
+
+pub least_free_from : {h : Held} → IsSound h → (o : Option ℕ) → IfSome o (λ n. (1 ≤ n) × IsIdle h.files n × ((lower : ℕ) → 1 ≤ lower → lower < n → ¬ (IsIdle h.files lower))) → IfSome o (IsLeastFree (disk_of h))
+least_free_from sound None found = tt
+least_free_from {h} sound (Some n) found = record {
+  free = (found.0, idle_unused h sound n found.1);
+  least = λ m lt free. found.2 m free.0 lt (unused_idle h sound m free.1);
+}
+
+pub greatest_free_from : {h : Held} → IsSound h → (o : Option ℕ) → IfSome o (λ n. n < 2 ^ 64) → IfSome o (λ n. (1 ≤ n) × IsIdle h.files n × ((higher : ℕ) → n < higher → higher < 2 ^ 64 → ¬ (IsIdle h.files higher))) → IfSome o (IsGreatestFree (disk_of h))
+greatest_free_from sound None fits found = tt
+greatest_free_from {h} sound (Some n) fits found = record {
+  free = (found.0, idle_unused h sound n found.1);
+  in_range = fits;
+  greatest = λ m above below free. found.2 m above below (unused_idle h sound m free.1);
+}
+
+pub none_free_from : {h : Held} → IsSound h → (o : Option ℕ) → IfNone o ((n : ℕ) → 1 ≤ n → n < 2 ^ 64 → ¬ (IsIdle h.files n)) → IfNone o (NoneFree (disk_of h))
+none_free_from {h} sound None none = λ n below free. none n free.0 below (unused_idle h sound n free.1)
+none_free_from sound (Some n) none = tt

@@ -1,0 +1,173 @@
+-- A disk in memory: the lists that it keeps, and the disk that they stand for.
+use Rattle.std.specs.Prelude.{◌≡◌, ◌⊎◌, ℕ, ◌<◌, ◌≤◌, ◌+◌, ◌-◌, ◌^◌, ◌==◌, ◌++◌, List, [], ◌∷◌, Bool, true, false, IsTrue, Option, Some, None, unwrap_or, count_by, Result, Ok, Err, Contains, ◌↔◌, min, if◌then◌else◌}
+use Rattle.std.specs.Option.{option_map}
+use Rattle.call_fs.specs.declared.calls.FsError.{FsError}
+use Rattle.call_fs.specs.declared.calls.FsError.TheVariants.{NotThere, Exists, Fault, Memory}
+use Rattle.mem_fs.specs.declared.file.Inode.{Inode}
+use Rattle.call_fs.specs.Disk.{File, Open, Mode, Disk, IsUnused}
+use Rattle.call_fs.specs.Maps.{put, put_at}
+use Rattle.mem_fs.specs.MemFile.{no_file, settled_file}
+use Rattle.mem_fs.specs.Tables.{at_name, at_number, AreNamesInOrder, AreNumbersInOrder}
+
+-- The lists of a disk in memory: its directories, the number of each name, what each number has, and the number of each
+-- open descriptor.
+pub record Held : Type 0 where
+  pub dirs : List (List ℕ)
+  pub names : List (List ℕ × ℕ)
+  pub files : List (ℕ × Inode)
+  pub opens : List (ℕ × ℕ)
+
+abbrev pub file_at : List (ℕ × Inode) → ℕ → File
+file_at files n = unwrap_or (option_map (λ i. i.file) (at_number files n)) no_file
+
+-- every descriptor came from the creation of its file
+abbrev pub opened : ℕ → Open
+opened n = record { number = n; mode = Mode.Created }
+
+abbrev pub open_at : List (ℕ × ℕ) → ℕ → Option Open
+open_at opens fd = option_map opened (at_number opens fd)
+
+-- The disk that the lists stand for. A file that nothing uses any more is kept until its number is taken again.
+abbrev pub disk_of : Held → Disk
+disk_of h = record { dirs = h.dirs; names = at_name h.names; files = file_at h.files; opens = open_at h.opens }
+
+-- how many names a number has, and how many descriptors are open on it, as its file's entry counts them
+abbrev pub links_of : List (ℕ × Inode) → ℕ → ℕ
+links_of files n = unwrap_or (option_map (λ i. i.links) (at_number files n)) 0
+
+abbrev pub holds_of : List (ℕ × Inode) → ℕ → ℕ
+holds_of files n = unwrap_or (option_map (λ i. i.opens) (at_number files n)) 0
+
+-- the same, counted one by one
+abbrev pub count_of : {K : Type 0} → List (K × ℕ) → ℕ → ℕ
+count_of es n = count_by (λ e. e.1 == n) es
+
+-- the lists are in order, and each entry of a file counts what uses it
+pub record IsSound (h : Held) : Type 0 where
+  pub names : AreNamesInOrder h.names
+  pub files : AreNumbersInOrder h.files
+  pub opens : AreNumbersInOrder h.opens
+  pub links : (n : ℕ) → links_of h.files n ≡ count_of h.names n
+  pub holds : (n : ℕ) → holds_of h.files n ≡ count_of h.opens n
+
+-- a number that a new file may take
+abbrev pub IsFree : Disk → ℕ → Type 0
+IsFree d n = (1 ≤ n) × IsUnused d n
+
+-- no lower number may be taken
+pub record IsLeastFree (d : Disk) (n : ℕ) : Type 0 where
+  pub free : IsFree d n
+  pub least : (m : ℕ) → m < n → ¬ (IsFree d m)
+
+-- no higher number may be taken, below the end of the numbers
+pub record IsGreatestFree (d : Disk) (n : ℕ) : Type 0 where
+  pub free : IsFree d n
+  pub in_range : n < 2 ^ 64
+  pub greatest : (m : ℕ) → n < m → m < 2 ^ 64 → ¬ (IsFree d m)
+
+-- no u64 may be taken
+abbrev pub NoneFree : Disk → Type 0
+NoneFree d = (n : ℕ) → n < 2 ^ 64 → ¬ (IsFree d n)
+
+-- The number that a new file takes, and the picks that are left then: picks that may not be taken are passed over, the
+-- first that may is taken; where there is none, the least free number is.
+abbrev pub IsNextNumber : Disk → List ℕ → ℕ → List ℕ → Type 0
+IsNextNumber d [] n left = IsLeastFree d n × (left ≡ [])
+IsNextNumber d (pick ∷ picks) n left =
+    (IsFree d pick × (n ≡ pick) × (left ≡ picks)) ⊎ ((¬ (IsFree d pick)) × IsNextNumber d picks n left)
+
+-- the least descriptor from 1 that isn't open
+pub record IsNextDescriptor (d : Disk) (fd : ℕ) : Type 0 where
+  pub positive : 1 ≤ fd
+  pub not_open : d.opens fd ≡ None
+  pub least : (lower : ℕ) → 1 ≤ lower → lower < fd → ¬ (d.opens lower ≡ None)
+
+-- nothing uses the number
+abbrev pub IsIdle : List (ℕ × Inode) → ℕ → Type 0
+IsIdle files n = (links_of files n ≡ 0) × (holds_of files n ≡ 0)
+
+-- how the entry of a file changes
+abbrev pub on_file : (File → File) → Inode → Inode
+on_file f i = record { links = i.links; opens = i.opens; file = f i.file }
+
+abbrev pub linked : Inode → Inode
+linked i = record { links = i.links + 1; opens = i.opens; file = i.file }
+
+abbrev pub unlinked : Inode → Inode
+unlinked i = record { links = i.links - 1; opens = i.opens; file = i.file }
+
+abbrev pub closed : Inode → Inode
+closed i = record { links = i.links; opens = i.opens - 1; file = i.file }
+
+-- the entry of this number changed so, and no other
+pub record Changes (old new : List (ℕ × Inode)) (n : ℕ) (change : Inode → Inode) : Type 0 where
+  pub in_order : AreNumbersInOrder new
+  pub value : (i : Inode) → at_number old n ≡ Some i → at_number new ≡ put (at_number old) n (Some (change i))
+
+-- no directory, no name, nothing open
+abbrev pub nothing : Held
+nothing = record { dirs = []; names = []; files = []; opens = [] }
+
+-- the bytes of the file of a name
+abbrev pub bytes_at : Disk → List ℕ → Option (List ℕ)
+bytes_at d name = option_map (λ n. (d.files n).bytes) (d.names name)
+
+-- one directory more
+abbrev pub with_dir : Disk → List ℕ → Disk
+with_dir d dir = record { dirs = d.dirs ++ dir ∷ []; names = d.names; files = d.files; opens = d.opens }
+
+-- a number's file is this one
+abbrev pub with_file : Disk → ℕ → File → Disk
+with_file d n file = record { dirs = d.dirs; names = d.names; files = put d.files n file; opens = d.opens }
+
+-- a new name has the greatest free number, with this file
+pub record PlacesNew (old : Disk) (name : List ℕ) (file : File) (new : Disk) : Type 0 where
+  pub number : ℕ
+  pub greatest : IsGreatestFree old number
+  pub is : new ≡ record { dirs = old.dirs; names = put_at old.names name (Some number); files = put old.files number file; opens = old.opens }
+
+-- a name has these bytes, all of them on the disk: the file that it had before, or else a new one
+pub record Places (old : Disk) (name bytes : List ℕ) (new : Disk) : Type 0 where
+  pub there : (n : ℕ) → old.names name ≡ Some n → new ≡ with_file old n (settled_file bytes)
+  pub missing : old.names name ≡ None → PlacesNew old name (settled_file bytes) new
+
+-- each u64 from 1 is open
+abbrev pub AllOpen : Disk → Type 0
+AllOpen d = (fd : ℕ) → 1 ≤ fd → fd < 2 ^ 64 → ¬ (d.opens fd ≡ None)
+
+-- A disk in memory with its plan: the picks that are left for new numbers, the calls that are to fail, by their index
+-- from 1, how many calls were made (`close` isn't counted), and how many have failed.
+pub record Planned : Type 0 where
+  pub held : Held
+  pub picks : List ℕ
+  pub plan : List ℕ
+  pub made : ℕ
+  pub faults : ℕ
+
+-- one more, where a u64 has room for it
+abbrev pub one_more : ℕ → ℕ
+one_more n = min (n + 1) (2 ^ 64 - 1)
+
+-- a disk in memory that holds nothing and has made no call
+abbrev pub fresh : List ℕ → List ℕ → Planned
+fresh picks plan = record { held = nothing; picks = picks; plan = plan; made = 0; faults = 0 }
+
+-- a fault was answered
+abbrev pub is_fault : {T : Type 0} → Result T FsError → Bool
+is_fault (Err Fault) = true
+is_fault (Err NotThere) = false
+is_fault (Err Exists) = false
+is_fault (Err Memory) = false
+is_fault (Ok x) = false
+
+-- A call was counted. It failed with a fault exactly where it was planned, and then left the lists as they were.
+pub record Counts {T : Type 0} (old new : Planned) (result : Result T FsError) : Type 0 where
+  pub made : new.made ≡ one_more old.made
+  pub plan : new.plan ≡ old.plan
+  pub planned : IsTrue (is_fault result) ↔ Contains old.plan (one_more old.made)
+  pub faults : new.faults ≡ (if is_fault result then one_more old.faults else old.faults)
+  pub nothing_done : is_fault result ≡ true → new.held ≡ old.held
+
+-- only the lists changed
+abbrev pub with_held : Planned → Held → Planned
+with_held p h = record { held = h; picks = p.picks; plan = p.plan; made = p.made; faults = p.faults }

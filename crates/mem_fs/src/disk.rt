@@ -1,0 +1,240 @@
+// The disk in memory.
+ghost use Rattle.std.specs.Prelude.{◌≡◌, ◌≤◌, IfOk, IfSome, IfNone, OnOk, OnErr, Some, None, Ok, length, drop};
+ghost use Rattle.std.specs.Option.{option_copied};
+ghost use Rattle.call_fs.specs.declared.calls.CallData.TheVariants as call;
+ghost use Rattle.call_fs.specs.declared.calls.Answer.TheVariants as answer;
+ghost use Rattle.call_fs.specs.Disk.{MayUse, MayAppend};
+ghost use Rattle.call_fs.specs.Calls.{created, done, stated, next_found};
+ghost use Rattle.call_fs.specs.Apply.{Apply, IsNextName, IsLastName};
+ghost use Rattle.call_fs.specs.Told.{HasCause};
+ghost use Rattle.mem_fs.specs.MemDisk.{disk_of, fresh, with_dir, with_held, bytes_at, Places, Counts, IsFree, NoneFree, IsNextNumber, IsNextDescriptor};
+
+use crate::picks::Picks;
+use crate::plan::Plan;
+use crate::store::Store;
+use call_fs::mail_bytes::Memory;
+use call_fs::{CallFs, Fd, FsError, NameBuf, Stat};
+use std::alloc::Global;
+use std::marker::Model;
+
+/// A disk in memory. It keeps plain lists, tells what it holds, and fails at the calls that were planned and at no
+/// others. A file that nothing uses any more is kept until its number is taken again.
+#[derive(Debug, Drop)]
+pub struct MemFs {
+    store: Store,
+    picks: Picks,
+    plan: Plan,
+}
+
+impl Model for MemFs {
+    ghost use Rattle.mem_fs.specs.MemDisk.{Planned};
+
+    ghost Value = { Planned };
+
+    ghost view = { λ m. record { held = m.store; picks = m.picks; plan = m.plan.at.items; made = m.plan.made; faults = m.plan.faults } };
+}
+
+impl MemFs {
+    /// An empty disk without directories. A new file takes the first of the picks that is free, and where there is none
+    /// the least free number from 1; a pick that isn't free is passed over. The calls at the indexes of `faults` fail,
+    /// counted from 1 over every call but `close`.
+    pub fn new(alloc: Global, picks: Vec<u64>, faults: Vec<u64>) -> Result<MemFs, Memory>
+        ensures { result ≡ Ok (fresh picks.items faults.items) }
+    {
+        Ok(MemFs {
+            store: Store::new(alloc),
+            picks: Picks::new(picks),
+            plan: Plan {
+                at: faults,
+                made: 0,
+                faults: 0,
+            },
+        })
+    }
+
+    /// Adds a directory. After `Memory` it is as before.
+    pub fn dir(&mut self, alloc: Global, name: &[u8]) -> Result<(), Memory>
+        ensures ok { OnOk result (disk_of self.new.held ≡ with_dir (disk_of self.old.held) name.now) }
+        ensures rest { self.new ≡ with_held self.old self.new.held }
+        ensures err { OnErr result (self.new ≡ self.old) }
+    {
+        self.store.add_dir(alloc, name)
+    }
+
+    /// Puts a file with these bytes under a name, all of them on the disk, with moment 0. A new name takes the greatest
+    /// free number; a name that is there keeps its number, and its file has these bytes instead. After `Memory` it is
+    /// as before.
+    pub fn place(&mut self, alloc: Global, name: &[u8], bytes: &[u8]) -> Result<(), Memory>
+        ensures ok { OnOk result (Places (disk_of self.old.held) name.now bytes.now (disk_of self.new.held)) }
+        ensures rest { self.new ≡ with_held self.old self.new.held }
+        ensures err { OnErr result (self.new ≡ self.old) }
+    {
+        self.store.place(alloc, name, bytes)
+    }
+
+    /// The least name in a directory after that one in byte order; None exactly where there is none.
+    pub fn name_after(&self, dir: &[u8], after: &[u8]) -> Option<&[u8]>
+        ensures some { IfSome result (λ name. IsNextName (disk_of self.now.held) dir.now after.now name.now) }
+        ensures none { IfNone result (IsLastName (disk_of self.now.held) dir.now after.now) }
+    {
+        self.store.next_name(dir, after)
+    }
+
+    /// The bytes of the file of a name; None exactly where the name is missing.
+    pub fn bytes_of(&self, name: &[u8]) -> Option<&[u8]>
+        ensures { option_copied result ≡ bytes_at (disk_of self.now.held) name.now }
+    {
+        self.store.bytes_of(name)
+    }
+}
+
+/// The number that a new file takes, and how many picks are used up then; None only where each u64 from 1 is used.
+fn next_number(store: &Store, picks: &[u64]) -> Option<(u64, usize)>
+    ensures number { IfSome result (λ next. IsNextNumber (disk_of store.now) picks.now next.0 (drop next.1 picks.now)) }
+    ensures free { IfSome result (λ next. IsFree (disk_of store.now) next.0) }
+    ensures used { IfSome result (λ next. next.1 ≤ length picks.now) }
+    ensures none { IfNone result (NoneFree (disk_of store.now)) }
+{
+    for (at, pick) in picks.iter().enumerate() {
+        if store.is_free(*pick) {
+            return Some((*pick, at + 1));
+        }
+    }
+    Some((store.least_free()?, picks.len()))
+}
+
+impl CallFs for MemFs {
+    ghost disk = { λ m. Some (disk_of m.held) };
+
+    ghost calls = { λ _. None };
+
+    ghost faults = { λ m. m.faults };
+
+    fn faults(&self) -> u64 {
+        self.plan.faults
+    }
+
+    /// As the trait says. The new file takes the next number by the picks, and the least free descriptor.
+    fn create_excl(&mut self, alloc: Global, now: u64, name: &[u8]) -> Result<(Fd, u64), FsError>
+        ensures told { Apply (disk_of self.old.held) now (call.CreateExcl name.now) (created result) (disk_of self.new.held) }
+        ensures cause { HasCause self.old.faults self.new.faults result }
+        ensures counts { Counts self.old self.new result }
+        ensures number { IfOk result (λ made. IsNextNumber (disk_of self.old.held) self.old.picks made.1 self.new.picks) }
+        ensures descriptor { IfOk result (λ made. IsNextDescriptor (disk_of self.old.held) made.0.0) }
+        ensures picks { OnErr result (self.new.picks ≡ self.old.picks) }
+    {
+        self.plan.begin()?;
+        if !self.store.has_dir(name) {
+            return Err(FsError::NotThere);
+        }
+        if self.store.number_of(name).is_some() {
+            return Err(FsError::Exists);
+        }
+        let Some((number, used)) = next_number(&self.store, self.picks.as_slice()) else {
+            return Err(FsError::Memory);
+        };
+        let Some(fd) = self.store.least_descriptor() else {
+            return Err(FsError::Memory);
+        };
+        self.store.create(alloc, now, name, fd, number)?;
+        self.picks.use_up(used);
+        Ok((fd, number))
+    }
+
+    fn append(&mut self, _alloc: Global, now: u64, fd: Fd, bytes: &[u8]) -> Result<(), FsError>
+        requires { MayAppend (disk_of self.old.held) fd.0 }
+        ensures told { Apply (disk_of self.old.held) now (call.Append fd bytes.now) (done result) (disk_of self.new.held) }
+        ensures cause { HasCause self.old.faults self.new.faults result }
+        ensures counts { Counts self.old self.new result }
+        ensures picks { self.new.picks ≡ self.old.picks }
+    {
+        self.plan.begin()?;
+        self.store.append(now, fd, bytes)?;
+        Ok(())
+    }
+
+    fn sync(&mut self, fd: Fd) -> Result<(), FsError>
+        requires { MayUse (disk_of self.old.held) fd.0 }
+        ensures told { Apply (disk_of self.old.held) 0 (call.Sync fd) (done result) (disk_of self.new.held) }
+        ensures cause { HasCause self.old.faults self.new.faults result }
+        ensures counts { Counts self.old self.new result }
+        ensures picks { self.new.picks ≡ self.old.picks }
+    {
+        self.plan.begin()?;
+        self.store.sync(fd);
+        Ok(())
+    }
+
+    /// As the trait says. It isn't counted as a call.
+    fn close(&mut self, fd: Fd)
+        requires { MayUse (disk_of self.old.held) fd.0 }
+        ensures told { Apply (disk_of self.old.held) 0 (call.Close fd) answer.Done (disk_of self.new.held) }
+        ensures rest { self.new ≡ with_held self.old self.new.held }
+    {
+        self.store.close(fd);
+    }
+
+    fn link(&mut self, alloc: Global, old: &[u8], new: &[u8]) -> Result<(), FsError>
+        ensures told { Apply (disk_of self.old.held) 0 (call.Link old.now new.now) (done result) (disk_of self.new.held) }
+        ensures cause { HasCause self.old.faults self.new.faults result }
+        ensures counts { Counts self.old self.new result }
+        ensures picks { self.new.picks ≡ self.old.picks }
+    {
+        self.plan.begin()?;
+        if self.store.number_of(old).is_none() || !self.store.has_dir(new) {
+            return Err(FsError::NotThere);
+        }
+        if self.store.number_of(new).is_some() {
+            return Err(FsError::Exists);
+        }
+        self.store.link(alloc, old, new)?;
+        Ok(())
+    }
+
+    fn unlink(&mut self, name: &[u8]) -> Result<(), FsError>
+        ensures told { Apply (disk_of self.old.held) 0 (call.Unlink name.now) (done result) (disk_of self.new.held) }
+        ensures cause { HasCause self.old.faults self.new.faults result }
+        ensures counts { Counts self.old self.new result }
+        ensures picks { self.new.picks ≡ self.old.picks }
+    {
+        self.plan.begin()?;
+        if self.store.number_of(name).is_none() {
+            return Err(FsError::NotThere);
+        }
+        self.store.unlink(name);
+        Ok(())
+    }
+
+    fn stat(&mut self, name: &[u8]) -> Result<Stat, FsError>
+        ensures told { Apply (disk_of self.old.held) 0 (call.Stat name.now) (stated result) (disk_of self.new.held) }
+        ensures cause { HasCause self.old.faults self.new.faults result }
+        ensures counts { Counts self.old self.new result }
+        ensures picks { self.new.picks ≡ self.old.picks }
+    {
+        self.plan.begin()?;
+        match self.store.stat(name) {
+            Some(stat) => Ok(stat),
+            None => Err(FsError::NotThere),
+        }
+    }
+
+    fn next_name(&mut self, dir: &[u8], after: &[u8], into: &mut NameBuf) -> Result<bool, FsError>
+        ensures told { Apply (disk_of self.old.held) 0 (call.NextName dir.now after.now) (next_found result into.new) (disk_of self.new.held) }
+        ensures cause { HasCause self.old.faults self.new.faults result }
+        ensures counts { Counts self.old self.new result }
+        ensures picks { self.new.picks ≡ self.old.picks }
+    {
+        self.plan.begin()?;
+        if !self.store.is_dir(dir) {
+            return Err(FsError::NotThere);
+        }
+        match self.store.next_name(dir, after) {
+            Some(name) => {
+                into.clear();
+                into.extend(name);
+                Ok(true)
+            }
+            None => Ok(false),
+        }
+    }
+}

@@ -1,0 +1,132 @@
+// The files of a disk in memory, by number.
+ghost use Rattle.std.specs.Prelude.{◌≡◌, ◌≢◌, ◌≤◌, ◌<◌, ◌+◌, ◌-◌, ◌^◌, ℕ, IsSome, IfSome, IfNone, IsTrue, ◌↔◌, OnOk, OnErr, length};
+ghost use Rattle.call_fs.specs.Apply.{grown, synced};
+ghost use Rattle.mem_fs.specs.Tables.{at_number, AreNumbersInOrder};
+ghost use Rattle.mem_fs.specs.MemDisk.{links_of, holds_of, IsIdle, Changes, on_file, linked, unlinked, closed};
+
+use crate::file::{FileData, Inode};
+use crate::numbers;
+use call_fs::mail_bytes::Memory;
+
+/// Writes bytes at the end of a file. After an `Err` all is as before. The condition: the number is there.
+pub fn append(
+    files: &mut Vec<(u64, Inode)>,
+    number: u64,
+    now: u64,
+    bytes: &[u8],
+) -> Result<(), Memory>
+    requires in_order { AreNumbersInOrder files.old.items }
+    requires there { IsSome (at_number files.old.items number) }
+    ensures ok { OnOk result (Changes files.old.items files.new.items number (on_file (grown now bytes.now))) }
+    ensures err { OnErr result (files.new.items ≡ files.old.items) }
+{
+    let at = numbers::index_of(files, number);
+    let entry = &mut files[at];
+    entry.1.file.append(now, bytes)
+}
+
+/// All bytes of a file are on the disk. The condition: the number is there.
+pub fn sync(files: &mut Vec<(u64, Inode)>, number: u64)
+    requires in_order { AreNumbersInOrder files.old.items }
+    requires there { IsSome (at_number files.old.items number) }
+    ensures { Changes files.old.items files.new.items number (on_file synced) }
+{
+    let at = numbers::index_of(files, number);
+    let entry = &mut files[at];
+    entry.1.file.sync();
+}
+
+/// Puts another file in the place of a number's. The condition: the number is there.
+pub fn replace(files: &mut Vec<(u64, Inode)>, number: u64, file: FileData)
+    requires in_order { AreNumbersInOrder files.old.items }
+    requires there { IsSome (at_number files.old.items number) }
+    ensures { Changes files.old.items files.new.items number (on_file (λ _. file)) }
+{
+    let at = numbers::index_of(files, number);
+    let entry = &mut files[at];
+    entry.1.file = file;
+}
+
+/// A number has one name more. The conditions: it is there, and its count of names has room.
+pub fn add_link(files: &mut Vec<(u64, Inode)>, number: u64)
+    requires in_order { AreNumbersInOrder files.old.items }
+    requires there { IsSome (at_number files.old.items number) }
+    requires room { links_of files.old.items number + 1 < 2 ^ 64 }
+    ensures { Changes files.old.items files.new.items number linked }
+{
+    let at = numbers::index_of(files, number);
+    let entry = &mut files[at];
+    entry.1.links += 1;
+}
+
+/// A number has one name less. The conditions: it is there, and has a name.
+pub fn drop_link(files: &mut Vec<(u64, Inode)>, number: u64)
+    requires in_order { AreNumbersInOrder files.old.items }
+    requires there { IsSome (at_number files.old.items number) }
+    requires linked { 1 ≤ links_of files.old.items number }
+    ensures { Changes files.old.items files.new.items number unlinked }
+{
+    let at = numbers::index_of(files, number);
+    let entry = &mut files[at];
+    entry.1.links -= 1;
+}
+
+/// A number has one open descriptor less. The conditions: it is there, and has one.
+pub fn drop_open(files: &mut Vec<(u64, Inode)>, number: u64)
+    requires in_order { AreNumbersInOrder files.old.items }
+    requires there { IsSome (at_number files.old.items number) }
+    requires open { 1 ≤ holds_of files.old.items number }
+    ensures { Changes files.old.items files.new.items number closed }
+{
+    let at = numbers::index_of(files, number);
+    let entry = &mut files[at];
+    entry.1.opens -= 1;
+}
+
+/// Whether nothing uses the number.
+pub fn is_idle(files: &[(u64, Inode)], number: u64) -> bool
+    requires { AreNumbersInOrder files.now }
+    ensures { IsTrue result ↔ IsIdle files.now number }
+{
+    match numbers::value_of(files, number) {
+        Some(inode) => inode.is_idle(),
+        None => true,
+    }
+}
+
+/// The least number from 1 that nothing uses; None only where every u64 is used.
+pub fn least_idle(files: &[(u64, Inode)]) -> Option<u64>
+    requires { AreNumbersInOrder files.now }
+    ensures some { IfSome result (λ n. (1 ≤ n) × IsIdle files.now n
+        × ((lower : ℕ) → 1 ≤ lower → lower < n → ¬ (IsIdle files.now lower))) }
+    ensures none { IfNone result ((n : ℕ) → 1 ≤ n → n < 2 ^ 64 → ¬ (IsIdle files.now n)) }
+{
+    for (at, entry) in files.iter().enumerate() {
+        let number = at as u64 + 1;
+        if entry.0 != number || entry.1.is_idle() {
+            return Some(number);
+        }
+    }
+    (files.len() as u64).checked_add(1)
+}
+
+/// The greatest u64 that nothing uses; None only where every u64 from 1 is used.
+pub fn greatest_idle(files: &[(u64, Inode)]) -> Option<u64>
+    requires { AreNumbersInOrder files.now }
+    ensures fits { IfSome result (λ n. n < 2 ^ 64) }
+    ensures some { IfSome result (λ n. (1 ≤ n) × IsIdle files.now n
+        × ((higher : ℕ) → n < higher → higher < 2 ^ 64 → ¬ (IsIdle files.now higher))) }
+    ensures none { IfNone result ((n : ℕ) → 1 ≤ n → n < 2 ^ 64 → ¬ (IsIdle files.now n)) }
+{
+    let mut number = u64::MAX;
+    let mut at = files.len();
+    while at > 0 {
+        let entry = &files[at - 1];
+        if entry.0 != number || entry.1.is_idle() {
+            return Some(number);
+        }
+        number -= 1;
+        at -= 1;
+    }
+    if number == 0 { None } else { Some(number) }
+}

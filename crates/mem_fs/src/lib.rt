@@ -1,0 +1,16 @@
+//! A disk in memory, over plain lists of names and files, which tells what it holds and fails by plan.
+#![tactic(auto)]
+
+mod disk;
+mod file;
+mod files;
+mod names;
+mod numbers;
+mod part;
+mod picks;
+mod plan;
+mod store;
+#[cfg(test)]
+mod tests;
+
+pub use disk::MemFs;

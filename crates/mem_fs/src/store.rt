@@ -1,0 +1,281 @@
+// What a disk in memory holds, and what each call does to it.
+ghost use Rattle.std.specs.Prelude.{◌≡◌, ◌↔◌, ◌++◌, ◌∷◌, [], ℕ, IsTrue, IsSome, IfSome, IfNone, OnOk, OnErr, OnSome, Some, None, Contains, length, List};
+ghost use Rattle.std.specs.Option.{option_copied, option_map};
+ghost use Rattle.call_fs.specs.declared.calls.CallData.TheVariants as call;
+ghost use Rattle.call_fs.specs.declared.calls.Answer.TheVariants as answer;
+ghost use Rattle.call_fs.specs.Maps.{put, put_at};
+ghost use Rattle.call_fs.specs.Disk.{Disk, HasDir, IsUnused};
+ghost use Rattle.call_fs.specs.Apply.{effect, IsStat, IsNextName, IsLastName};
+ghost use Rattle.mem_fs.specs.MemDisk.{disk_of, nothing, opened, bytes_at, IsFree, IsLeastFree, IsGreatestFree, IsNextDescriptor, NoneFree, AllOpen, with_dir, Places, PlacesNew};
+
+use crate::file::{FileData, Inode};
+use crate::{files, names, numbers, part};
+use call_fs::mail_bytes::{ByteText, Memory};
+use call_fs::{Fd, Stat};
+use std::alloc::{AllocError, Global};
+use std::marker::Model;
+
+/// Directories, names, files and open descriptors. A file that nothing uses any more is kept until its number is taken
+/// again.
+#[derive(Debug, Drop)]
+pub struct Store {
+    dirs: Vec<ByteText>,
+    names: Vec<(ByteText, u64)>,
+    files: Vec<(u64, Inode)>,
+    opens: Vec<(u64, u64)>,
+}
+
+impl Model for Store {
+    ghost use Rattle.mem_fs.specs.MemDisk.{Held, IsSound};
+
+    ghost Value = { Held };
+
+    ghost view = { λ s. record { dirs = s.dirs.items; names = s.names.items; files = s.files.items; opens = s.opens.items } };
+
+    ghost invariant = { λ s. IsSound (record { dirs = s.dirs.items; names = s.names.items; files = s.files.items; opens = s.opens.items }) };
+}
+
+impl Store {
+    /// Holds nothing. Takes no memory.
+    pub fn new(alloc: Global) -> Self
+        ensures { result ≡ nothing }
+    {
+        Store {
+            dirs: Vec::new(alloc),
+            names: Vec::new(alloc),
+            files: Vec::new(alloc),
+            opens: Vec::new(alloc),
+        }
+    }
+
+    /// Whether this is a directory.
+    pub fn is_dir(&self, dir: &[u8]) -> bool
+        ensures { IsTrue result ↔ Contains (disk_of self.now).dirs dir.now }
+    {
+        part::is_dir(&self.dirs, dir)
+    }
+
+    /// Whether the directory of this name is there.
+    pub fn has_dir(&self, name: &[u8]) -> bool
+        ensures { IsTrue result ↔ HasDir (disk_of self.now) name.now }
+    {
+        self.is_dir(part::dir_of(name))
+    }
+
+    /// The number of a name.
+    pub fn number_of(&self, name: &[u8]) -> Option<u64>
+        ensures { result ≡ (disk_of self.now).names name.now }
+    {
+        names::number_of(&self.names, name)
+    }
+
+    /// Whether a new file may take the number.
+    pub fn is_free(&self, number: u64) -> bool
+        ensures { IsTrue result ↔ IsFree (disk_of self.now) number }
+    {
+        number != 0 && files::is_idle(&self.files, number)
+    }
+
+    /// The least number that a new file may take; None only where each u64 from 1 is used.
+    pub fn least_free(&self) -> Option<u64>
+        ensures some { IfSome result (IsLeastFree (disk_of self.now)) }
+        ensures none { IfNone result (NoneFree (disk_of self.now)) }
+    {
+        files::least_idle(&self.files)
+    }
+
+    /// The greatest number that a new file may take; None only where each u64 from 1 is used.
+    pub fn greatest_free(&self) -> Option<u64>
+        ensures some { IfSome result (IsGreatestFree (disk_of self.now)) }
+        ensures none { IfNone result (NoneFree (disk_of self.now)) }
+    {
+        files::greatest_idle(&self.files)
+    }
+
+    /// The least descriptor that isn't open; None only where each u64 from 1 is open.
+    pub fn least_descriptor(&self) -> Option<Fd>
+        ensures some { IfSome result (λ fd. IsNextDescriptor (disk_of self.now) fd.0) }
+        ensures none { IfNone result (AllOpen (disk_of self.now)) }
+    {
+        Some(Fd(numbers::least_missing(&self.opens)?))
+    }
+
+    /// Makes a new empty file under a new name, open. After an `Err` it is as before.
+    pub fn create(
+        &mut self,
+        alloc: Global,
+        now: u64,
+        name: &[u8],
+        fd: Fd,
+        number: u64,
+    ) -> Result<(), Memory>
+        requires name { (disk_of self.old).names name.now ≡ None }
+        requires number { IsFree (disk_of self.old) number }
+        requires descriptor { IsNextDescriptor (disk_of self.old) fd.0 }
+        ensures ok { OnOk result (disk_of self.new ≡ effect (disk_of self.old) now (call.CreateExcl name.now) (answer.Created fd number) 0) }
+        ensures err { OnErr result (self.new ≡ self.old) }
+    {
+        let name = ByteText::from_slice(alloc, name)?;
+        self.names.reserve(1)?;
+        self.files.reserve(1)?;
+        self.opens.reserve(1)?;
+        let inode = Inode {
+            links: 1,
+            opens: 1,
+            file: FileData::new(alloc, now),
+        };
+        names::insert(&mut self.names, name, number);
+        numbers::insert(&mut self.files, number, inode);
+        numbers::insert(&mut self.opens, fd.0, number);
+        Ok(())
+    }
+
+    /// Writes bytes at the end of an open file. After an `Err` it is as before.
+    pub fn append(&mut self, now: u64, fd: Fd, bytes: &[u8]) -> Result<(), Memory>
+        requires { IsSome ((disk_of self.old).opens fd.0) }
+        ensures ok { OnOk result (disk_of self.new ≡ effect (disk_of self.old) now (call.Append fd bytes.now) answer.Done 0) }
+        ensures err { OnErr result (self.new ≡ self.old) }
+    {
+        let number = self.opened(fd);
+        files::append(&mut self.files, number, now, bytes)
+    }
+
+    /// All bytes of an open file are on the disk.
+    pub fn sync(&mut self, fd: Fd)
+        requires { IsSome ((disk_of self.old).opens fd.0) }
+        ensures { disk_of self.new ≡ effect (disk_of self.old) 0 (call.Sync fd) answer.Done 0 }
+    {
+        let number = self.opened(fd);
+        files::sync(&mut self.files, number);
+    }
+
+    /// Closes a descriptor.
+    pub fn close(&mut self, fd: Fd)
+        requires { IsSome ((disk_of self.old).opens fd.0) }
+        ensures { disk_of self.new ≡ effect (disk_of self.old) 0 (call.Close fd) answer.Done 0 }
+    {
+        let number = self.opened(fd);
+        numbers::remove(&mut self.opens, fd.0);
+        files::drop_open(&mut self.files, number);
+    }
+
+    /// Gives the file of `old` the name `new` too. After an `Err` it is as before.
+    pub fn link(&mut self, alloc: Global, old: &[u8], new: &[u8]) -> Result<(), Memory>
+        requires there { IsSome ((disk_of self.old).names old.now) }
+        requires free { (disk_of self.old).names new.now ≡ None }
+        ensures ok { OnOk result (disk_of self.new ≡ effect (disk_of self.old) 0 (call.Link old.now new.now) answer.Done 0) }
+        ensures err { OnErr result (self.new ≡ self.old) }
+    {
+        let number = names::number_of(&self.names, old).unwrap();
+        let name = ByteText::from_slice(alloc, new)?;
+        self.names.reserve(1)?;
+        prove!(self.names.len() < self.names.capacity());
+        files::add_link(&mut self.files, number);
+        names::insert(&mut self.names, name, number);
+        Ok(())
+    }
+
+    /// Takes a name away.
+    pub fn unlink(&mut self, name: &[u8])
+        requires { IsSome ((disk_of self.old).names name.now) }
+        ensures { disk_of self.new ≡ effect (disk_of self.old) 0 (call.Unlink name.now) answer.Done 0 }
+    {
+        let number = names::number_of(&self.names, name).unwrap();
+        names::remove(&mut self.names, name);
+        files::drop_link(&mut self.files, number);
+    }
+
+    /// The number of an open descriptor.
+    fn opened(&self, fd: Fd) -> u64
+        requires { IsSome ((disk_of self.now).opens fd.0) }
+        ensures { (disk_of self.now).opens fd.0 ≡ Some (opened result) }
+    {
+        *numbers::value_of(&self.opens, fd.0).unwrap()
+    }
+
+    /// The file of a name.
+    fn file_of(&self, name: &[u8]) -> Option<(u64, &FileData)>
+        ensures { ((disk_of self.now).names name.now ≡ option_map (λ f. f.0) result)
+            × IfSome result (λ f. f.1.now ≡ (disk_of self.now).files f.0) }
+    {
+        let number = names::number_of(&self.names, name)?;
+        let inode = numbers::value_of(&self.files, number).unwrap();
+        Some((number, &inode.file))
+    }
+
+    /// What the file of a name is; None exactly where the name is missing.
+    pub fn stat(&self, name: &[u8]) -> Option<Stat>
+        ensures some { IfSome result (IsStat (disk_of self.now) name.now) }
+        ensures none { IfNone result ((disk_of self.now).names name.now ≡ None) }
+    {
+        let (number, file) = self.file_of(name)?;
+        Some(Stat {
+            number,
+            length: file.len() as u64,
+            moment: file.moment(),
+        })
+    }
+
+    /// The bytes of the file of a name; None exactly where the name is missing.
+    pub fn bytes_of(&self, name: &[u8]) -> Option<&[u8]>
+        ensures { option_copied result ≡ bytes_at (disk_of self.now) name.now }
+    {
+        let (_, file) = self.file_of(name)?;
+        Some(file.as_slice())
+    }
+
+    /// The least name in a directory after that one; None exactly where there is none.
+    pub fn next_name(&self, dir: &[u8], after: &[u8]) -> Option<&[u8]>
+        ensures some { IfSome result (λ name. IsNextName (disk_of self.now) dir.now after.now name.now) }
+        ensures none { IfNone result (IsLastName (disk_of self.now) dir.now after.now) }
+    {
+        names::next(&self.names, dir, after)
+    }
+
+    /// Adds a directory. After an `Err` it is as before.
+    pub fn add_dir(&mut self, alloc: Global, dir: &[u8]) -> Result<(), Memory>
+        ensures ok { OnOk result (disk_of self.new ≡ with_dir (disk_of self.old) dir.now) }
+        ensures err { OnErr result (self.new ≡ self.old) }
+    {
+        let dir = ByteText::from_slice(alloc, dir)?;
+        self.dirs.push(dir)?;
+        Ok(())
+    }
+
+    /// Puts a synced file under a name. After an `Err` it is as before.
+    pub fn place(&mut self, alloc: Global, name: &[u8], bytes: &[u8]) -> Result<(), Memory>
+        ensures ok { OnOk result (Places (disk_of self.old) name.now bytes.now (disk_of self.new)) }
+        ensures err { OnErr result (self.new ≡ self.old) }
+    {
+        let file = FileData::settled(alloc, ByteText::from_slice(alloc, bytes)?);
+        match names::number_of(&self.names, name) {
+            Some(number) => {
+                files::replace(&mut self.files, number, file);
+                Ok(())
+            }
+            None => self.place_new(alloc, name, file),
+        }
+    }
+
+    /// Puts a synced file under a new name. After an `Err` it is as before.
+    fn place_new(&mut self, alloc: Global, name: &[u8], file: FileData) -> Result<(), Memory>
+        requires { (disk_of self.old).names name.now ≡ None }
+        ensures ok { OnOk result (PlacesNew (disk_of self.old) name.now file (disk_of self.new)) }
+        ensures err { OnErr result (self.new ≡ self.old) }
+    {
+        let Some(number) = self.greatest_free() else {
+            return Err(AllocError);
+        };
+        let name = ByteText::from_slice(alloc, name)?;
+        self.names.reserve(1)?;
+        self.files.reserve(1)?;
+        let inode = Inode {
+            links: 1,
+            opens: 0,
+            file,
+        };
+        names::insert(&mut self.names, name, number);
+        numbers::insert(&mut self.files, number, inode);
+        Ok(())
+    }
+}

@@ -1,0 +1,146 @@
+// Tests of the disk in memory, and of code over any disk.
+ghost use Rattle.std.specs.Prelude.{◌≡◌, ◌≢◌, ℕ, Some, None, IfOk};
+ghost use Rattle.call_fs.specs.Maps.{put_at};
+ghost use Rattle.call_fs.specs.Disk.{IsMoment, IsSynced};
+ghost use Rattle.call_fs.specs.Told.{HasCause, Meets};
+
+use crate::MemFs;
+use call_fs::{CallFs, Fd, FsError, NameBuf, Stat};
+use std::alloc::{AllocError, Global};
+use std::test::Fail;
+
+/// Makes a file with these bytes, waits until they are on the disk, and gives it two names. After an `Err` some of that
+/// may have been done.
+fn put_twice<D: CallFs>(
+    alloc: Global,
+    disk: &mut D,
+    now: u64,
+    first: &[u8],
+    second: &[u8],
+    bytes: &[u8],
+) -> Result<u64, FsError>
+    requires { IsMoment now }
+    ensures names { IfOk result (λ number. Meets (D.disk disk.old) (D.disk disk.new)
+        (λ before after. after.names ≡ put_at (put_at before.names first.now (Some number)) second.now (Some number))) }
+    ensures free { IfOk result (λ number. Meets (D.disk disk.old) (D.disk disk.new)
+        (λ before after. (before.names first.now ≡ None) × (before.names second.now ≡ None))) }
+    ensures synced { IfOk result (λ number. Meets (D.disk disk.old) (D.disk disk.new)
+        (λ before after. IsSynced (after.files number) bytes.now)) }
+    ensures others { IfOk result (λ number. Meets (D.disk disk.old) (D.disk disk.new)
+        (λ before after. (other : ℕ) → other ≢ number → after.files other ≡ before.files other)) }
+    ensures closed { IfOk result (λ number. Meets (D.disk disk.old) (D.disk disk.new)
+        (λ before after. after.opens ≡ before.opens)) }
+    ensures cause { HasCause (D.faults disk.old) (D.faults disk.new) result }
+{
+    let (fd, number) = disk.create_excl(alloc, now, first)?;
+    disk.append(alloc, now, fd, bytes)?;
+    disk.sync(fd)?;
+    disk.close(fd);
+    disk.link(alloc, first, second)?;
+    Ok(number)
+}
+
+/// A disk with the directories of these tests.
+fn disk_with(alloc: Global, picks: &[u64], faults: &[u64]) -> Result<MemFs, AllocError> {
+    let picks = Vec::from_slice(alloc, picks)?;
+    let faults = Vec::from_slice(alloc, faults)?;
+    let mut disk = MemFs::new(alloc, picks, faults)?;
+    disk.dir(alloc, b"pid")?;
+    disk.dir(alloc, b"mess")?;
+    disk.dir(alloc, b"mess/1")?;
+    Ok(disk)
+}
+
+/// A new file at moment 7, left open.
+fn create(alloc: Global, disk: &mut MemFs, name: &[u8]) -> Result<(Fd, u64), FsError> {
+    disk.create_excl(alloc, 7, name)
+}
+
+/// The next name of a directory, and whether there is one.
+fn next(disk: &mut MemFs, dir: &[u8], after: &[u8]) -> Result<(bool, NameBuf), FsError> {
+    let mut name = NameBuf::new();
+    let found = disk.next_name(dir, after, &mut name)?;
+    Ok((found, name))
+}
+
+#[test]
+fn new_files_take_the_least_numbers(rt: HostRuntime) -> Result<(), Fail> {
+    let alloc = rt.alloc();
+    let mut disk = disk_with(alloc, &[], &[])?;
+    assert_eq!(rt; create(alloc, &mut disk, b"pid/a")?, (Fd(1), 1));
+    assert_eq!(rt; create(alloc, &mut disk, b"pid/b")?, (Fd(2), 2));
+    assert_eq!(rt; create(alloc, &mut disk, b"pid/a"), Err(FsError::Exists));
+    assert_eq!(rt; create(alloc, &mut disk, b"info/a"), Err(FsError::NotThere));
+    Ok(())
+}
+
+#[test]
+fn a_file_has_two_names_until_one_is_taken_away(rt: HostRuntime) -> Result<(), Fail> {
+    let alloc = rt.alloc();
+    let mut disk = disk_with(alloc, &[], &[])?;
+    assert_eq!(rt;
+        put_twice(alloc, &mut disk, 5, b"pid/a", b"mess/1/24", b"one")?,
+        1
+    );
+    assert_eq!(rt;
+        disk.link(alloc, b"pid/a", b"mess/1/24"),
+        Err(FsError::Exists)
+    );
+    assert_eq!(rt;
+        disk.link(alloc, b"pid/c", b"mess/1/25"),
+        Err(FsError::NotThere)
+    );
+    disk.unlink(b"pid/a")?;
+    assert_eq!(rt; disk.unlink(b"pid/a"), Err(FsError::NotThere));
+    let stat = Stat {
+        number: 1,
+        length: 3,
+        moment: 5,
+    };
+    assert_eq!(rt; disk.stat(b"mess/1/24")?, stat);
+    assert_eq!(rt;
+        disk.bytes_of(b"mess/1/24").ok_or("no bytes")?,
+        b"one".as_slice()
+    );
+    Ok(())
+}
+
+#[test]
+fn names_come_in_byte_order(rt: HostRuntime) -> Result<(), Fail> {
+    let alloc = rt.alloc();
+    let mut disk = disk_with(alloc, &[], &[])?;
+    for name in [b"pid/b", b"pid/a", b"pid/c"] {
+        create(alloc, &mut disk, name)?;
+    }
+    create(alloc, &mut disk, b"mess/1/24")?;
+    let (found, name) = next(&mut disk, b"pid", b"a")?;
+    assert_eq!(rt; found, true);
+    assert_eq!(rt; name.as_slice(), b"b".as_slice());
+    assert_eq!(rt; next(&mut disk, b"pid", b"c")?.0, false);
+    assert_eq!(rt; next(&mut disk, b"mess", b"")?.0, false);
+    assert_eq!(rt; next(&mut disk, b"info", b"").is_err(), true);
+    assert_eq!(rt;
+        disk.name_after(b"mess/1", b"").ok_or("no name")?,
+        b"24".as_slice()
+    );
+    Ok(())
+}
+
+#[test]
+fn planned_calls_fail_and_picks_are_taken(rt: HostRuntime) -> Result<(), Fail> {
+    let alloc = rt.alloc();
+    let mut disk = disk_with(alloc, &[0, 40, 40, 7], &[2, 4])?;
+    disk.place(alloc, b"control/me", b"host")?;
+    assert_eq!(rt;
+        disk.bytes_of(b"control/me").ok_or("no bytes")?,
+        b"host".as_slice()
+    );
+    assert_eq!(rt; create(alloc, &mut disk, b"pid/a")?, (Fd(1), 40));
+    assert_eq!(rt; create(alloc, &mut disk, b"pid/b"), Err(FsError::Fault));
+    assert_eq!(rt; create(alloc, &mut disk, b"pid/b")?, (Fd(2), 7));
+    assert_eq!(rt; disk.unlink(b"pid/a"), Err(FsError::Fault));
+    assert_eq!(rt; disk.faults(), 2);
+    assert_eq!(rt; disk.stat(b"control/me")?.number, 18446744073709551615);
+    assert_eq!(rt; create(alloc, &mut disk, b"pid/c")?, (Fd(3), 1));
+    Ok(())
+}

@@ -1,0 +1,178 @@
+-- The history that a script plays, and what each of its lines prints. Nothing fails while a script is played.
+use Rattle.std.specs.Prelude.{◌≡◌, ◌≢◌, ◌⊎◌, ℕ, zero, suc, ◌+◌, ◌-◌, ◌^◌, ◌<◌, ◌≤◌, min, List, [], ◌∷◌, ◌++◌, length, Bool, true, false, Option, Some, None, count_by, codes}
+use Rattle.call_fs.specs.declared.calls.CallData.{CallData}
+use Rattle.call_fs.specs.declared.calls.Answer.{Answer}
+use Rattle.call_fs.specs.declared.calls.Answer.TheVariants.{Created, Refused}
+use Rattle.call_fs.specs.declared.calls.FsError.TheVariants.{Fault, Memory}
+use Rattle.call_fs.specs.declared.program.Ready.{Ready}
+use Rattle.call_fs.specs.Apply.{Fits}
+use Rattle.call_fs.specs.Disk.{Disk}
+use Rattle.mem_fs.specs.MemDisk.{IsLeastFree, IsNextDescriptor}
+use Rattle.call_fs.specs.Program.{Due}
+use Rattle.queue_inject.specs.declared.injection.Arguments.{Arguments}
+use Rattle.queue_inject.specs.declared.injection.InputEnd.TheVariants.{Whole}
+use Rattle.queue_inject.specs.declared.received_line.Invoked.TheVariants.{Uid}
+use Rattle.queue_inject.specs.Table.{Next}
+use Rattle.mail_world.specs.declared.error.WorldError.{WorldError}
+use Rattle.mail_world.specs.declared.error.WorldError.TheVariants as error
+use Rattle.mail_world.specs.History.{Event, Life, State, Actor, after, queue_dirs}
+use Rattle.mail_world.specs.History.Event.{Start, Call, End}
+use Rattle.mail_world.specs.History.Life.{Alive}
+use Rattle.qmail_top.specs.declared.scenario.line.Line.{Line}
+use Rattle.qmail_top.specs.declared.scenario.line.Line.TheVariants as line
+use Rattle.qmail_top.specs.Shown.{line_of, IsShown}
+
+-- more directories
+abbrev pub with_dirs : Disk → List (List ℕ) → Disk
+with_dirs d more = record { dirs = d.dirs ++ more; names = d.names; files = d.files; opens = d.opens }
+
+-- The disk that a script begins with: three directories and the queue's, no file, nothing open.
+pub record IsFirstDisk (d : Disk) : Type 0 where
+  pub dirs : d.dirs ≡ (codes "control" ∷ codes "users" ∷ codes "home" ∷ []) ++ queue_dirs
+  pub empty : (name : List ℕ) → d.names name ≡ None
+  pub shut : (fd : ℕ) → d.opens fd ≡ None
+
+-- a new file takes the least free number, and a descriptor is the least from 1 that isn't open
+abbrev pub TakesLeast : Disk → Answer → Type 0
+TakesLeast d (Created fd n) = IsNextDescriptor d fd.0 × IsLeastFree d n
+TakesLeast d answer = Unit {0}
+
+-- what a disk answers that doesn't fail
+pub record Answers (d : Disk) (call : CallData) (answer : Answer) : Type 0 where
+  pub fits : Fits d call answer 0
+  pub no_fault : answer ≢ Refused Fault
+  pub no_memory : answer ≢ Refused Memory
+  pub least : TakesLeast d answer
+
+-- an injector finds its input ready: it stands in its start
+abbrev pub input_ready : Ready
+input_ready = record { links = true ∷ false ∷ false ∷ false ∷ []; child = None }
+
+-- why a line is refused
+pub data Refusal : Type 0 where
+  Unknown : Refusal
+  Gone : Refusal
+  NotWaiting : Refusal
+  Taken : Refusal
+  Steps : Refusal
+
+abbrev pub refusal_word : Refusal → List ℕ
+refusal_word Unknown = codes "unknown"
+refusal_word Gone = codes "gone"
+refusal_word NotWaiting = codes "notwaiting"
+refusal_word Taken = codes "taken"
+refusal_word Steps = codes "steps"
+
+-- what the world's own refusals say; want of memory is none of a script's
+abbrev pub IsRefusalOf : WorldError → Refusal → Type 0
+IsRefusalOf (error.Gone name at) why = why ≡ Gone
+IsRefusalOf (error.NotWaiting name) why = why ≡ NotWaiting
+IsRefusalOf error.Unknown why = why ≡ Unknown
+IsRefusalOf error.Taken why = why ≡ Taken
+IsRefusalOf error.Memory why = ⊥
+
+-- `refused WORD NAME`
+abbrev pub refused : Refusal → List ℕ → List ℕ
+refused why name = codes "refused " ++ line_of (refusal_word why) name
+
+-- what a step comes to: an event, or a refusal
+pub data Outcome : Type 0 where
+  Happens : Event → Outcome
+  Is : Refusal → Outcome
+
+-- by what the actor must do next, whether it lives, and whether it was started
+abbrev pub DoesNext : State → List ℕ → Due → Outcome → Type 0
+DoesNext s a (Due.File call) outcome = (answer : Answer) × Answers s.disk call answer × (outcome ≡ Happens (Call a s.now input_ready call answer 0))
+DoesNext s a (Due.Ended status) outcome = outcome ≡ Happens (End a s.now input_ready status)
+DoesNext s a due outcome = outcome ≡ Is NotWaiting
+
+abbrev pub DoesAlive : State → List ℕ → Actor → Life → Outcome → Type 0
+DoesAlive s a x Alive outcome = DoesNext s a (Next x.args x.past s.now input_ready) outcome
+DoesAlive s a x life outcome = outcome ≡ Is Gone
+
+abbrev pub DoesStep : State → List ℕ → Option Actor → Outcome → Type 0
+DoesStep s a None outcome = outcome ≡ Is Unknown
+DoesStep s a (Some x) outcome = DoesAlive s a x x.life outcome
+
+-- what a step of the actor of this name comes to
+abbrev pub StepsTo : State → List ℕ → Outcome → Type 0
+StepsTo s a outcome = DoesStep s a (s.actors a) outcome
+
+abbrev pub is_start : Event → Bool
+is_start (Start a args) = true
+is_start event = false
+
+-- Process numbers go from 77 in order of start, and stay at the last one.
+abbrev pub next_pid : List Event → ℕ
+next_pid h = min (77 + count_by is_start h) (2 ^ 32 - 1)
+
+-- a mail is started for user 1000, with its whole input
+abbrev pub arguments : List Event → ℕ → List ℕ → List ℕ → Arguments
+arguments h now message envelope = record {
+  uid = 1000;
+  pid = next_pid h;
+  invoked = Uid 1000;
+  start = now;
+  message = message;
+  message_end = Whole;
+  envelope = envelope;
+  envelope_end = Whole;
+}
+
+-- what the start of a mail comes to, by whether its name was used
+abbrev pub mail_outcome : List ℕ → Arguments → Option Actor → Outcome
+mail_outcome name args None = Happens (Start name args)
+mail_outcome name args (Some x) = Is Taken
+
+-- what an outcome adds to the history, and what is printed of it
+abbrev pub added : Outcome → List Event
+added (Happens event) = event ∷ []
+added (Is why) = []
+
+abbrev pub printed : List ℕ → Outcome → List ℕ
+printed name (Happens event) = []
+printed name (Is why) = refused why name
+
+-- these events, newest first, are steps of that actor one after the other
+abbrev pub AreSteps : Disk → List Event → List ℕ → List Event → Type 0
+AreSteps d h a [] = Unit {0}
+AreSteps d h a (event ∷ before) = AreSteps d h a before × StepsTo (after d (before ++ h)) a (Happens event)
+
+-- the most steps of one run
+abbrev pub most_steps : ℕ
+most_steps = 1000000
+
+-- What a run prints that stops since its next step is refused so: nothing where the actor waits, or has ended by one of
+-- its steps.
+abbrev pub stop_text : ℕ → Refusal → List ℕ → List ℕ
+stop_text steps NotWaiting a = []
+stop_text zero why a = refused why a
+stop_text (suc steps) why a = []
+
+-- A run stops where its next step is refused, or where it has made the most steps and the actor hasn't ended.
+abbrev pub Stops : State → List ℕ → ℕ → List ℕ → Type 0
+Stops s a steps text =
+    ((why : Refusal) × StepsTo s a (Is why) × ((steps < most_steps) ⊎ (why ≡ Gone)) × (text ≡ stop_text steps why a))
+    ⊎ ((steps ≡ most_steps) × (¬ (StepsTo s a (Is Gone))) × (text ≡ refused Steps a))
+
+-- these events, newest first, are what a run adds, and this is what it prints
+pub record IsRun (d : Disk) (h : List Event) (a : List ℕ) (events : List Event) (text : List ℕ) : Type 0 where
+  pub are_steps : AreSteps d h a events
+  pub within : length events ≤ most_steps
+  pub stops : Stops (after d (events ++ h)) a (length events) text
+
+-- What a line adds to a history, newest event first, and what it prints.
+abbrev pub Plays : Disk → List Event → Line → List Event → List ℕ → Type 0
+Plays d h (line.Mail name message envelope) events text =
+    let outcome = mail_outcome name (arguments h (after d h).now message envelope) ((after d h).actors name) in
+    (events ≡ added outcome) × (text ≡ printed name outcome)
+Plays d h (line.Step actor) events text =
+    (outcome : Outcome) × StepsTo (after d h) actor outcome × (events ≡ added outcome) × (text ≡ printed actor outcome)
+Plays d h (line.Run actor) events text = IsRun d h actor events text
+Plays d h line.Show events text = (events ≡ []) × IsShown d h text
+
+-- The history after these lines, from that one on, and what they print.
+abbrev pub PlaysAll : Disk → List Event → List Line → List Event → List ℕ → Type 0
+PlaysAll d h [] end text = (end ≡ h) × (text ≡ [])
+PlaysAll d h (first ∷ lines) end text =
+    (events : List Event) × (own rest : List ℕ) × Plays d h first events own × PlaysAll d (events ++ h) lines end rest × (text ≡ own ++ rest)

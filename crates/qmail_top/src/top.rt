@@ -1,0 +1,161 @@
+// The one public call.
+ghost use Rattle.std.specs.Prelude.{◌≡◌, ◌⊎◌, ◌↔◌, ◌∷◌, [], IsTrue, IfOk, IfErr, Contains};
+ghost use Rattle.call_fs.specs.Told.{Rose, Meets, OnTold};
+ghost use Rattle.qmail_top.specs.Command.{IsPlay, IsReading, IsRefused, IsChecked, HasCause, IsBeforeOutput, status_of};
+
+use crate::scenario::{MAX_SCRIPT, PlayError, ScriptError, play, read_script};
+use crate::status::{DONE, INPUT, MALFORMED, MEMORY, OUTPUT, USAGE};
+use call_fs::CallFs;
+use call_fs::outside::{Clock, Gate, Posts, Sink, Source, Spawner, Took};
+use std::alloc::{AllocError, Global};
+
+/// Does what the words after the program's name say, and answers the exit
+///
+/// `play` reads a script whole from `message`, checks it whole and plays it over a disk in memory; `out` gets what it
+/// prints. Other words write the line `usage` to `log`. What a command doesn't use stays untouched.
+///
+/// 0: done. 51: want of memory. 53: `out` failed. 54: `message` failed. 91: a line isn't in the grammar, or the script
+/// has over 16,777,216 bytes; `out` gets nothing. 100: the words are no command.
+pub fn qmail<
+    R,
+    D: CallFs,
+    M: Source,
+    E: Source,
+    O: Sink,
+    L: Sink,
+    K: Clock,
+    P: Posts,
+    S: Spawner,
+    G: Gate,
+>(
+    rt: &R,
+    alloc: Global,
+    words: &[String],
+    disk: &mut D,
+    message: &mut M,
+    envelope: &mut E,
+    out: &mut O,
+    log: &mut L,
+    clock: &mut K,
+    posts: &mut P,
+    spawn: &mut S,
+    gate: &G,
+) -> u8
+    // the causes of the statuses
+    ensures usage { (result ≡ USAGE) ↔ (¬ (IsPlay words.now)) }
+    ensures input { result ≡ INPUT → Rose (M.faults message.old) (M.faults message.new) }
+    ensures output { result ≡ OUTPUT → Rose (O.faults out.old) (O.faults out.new) }
+    ensures malformed { OnTold (M.left message.old) (λ script. result ≡ MALFORMED → IsRefused script) }
+    ensures checked { OnTold (M.left message.old) (λ script. (result ≡ DONE) ⊎ (result ≡ OUTPUT) → ¬ (IsRefused script)) }
+    ensures known { Contains (DONE ∷ MEMORY ∷ OUTPUT ∷ INPUT ∷ MALFORMED ∷ USAGE ∷ []) result }
+
+    // what stays untouched
+    ensures unread { result ≡ USAGE → message.new ≡ message.old }
+    ensures unwritten { (result ≡ USAGE) ⊎ ((result ≡ INPUT) ⊎ (result ≡ MALFORMED)) → out.new ≡ out.old }
+    ensures unlogged { IsPlay words.now → log.new ≡ log.old }
+    ensures disk { disk.new ≡ disk.old }
+    ensures envelope { envelope.new ≡ envelope.old }
+    ensures clock { clock.new ≡ clock.old }
+    ensures posts { posts.new ≡ posts.old }
+    ensures spawn { spawn.new ≡ spawn.old }
+{
+    if !is_play(words) {
+        let _ = log.give(b"usage\n");
+        return USAGE;
+    }
+    match play_message(alloc, message, out) {
+        Ok(()) => DONE,
+        Err(why) => status_of(why),
+    }
+}
+
+/// Whether the words are `play` alone.
+fn is_play(words: &[String]) -> bool
+    ensures { IsTrue result ↔ IsPlay words.now }
+{
+    match words {
+        [word] => word.as_str() == "play",
+        _ => false,
+    }
+}
+
+/// Why a command didn't do all its work.
+#[derive(Clone, Copy, Debug, PartialEq, Eq)]
+enum Failure {
+    /// Want of memory.
+    Memory,
+    /// The output failed.
+    Output,
+    /// The input failed.
+    Input,
+    /// The input is malformed.
+    Malformed,
+}
+
+impl From<AllocError> for Failure {
+    ghost use Rattle.std.specs.Prelude.{◌≡◌};
+    ghost use Rattle.qmail_top.specs.declared.top.Failure.TheVariants.{Memory};
+
+    ghost from_gives = { λ _ why. why ≡ Memory };
+
+    fn from(_: AllocError) -> Self {
+        Failure::Memory
+    }
+}
+
+/// The exit status of a failure.
+fn status_of(why: Failure) -> u8
+    ensures { result ≡ status_of why }
+{
+    match why {
+        Failure::Memory => MEMORY,
+        Failure::Output => OUTPUT,
+        Failure::Input => INPUT,
+        Failure::Malformed => MALFORMED,
+    }
+}
+
+/// Plays the script that a source gives.
+fn play_message<M: Source, O: Sink>(
+    alloc: Global,
+    message: &mut M,
+    out: &mut O,
+) -> Result<(), Failure>
+    ensures cause { IfErr result (λ why. HasCause why (record { before = M.faults message.old; after = M.faults message.new })
+        (record { before = O.faults out.old; after = O.faults out.new })) }
+    ensures unwritten { IfErr result (λ why. IsBeforeOutput why → out.new ≡ out.old) }
+    ensures checked { OnTold (M.left message.old) (λ bytes. IsChecked bytes result) }
+{
+    let bytes = read_whole(alloc, message)?;
+    let script = match read_script(alloc, &bytes) {
+        Ok(script) => script,
+        Err(ScriptError::Line(_)) => return Err(Failure::Malformed),
+        Err(ScriptError::Memory) => return Err(Failure::Memory),
+    };
+    match play(alloc, script, out) {
+        Ok(()) => Ok(()),
+        Err(PlayError::Failed) => Err(Failure::Output),
+        Err(PlayError::Memory) => Err(Failure::Memory),
+    }
+}
+
+/// Reads a source to its end, or one byte past the most that a script may have.
+fn read_whole<M: Source>(alloc: Global, message: &mut M) -> Result<Vec<u8>, Failure>
+    ensures read { IfOk result (λ bytes. Meets (M.left message.old) (M.left message.new) (λ before after. IsReading before after bytes.items)) }
+    ensures cause { IfErr result (λ why. (why ≡ Failure.Memory) ⊎ ((why ≡ Failure.Input) × Rose (M.faults message.old) (M.faults message.new))) }
+{
+    let mut bytes = Vec::new(alloc);
+    let mut piece = [0; 8192];
+    while bytes.len() <= MAX_SCRIPT {
+        let room = (MAX_SCRIPT + 1 - bytes.len()).min(piece.len());
+        match message.take(&mut piece[..room]) {
+            Took::Got(count) => bytes.extend_from_slice(&piece[..count])?,
+            Took::End => break,
+            Took::Failed => return Err(Failure::Input),
+        }
+    }
+    Ok(bytes)
+}
+
+#[cfg(test)]
+mod tests;

@@ -1,0 +1,172 @@
+use crate::qmail;
+use call_fs::mail_bytes::ByteText;
+use call_fs::outside::{MemClock, MemPosts, MemSink, MemSource, MemSpawner, OpenGate};
+use mem_fs::MemFs;
+use std::test::Fail;
+
+/// What came of a call: the status, what the output took and what the log took.
+#[derive(Drop)]
+struct Outcome {
+    status: u8,
+    out: Vec<u8>,
+    log: Vec<u8>,
+}
+
+/// Calls `qmail` over forms in memory, whose source or sink fails at these calls.
+fn call(
+    rt: &HostRuntime,
+    words: &[&str],
+    pieces: &[&[u8]],
+    source_fails: &[u64],
+    sink_fails: &[u64],
+) -> Result<Outcome, Fail> {
+    let alloc = rt.alloc();
+    let mut owned = Vec::new(alloc);
+    for word in words {
+        owned.push(String::from_str(alloc, word)?)?;
+    }
+    let mut texts = Vec::new(alloc);
+    for piece in pieces {
+        texts.push(ByteText::from_slice(alloc, piece)?)?;
+    }
+    let mut message = MemSource::new(texts, Vec::from_slice(alloc, source_fails)?);
+    let mut out = MemSink::new(alloc, Vec::from_slice(alloc, sink_fails)?);
+    let mut log = MemSink::new(alloc, Vec::new(alloc));
+    let status = qmail(
+        rt,
+        alloc,
+        &owned,
+        &mut MemFs::new(alloc, Vec::new(alloc), Vec::new(alloc))?,
+        &mut message,
+        &mut MemSource::new(Vec::new(alloc), Vec::new(alloc)),
+        &mut out,
+        &mut log,
+        &mut MemClock::new(Vec::new(alloc), 1),
+        &mut MemPosts::new(Vec::new(alloc)),
+        &mut MemSpawner::new(alloc, Vec::new(alloc)),
+        &OpenGate,
+    );
+    Ok(Outcome {
+        status,
+        out: Vec::from_slice(alloc, out.taken())?,
+        log: Vec::from_slice(alloc, log.taken())?,
+    })
+}
+
+/// Plays a script over forms in memory.
+fn play(rt: &HostRuntime, script: &str) -> Result<Outcome, Fail> {
+    call(rt, &["play"], &[script.as_bytes()], &[], &[])
+}
+
+#[test]
+fn scripts_print(rt: HostRuntime) -> Result<(), Fail> {
+    let table = [
+        ("", 0, ""),
+        (
+            "mail a a@x b@y : hi\nstep a\nstep a\nshow\nrun a\nshow",
+            0,
+            "pid 1\n1 S2\na alive\npid 0\n1 S4\na 0\na.1 pending\n",
+        ),
+        (
+            "mail a a@x b@y : hi\nmail a a@x b@y : hi\n",
+            0,
+            "refused taken a\n",
+        ),
+        (
+            "mail a a@x b@y : hi\nrun a\nstep a\nstep q\n",
+            0,
+            "refused gone a\nrefused unknown q\n",
+        ),
+        ("show\nstepp a\n", 91, ""),
+        (
+            "mail a - : hi\nmail b - %2d c@y :\nrun b\nrun l.1\nshow",
+            0,
+            "refused unknown l.1\npid 0\n1 S4\na alive\nb 0\nb.1 pending\nb.2 pending\n",
+        ),
+    ];
+    for (script, status, out) in &table {
+        let outcome = play(&rt, script)?;
+        assert_eq!(rt; outcome.status, *status, "{script}");
+        assert!(rt; outcome.out.as_slice() == out.as_bytes(), "{script}");
+        assert!(rt; outcome.log.is_empty());
+    }
+    Ok(())
+}
+
+#[test]
+fn malformed_lines_are_refused(rt: HostRuntime) -> Result<(), Fail> {
+    let table = [
+        "mail abcdefghijklmnopq a@x b@y : hi",
+        "mail a a@x b@y",
+        "mail a a@x b@y :hi",
+        "mail a  a@x b@y : hi",
+        "mail a a@x  b@y : hi",
+        "step a ",
+        "mail a a%4 b@y : hi",
+        "mail a a@x b%zz : hi",
+        "mail a a@x b@y : 100%",
+        "nosuch",
+        "mail sender a@x b@y : hi",
+        "mail A a@x b@y : hi",
+        "show\n\nshow",
+        "# x",
+        "mail a a%00 b@y : hi",
+        "mail a",
+        "mail a : hi",
+        "step",
+        "step a b",
+        "run l.0",
+        "run l.01",
+        "run l.18446744073709551616",
+        "show x",
+        "show\r",
+    ];
+    for line in &table {
+        let outcome = play(&rt, line)?;
+        assert_eq!(rt; outcome.status, 91, "{line}");
+        assert!(rt; outcome.out.is_empty(), "{line}");
+    }
+    Ok(())
+}
+
+/// Plays a mail with a recipient of so many bytes.
+fn play_address(rt: &HostRuntime, length: usize) -> Result<u8, Fail> {
+    let alloc = rt.alloc();
+    let mut script = String::from_str(alloc, "mail a a@x ")?;
+    for _ in 0..length {
+        script.push('b')?;
+    }
+    script.push_str(" : hi\nrun a\n")?;
+    Ok(play(rt, script.as_str())?.status)
+}
+
+#[test]
+fn an_address_has_at_most_1002_bytes(rt: HostRuntime) -> Result<(), Fail> {
+    assert_eq!(rt; play_address(&rt, 1002)?, 0);
+    assert_eq!(rt; play_address(&rt, 1003)?, 91);
+    Ok(())
+}
+
+#[test]
+fn failures_end_it(rt: HostRuntime) -> Result<(), Fail> {
+    let script: [&[u8]; 2] = [b"show\nsh", b"ow\n"];
+    let unread = call(&rt, &["play"], &script, &[2], &[])?;
+    assert_eq!(rt; unread.status, 54);
+    assert!(rt; unread.out.is_empty());
+    let unwritten = call(&rt, &["play"], &script, &[], &[2])?;
+    assert_eq!(rt; unwritten.status, 53);
+    assert!(rt; unwritten.out.as_slice() == b"pid 0\n".as_slice());
+    Ok(())
+}
+
+#[test]
+fn other_words_are_no_command(rt: HostRuntime) -> Result<(), Fail> {
+    let table: [&[&str]; 3] = [&[], &["nosuch"], &["play", "x"]];
+    for words in &table {
+        let outcome = call(&rt, words, &[b"show"], &[], &[])?;
+        assert_eq!(rt; outcome.status, 100);
+        assert!(rt; outcome.out.is_empty());
+        assert!(rt; outcome.log.as_slice() == b"usage\n".as_slice());
+    }
+    Ok(())
+}

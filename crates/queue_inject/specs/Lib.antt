@@ -1,0 +1,18 @@
+-- the queue's names and their texts
+pub mod Names
+-- the calendar, and the first line of a message file
+pub mod Received
+-- envelopes, and how their bytes are read
+pub mod Envelope
+-- what an injector makes of its input
+pub mod Texts
+-- what an injector does next, as a function of its own past
+pub mod Table
+-- an injector as contracts see it
+pub mod Machine
+-- which injector stands for which past
+pub mod Stands
+-- what the code of the table reads of rows and texts
+pub mod Rows
+-- what the parts of an injector are, and what their fields keep
+pub mod Inside

@@ -1,0 +1,133 @@
+-- What an injector does next, as a function of its own past (qmail-queue(8); INTERNALS, "How messages enter the
+-- queue").
+use Rattle.std.specs.Prelude.{ℕ, ◌+◌, List, [], ◌∷◌, length, take, drop, Bool, true, false, Option, Some, None, if◌then◌else◌, nat_lt, nat_le}
+use Rattle.call_fs.specs.declared.calls.CallData.TheVariants as call
+use Rattle.call_fs.specs.declared.calls.Answer.{Answer}
+use Rattle.call_fs.specs.declared.calls.Answer.TheVariants.{Created, Done, Refused}
+use Rattle.call_fs.specs.declared.calls.FsError.TheVariants.{NotThere, Exists, Memory}
+use Rattle.call_fs.specs.declared.program.Ready.{Ready}
+use Rattle.call_fs.specs.Program.{Due, Did, Own}
+use Rattle.call_fs.specs.Program.Did.{Called}
+use Rattle.queue_inject.specs.declared.injection.Arguments.{Arguments}
+use Rattle.queue_inject.specs.declared.row.Row.{Row}
+use Rattle.queue_inject.specs.declared.row.Row.TheVariants as at
+use Rattle.queue_inject.specs.Names.{path}
+use Rattle.queue_inject.specs.Names.Name.{Pid, Of}
+use Rattle.queue_inject.specs.Names.Part.{Mess, Intd, Todo}
+use Rattle.queue_inject.specs.Texts.{Text, message_text, intd_text}
+
+-- what an injector's table reads of its arguments: its process number, its start and the two texts that it writes
+pub record Work : Type 0 where
+  pub pid : ℕ
+  pub start : ℕ
+  pub message : Text
+  pub todo : Text
+
+abbrev pub work_of : Arguments → Work
+work_of args = record { pid = args.pid; start = args.start; message = message_text args; todo = intd_text args }
+
+-- the bytes of one write
+abbrev pub piece_size : ℕ
+piece_size = 8192
+
+-- the status of a failed call: want of memory has its own
+abbrev pub failure : Answer → ℕ → ℕ
+failure (Refused Memory) status = 51
+failure answer status = status
+
+-- After so many bytes of a text were written: the next piece, what follows the text, or the clean up where the input
+-- failed. A full piece is written before the fault behind it is found, and no write is empty.
+abbrev pub past_piece : List ℕ → Option ℕ → ℕ → Row → Row → (ℕ → Row) → Row
+past_piece bytes None done more end bad = if nat_lt done (length bytes) then more else end
+past_piece bytes (Some status) done more end bad = if nat_le (done + piece_size) (length bytes) then more else bad status
+
+abbrev pub in_message : Text → ℕ → ℕ → ℕ → Row
+in_message text n fd done =
+    past_piece text.bytes text.fault done (at.AppendMess n (record { 0 = fd }) done) (at.SyncMess n (record { 0 = fd })) (at.CleanMess n)
+
+abbrev pub in_todo : Text → ℕ → ℕ → ℕ → Row
+in_todo text n fd done =
+    past_piece text.bytes text.fault done (at.AppendTodo n (record { 0 = fd }) done) (at.SyncTodo n (record { 0 = fd })) (at.CleanIntd n)
+
+-- The row after an answer; of each row the answer that goes on, and what any other answer leads to.
+abbrev pub answered : Work → Row → Answer → Row
+answered work (at.Create seq) (Created fd n) = at.LinkMess seq n fd
+answered work (at.Create seq) (Refused Exists) = if nat_lt seq 9 then at.Create (seq + 1) else at.Failed 63
+answered work (at.Create seq) answer = at.Failed (failure answer 63)
+answered work (at.LinkMess seq n fd) Done = at.UnlinkPid seq n fd
+answered work (at.LinkMess seq n fd) answer = at.Failed (failure answer 64)
+answered work (at.UnlinkPid seq n fd) Done = in_message work.message n fd.0 0
+answered work (at.UnlinkPid seq n fd) answer = at.CleanMess n (failure answer 63)
+answered work (at.AppendMess n fd done) Done = in_message work.message n fd.0 (done + piece_size)
+answered work (at.AppendMess n fd done) answer = at.CleanMess n (failure answer 53)
+answered work (at.SyncMess n fd) Done = at.CreateIntd n
+answered work (at.SyncMess n fd) answer = at.CleanMess n (failure answer 53)
+answered work (at.CreateIntd n) (Created fd i) = in_todo work.todo n fd.0 0
+answered work (at.CreateIntd n) answer = at.CleanMess n (failure answer 65)
+answered work (at.AppendTodo n fd done) Done = in_todo work.todo n fd.0 (done + piece_size)
+answered work (at.AppendTodo n fd done) answer = at.CleanIntd n (failure answer 53)
+answered work (at.SyncTodo n fd) Done = at.LinkTodo n
+answered work (at.SyncTodo n fd) answer = at.CleanIntd n (failure answer 53)
+answered work (at.LinkTodo n) Done = at.Queued
+answered work (at.LinkTodo n) answer = at.Failed (failure answer 66)
+answered work (at.CleanIntd n status) Done = at.CleanMess n status
+answered work (at.CleanIntd n status) (Refused NotThere) = at.CleanMess n status
+answered work (at.CleanIntd n status) answer = at.Failed status
+answered work (at.CleanMess n status) answer = at.Failed status
+answered work at.Queued answer = at.Queued
+answered work (at.Failed status) answer = at.Failed status
+
+abbrev pub moved : Arguments → Row → Answer → Row
+moved args row answer = answered (work_of args) row answer
+
+-- the row after one event of the past
+abbrev pub after_own : Arguments → Row → Did → Row
+after_own args row (Called call answer bytes) = moved args row answer
+
+-- the row after a past, newest event first
+abbrev pub row_after : Arguments → List Own → Row
+row_after args [] = at.Create 1
+row_after args (event ∷ before) = after_own args (row_after args before) event.did
+
+-- the call of a row, or the end
+abbrev pub asked : Work → Row → Due
+asked work (at.Create seq) = Due.File (call.CreateExcl (path (Pid work.pid work.start seq)))
+asked work (at.LinkMess seq n fd) = Due.File (call.Link (path (Pid work.pid work.start seq)) (path (Of Mess n)))
+asked work (at.UnlinkPid seq n fd) = Due.File (call.Unlink (path (Pid work.pid work.start seq)))
+asked work (at.AppendMess n fd done) = Due.File (call.Append fd (take piece_size (drop done work.message.bytes)))
+asked work (at.SyncMess n fd) = Due.File (call.Sync fd)
+asked work (at.CreateIntd n) = Due.File (call.CreateExcl (path (Of Intd n)))
+asked work (at.AppendTodo n fd done) = Due.File (call.Append fd (take piece_size (drop done work.todo.bytes)))
+asked work (at.SyncTodo n fd) = Due.File (call.Sync fd)
+asked work (at.LinkTodo n) = Due.File (call.Link (path (Of Intd n)) (path (Of Todo n)))
+asked work (at.CleanIntd n status) = Due.File (call.Unlink (path (Of Intd n)))
+asked work (at.CleanMess n status) = Due.File (call.Unlink (path (Of Mess n)))
+asked work at.Queued = Due.Ended 0
+asked work (at.Failed status) = Due.Ended status
+
+abbrev pub call_of : Arguments → Row → Due
+call_of args row = asked (work_of args) row
+
+-- its input is ready
+abbrev pub first_link : List Bool → Bool
+first_link [] = false
+first_link (link ∷ links) = link
+
+abbrev pub has_input : Ready → Bool
+has_input ready = first_link ready.links
+
+-- it has run for more than a day
+abbrev pub is_late : Arguments → ℕ → Bool
+is_late args now = nat_lt (args.start + 86400) now
+
+-- An injector that has ended stays so. It waits while its input isn't ready, and makes no call after a day.
+abbrev pub in_time : Bool → Bool → Due → Due
+in_time input late (Due.Ended status) = Due.Ended status
+in_time true true (Due.File call) = Due.Ended 52
+in_time true false (Due.File call) = Due.File call
+in_time false late (Due.File call) = Due.Wait
+in_time input late due = due
+
+-- what an injector with these arguments does next: after this past, newest event first, at this moment, with this ready
+abbrev pub Next : Arguments → List Own → ℕ → Ready → Due
+Next args past now ready = in_time (has_input ready) (is_late args now) (call_of args (row_after args past))

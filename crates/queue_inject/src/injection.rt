@@ -1,0 +1,36 @@
+// What an injector is started with.
+
+use crate::received_line::Invoked;
+use call_fs::mail_bytes::ByteText;
+
+/// How an input ended.
+#[derive(Clone, Copy, Debug, PartialEq, Eq)]
+pub enum InputEnd {
+    /// At its end.
+    Whole,
+    /// It could not be read on.
+    Unread,
+    /// The package that it came in is malformed.
+    Malformed,
+}
+
+/// What an injector is started with: who injects and when, and its whole input.
+#[derive(Debug, Drop)]
+pub struct Arguments {
+    /// The user whose message it is.
+    pub uid: u32,
+    /// The injector's process number.
+    pub pid: u32,
+    /// By whom, or for what, it was invoked.
+    pub invoked: Invoked,
+    /// When it was started, in seconds since 1 January 1970 UTC.
+    pub start: u64,
+    /// The message.
+    pub message: ByteText,
+    /// How the message ended.
+    pub message_end: InputEnd,
+    /// The envelope.
+    pub envelope: ByteText,
+    /// How the envelope's bytes ended.
+    pub envelope_end: InputEnd,
+}

@@ -1,0 +1,21 @@
+//! The injector, qmail-queue(8): the program that puts one message into the queue.
+//!
+//! It is a machine: `look` tells it the moment and whether its input is ready, `need` says which file call it makes
+//! next, and `done` hands in the answer. Its one contract: what it needs is what its table says of its own past,
+//! which it doesn't store. The table is in `specs/Table.antt`.
+#![tactic(auto)]
+
+pub mod envelope_records;
+mod injection;
+mod injector;
+mod intake;
+mod named_row;
+pub mod queue_paths;
+pub mod received_line;
+mod row;
+mod steps;
+mod texts;
+
+pub use injection::{Arguments, InputEnd};
+pub use injector::Injector;
+pub use row::Row;

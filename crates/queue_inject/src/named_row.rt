@@ -1,0 +1,123 @@
+// A row with the names that its call has.
+ghost use Rattle.std.specs.Prelude.{◌≡◌, take, drop};
+ghost use Rattle.call_fs.specs.Program.{due_of};
+ghost use Rattle.queue_inject.specs.Table.{Work, asked};
+
+use crate::Row;
+use crate::queue_paths::{Name, path};
+use call_fs::{Call, NameBuf, Need, PIECE};
+use std::marker::Model;
+
+/// A row of an injector's table, with the names that its call has, held in place.
+#[derive(Debug, Drop)]
+pub struct NamedRow {
+    pid: u32,
+    start: u64,
+    row: Row,
+    pid_name: NameBuf,
+    mess_name: NameBuf,
+    intd_name: NameBuf,
+    todo_name: NameBuf,
+}
+
+impl Model for NamedRow {
+    ghost use Rattle.queue_inject.specs.Rows.{Place};
+
+    ghost Value = { Place };
+
+    ghost use Rattle.queue_inject.specs.Inside.{HasNames};
+
+    ghost view = { λ i. record { pid = i.pid; start = i.start; row = i.row } };
+
+    ghost invariant = { HasNames };
+}
+
+impl NamedRow {
+    /// The first row.
+    pub fn new(pid: u32, start: u64) -> Self
+        ensures { result ≡ record { pid = pid; start = start; row = Row.Create 1 } }
+    {
+        let mut pid_name = NameBuf::new();
+        path(&Name::Pid { pid, start, seq: 1 }, &mut pid_name);
+        NamedRow {
+            pid,
+            start,
+            row: Row::Create { seq: 1 },
+            pid_name,
+            mess_name: NameBuf::new(),
+            intd_name: NameBuf::new(),
+            todo_name: NameBuf::new(),
+        }
+    }
+
+    /// The injector's process number.
+    pub fn pid(&self) -> u32
+        ensures { result ≡ self.now.pid }
+    {
+        self.pid
+    }
+
+    /// When the injector was started.
+    pub fn start(&self) -> u64
+        ensures { result ≡ self.now.start }
+    {
+        self.start
+    }
+
+    /// The row.
+    pub fn row(&self) -> Row
+        ensures { result ≡ self.now.row }
+    {
+        self.row
+    }
+
+    /// Goes on to another row.
+    pub fn go(&mut self, row: Row)
+        ensures { self.new ≡ record self.old { row = row } }
+    {
+        if let Some(seq) = row.seq() {
+            let (pid, start) = (self.pid, self.start);
+            path(&Name::Pid { pid, start, seq }, &mut self.pid_name);
+        }
+        if let Some(number) = row.number() {
+            path(&Name::Mess(number), &mut self.mess_name);
+            path(&Name::Intd(number), &mut self.intd_name);
+            path(&Name::Todo(number), &mut self.todo_name);
+        }
+        self.row = row;
+    }
+
+    /// The call of the row, over these texts of the message file and of intd, or its end.
+    pub fn need<'a>(&'a self, message: &'a [u8], todo: &'a [u8]) -> Need<'a>
+        ensures { (work : Work) → work.pid ≡ self.now.pid → work.start ≡ self.now.start
+            → work.message.bytes ≡ message.now → work.todo.bytes ≡ todo.now → due_of result ≡ asked work self.now.row }
+    {
+        let pid_name = self.pid_name.as_slice();
+        let mess_name = self.mess_name.as_slice();
+        let intd_name = self.intd_name.as_slice();
+        match self.row {
+            Row::Create { .. } => Need::File(Call::CreateExcl(pid_name)),
+            Row::LinkMess { .. } => Need::File(Call::Link(pid_name, mess_name)),
+            Row::UnlinkPid { .. } => Need::File(Call::Unlink(pid_name)),
+            Row::AppendMess { fd, done, .. } => Need::File(Call::Append(fd, piece(message, done))),
+            Row::SyncMess { fd, .. } => Need::File(Call::Sync(fd)),
+            Row::CreateIntd { .. } => Need::File(Call::CreateExcl(intd_name)),
+            Row::AppendTodo { fd, done, .. } => Need::File(Call::Append(fd, piece(todo, done))),
+            Row::SyncTodo { fd, .. } => Need::File(Call::Sync(fd)),
+            Row::LinkTodo { .. } => Need::File(Call::Link(intd_name, self.todo_name.as_slice())),
+            Row::CleanIntd { .. } => Need::File(Call::Unlink(intd_name)),
+            Row::CleanMess { .. } => Need::File(Call::Unlink(mess_name)),
+            Row::Queued => Need::Ended(0),
+            Row::Failed { status } => Need::Ended(status),
+        }
+    }
+}
+
+// The piece of a text behind so many bytes.
+fn piece(text: &[u8], done: usize) -> &[u8]
+    ensures { result.now ≡ take 8192 (drop done text.now) }
+{
+    let from = done.min(text.len());
+    let rest = &text[from..];
+    &rest[..rest.len().min(PIECE)]
+}
