@@ -1,5 +1,5 @@
 -- Forms in memory of what lies outside a program: what each holds.
-use Rattle.std.specs.Prelude.{◌≡◌, ◌⊎◌, ℕ, zero, suc, ◌+◌, ◌-◌, ◌^◌, ◌≤◌, min, max, List, [], ◌∷◌, ◌++◌, length, drop, slice_get, slice_index_or, flat_map, Option, None, Some, IsSome, IsSomeAnd, Bool, nat_lt, if◌then◌else◌, Contains}
+use Rattle.std.specs.Prelude.{◌≡◌, ◌⊎◌, ℕ, zero, suc, ◌+◌, ◌-◌, ◌^◌, ◌≤◌, min, max, List, [], ◌∷◌, ◌++◌, length, drop, slice_get, slice_index_or, flat_map, Option, None, Some, IsSome, IsSomeAnd, Bool, true, false, nat_lt, if◌then◌else◌, Contains}
 use Rattle.call_fs.specs.declared.outside.sink.Gave.{Gave}
 use Rattle.call_fs.specs.declared.outside.sink.Gave.TheVariants as gave
 use Rattle.call_fs.specs.declared.outside.spawner.Started.{Started}
@@ -75,41 +75,51 @@ pub record PostsForm : Type 0 where
   pub waiting : List Arrival
   pub faults : ℕ
 
--- a spawner: all its children, how many were started, what they were fed, and how often it has failed
+-- a spawner: all its children, how many were started, what they were fed, and which calls fail
 pub record SpawnForm : Type 0 where
   pub all : List MemChild
   pub started : ℕ
   pub fed : List ℕ
-  pub faults : ℕ
+  pub plan : Plan
 
 -- the channels from 1 on
 abbrev pub channels : ℕ → List ℕ
 channels zero = []
 channels (suc n) = channels n ++ suc n ∷ []
 
+-- the child of a channel, where it is one of the first so many
+abbrev pub child_at : List MemChild → ℕ → ℕ → Option MemChild
+child_at all started zero = None
+child_at all started (suc place) = if nat_lt place started then slice_get all place else None
+
 -- the child of a channel, where it was started
 abbrev pub child_of : SpawnForm → ℕ → Option MemChild
-child_of s zero = None
-child_of s (suc place) = if nat_lt place s.started then slice_get s.all place else None
+child_of s chan = child_at s.all s.started chan
 
--- one failure more of a spawner
+-- a call of a spawner was counted, and did nothing else
+abbrev pub asked_spawn : SpawnForm → SpawnForm
+asked_spawn s = record { all = s.all; started = s.started; fed = s.fed; plan = after_call false s.plan }
+
+-- the same of a call that failed
 abbrev pub failed_spawn : SpawnForm → SpawnForm
-failed_spawn s = record { all = s.all; started = s.started; fed = s.fed; faults = raised s.faults }
+failed_spawn s = record { all = s.all; started = s.started; fed = s.fed; plan = after_call true s.plan }
 
--- The next child was started, on the next channel; a start fails where there is no next child or no next channel.
+-- The next child was started, on the next channel. A start fails, and does nothing else, where it is one of those that
+-- do, or where there is no next child or no next channel.
 abbrev pub StartsNext : SpawnForm → Started → SpawnForm → Type 0
 StartsNext old (started.Chan chan pid) new =
-    (chan ≡ old.started + 1) × IsSomeAnd (slice_get old.all old.started) (λ child. child.pid ≡ pid)
-    × (new ≡ record { all = old.all; started = old.started + 1; fed = old.fed; faults = old.faults })
+    (¬ (FailsNext old.plan)) × (chan ≡ old.started + 1) × IsSomeAnd (slice_get old.all old.started) (λ child. child.pid ≡ pid)
+    × (new ≡ record { all = old.all; started = old.started + 1; fed = old.fed; plan = after_call false old.plan })
 StartsNext old started.Failed new =
-    ((length old.all ≤ old.started) ⊎ (2 ^ 32 ≤ old.started + 1)) × (new ≡ failed_spawn old)
+    (FailsNext old.plan ⊎ ((length old.all ≤ old.started) ⊎ (2 ^ 32 ≤ old.started + 1))) × (new ≡ failed_spawn old)
 StartsNext old started.Memory new = ⊥
 
--- a child was fed; a feeding fails where the channel is no child's, or where there is no memory
+-- A child was fed. A feeding fails, and does nothing else, where it is one of those that do, where the channel is no
+-- child's, or where there is no memory.
 abbrev pub FeedsChild : SpawnForm → ℕ → List ℕ → Gave → SpawnForm → Type 0
 FeedsChild old chan bytes gave.Done new =
-    IsSome (child_of old chan)
-    × (new ≡ record { all = old.all; started = old.started; fed = old.fed ++ bytes; faults = old.faults })
+    (¬ (FailsNext old.plan)) × IsSome (child_of old chan)
+    × (new ≡ record { all = old.all; started = old.started; fed = old.fed ++ bytes; plan = after_call false old.plan })
 FeedsChild old chan bytes gave.Failed new = new ≡ failed_spawn old
 
 -- how a child ended, and what a spawner holds then
@@ -119,4 +129,4 @@ status_of (Some child) = child.status
 
 abbrev pub after_status : SpawnForm → Status → SpawnForm
 after_status s status.Failed = failed_spawn s
-after_status s other = s
+after_status s other = asked_spawn s

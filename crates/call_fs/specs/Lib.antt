@@ -6,6 +6,10 @@ pub mod Disk
 pub mod Calls
 -- what each call does, and which answers it may give
 pub mod Apply
+-- what each answer means, apart from the others
+pub mod Columns
+-- disks that don't fail
+pub mod Steady
 -- what survives a machine stop
 pub mod Survival
 -- meanings that a disk may tell, and the causes of faults

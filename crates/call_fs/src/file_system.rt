@@ -1,11 +1,13 @@
 // What carries out file calls.
-ghost use Rattle.std.specs.Prelude.{◌≡◌, ℕ, List, [], Option};
+ghost use Rattle.std.specs.Prelude.{◌≡◌, ◌↔◌, ℕ, List, [], Option, None, IsSome, IfOk, OnOk, OnErr, IsErrOf, Contains};
 ghost use Rattle.call_fs.specs.declared.calls.CallData.TheVariants as call;
 ghost use Rattle.call_fs.specs.declared.calls.Answer.TheVariants as answer;
 ghost use Rattle.call_fs.specs.declared.calls.Recorded.{Recorded as Entry};
-ghost use Rattle.call_fs.specs.Disk.{Disk, IsMoment, MayUse, MayAppend};
+ghost use Rattle.call_fs.specs.Disk.{Disk, HasDir, IsMoment, MayUse, MayAppend};
 ghost use Rattle.call_fs.specs.Calls.{data_of, created, done, stated, next_found, entry};
-ghost use Rattle.call_fs.specs.Apply.{Apply, MayCall};
+ghost use Rattle.call_fs.specs.Apply.{Apply, MayCall, IsNew, IsLinkable, IsStat, changed, grown, synced};
+ghost use Rattle.call_fs.specs.Columns.{IsTold, IsFound, IsMomentIn, GrewPart, IsUnchanged, LacksLink, with_new, with_name, without_open};
+ghost use Rattle.call_fs.specs.Steady.{IsSteadyAnswer};
 ghost use Rattle.call_fs.specs.Told.{HasCause, AnswerHasCause, Meets, OnTold, Records};
 
 use crate::{Answer, Call, Fd, FsError, NameBuf, Stat};
@@ -20,10 +22,12 @@ pub const PIECE: usize = 8192;
 /// A file system, by its calls.
 ///
 /// A name is a path of bytes with `/` between its parts, each part 1 to 255 bytes without NUL. `now` is the moment
-/// that the caller read. Each call has one contract, the relation `Apply` between the disk before it, the call, the
-/// answer and the disk after it: which answers may come, and what each leaves. After `NotThere`, `Exists` or `Memory`
-/// nothing changed. After `Fault` no name changed, a sync has synced nothing and a write has written a prefix; a
-/// fault comes only where `faults` rose in that call, or stands at its last value.
+/// that the caller read. Clause `told` of each call is one relation, `Apply`, between the disk before it, the call, the
+/// answer and the disk after it: which answers may come, and what each leaves. The clauses that follow say it of each
+/// answer apart: what an `Ok` gives, where exactly `NotThere` and `Exists` come, unless a failure or want of memory
+/// came first, and which answers never come, also from a disk that doesn't tell. After `NotThere`, `Exists` or `Memory`
+/// nothing changed. After `Fault` no name changed, a sync has synced nothing and a write has written a prefix; a fault
+/// comes only where `faults` rose in that call, or stands at its last value.
 pub trait CallFs {
     /// What it holds, where it tells.
     ghost disk: { Self → Option Disk };
@@ -33,6 +37,10 @@ pub trait CallFs {
 
     /// How often it has failed; the count never falls, and stands still at u64's last value.
     ghost faults: { Self → ℕ };
+
+    /// Whether it is steady: no call of it answers `Fault`, and what it makes takes the least number and the least
+    /// descriptor that are free. A disk that promises nothing of the kind is never steady.
+    ghost steady: { Self → Type 0 };
 
     /// How often it has failed.
     fn faults(&self) -> u64
@@ -45,23 +53,52 @@ pub trait CallFs {
         ensures told { Meets (disk self.old) (disk self.new)
             (λ before after. Apply before now (call.CreateExcl name.now) (created result) after) }
         ensures recorded { Records (calls self.old) (calls self.new) (entry (call.CreateExcl name.now) (created result)) }
+        ensures ok { IfOk result (λ made. Meets (disk self.old) (disk self.new)
+            (λ before after. IsNew before name.now made.0.0 made.1
+            × (after ≡ with_new before now name.now made.0.0 made.1))) }
+        ensures not_there { OnTold (disk self.old)
+            (λ before. IsTold result → (IsErrOf result FsError.NotThere ↔ ¬ (HasDir before name.now))) }
+        ensures exists { OnTold (disk self.old)
+            (λ before. IsTold result → (IsErrOf result FsError.Exists ↔ HasDir before name.now × IsSome (before.names name.now))) }
+        ensures unchanged { OnErr result (IsUnchanged (disk self.old) (disk self.new)) }
+        ensures steady { steady self.old → steady self.new
+            × OnTold (disk self.old) (λ before. IsSteadyAnswer before (created result)) }
         ensures cause { HasCause (faults self.old) (faults self.new) result };
 
-    /// Writes bytes at the end, as write(2). The condition: the descriptor was created. `Memory` may come.
+    /// Writes bytes at the end, as write(2). The condition: the descriptor was created. `Memory` may come; `NotThere`
+    /// and `Exists` never do.
     fn append(&mut self, alloc: Global, now: u64, fd: Fd, bytes: &[u8]) -> Result<(), FsError>
         requires moment { IsMoment now }
         requires fits { OnTold (disk self.old) (λ before. MayAppend before fd.0) }
         ensures told { Meets (disk self.old) (disk self.new)
             (λ before after. Apply before now (call.Append fd bytes.now) (done result) after) }
         ensures recorded { Records (calls self.old) (calls self.new) (entry (call.Append fd bytes.now) (done result)) }
+        ensures ok { OnOk result (Meets (disk self.old) (disk self.new)
+            (λ before after. after ≡ changed before (before.opens fd.0) (grown now bytes.now))) }
+        ensures not_there { ¬ (IsErrOf result FsError.NotThere) }
+        ensures exists { ¬ (IsErrOf result FsError.Exists) }
+        ensures memory { IsErrOf result FsError.Memory → IsUnchanged (disk self.old) (disk self.new) }
+        ensures fault { IsErrOf result FsError.Fault → Meets (disk self.old) (disk self.new)
+            (λ before after. GrewPart before now fd.0 bytes.now after) }
+        ensures steady { steady self.old → steady self.new
+            × OnTold (disk self.old) (λ before. IsSteadyAnswer before (done result)) }
         ensures cause { HasCause (faults self.old) (faults self.new) result };
 
-    /// Waits until the contents are on the disk, as fsync(2). The condition: the descriptor is open.
+    /// Waits until the contents are on the disk, as fsync(2). The condition: the descriptor is open. Of the errors only
+    /// `Fault` comes.
     fn sync(&mut self, fd: Fd) -> Result<(), FsError>
         requires { OnTold (disk self.old) (λ before. MayUse before fd.0) }
         ensures told { Meets (disk self.old) (disk self.new)
             (λ before after. Apply before 0 (call.Sync fd) (done result) after) }
         ensures recorded { Records (calls self.old) (calls self.new) (entry (call.Sync fd) (done result)) }
+        ensures ok { OnOk result (Meets (disk self.old) (disk self.new)
+            (λ before after. after ≡ changed before (before.opens fd.0) synced)) }
+        ensures not_there { ¬ (IsErrOf result FsError.NotThere) }
+        ensures exists { ¬ (IsErrOf result FsError.Exists) }
+        ensures memory { ¬ (IsErrOf result FsError.Memory) }
+        ensures unchanged { OnErr result (IsUnchanged (disk self.old) (disk self.new)) }
+        ensures steady { steady self.old → steady self.new
+            × OnTold (disk self.old) (λ before. IsSteadyAnswer before (done result)) }
         ensures cause { HasCause (faults self.old) (faults self.new) result };
 
     /// Closes the descriptor, as close(2); it never fails. The condition: the descriptor is open.
@@ -70,39 +107,79 @@ pub trait CallFs {
         ensures told { Meets (disk self.old) (disk self.new)
             (λ before after. Apply before 0 (call.Close fd) answer.Done after) }
         ensures recorded { Records (calls self.old) (calls self.new) (entry (call.Close fd) answer.Done) }
+        ensures ok { Meets (disk self.old) (disk self.new) (λ before after. after ≡ without_open before fd.0) }
+        ensures steady { steady self.old → steady self.new }
         ensures cause { faults self.new ≡ faults self.old };
 
     /// Gives the file of `old` the name `new` too, as link(2). `NotThere` exactly where `old` or the directory of
-    /// `new` is missing, `Exists` exactly where both are there; `Memory` may come.
+    /// `new` is missing, `Exists` exactly where both are there and `new` is too; `Memory` may come.
     fn link(&mut self, alloc: Global, old: &[u8], new: &[u8]) -> Result<(), FsError>
         ensures told { Meets (disk self.old) (disk self.new)
             (λ before after. Apply before 0 (call.Link old.now new.now) (done result) after) }
         ensures recorded { Records (calls self.old) (calls self.new) (entry (call.Link old.now new.now) (done result)) }
+        ensures ok { OnOk result (Meets (disk self.old) (disk self.new)
+            (λ before after. IsLinkable before old.now new.now
+            × (after ≡ with_name before new.now (before.names old.now)))) }
+        ensures not_there { OnTold (disk self.old)
+            (λ before. IsTold result → (IsErrOf result FsError.NotThere ↔ LacksLink before old.now new.now)) }
+        ensures exists { OnTold (disk self.old)
+            (λ before. IsTold result → (IsErrOf result FsError.Exists ↔ IsSome (before.names old.now)
+            × HasDir before new.now × IsSome (before.names new.now))) }
+        ensures unchanged { OnErr result (IsUnchanged (disk self.old) (disk self.new)) }
+        ensures steady { steady self.old → steady self.new
+            × OnTold (disk self.old) (λ before. IsSteadyAnswer before (done result)) }
         ensures cause { HasCause (faults self.old) (faults self.new) result };
 
-    /// Takes the name away, as unlink(2). `NotThere` exactly where it is missing.
+    /// Takes the name away, as unlink(2). `NotThere` exactly where it is missing; `Exists` and `Memory` never come.
     fn unlink(&mut self, name: &[u8]) -> Result<(), FsError>
         ensures told { Meets (disk self.old) (disk self.new)
             (λ before after. Apply before 0 (call.Unlink name.now) (done result) after) }
         ensures recorded { Records (calls self.old) (calls self.new) (entry (call.Unlink name.now) (done result)) }
+        ensures ok { OnOk result (Meets (disk self.old) (disk self.new)
+            (λ before after. IsSome (before.names name.now) × (after ≡ with_name before name.now None))) }
+        ensures not_there { OnTold (disk self.old)
+            (λ before. IsTold result → (IsErrOf result FsError.NotThere ↔ (before.names name.now ≡ None))) }
+        ensures exists { ¬ (IsErrOf result FsError.Exists) }
+        ensures memory { ¬ (IsErrOf result FsError.Memory) }
+        ensures unchanged { OnErr result (IsUnchanged (disk self.old) (disk self.new)) }
+        ensures steady { steady self.old → steady self.new
+            × OnTold (disk self.old) (λ before. IsSteadyAnswer before (done result)) }
         ensures cause { HasCause (faults self.old) (faults self.new) result };
 
-    /// Tells the number, length and moment of the file of this name, as stat(2). `NotThere` exactly where the name is
-    /// missing.
+    /// Tells the number, length and moment of the file of this name, as stat(2). The moment is one, also from a disk that
+    /// doesn't tell. `NotThere` exactly where the name is missing; `Exists` and `Memory` never come.
     fn stat(&mut self, name: &[u8]) -> Result<Stat, FsError>
         ensures told { Meets (disk self.old) (disk self.new)
             (λ before after. Apply before 0 (call.Stat name.now) (stated result) after) }
         ensures recorded { Records (calls self.old) (calls self.new) (entry (call.Stat name.now) (stated result)) }
+        ensures ok { IfOk result (λ stat. OnTold (disk self.old) (λ before. IsStat before name.now stat)) }
+        ensures moment { IfOk result (λ stat. IsMoment stat.moment) }
+        ensures not_there { OnTold (disk self.old)
+            (λ before. IsTold result → (IsErrOf result FsError.NotThere ↔ (before.names name.now ≡ None))) }
+        ensures exists { ¬ (IsErrOf result FsError.Exists) }
+        ensures memory { ¬ (IsErrOf result FsError.Memory) }
+        ensures unchanged { IsUnchanged (disk self.old) (disk self.new) }
+        ensures steady { steady self.old → steady self.new
+            × OnTold (disk self.old) (λ before. IsSteadyAnswer before (stated result)) }
         ensures cause { HasCause (faults self.old) (faults self.new) result };
 
     /// Puts the least name of the directory that comes after `after` in byte order into the buffer and answers true,
     /// or answers false where there is none. Directories are passed over. `NotThere` exactly where the directory is
-    /// missing.
+    /// missing; `Exists` and `Memory` never come.
     fn next_name(&mut self, dir: &[u8], after: &[u8], into: &mut NameBuf) -> Result<bool, FsError>
         ensures told { Meets (disk self.old) (disk self.new)
             (λ before later. Apply before 0 (call.NextName dir.now after.now) (next_found result into.new) later) }
         ensures recorded { Records (calls self.old) (calls self.new)
             (entry (call.NextName dir.now after.now) (next_found result into.new)) }
+        ensures ok { IfOk result (λ found. OnTold (disk self.old)
+            (λ before. IsFound before dir.now after.now found into.new)) }
+        ensures not_there { OnTold (disk self.old)
+            (λ before. IsTold result → (IsErrOf result FsError.NotThere ↔ ¬ (Contains before.dirs dir.now))) }
+        ensures exists { ¬ (IsErrOf result FsError.Exists) }
+        ensures memory { ¬ (IsErrOf result FsError.Memory) }
+        ensures unchanged { IsUnchanged (disk self.old) (disk self.new) }
+        ensures steady { steady self.old → steady self.new
+            × OnTold (disk self.old) (λ before. IsSteadyAnswer before (next_found result into.new)) }
         ensures cause { HasCause (faults self.old) (faults self.new) result };
 }
 
@@ -119,6 +196,9 @@ pub fn perform<D: CallFs>(
     ensures told { Meets (D.disk disk.old) (D.disk disk.new)
         (λ before after. Apply before now (data_of call.entry) result after) }
     ensures recorded { Records (D.calls disk.old) (D.calls disk.new) (entry (data_of call.entry) result) }
+    ensures moment { IsMomentIn result }
+    ensures steady { D.steady disk.old → D.steady disk.new
+        × OnTold (D.disk disk.old) (λ before. IsSteadyAnswer before result) }
     ensures cause { AnswerHasCause (D.faults disk.old) (D.faults disk.new) result }
 {
     match call {
@@ -147,6 +227,9 @@ fn next_name<D: CallFs>(disk: &mut D, dir: &[u8], after: &[u8]) -> Answer
     ensures told { Meets (D.disk disk.old) (D.disk disk.new)
         (λ before later. Apply before 0 (call.NextName dir.now after.now) result later) }
     ensures recorded { Records (D.calls disk.old) (D.calls disk.new) (entry (call.NextName dir.now after.now) result) }
+    ensures moment { IsMomentIn result }
+    ensures steady { D.steady disk.old → D.steady disk.new
+        × OnTold (D.disk disk.old) (λ before. IsSteadyAnswer before result) }
     ensures cause { AnswerHasCause (D.faults disk.old) (D.faults disk.new) result }
 {
     let mut name = NameBuf::new();

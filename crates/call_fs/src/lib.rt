@@ -16,5 +16,5 @@ mod program;
 
 pub use calls::{Answer, Call, CallData, Fd, FsError, How, Recorded, Stat, Told};
 pub use file_system::{CallFs, LAST_MOMENT, PIECE, perform};
-pub use name_buf::NameBuf;
+pub use name_buf::{NameBuf, NoRoom};
 pub use program::{Child, Got, Need, Port, Ready};

@@ -19,8 +19,9 @@ use Rattle.mail_world.specs.History.Life.{Alive, Over}
 use Rattle.mail_world.specs.World.{IsEndOf, EndsAt}
 use Rattle.mail_world.specs.Inside.{IsMember, IsStranger, Follows, is_by}
 use Rattle.mail_world.proofs.Lists.{some_pushed, some_last}
-use Rattle.mail_world.proofs.Maps.{put_same, put_other, put_at_same, put_at_other}
-use Rattle.mail_world.proofs.Crew.{ActsAlone, StartsAlone, other_text, ends_other, ends_still}
+use Rattle.call_fs.proofs.Maps.{put_same, put_other, put_at_same, put_at_other}
+use Rattle.mail_world.proofs.Tests.{other_text}
+use Rattle.mail_world.proofs.Crew.{ActsAlone, StartsAlone, ends_other, ends_still}
 
 -- the descriptors of others
 others_put : (h : ℕ → Option (List ℕ)) (b : List ℕ) (k : ℕ) (v : Option (List ℕ)) (fd : ℕ) → is_by b v ≡ false → is_by b (h fd) ≡ false → is_by b (put h k v fd) ≡ false

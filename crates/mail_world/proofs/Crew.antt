@@ -1,9 +1,7 @@
 -- The actors that a world keeps, as one event comes.
-use Rattle.std.proofs.Common.{◌≡◌, ◌≢◌, ◌⊎◌, inl, inr, ℕ, List, [], ◌∷◌, ◌++◌, length, set, Bool, true, false, ◌||◌, is_some, Option, Some, None, IsSomeAnd, refl, sym, ap, ◌∙◌, subst, ⊎_elim, bytes_eq, Decides}
+use Rattle.std.proofs.Common.{◌≡◌, ◌≢◌, ℕ, List, [], ◌∷◌, ◌++◌, length, set, false, ◌||◌, is_some, Option, Some, None, IsSomeAnd, sym, ap, ◌∙◌, subst, ⊎_elim, bytes_eq}
 use Rattle.std.proofs.Math.Bool.{or-false, or-true}
-use Rattle.std.proofs.lemmas.Bool.Decides.{Decides-eqb}
 use Rattle.std.proofs.lemmas.List.Folds.{list_any-append}
-use Rattle.std.proofs.lemmas.Slice.Eq.{slice_eq-Decides}
 use Rattle.std.specs.List.{slice_get}
 use Rattle.call_fs.specs.Maps.{put_at}
 use Rattle.mail_world.specs.declared.actor.Actor.{Actor as Held}
@@ -11,19 +9,9 @@ use Rattle.mail_world.specs.declared.event.Event.{Event as Kept}
 use Rattle.mail_world.specs.History.{State}
 use Rattle.mail_world.specs.World.{IsEndOf, EndsAt, starts, was_started}
 use Rattle.mail_world.specs.Inside.{IsMember, IsStranger, AreActors, is_by}
-use Rattle.mail_world.proofs.Maps.{same_text, put_at_same, put_at_other}
+use Rattle.call_fs.proofs.Maps.{put_at_same, put_at_other}
+use Rattle.mail_world.proofs.Tests.{text_cases, same_text, other_text}
 use Rattle.mail_world.proofs.Lists.{each_set, some_set, each_push, some_push, some_last, some_pushed}
-
--- tests of texts
-choose : (b : Bool) {P : Type 0} → Decides b P → (P × (b ≡ true)) ⊎ ((P → ⊥) × (b ≡ false))
-choose true h = inl (h.0 refl, refl)
-choose false h = inr ((λ p. absurd (cc (h.1 p))), refl)
-
-pub text_cases : (q k : List ℕ) → ((q ≡ k) × (bytes_eq q k ≡ true)) ⊎ ((q ≢ k) × (bytes_eq q k ≡ false))
-text_cases q k = choose (bytes_eq q k) (slice_eq-Decides Decides-eqb q k _ refl)
-
-pub other_text : (q k : List ℕ) → q ≢ k → bytes_eq q k ≡ false
-other_text q k apart = ⊎_elim (λ h. absurd (apart h.0)) (λ h. h.1) (text_cases q k)
 
 -- an event leaves each actor but one as it was
 pub record ActsAlone (a : List ℕ) (s t : State) (k : Kept) : Type 0 where

@@ -5,12 +5,13 @@ use Rattle.call_fs.specs.Disk.{File, Mode}
 use Rattle.call_fs.specs.Apply.{empty_file, IsNew}
 use Rattle.queue_inject.specs.declared.injection.Arguments.{Arguments}
 use Rattle.queue_inject.specs.declared.row.Row.{Row}
-use Rattle.queue_inject.specs.Names.{Name, path, NamesAreExact}
+use Rattle.queue_inject.specs.Names.{Name, path}
 use Rattle.queue_inject.specs.Names.Name.{Pid, Of}
 use Rattle.queue_inject.specs.Names.Part.{Mess, Intd, Todo, Info, Local, Remote, Bounce}
 use Rattle.mail_world.specs.History.{Injection, Books}
 use Rattle.mail_world.specs.Headline.{IsInjected}
-use Rattle.mail_world.proofs.Maps.{off, put_cases, put_same, put_other, tells_name}
+use Rattle.call_fs.proofs.Maps.{put_cases, put_same, put_other}
+use Rattle.mail_world.proofs.Tests.{off, tells_name}
 use Rattle.mail_world.proofs.Looks.{Entry, entry, find_some, find_far, find_put, find_other, found}
 use Rattle.mail_world.proofs.Invariant.{Role, Queue, look, IsPidRole, IsRecent, IsRight, NameSuits, NamesSuit, about, Phase, IsBegun, Basis, NoneLost, Sound}
 use Rattle.mail_world.proofs.Invariant.Role.{AsMessage, AsPart, AsOld}
@@ -71,7 +72,7 @@ at_number : (r : Queue) (n : ℕ) → Phase (about r n) → (k : ℕ) → ◌≡
 at_number r n h k same = let w : n ≡ k = cc in subst (λ k. Phase (about r k)) w h
 
 -- where the names lead
-module _ (N : NamesAreExact) (q : Queue) (x : Name) where
+module _ (q : Queue) (x : Name) where
   module _ (a : List ℕ) (fd i read : ℕ) (role : Role) (new : IsNew q.disk (path x) fd i) where
     pub unnamed : (y : Name) (z : Entry) → look q y ≡ Some z → z.number ≢ i
     unnamed y z h same = new.unused.unnamed (path y) ((found q.disk.names q.disk.files y z h).0 ∙ ap Some same)
@@ -83,11 +84,11 @@ module _ (N : NamesAreExact) (q : Queue) (x : Name) where
 
     pub made_other : (y : Name) → y ≢ x → look (made q a x fd i read role) y ≡ look q y
     made_other y far =
-        find_other q.disk.names (put q.disk.files i (empty_file read)) x N y (Some i) far
+        find_other q.disk.names (put q.disk.files i (empty_file read)) x y (Some i) far
         ∙ find_far q.disk.names q.disk.files y i (empty_file read) (unnamed y)
 
   pub named_other : (o : Option ℕ) (c : Books) (y : Name) → y ≢ x → look (named q x o c) y ≡ look q y
-  named_other o c y far = find_other q.disk.names q.disk.files x N y o far
+  named_other o c y far = find_other q.disk.names q.disk.files x y o far
 
 -- the number that a file was made for
 abbrev pub made_for : ℕ → Role → ℕ
@@ -120,7 +121,7 @@ module _ (now : ℕ) (q : Queue) (S : NamesSuit q) where
       other (cc)
 
   -- the names still suit
-  module _ (N : NamesAreExact) (x : Name) where
+  module _ (x : Name) where
     made_suits : (a : List ℕ) (fd i read : ℕ) (role : Role) → IsNew q.disk (path x) fd i
         → IsRight x (record { number = i; file = empty_file read }) role → NamesSuit (made q a x fd i read role)
     made_suits a fd i read role new right y z h =
@@ -128,21 +129,21 @@ module _ (now : ℕ) (q : Queue) (S : NamesSuit q) where
         let e : Entry = record { number = i; file = empty_file read } in
         ⊎_elim
         (λ (same : y ≡ x).
-        let s : Some e ≡ Some z = sym (made_same N q x a fd i read role new) ∙ ap (look r) (sym same) ∙ h in
+        let s : Some e ≡ Some z = sym (made_same q x a fd i read role new) ∙ ap (look r) (sym same) ∙ h in
         let w : e ≡ z = cc in
         let here : IsRight x e (r.role i) = subst (IsRight x e) (sym (put_same q.role i role)) right in
         subst (λ v. IsRight v z (r.role z.number)) (sym same) (subst (λ (v : Entry). IsRight x v (r.role v.number)) w here))
         (λ (far : y ≢ x).
-        let old = sym (made_other N q x a fd i read role new y far) ∙ h in
-        let kept = put_other q.role i role z.number (unnamed N q x a fd i read role new y z old) in
+        let old = sym (made_other q x a fd i read role new y far) ∙ h in
+        let kept = put_other q.role i role z.number (unnamed q x a fd i read role new y z old) in
         subst (IsRight y z) (sym kept) (S y z old))
-        (tells_name N x y)
+        (tells_name x y)
 
     named_suits : (o : Option ℕ) (c : Books) → NameSuits (named q x o c) x → NamesSuit (named q x o c)
     named_suits o c here y z h = ⊎_elim
         (λ (same : y ≡ x). subst (λ v. IsRight v z (q.role z.number)) (sym same) (here z (ap (look (named q x o c)) (sym same) ∙ h)))
-        (λ (far : y ≢ x). S y z (sym (named_other N q x o c y far) ∙ h))
-        (tells_name N x y)
+        (λ (far : y ≢ x). S y z (sym (named_other q x o c y far) ∙ h))
+        (tells_name x y)
 
   written_suits : (j : ℕ) (f : File) → IsRecent f (q.role j) → NamesSuit (written q j f)
   written_suits j f recent y z h =
@@ -160,7 +161,7 @@ module _ (now : ℕ) (q : Queue) (S : NamesSuit q) where
       )
 
 -- the outcome of each deed
-module _ (N : NamesAreExact) (now : ℕ) (q : Queue) (a : List ℕ) (args : Arguments) (G : Sound q) where
+module _ (now : ℕ) (q : Queue) (a : List ℕ) (args : Arguments) (G : Sound q) where
   abbrev pub Leads : Queue → Row → Type 0
   Leads r row = Outcome now q a args r row
 
@@ -171,17 +172,17 @@ module _ (N : NamesAreExact) (now : ℕ) (q : Queue) (a : List ℕ) (args : Argu
   made_outcome x fd i read role m row new concerns apart right fine next = record {
     number = Some m;
     elsewhere = record {
-      looks = λ y far. made_other N q x a fd i read role new y (λ same. far (subst (λ z. Concerns q z (Some m)) (sym same) concerns));
+      looks = λ y far. made_other q x a fd i read role new y (λ same. far (subst (λ z. Concerns q z (Some m)) (sym same) concerns));
       living = λ _ _. refl;
       opens = λ o k j other h.
           let w = new.not_open in
           let far : k ≢ fd = λ same. let v : q.disk.opens k ≡ q.disk.opens fd = ap q.disk.opens same in let u = h.opened in absurd (cc) in
           record { opened = put_other q.disk.opens fd _ k far ∙ h.opened; held = put_other q.holder fd _ k far ∙ h.held };
-      roles = λ y z h. put_other q.role i role z.number (unnamed N q x a fd i read role new y z h);
+      roles = λ y z h. put_other q.role i role z.number (unnamed q x a fd i read role new y z h);
       apart = apart;
       accepted = λ _ h _. h;
     };
-    suits = made_suits now q G.suits N x a fd i read role new right;
+    suits = made_suits now q G.suits x a fd i read role new right;
     fine = at_number (made q a x fd i read role) m fine;
     over = G.over;
     next = next;
@@ -213,14 +214,14 @@ module _ (N : NamesAreExact) (now : ℕ) (q : Queue) (a : List ℕ) (args : Argu
   named_outcome x o c n row mine concerns here living accepted over fine next = record {
     number = Some n;
     elsewhere = record {
-      looks = λ y far. named_other N q x o c y (λ same. far (subst (λ z. Concerns q z (Some n)) (sym same) concerns));
+      looks = λ y far. named_other q x o c y (λ same. far (subst (λ z. Concerns q z (Some n)) (sym same) concerns));
       living = λ k far. living k (λ same. far (ap Some (sym same)));
       opens = λ _ _ _ _ h. h;
       roles = λ _ _ _. refl;
       apart = own_apart now q G.suits a args n mine;
       accepted = accepted;
     };
-    suits = named_suits now q G.suits N x o c here;
+    suits = named_suits now q G.suits x o c here;
     fine = at_number (named q x o c) n fine;
     over = over;
     next = next;

@@ -13,7 +13,7 @@ use Rattle.call_fs.specs.Maps.{put}
 use Rattle.call_fs.specs.Apply.{effect, Apply}
 use Rattle.call_fs.specs.Told.{OnTold, Meets}
 use Rattle.mail_world.specs.History.{unless_by, shut_by}
-use Rattle.mail_world.proofs.Maps.{put_other}
+use Rattle.call_fs.proofs.Maps.{put_other}
 use Rattle.mail_world.specs.Inside.{has, AreApart, is_by}
 use Rattle.mail_world.specs.Acting.{AreOpen, shut}
 

@@ -23,10 +23,11 @@ use Rattle.mail_world.specs.History.Life.{Alive, Over}
 use Rattle.mail_world.specs.Inside.{IsMember, AreActors, HasOpen, IsOpenTo, IsOwn, HasRow, AreApart, has, is_by}
 use Rattle.mail_world.specs.Acting.{AreOpen, opened}
 use Rattle.mail_world.proofs.Lists.{each_set, each_push}
-use Rattle.mail_world.proofs.Maps.{same_text, put_same, put_other, put_at_same, put_at_other}
+use Rattle.call_fs.proofs.Maps.{put_same, put_other, put_at_same, put_at_other}
+use Rattle.mail_world.proofs.Tests.{same_text, other_text}
 use Rattle.mail_world.proofs.Descriptors.{has_push, apart_push, all_open}
 use Rattle.mail_world.proofs.Opens.{Opens, has_made, row_stays, row_moves}
-use Rattle.mail_world.proofs.Crew.{other_text, apart_by}
+use Rattle.mail_world.proofs.Crew.{apart_by}
 use Rattle.mail_world.proofs.Acts.{freed, kept_on}
 
 -- what is held stays open

@@ -2,7 +2,7 @@
 use Rattle.std.proofs.Common.{◌≡◌, ◌≢◌, ℕ, List, [], ◌∷◌, ◌++◌, Bool, true, false, Option, Some, None, is_some, refl, ap, subst, subst₂, ⊎_elim}
 use Rattle.call_fs.specs.Disk.{Disk, Among, IsSynced}
 use Rattle.queue_inject.specs.declared.injection.Arguments.{Arguments}
-use Rattle.queue_inject.specs.Names.{Part, path, NamesAreExact}
+use Rattle.queue_inject.specs.Names.{Part, path}
 use Rattle.queue_inject.specs.Names.Name.{Of}
 use Rattle.queue_inject.specs.Names.Part.{Mess, Intd, Todo, Info, Local, Remote, Bounce}
 use Rattle.queue_inject.specs.Texts.{message_text, intd_text, entered, todo_of}
@@ -119,5 +119,5 @@ legal_before : (d : Disk) (later before : List Event) → Legal d (later ++ befo
 legal_before d [] before l = l
 legal_before d (e ∷ later) before l = legal_before d later before l.0
 
-pub headline : NamesAreExact → Headline
-headline N d later before l = safe (after d before) (always N d before (legal_before d later before l))
+pub headline : Headline
+headline d later before l = safe (after d before) (always d before (legal_before d later before l))

@@ -106,17 +106,14 @@ end_goes_on o d events p h a x ready status is acts due =
     )
 
 start_goes_on : (o d : Disk) (events : List Kept) (p : ℕ) (h : List Event) (a : List ℕ) (args : Arguments)
-    → IsHistory o d events p h → (known events).actors a ≡ None → args.start ≡ p
+    → IsHistory o d events p h → (known events).actors a ≡ None
     → (e : Event) × IsHistory o d (events ++ kept.Start a (Injector args) ∷ []) p (e ∷ h)
-start_goes_on o d events p h a args is new now =
+start_goes_on o d events p h a args is new =
     let s = after o h in
     let e : Event = Start a args in
     let same = after_known o events h is.told in
-    let moment = is.moment in
     let allowed : Allowed s e = record {
       new = ap (λ (m : List ℕ → Option Actor). m a) same.actors ∙ new;
-      no_later = omega arith;
-      no_stall = omega arith;
     } in
     let next = history_push o d events p h (kept.Start a (Injector args)) e is refl allowed in
     (e, record { legal = next.legal; told = next.told; disk = is.disk; moment = is.moment })
@@ -141,8 +138,8 @@ end_told o (Some d) None events p h a x ready status acts due met is = absurd me
 end_told o None new events p h a x ready status acts due met is = absurd is
 
 pub start_told : (o : Disk) (old : Option Disk) (events : List Kept) (p : ℕ) (h : List Event) (a : List ℕ) (args : Arguments)
-    → (known events).actors a ≡ None → args.start ≡ p
+    → (known events).actors a ≡ None
     → IsSomeAnd old (λ d. IsHistory o d events p h)
     → (e : Event) × IsSomeAnd old (λ d. IsHistory o d (events ++ kept.Start a (Injector args) ∷ []) p (e ∷ h))
-start_told o (Some d) events p h a args new now is = start_goes_on o d events p h a args is new now
-start_told o None events p h a args new now is = absurd is
+start_told o (Some d) events p h a args new is = start_goes_on o d events p h a args is new
+start_told o None events p h a args new is = absurd is

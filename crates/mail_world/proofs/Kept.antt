@@ -10,14 +10,14 @@ use Rattle.call_fs.specs.declared.program.Ready.{Ready as Found}
 use Rattle.queue_inject.specs.declared.injection.Arguments.{Arguments}
 use Rattle.queue_inject.specs.declared.row.Row.{Row}
 use Rattle.queue_inject.specs.declared.row.Row.TheVariants as at
-use Rattle.queue_inject.specs.Names.{NamesAreExact}
 use Rattle.queue_inject.specs.Names.Part.{Intd, Todo}
 use Rattle.queue_inject.specs.Names.Name.{Pid, Of}
 use Rattle.queue_inject.specs.Table.{row_after, call_of, in_time}
 use Rattle.mail_world.specs.History.{Books, Event, Life, Actor, State, booked, called, unless_by, shut_by, finished, happens, MayCall, MayEnd, IsLiving, Allowed, Opening, opening, after, Legal}
 use Rattle.mail_world.specs.History.Event.{Start, Call, End, Stop, Moment, Halt}
 use Rattle.mail_world.specs.History.Life.{Alive, Over, Stopped}
-use Rattle.mail_world.proofs.Maps.{put_at_cases, unless_same, tells_number}
+use Rattle.call_fs.proofs.Maps.{put_at_cases}
+use Rattle.mail_world.proofs.Tests.{unless_same, tells_number}
 use Rattle.mail_world.proofs.Looks.{find_none, found}
 use Rattle.mail_world.proofs.Invariant.{Queue, NamesSuit, Phase, IsHeld, Settles, InTime, Fares, Sound, Inv, queue}
 use Rattle.mail_world.proofs.Invariant.Role.{AsOld}
@@ -92,9 +92,9 @@ module _ (s : State) (I : Inv s) where
     reads = le_refl args.start;
   })
 
-  called_by : (N : NamesAreExact) (a : List ℕ) (read : ℕ) (ready : Found) (call : CallData) (answer : Answer) (wrote : ℕ)
+  called_by : (a : List ℕ) (read : ℕ) (ready : Found) (call : CallData) (answer : Answer) (wrote : ℕ)
       (m : MayCall s a read ready call answer wrote) → Inv (called s a read ready call answer wrote (Some m.actor))
-  called_by N a read ready call answer wrote m =
+  called_by a read ready call answer wrote m =
       let x = m.actor in
       let q = queue s I.role in
       let F = I.actors a x m.reads.is in
@@ -102,7 +102,7 @@ module _ (s : State) (I : Inv s) where
       let due = call_due _ _ _ call m.due in
       let late : x.args.start ≤ read = le_trans F.reads m.reads.no_earlier in
       let soon : InTime s.now x.args = in_time_call s.now x.args.start read due.1 m.reads.no_stall in
-      let w = step N s.now q a x.args I.sound read late wrote (row_after x.args x.past) call due.0 (S.relies soon, S.settles) answer m.fits in
+      let w = step s.now q a x.args I.sound read late wrote (row_after x.args x.past) call due.0 (S.relies soon, S.settles) answer m.fits in
       let O = w.1 in
       kept_by a O.number (queue_after q a x.args read call answer wrote w.0)
       (record { args = x.args; past = (record { read = read; ready = ready; did = Called call answer [] }) ∷ x.past; life = x.life })
@@ -114,10 +114,10 @@ module _ (s : State) (I : Inv s) where
         reads = late;
       })
 
-  kept_call : (N : NamesAreExact) (a : List ℕ) (read : ℕ) (ready : Found) (call : CallData) (answer : Answer) (wrote : ℕ)
+  kept_call : (a : List ℕ) (read : ℕ) (ready : Found) (call : CallData) (answer : Answer) (wrote : ℕ)
       → MayCall s a read ready call answer wrote → Inv (called s a read ready call answer wrote (s.actors a))
-  kept_call N a read ready call answer wrote m =
-      subst (λ o. Inv (called s a read ready call answer wrote o)) (sym m.reads.is) (called_by N a read ready call answer wrote m)
+  kept_call a read ready call answer wrote m =
+      subst (λ o. Inv (called s a read ready call answer wrote o)) (sym m.reads.is) (called_by a read ready call answer wrote m)
 
   -- an end or a stop shuts what the actor had open
   still_open : (a o : List ℕ) (fd i : ℕ) → o ≢ a → IsHeld s.disk.opens s.holder o fd i
@@ -172,13 +172,13 @@ module _ (s : State) (I : Inv s) where
     };
   }
 
-kept : NamesAreExact → (s : State) (e : Event) → Inv s → Allowed s e → Inv (happens s e)
-kept N s (Start a args) I h = kept_start s I a args
-kept N s (Call a read ready call answer wrote) I h = kept_call s I N a read ready call answer wrote h
-kept N s (End a read ready status) I h = kept_end s I a read ready status h
-kept N s (Stop a) I h = kept_stop s I a h
-kept N s (Moment m) I h = kept_moment s I m h.no_earlier
-kept N s (Halt contents) I h = kept_halt s contents h I
+kept : (s : State) (e : Event) → Inv s → Allowed s e → Inv (happens s e)
+kept s (Start a args) I h = kept_start s I a args
+kept s (Call a read ready call answer wrote) I h = kept_call s I a read ready call answer wrote h
+kept s (End a read ready status) I h = kept_end s I a read ready status h
+kept s (Stop a) I h = kept_stop s I a h
+kept s (Moment m) I h = kept_moment s I m h.no_earlier
+kept s (Halt contents) I h = kept_halt s contents h I
 
 kept_opening : (d : Disk) → Opening d → Inv (opening d)
 kept_opening d o = record {
@@ -199,6 +199,6 @@ kept_opening d o = record {
     opening_suits (Pid p t k) y h = (tt, tt)
     opening_suits (Of part n) y h = let w = (found d.names d.files (Of part n) y h).0 in let v = o.empty part n in absurd (cc)
 
-pub always : NamesAreExact → (d : Disk) (h : List Event) → Legal d h → Inv (after d h)
-always N d [] o = kept_opening d o
-always N d (e ∷ before) l = kept N (after d before) e (always N d before l.0) l.1
+pub always : (d : Disk) (h : List Event) → Legal d h → Inv (after d h)
+always d [] o = kept_opening d o
+always d (e ∷ before) l = kept (after d before) e (always d before l.0) l.1

@@ -1,5 +1,5 @@
--- changed functions, and names
-pub mod Maps
+-- tests of texts, numbers and names
+pub mod Tests
 -- pieces of a text, and statuses
 pub mod Texts
 -- names and their files
@@ -46,3 +46,7 @@ pub mod Index
 pub mod Worlds
 -- when a step is refused
 pub mod Refusals
+-- who was started and who has ended, by the kept events
+pub mod Lives
+-- calls that left nothing half written
+pub mod Unwritten

@@ -5,14 +5,15 @@ use Rattle.call_fs.specs.Disk.{Among}
 use Rattle.queue_inject.specs.declared.injection.Arguments.{Arguments}
 use Rattle.queue_inject.specs.declared.row.Row.{Row}
 use Rattle.queue_inject.specs.declared.row.Row.TheVariants as at
-use Rattle.queue_inject.specs.Names.{Name, path, NamesAreExact}
+use Rattle.queue_inject.specs.Names.{Name, path}
 use Rattle.queue_inject.specs.Names.Name.{Pid, Of}
 use Rattle.queue_inject.specs.Names.Part.{Mess, Intd, Todo}
 use Rattle.queue_inject.specs.Texts.{message_text}
 use Rattle.queue_inject.specs.Table.{in_message}
 use Rattle.mail_world.specs.History.{Injection, Books, begun, accept}
 use Rattle.mail_world.specs.Headline.{IsInjected, IsValid}
-use Rattle.mail_world.proofs.Maps.{off, same_text, put_cases, put_same, put_other}
+use Rattle.call_fs.proofs.Maps.{put_cases, put_same, put_other}
+use Rattle.mail_world.proofs.Tests.{off, same_text}
 use Rattle.mail_world.proofs.Looks.{Entry, entry, find_put, find_gone, find_none, found}
 use Rattle.mail_world.proofs.Invariant.{Queue, IsRight, NameSuits, About, about, IsFree, Phase, IsBegun, IsBare, Holds, AtLink, AtUnlink, AtLinkTodo, Basis, Sound}
 use Rattle.mail_world.proofs.Invariant.Role.{AsMessage}
@@ -69,9 +70,9 @@ still_accepted b a args n own i h t = ⊎_elim
     (λ (over : Among i b.over). inr over)
     h
 
-module _ (N : NamesAreExact) (now : ℕ) (q : Queue) (a : List ℕ) (args : Arguments) (G : Sound q) where
+module _ (now : ℕ) (q : Queue) (a : List ℕ) (args : Arguments) (G : Sound q) where
   abbrev To : Queue → Row → Type 0
-  To = Leads N now q a args G
+  To = Leads now q a args G
 
   -- where a name now leads
   put_right : (x : Name) (i : ℕ) (c : Books) (y : Entry) → IsRight x y (q.role y.number) → y ≡ entry q.disk.files i
@@ -93,14 +94,14 @@ module _ (N : NamesAreExact) (now : ℕ) (q : Queue) (a : List ℕ) (args : Argu
       let pid = Pid args.pid args.start seq in
       let y : Entry = record { number = n; file = h.file } in
       let is = (found q.disk.names q.disk.files pid y h.pid).1 in
-      let other = named_other N q x (Some n) c in
+      let other = named_other q x (Some n) c in
       let begins : IsBegun (about r n) a args n = record {
         file = h.file;
         mess = find_put q.disk.names q.disk.files x n ∙ ap Some (sym is);
         no_todo = other (Of Todo n) (λ s. cc) ∙ F.no_todo;
         lives = put_same q.books.living n _;
       } in
-      named_outcome N now q a args G x (Some n) c n (at.UnlinkPid seq n (record { 0 = fd })) h.mine refl
+      named_outcome now q a args G x (Some n) c n (at.UnlinkPid seq n (record { 0 = fd })) h.mine refl
       (put_right x n c y ((refl, (a, args, h.mine)), (G.suits pid y h.pid).1) is)
       (λ k far. put_other q.books.living n _ k far)
       (λ i w t. still_injected q.books a args n i w)
@@ -124,14 +125,14 @@ module _ (N : NamesAreExact) (now : ℕ) (q : Queue) (a : List ℕ) (args : Argu
   gone_row : (x : Name) (n : ℕ) (row : Row) → q.role n ≡ AsMessage a args → Concerns q x (Some n)
       → Phase (about (named q x None q.books) n) → Basis (named q x None q.books) a args row → To (named q x None q.books) row
   gone_row x n row mine concerns fine next =
-      named_outcome N now q a args G x None q.books n row mine concerns
+      named_outcome now q a args G x None q.books n row mine concerns
       (λ z h. let w = find_gone q.disk.names q.disk.files x in absurd (cc)) (λ _ _. refl) (λ _ w _. w) G.over fine next
 
   -- another name went, and the injection goes on
   abbrev begun_still : (x : Name) (n : ℕ) → Of Mess n ≢ x → Of Todo n ≢ x → IsBegun (about q n) a args n
       → IsBegun (about (named q x None q.books) n) a args n
   begun_still x n mess todo b =
-      let other = named_other N q x None q.books in
+      let other = named_other q x None q.books in
       record { file = b.file; mess = other (Of Mess n) mess ∙ b.mess; no_todo = other (Of Todo n) todo ∙ b.no_todo; lives = b.lives }
 
   pub unlink_row : (seq n fd : ℕ) → AtUnlink q a args seq n fd
@@ -141,7 +142,7 @@ module _ (N : NamesAreExact) (now : ℕ) (q : Queue) (a : List ℕ) (args : Argu
       let r = named q x None q.books in
       let d = h.mess.holds.rest in
       let begins = begun_still x n (λ s. cc) (λ s. cc) d.bare.begins in
-      let no_intd = named_other N q x None q.books (Of Intd n) (λ s. cc) ∙ d.bare.no_intd in
+      let no_intd = named_other q x None q.books (Of Intd n) (λ s. cc) ∙ d.bare.no_intd in
       gone_row x n _ h.mess.holds.mine (λ y e. let w = h.pid in cc) (begun_phase r a args n begins)
       (message_next r a args n fd 0 (record {
         holds = record { mine = h.mess.holds.mine; rest = record { bare = record { begins = begins; no_intd = no_intd }; holds = d.holds } };
@@ -161,7 +162,7 @@ module _ (N : NamesAreExact) (now : ℕ) (q : Queue) (a : List ℕ) (args : Argu
       → To (named q (Of Mess n) None q.books) (at.Failed status)
   clean_mess_row n status h bad =
       let x = Of Mess n in
-      let other = named_other N q x None q.books in
+      let other = named_other q x None q.books in
       let b = h.rest.begins in
       gone_row x n _ h.mine refl
       (Free (record {
@@ -180,7 +181,7 @@ module _ (N : NamesAreExact) (now : ℕ) (q : Queue) (a : List ℕ) (args : Argu
       let y : Entry = record { number = h.number; file = w.file } in
       let is = (found q.disk.names q.disk.files (Of Intd n) y w.intd).1 in
       let lives : c.living n ≡ Some (taken a args n) = put_same q.books.living n _ ∙ ap (accept a) w.begins.lives ∙ accept_own a args n in
-      named_outcome N now q a args G x (Some h.number) c n at.Queued h.holds.mine refl
+      named_outcome now q a args G x (Some h.number) c n at.Queued h.holds.mine refl
       (put_right x h.number c y (G.suits (Of Intd n) y w.intd) is)
       (λ k far. put_other q.books.living n _ k far)
       (λ i. still_accepted q.books a args n w.begins.lives i)
@@ -190,7 +191,7 @@ module _ (N : NamesAreExact) (now : ℕ) (q : Queue) (a : List ℕ) (args : Argu
         lives = lives;
         accepted = refl;
         mess = record { number = n; file = w.begins.file };
-        mess_there = named_other N q x (Some h.number) c (Of Mess n) (λ s. cc) ∙ w.begins.mess;
+        mess_there = named_other q x (Some h.number) c (Of Mess n) (λ s. cc) ∙ w.begins.mess;
         message = w.message;
         todo = y;
         todo_there = find_put q.disk.names q.disk.files x h.number ∙ ap Some (sym is);

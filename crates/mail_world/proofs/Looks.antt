@@ -2,8 +2,9 @@
 use Rattle.std.proofs.Common.{◌≡◌, ◌≢◌, ℕ, List, Option, Some, None, option_map, refl, sym, ap, ◌∙◌}
 use Rattle.call_fs.specs.Maps.{put, put_at}
 use Rattle.call_fs.specs.Disk.{File}
-use Rattle.queue_inject.specs.Names.{Name, path, NamesAreExact}
-use Rattle.mail_world.proofs.Maps.{put_same, put_other, put_at_same, put_at_other, path_injective}
+use Rattle.queue_inject.specs.Names.{Name, path}
+use Rattle.call_fs.proofs.Maps.{put_same, put_other, put_at_same, put_at_other}
+use Rattle.queue_inject.proofs.Paths.{path_injective}
 
 -- a file, and its number
 pub record Entry : Type 0 where
@@ -75,6 +76,6 @@ module _ (names : List ℕ → Option ℕ) (files : ℕ → File) (x : Name) whe
   unfolding find
   find_gone = ap (option_map (entry files)) (put_at_same names (path x) None)
 
-  pub find_other : NamesAreExact → (y : Name) (o : Option ℕ) → y ≢ x → find (put_at names (path x) o) files y ≡ find names files y
+  pub find_other : (y : Name) (o : Option ℕ) → y ≢ x → find (put_at names (path x) o) files y ≡ find names files y
   unfolding find
-  find_other N y o apart = ap (option_map (entry files)) (put_at_other names (path x) o (path y) (λ e. apart (path_injective N y x e)))
+  find_other y o apart = ap (option_map (entry files)) (put_at_other names (path x) o (path y) (λ e. apart (path_injective y x e)))

@@ -1,5 +1,5 @@
 -- What an injector that was told its whole input stands for, and what it needs.
-use Rattle.std.proofs.Common.{◌≡◌, ℕ, List, [], drop, Bool, ◌&&◌, is_some, IsTrue, refl, sym, ap, ◌∙◌, subst, arith, append-nil}
+use Rattle.std.proofs.Common.{◌≡◌, ℕ, List, [], drop, Bool, IsTrue, refl, sym, ap, ◌∙◌, subst, arith, append-nil}
 use Rattle.call_fs.specs.declared.calls.Call.{Call}
 use Rattle.call_fs.specs.declared.program.Need.{Need}
 use Rattle.call_fs.specs.declared.program.Need.TheVariants as need
@@ -8,14 +8,14 @@ use Rattle.call_fs.specs.Program.{Own, due_of}
 use Rattle.queue_inject.specs.declared.injection.Arguments.{Arguments}
 use Rattle.queue_inject.specs.declared.injection.InputEnd.TheVariants.{Whole}
 use Rattle.queue_inject.specs.Table.{Next, has_input}
-use Rattle.queue_inject.specs.Machine.{Machine, Progress, begun, fed_on, ended_on, is_told}
+use Rattle.queue_inject.specs.Machine.{Machine, Progress, begun, fed_on, ended_on, is_over, is_told}
 use Rattle.queue_inject.specs.Stands.{Stands, Continues, Ends}
 use Rattle.mail_world.specs.World.{input_ready}
 use Rattle.mail_world.specs.Inside.{Follows}
 use Rattle.mail_world.proofs.Opens.{IsAct, next_act}
 
 told_by : Progress → Bool
-told_by p = is_some p.message_end && is_some p.envelope_end
+told_by p = is_over p.message_end p.envelope_end
 
 -- a machine of the same input was told as much
 pub told_still : (m n : Machine) → n.heard ≡ m.heard → IsTrue (is_told m) → IsTrue (is_told n)

@@ -20,7 +20,7 @@ use Rattle.mail_world.specs.History.{held_by}
 use Rattle.mail_world.specs.World.{input_ready}
 use Rattle.mail_world.specs.Inside.{IsOwn, HasRow}
 use Rattle.mail_world.specs.Acting.{opened}
-use Rattle.mail_world.proofs.Maps.{put_same, put_other}
+use Rattle.call_fs.proofs.Maps.{put_same, put_other}
 
 -- nothing is closed
 abbrev pub ClosesNone : CallData → Type 0

@@ -5,13 +5,13 @@ use Rattle.call_fs.specs.Apply.{empty_file, grown, grown_part, synced, IsNew}
 use Rattle.queue_inject.specs.declared.injection.Arguments.{Arguments}
 use Rattle.queue_inject.specs.declared.row.Row.{Row}
 use Rattle.queue_inject.specs.declared.row.Row.TheVariants as at
-use Rattle.queue_inject.specs.Names.{Name, path, NamesAreExact}
+use Rattle.queue_inject.specs.Names.{Name, path}
 use Rattle.queue_inject.specs.Names.Name.{Pid, Of}
 use Rattle.queue_inject.specs.Names.Part.{Mess, Intd, Todo}
 use Rattle.queue_inject.specs.Texts.{message_text, intd_text}
 use Rattle.queue_inject.specs.Table.{piece_size, in_message, in_todo}
 use Rattle.mail_world.specs.Headline.{IsValid}
-use Rattle.mail_world.proofs.Maps.{put_same, put_other}
+use Rattle.call_fs.proofs.Maps.{put_same, put_other}
 use Rattle.mail_world.proofs.Texts.{not_zero, message_fails, intd_fails, piece_cases, grown_text, whole_text}
 use Rattle.mail_world.proofs.Looks.{Entry, find_far, find_absent, find_near, found}
 use Rattle.mail_world.proofs.Invariant.{Queue, look, IsRecent, about, Phase, IsBegun, IsBare, IsWhole, HasIntd, Holds, AtMess, AtTodo, Basis, Sound}
@@ -57,9 +57,9 @@ todo_next q a args n fd done whole h =
     ))
     (λ status bad. (record { mine = h.holds.mine; rest = w.begins }, bad))
 
-module _ (N : NamesAreExact) (now : ℕ) (q : Queue) (a : List ℕ) (args : Arguments) (G : Sound q) where
+module _ (now : ℕ) (q : Queue) (a : List ℕ) (args : Arguments) (G : Sound q) where
   abbrev To : Queue → Row → Type 0
-  To = Leads N now q a args G
+  To = Leads now q a args G
 
   -- the file that an injector makes first
   pub create_row : (seq fd i read : ℕ) → args.start ≤ read → IsNew q.disk (path (Pid args.pid args.start seq)) fd i
@@ -68,10 +68,10 @@ module _ (N : NamesAreExact) (now : ℕ) (q : Queue) (a : List ℕ) (args : Argu
       let x = Pid args.pid args.start seq in
       let role = AsMessage a args in
       let number = λ (y : Name) (z : Entry) (h : look q y ≡ Some z). (found q.disk.names q.disk.files y z h).0 in
-      let other = made_other N q x a fd i read role new in
+      let other = made_other q x a fd i read role new in
       let same : about (made q a x fd i read role) i ≡ about q i =
       λ j. record { parts = λ part. other (Of part i) (λ s. cc) j; living = q.books.living i } in
-      made_outcome N now q a args G x fd i read role i (at.LinkMess seq i (record { 0 = fd })) new
+      made_outcome now q a args G x fd i read role i (at.LinkMess seq i (record { 0 = fd })) new
       (λ y h. let w = number x y h in let v = new.free in absurd (cc))
       (λ o args' apart soon y z h his s. new.unused.unnamed (path y) (number y z h ∙ sym s))
       (tt, late)
@@ -79,7 +79,7 @@ module _ (N : NamesAreExact) (now : ℕ) (q : Queue) (a : List ℕ) (args : Argu
         record {
           mine = put_same q.role i role;
           file = empty_file read;
-          pid = made_same N q x a fd i read role new;
+          pid = made_same q x a fd i read role new;
           empty = refl;
           opened = record { opened = put_same q.disk.opens fd _; held = put_same q.holder fd (Some a) };
         },
@@ -94,14 +94,14 @@ module _ (N : NamesAreExact) (now : ℕ) (q : Queue) (a : List ℕ) (args : Argu
       let r = made q a x fd i read role in
       let b = h.rest.bare.begins in
       let far : n ≢ i = λ s. new.unused.unnamed (path (Of Mess n)) ((found q.disk.names q.disk.files (Of Mess n) _ b.mess).0 ∙ ap Some s) in
-      let other = made_other N q x a fd i read role new in
+      let other = made_other q x a fd i read role new in
       let begins : IsBegun (about r n) a args n = record {
         file = b.file;
         mess = other (Of Mess n) (λ s. cc) ∙ b.mess;
         no_todo = other (Of Todo n) (λ s. cc) ∙ b.no_todo;
         lives = b.lives;
       } in
-      made_outcome N now q a args G x fd i read role n (in_todo (intd_text args) n fd 0) new
+      made_outcome now q a args G x fd i read role n (in_todo (intd_text args) n fd 0) new
       refl
       (own_apart now q G.suits a args n h.mine)
       (refl, tt)
@@ -114,7 +114,7 @@ module _ (N : NamesAreExact) (now : ℕ) (q : Queue) (a : List ℕ) (args : Argu
             begins = begins;
             message = h.rest.message;
             file = empty_file read;
-            intd = made_same N q x a fd i read role new;
+            intd = made_same q x a fd i read role new;
             fulfils = refl;
           };
         };
@@ -142,7 +142,7 @@ module _ (N : NamesAreExact) (now : ℕ) (q : Queue) (a : List ℕ) (args : Argu
   mess_row : (n : ℕ) (f : File) (row : Row) → q.role n ≡ AsMessage a args → IsBare (about q n) a args n → args.start ≤ f.moment
       → Basis (written q n f) a args row → To (written q n f) row
   mess_row n f row mine bare late next =
-      written_outcome N now q a args G n f n row mine (ap (made_for n) mine) (subst (IsRecent f) (sym mine) late) (bare_written n f bare).begins next
+      written_outcome now q a args G n f n row mine (ap (made_for n) mine) (subst (IsRecent f) (sym mine) late) (bare_written n f bare).begins next
 
   draft_bytes : (n fd : ℕ) (bytes : List ℕ) → AtMess q a args n fd bytes → (q.disk.files n).bytes ≡ bytes
   draft_bytes n fd bytes h = let d = h.holds.rest in ap (λ (f : File). f.bytes) (sym (file_is (Of Mess n) n _ d.bare.begins.mess)) ∙ d.holds
@@ -219,7 +219,7 @@ module _ (N : NamesAreExact) (now : ℕ) (q : Queue) (a : List ℕ) (args : Argu
       → Basis (written q i f) a args row → To (written q i f) row
   todo_row n i f row P h next =
       let role = (G.suits (Of Intd n) _ h.rest.intd).0 in
-      written_outcome N now q a args G i f n row h.mine (ap (made_for i) role) (subst (IsRecent f) (sym role) tt)
+      written_outcome now q a args G i f n row h.mine (ap (made_for i) role) (subst (IsRecent f) (sym role) tt)
       (intd_written n i f P (λ _. Unit {0}) h.mine h.rest tt).begins next
 
   todo_bytes : (n fd : ℕ) (bytes : List ℕ) (h : AtTodo q a args n fd bytes) → (q.disk.files h.number).bytes ≡ bytes

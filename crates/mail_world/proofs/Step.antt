@@ -13,14 +13,15 @@ use Rattle.call_fs.specs.declared.calls.FsError.TheVariants.{NotThere, Exists, F
 use Rattle.queue_inject.specs.declared.injection.Arguments.{Arguments}
 use Rattle.queue_inject.specs.declared.row.Row.{Row}
 use Rattle.queue_inject.specs.declared.row.Row.TheVariants as at
-use Rattle.queue_inject.specs.Names.{Name, path, parse, NamesAreExact}
+use Rattle.queue_inject.specs.Names.{Name, path, parse}
 use Rattle.queue_inject.specs.Names.Name.{Pid, Of}
 use Rattle.queue_inject.specs.Names.Part.{Mess, Intd, Todo}
 use Rattle.queue_inject.specs.Texts.{Text, message_text, intd_text}
 use Rattle.queue_inject.specs.Table.{piece_size, failure, moved, call_of}
 use Rattle.mail_world.specs.History.{linked, booked, held_by}
 use Rattle.mail_world.specs.Headline.{IsValid}
-use Rattle.mail_world.proofs.Maps.{same_text}
+use Rattle.queue_inject.proofs.Paths.{parse-path}
+use Rattle.mail_world.proofs.Tests.{same_text}
 use Rattle.mail_world.proofs.Texts.{fails, not_zero, if_either}
 use Rattle.mail_world.proofs.Looks.{Entry, find_none, found}
 use Rattle.mail_world.proofs.Invariant.{Role, Queue, look, About, about, HasIntd, IsOpen, IsBegun, IsBare, IsWhole, Holds, AtLink, AtMess, AtUnlink, AtTodo, AtLinkTodo, Basis, Sound}
@@ -59,7 +60,7 @@ stays now q a args row G next = record {
   next = next;
 }
 
-module _ (N : NamesAreExact) (now : ℕ) (q : Queue) (a : List ℕ) (args : Arguments) (G : Sound q) (read : ℕ) (late : args.start ≤ read) (wrote : ℕ) where
+module _ (now : ℕ) (q : Queue) (a : List ℕ) (args : Arguments) (G : Sound q) (read : ℕ) (late : args.start ≤ read) (wrote : ℕ) where
   -- to what a call leads at a row, with each answer that fits it
   abbrev Comes : Row → CallData → Answer → Type 0
   Comes row call answer = (role : ℕ → Role) × Outcome now q a args (queue_after q a args read call answer wrote role) (moved args row answer)
@@ -98,7 +99,7 @@ module _ (N : NamesAreExact) (now : ℕ) (q : Queue) (a : List ℕ) (args : Argu
   linking old new y row h outcome =
       let number = (found q.disk.names q.disk.files old y h).0 in
       let links_it = λ (o : Option ℕ) (x : Option Name). Outcome now q a args (named q new o (linked q.books a args (path old) x)) row in
-      subst₂ links_it (sym number) (sym (N.parse_path new)) outcome
+      subst₂ links_it (sym number) (sym (parse-path new)) outcome
 
   abbrev pid_path : ℕ → List ℕ
   pid_path seq = path (Pid args.pid args.start seq)
@@ -107,7 +108,7 @@ module _ (N : NamesAreExact) (now : ℕ) (q : Queue) (a : List ℕ) (args : Argu
   piece text done = take piece_size (drop done text.bytes)
 
   at_create : (seq : ℕ) → Steps (at.Create seq) (CreateExcl (pid_path seq))
-  at_create seq (Created fd i) fits = (_, create_row N now q a args G seq fd.0 i read late fits)
+  at_create seq (Created fd i) fits = (_, create_row now q a args G seq fd.0 i read late fits)
   at_create seq (Refused Exists) fits =
       if_either Stays (nat_lt seq 9) (at.Create (seq + 1)) (at.Failed 63) (same (at.Create (seq + 1)) (tt, tt)) (same (at.Failed 63) (tt, not_zero 62))
   at_create seq (Refused NotThere) fits = same (at.Failed 63) (tt, not_zero 62)
@@ -117,54 +118,54 @@ module _ (N : NamesAreExact) (now : ℕ) (q : Queue) (a : List ℕ) (args : Argu
 
   at_link : (seq n : ℕ) (fd : Fd) → AtLink q a args seq n fd.0 → Steps (at.LinkMess seq n fd) (Link (pid_path seq) (path (Of Mess n)))
   at_link seq n fd h Done fits =
-      (q.role, linking (Pid args.pid args.start seq) (Of Mess n) _ _ h.pid (link_row N now q a args G seq n fd.0 h fits.free))
+      (q.role, linking (Pid args.pid args.start seq) (Of Mess n) _ _ h.pid (link_row now q a args G seq n fd.0 h fits.free))
   at_link seq n fd h (Refused why) fits = failed (Refused why) 64 (not_zero 63)
   at_link seq n fd h answer fits = absurd fits
 
   at_unlink : (seq n : ℕ) (fd : Fd) → AtUnlink q a args seq n fd.0 → Steps (at.UnlinkPid seq n fd) (Unlink (pid_path seq))
-  at_unlink seq n fd h Done fits = (q.role, unlink_row N now q a args G seq n fd.0 h)
+  at_unlink seq n fd h Done fits = (q.role, unlink_row now q a args G seq n fd.0 h)
   at_unlink seq n fd h (Refused why) fits = clean_mess n _ _ (λ w d. d.bare) h.mess.holds (fails (Refused why) 63 (not_zero 62))
   at_unlink seq n fd h answer fits = absurd fits
 
   at_append_mess : (n : ℕ) (fd : Fd) (done : ℕ) → AtMess q a args n fd.0 (take done (message_text args).bytes)
       → Steps (at.AppendMess n fd done) (Append fd (piece (message_text args) done))
-  at_append_mess n fd done h Done fits = (q.role, behind fd.0 n _ _ h.opened (append_mess_row N now q a args G n fd.0 done read late h))
-  at_append_mess n fd done h (Refused Fault) fits = (q.role, behind fd.0 n _ _ h.opened (cut_mess_row N now q a args G n fd.0 read wrote _ _ late h))
+  at_append_mess n fd done h Done fits = (q.role, behind fd.0 n _ _ h.opened (append_mess_row now q a args G n fd.0 done read late h))
+  at_append_mess n fd done h (Refused Fault) fits = (q.role, behind fd.0 n _ _ h.opened (cut_mess_row now q a args G n fd.0 read wrote _ _ late h))
   at_append_mess n fd done h (Refused Memory) fits = clean_mess n 51 _ (λ w d. d.bare) h.holds (not_zero 50)
   at_append_mess n fd done h answer fits = absurd fits
 
   at_sync_mess : (n : ℕ) (fd : Fd) → AtMess q a args n fd.0 (message_text args).bytes → (message_text args).fault ≡ None → Steps (at.SyncMess n fd) (Sync fd)
-  at_sync_mess n fd h whole Done fits = (q.role, behind fd.0 n _ _ h.opened (sync_mess_row N now q a args G n fd.0 whole h))
+  at_sync_mess n fd h whole Done fits = (q.role, behind fd.0 n _ _ h.opened (sync_mess_row now q a args G n fd.0 whole h))
   at_sync_mess n fd h whole (Refused why) fits = clean_mess n _ _ (λ w d. d.bare) h.holds (fails (Refused why) 53 (not_zero 52))
   at_sync_mess n fd h whole answer fits = absurd fits
 
   at_create_intd : (n : ℕ) → Holds q a args n (λ w. IsWhole w a args n) → (message_text args).fault ≡ None → Steps (at.CreateIntd n) (CreateExcl (path (Of Intd n)))
-  at_create_intd n h whole (Created fd i) fits = (_, intd_row N now q a args G n fd.0 i read whole h fits)
+  at_create_intd n h whole (Created fd i) fits = (_, intd_row now q a args G n fd.0 i read whole h fits)
   at_create_intd n h whole (Refused why) fits = clean_mess n _ _ (λ w d. d.bare) h (fails (Refused why) 65 (not_zero 64))
   at_create_intd n h whole answer fits = absurd fits
 
   at_append_todo : (n : ℕ) (fd : Fd) (done : ℕ) → AtTodo q a args n fd.0 (take done (intd_text args).bytes)
       → (message_text args).fault ≡ None → Steps (at.AppendTodo n fd done) (Append fd (piece (intd_text args) done))
-  at_append_todo n fd done h whole Done fits = (q.role, behind fd.0 h.number _ _ h.opened (append_todo_row N now q a args G n fd.0 done read whole h))
-  at_append_todo n fd done h whole (Refused Fault) fits = (q.role, behind fd.0 h.number _ _ h.opened (cut_todo_row N now q a args G n fd.0 _ h _))
+  at_append_todo n fd done h whole Done fits = (q.role, behind fd.0 h.number _ _ h.opened (append_todo_row now q a args G n fd.0 done read whole h))
+  at_append_todo n fd done h whole (Refused Fault) fits = (q.role, behind fd.0 h.number _ _ h.opened (cut_todo_row now q a args G n fd.0 _ h _))
   at_append_todo n fd done h whole (Refused Memory) fits = clean_intd n 51 _ _ h.holds (not_zero 50)
   at_append_todo n fd done h whole answer fits = absurd fits
 
   at_sync_todo : (n : ℕ) (fd : Fd) → AtTodo q a args n fd.0 (intd_text args).bytes → IsValid args → Steps (at.SyncTodo n fd) (Sync fd)
-  at_sync_todo n fd h valid Done fits = (q.role, behind fd.0 h.number _ _ h.opened (sync_todo_row N now q a args G n fd.0 valid h))
+  at_sync_todo n fd h valid Done fits = (q.role, behind fd.0 h.number _ _ h.opened (sync_todo_row now q a args G n fd.0 valid h))
   at_sync_todo n fd h valid (Refused why) fits = clean_intd n _ _ _ h.holds (fails (Refused why) 53 (not_zero 52))
   at_sync_todo n fd h valid answer fits = absurd fits
 
   at_link_todo : (n : ℕ) → AtLinkTodo q a args n → IsValid args → Steps (at.LinkTodo n) (Link (path (Of Intd n)) (path (Of Todo n)))
   at_link_todo n h valid Done fits =
-      let row = link_todo_row N now q a args G n valid h in
+      let row = link_todo_row now q a args G n valid h in
       let by_test = λ (t : Bool). Outcome now q a args (named q (Of Todo n) (Some h.number) (if t then accepting q.books a n else q.books)) at.Queued in
       (q.role, linking (Of Intd n) (Of Todo n) _ at.Queued h.holds.rest.intd (subst by_test (sym (same_text (path (Of Intd n)))) row))
   at_link_todo n h valid (Refused why) fits = failed (Refused why) 66 (not_zero 65)
   at_link_todo n h valid answer fits = absurd fits
 
   at_clean_intd : (n status : ℕ) → Holds q a args n (λ w. IsBegun w a args n) → status ≢ 0 → Steps (at.CleanIntd n status) (Unlink (path (Of Intd n)))
-  at_clean_intd n status h bad Done fits = (q.role, clean_intd_row N now q a args G n status h bad)
+  at_clean_intd n status h bad Done fits = (q.role, clean_intd_row now q a args G n status h bad)
   at_clean_intd n status h bad (Refused NotThere) fits =
       let none = find_none q.disk.names q.disk.files (Of Intd n) fits in
       same (at.CleanMess n status) (record { mine = h.mine; rest = record { begins = h.rest; no_intd = none } }, bad)
@@ -172,7 +173,7 @@ module _ (N : NamesAreExact) (now : ℕ) (q : Queue) (a : List ℕ) (args : Argu
   at_clean_intd n status h bad answer fits = absurd fits
 
   at_clean_mess : (n status : ℕ) → Holds q a args n (λ w. IsBare w a args n) → status ≢ 0 → Steps (at.CleanMess n status) (Unlink (path (Of Mess n)))
-  at_clean_mess n status h bad Done fits = (q.role, clean_mess_row N now q a args G n status h bad)
+  at_clean_mess n status h bad Done fits = (q.role, clean_mess_row now q a args G n status h bad)
   at_clean_mess n status h bad (Refused why) fits = same (at.Failed status) (tt, bad)
   at_clean_mess n status h bad answer fits = absurd fits
 

@@ -257,10 +257,10 @@ start_keeps told places next actors events p n q y a args w new put name ended l
     })
 
 pub start_goes_on : (o : Disk) (told : Option Disk) (places : List ℕ → Option ℕ) (actors : List Held) (events : List Kept) (p : ℕ) (h : List Event) (n : ℕ) (a : List ℕ) (args : Arguments)
-    → IsWorld told places actors (known events) events p n → places a ≡ None → args.start ≡ p
+    → IsWorld told places actors (known events) events p n → places a ≡ None
     → IsSomeAnd told (λ d. IsHistory o d events p h)
     → (e : Event) × IsSomeAnd told (λ d. IsHistory o d (events ++ kept.Start a (Injector args) ∷ []) p (e ∷ h))
-start_goes_on o told places actors events p h n a args w new start begun = start_told o told events p h a args (w.kept.strangers a new).unknown start begun
+start_goes_on o told places actors events p h n a args w new begun = start_told o told events p h a args (w.kept.strangers a new).unknown begun
 
 -- a world without actors
 pub new_keeps : (told : Option Disk) (places : List ℕ → Option ℕ) → ((a : List ℕ) → places a ≡ None) → IsWorld told places [] (known []) [] 0 77

@@ -6,6 +6,7 @@ use Rattle.call_fs.specs.declared.calls.CallData.{CallData}
 use Rattle.call_fs.specs.declared.calls.Answer.{Answer}
 use Rattle.call_fs.specs.declared.calls.Answer.TheVariants as answer
 use Rattle.call_fs.specs.Disk.{Disk}
+use Rattle.call_fs.specs.Steady.{IsSteadyAnswer}
 use Rattle.call_fs.specs.Told.{OnTold, Meets}
 use Rattle.call_fs.specs.Apply.{Apply, MayCall}
 use Rattle.call_fs.specs.Program.{Due, Own}
@@ -59,6 +60,11 @@ due_by (came.Ended status) = Due.Ended status
 abbrev pub IsMade : Came → ℕ → Option Disk → Option Disk → Type 0
 IsMade (came.Called call answer) now old new = Meets old new (λ before after. Apply before now call answer after)
 IsMade (came.Ended status) now old new = new ≡ old
+
+-- and a steady disk lets it come
+abbrev pub IsSteadyCame : Disk → Came → Type 0
+IsSteadyCame d (came.Called call answer) = IsSteadyAnswer d answer
+IsSteadyCame d (came.Ended status) = Unit {0}
 
 -- the call that was due and its answer as the newest event of a past
 abbrev pub with_call : Machine → List Own → CallData → Answer → List Own

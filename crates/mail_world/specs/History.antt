@@ -29,6 +29,15 @@ pub data Event : Type 0 where
   Moment : ℕ → Event
   Halt : (contents : ℕ → List ℕ) → Event
 
+-- any start
+abbrev pub is_start : Event → Bool
+is_start (Start a args) = true
+is_start (Call a read ready call answer wrote) = false
+is_start (End a read ready status) = false
+is_start (Stop a) = false
+is_start (Moment m) = false
+is_start (Halt contents) = false
+
 -- alive, ended with a status, or stopped from outside
 pub data Life : Type 0 where
   Alive : Life
@@ -169,11 +178,9 @@ pub record MayRead (s : State) (a : List ℕ) (x : Actor) (read : ℕ) : Type 0 
   pub no_later : read ≤ s.now
   pub no_stall : s.now ≤ read + 43200
 
--- a new actor that starts now
+-- a start takes a name that no actor had
 pub record MayStart (s : State) (a : List ℕ) (args : Arguments) : Type 0 where
   pub new : s.actors a ≡ None
-  pub no_later : args.start ≤ s.now
-  pub no_stall : s.now ≤ args.start + 43200
 
 -- a call that is next by the actor's table, with an answer that the disk may give
 pub record MayCall (s : State) (a : List ℕ) (read : ℕ) (ready : Ready) (call : CallData) (answer : Answer) (wrote : ℕ) : Type 0 where

@@ -5,6 +5,8 @@ use Rattle.call_fs.specs.declared.calls.CallData.{CallData}
 use Rattle.call_fs.specs.declared.calls.Answer.{Answer}
 use Rattle.call_fs.specs.declared.program.Ready.{Ready}
 use Rattle.call_fs.specs.Disk.{Disk}
+use Rattle.call_fs.specs.Steady.{IsSteadyAnswer}
+use Rattle.call_fs.specs.Told.{OnTold}
 use Rattle.queue_inject.specs.declared.injection.Arguments.{Arguments}
 use Rattle.queue_inject.specs.declared.injection.InputEnd.TheVariants.{Whole}
 use Rattle.queue_inject.specs.declared.received_line.Invoked.TheVariants.{Uid}
@@ -77,9 +79,13 @@ is_start (kept.Start b program) = true
 is_start (kept.Call b read ready call told) = false
 is_start (kept.End b read ready status) = false
 
--- the process number of the next actor: 77 and on, in order of start; it stands still at the last u32
+-- the process number of the next actor after so many starts: 77 and on; it stands still at the last u32
+abbrev pub pid_after : ℕ → ℕ
+pid_after starts = min (77 + starts) (2 ^ 32 - 1)
+
+-- the process number of the next actor
 abbrev pub next_pid : List Kept → ℕ
-next_pid events = min (77 + count_by is_start events) (2 ^ 32 - 1)
+next_pid events = pid_after (count_by is_start events)
 
 -- what the injector of a mail is started with
 abbrev pub mail : ℕ → ℕ → List ℕ → List ℕ → Arguments
@@ -111,3 +117,14 @@ abbrev pub IsStep : {D : Type 0} → List ℕ → Option ℕ → Seen D → Seen
 IsStep a None old new =
     (call : CallData) × (answer : Answer) × (new.events ≡ old.events ++ kept.Call a old.present input_ready call (record { answer = answer; bytes = [] }) ∷ [])
 IsStep a (Some status) old new = new.events ≡ old.events ++ kept.End a old.present input_ready status ∷ []
+
+-- an event that a steady disk, which is this one before it, lets happen
+abbrev pub IsSteadyEvent : Disk → Kept → Type 0
+IsSteadyEvent d (kept.Start a program) = Unit {0}
+IsSteadyEvent d (kept.Call a read ready call told) = IsSteadyAnswer d told.answer
+IsSteadyEvent d (kept.End a read ready status) = Unit {0}
+
+-- A disk that was steady is so still, and the one event that was appended is a steady disk's.
+abbrev pub StaysSteady : {D : Type 0} → (D → Type 0) → (D → Option Disk) → D → D → List Kept → List Kept → Type 0
+StaysSteady steady tells old new before now =
+    steady old → steady new × OnTold (tells old) (λ d. (e : Kept) → now ≡ before ++ e ∷ [] → IsSteadyEvent d e)

@@ -7,9 +7,9 @@ ghost use Rattle.call_fs.specs.Program.{Own};
 ghost use Rattle.queue_inject.specs.declared.injection.Arguments.{Arguments as Started};
 ghost use Rattle.queue_inject.specs.Table.{Next};
 ghost use Rattle.queue_inject.specs.Machine.{due_now, is_call};
-ghost use Rattle.mail_world.specs.World.{mail, input_ready};
+ghost use Rattle.mail_world.specs.World.{mail, input_ready, StaysSteady};
 ghost use Rattle.mail_world.specs.Inside.{Follows};
-ghost use Rattle.mail_world.specs.Acting.{MayAct, AreOpen, due_by, IsMade, HasActed, HasLooked, with_call, opened, shut};
+ghost use Rattle.mail_world.specs.Acting.{MayAct, AreOpen, due_by, IsMade, IsSteadyCame, HasActed, HasLooked, with_call, opened, shut};
 ghost use Rattle.mail_world.specs.Kept.{events_of};
 
 use crate::{ActorName, Did, Event, History};
@@ -74,6 +74,8 @@ impl Actor {
         ensures due { IfOk result (λ came. (args : Started) (past : List Own)
             → Follows self.old.machine args past → Next args past now input_ready ≡ due_by came) }
         ensures made { IfOk result (λ came. IsMade came now (D.disk disk.old) (D.disk disk.new)) }
+        ensures steady { IfOk result (λ came. D.steady disk.old → D.steady disk.new
+            × OnTold (D.disk disk.old) (λ before. IsSteadyCame before came)) }
         ensures room { OnOk result (vec_len self.new.descriptors < vec_capacity self.new.descriptors) }
 
         // The machine stands as before, and has read this moment.
@@ -118,6 +120,8 @@ impl Actor {
         requires opens { OnTold (D.disk disk.old) (λ before. AreOpen before self.old.descriptors.items) }
         ensures acted { IfOk result (λ did. HasActed did.ended (D.disk disk.old) (D.disk disk.new)
             self.old self.new (events_of history.old) (events_of history.new) now) }
+        ensures steady { OnOk result (StaysSteady D.steady D.disk disk.old disk.new
+            (events_of history.old) (events_of history.new)) }
         ensures at { IfOk result (λ did. did.at ≡ length (events_of history.old)) }
         ensures idle { IfOk result (λ did. did.idle ≡ false) }
         ensures err { OnErr result (disk.new ≡ disk.old) }
@@ -172,6 +176,7 @@ impl Actor {
         requires { OnTold (D.disk disk.old) (λ before. AreOpen before self.old.descriptors.items) }
         ensures closed { Meets (D.disk disk.old) (D.disk disk.new)
             (λ before after. after ≡ shut self.old.descriptors.items before) }
+        ensures steady { D.steady disk.old → D.steady disk.new }
         ensures descriptors { self.new.descriptors.items ≡ [] }
         ensures ended { self.new.ended ≡ Some at }
         ensures name { self.new.name ≡ self.old.name }
@@ -207,6 +212,7 @@ fn close_all<D: CallFs>(disk: &mut D, descriptors: &mut Vec<Fd>)
     requires { OnTold (D.disk disk.old) (λ before. AreOpen before descriptors.old.items) }
     ensures closed { Meets (D.disk disk.old) (D.disk disk.new)
         (λ before after. after ≡ shut descriptors.old.items before) }
+    ensures steady { D.steady disk.old → D.steady disk.new }
     ensures none { descriptors.new.items ≡ [] }
 {
     while let Some(fd) = descriptors.pop() {

@@ -6,7 +6,7 @@ ghost use Rattle.call_fs.specs.Told.{OnTold};
 ghost use Rattle.mail_world.specs.History.{Opening, Event as Happening};
 ghost use Rattle.mail_world.specs.Kept.{events_of};
 ghost use Rattle.mail_world.specs.MailNames.{IsMailName};
-ghost use Rattle.mail_world.specs.World.{Happened, GoesOn, EachSafe, was_started, EndsAt, started_world, IsStep};
+ghost use Rattle.mail_world.specs.World.{Happened, GoesOn, EachSafe, was_started, EndsAt, started_world, IsStep, StaysSteady};
 ghost use Rattle.mail_world.specs.Acting.{IsNoLiving};
 ghost use Rattle.mail_world.specs.Places.{place_of};
 
@@ -118,6 +118,7 @@ impl<D: CallFs> World<D> {
     ) -> Result<(), WorldError>
         ensures started { OnOk result (self.new ≡ started_world self.old name.now message.now envelope.now) }
         ensures goes_on { OnOk result (GoesOn D.disk self.old self.new) }
+        ensures named { OnOk result (IsMailName name.now) }
 
         ensures taken { (result ≡ Err WorldError.Taken)
             ↔ ((was_started self.old.events name.now ≡ true) ⊎ (¬ (IsMailName name.now))) }
@@ -174,6 +175,8 @@ impl<D: CallFs> World<D> {
         ensures at { IfOk result (λ did. did.at ≡ length self.old.events) }
         ensures idle { IfOk result (λ did. did.idle ≡ false) }
         ensures goes_on { OnOk result (GoesOn D.disk self.old self.new) }
+        ensures steady { OnOk result (StaysSteady D.steady D.disk self.old.disk self.new.disk
+            self.old.events self.new.events) }
 
         ensures unknown { (result ≡ Err WorldError.Unknown) ↔ (was_started self.old.events actor.now ≡ false) }
         ensures gone { (name : List ℕ) (at : ℕ) → (result ≡ Err (WorldError.Gone name at))

@@ -10,6 +10,5 @@ pub mod Idle
 pub mod Uses
 pub mod Changes
 pub mod Steps
-pub mod NextNumber
 pub mod InTurn
 pub mod TwoNames

@@ -4,7 +4,8 @@ use Rattle.std.specs.Option.{option_map}
 use Rattle.call_fs.specs.declared.calls.FsError.{FsError}
 use Rattle.call_fs.specs.declared.calls.FsError.TheVariants.{NotThere, Exists, Fault, Memory}
 use Rattle.mem_fs.specs.declared.file.Inode.{Inode}
-use Rattle.call_fs.specs.Disk.{File, Open, Mode, Disk, IsUnused}
+use Rattle.call_fs.specs.Disk.{File, Open, Mode, Disk}
+use Rattle.call_fs.specs.Steady.{IsFree, IsLeastFree}
 use Rattle.call_fs.specs.Maps.{put, put_at}
 use Rattle.mem_fs.specs.MemFile.{no_file, settled_file}
 use Rattle.mem_fs.specs.Tables.{at_name, at_number, AreNamesInOrder, AreNumbersInOrder}
@@ -50,15 +51,6 @@ pub record IsSound (h : Held) : Type 0 where
   pub links : (n : ℕ) → links_of h.files n ≡ count_of h.names n
   pub holds : (n : ℕ) → holds_of h.files n ≡ count_of h.opens n
 
--- a number that a new file may take
-abbrev pub IsFree : Disk → ℕ → Type 0
-IsFree d n = (1 ≤ n) × IsUnused d n
-
--- no lower number may be taken
-pub record IsLeastFree (d : Disk) (n : ℕ) : Type 0 where
-  pub free : IsFree d n
-  pub least : (m : ℕ) → m < n → ¬ (IsFree d m)
-
 -- no higher number may be taken, below the end of the numbers
 pub record IsGreatestFree (d : Disk) (n : ℕ) : Type 0 where
   pub free : IsFree d n
@@ -69,18 +61,12 @@ pub record IsGreatestFree (d : Disk) (n : ℕ) : Type 0 where
 abbrev pub NoneFree : Disk → Type 0
 NoneFree d = (n : ℕ) → n < 2 ^ 64 → ¬ (IsFree d n)
 
--- The number that a new file takes, and the picks that are left then: picks that may not be taken are passed over, the
--- first that may is taken; where there is none, the least free number is.
+-- The number that a new file takes, and the picks that are left then: the next pick where that is free, else the least
+-- free number. A pick that isn't free is used up.
 abbrev pub IsNextNumber : Disk → List ℕ → ℕ → List ℕ → Type 0
 IsNextNumber d [] n left = IsLeastFree d n × (left ≡ [])
 IsNextNumber d (pick ∷ picks) n left =
-    (IsFree d pick × (n ≡ pick) × (left ≡ picks)) ⊎ ((¬ (IsFree d pick)) × IsNextNumber d picks n left)
-
--- the least descriptor from 1 that isn't open
-pub record IsNextDescriptor (d : Disk) (fd : ℕ) : Type 0 where
-  pub positive : 1 ≤ fd
-  pub not_open : d.opens fd ≡ None
-  pub least : (lower : ℕ) → 1 ≤ lower → lower < fd → ¬ (d.opens lower ≡ None)
+    ((IsFree d pick × (n ≡ pick)) ⊎ ((¬ (IsFree d pick)) × IsLeastFree d n)) × (left ≡ picks)
 
 -- nothing uses the number
 abbrev pub IsIdle : List (ℕ × Inode) → ℕ → Type 0

@@ -1,13 +1,14 @@
 // The disk in memory.
-ghost use Rattle.std.specs.Prelude.{◌≡◌, ◌≤◌, IfOk, IfSome, IfNone, OnOk, OnErr, Some, None, Ok, length, drop};
+ghost use Rattle.std.specs.Prelude.{◌≡◌, ◌≤◌, IfOk, IfSome, IfNone, OnOk, OnErr, Some, None, Ok, [], length, drop};
 ghost use Rattle.std.specs.Option.{option_copied};
 ghost use Rattle.call_fs.specs.declared.calls.CallData.TheVariants as call;
 ghost use Rattle.call_fs.specs.declared.calls.Answer.TheVariants as answer;
-ghost use Rattle.call_fs.specs.Disk.{MayUse, MayAppend};
+ghost use Rattle.call_fs.specs.Disk.{IsMoment, MayUse, MayAppend};
 ghost use Rattle.call_fs.specs.Calls.{created, done, stated, next_found};
 ghost use Rattle.call_fs.specs.Apply.{Apply, IsNextName, IsLastName};
 ghost use Rattle.call_fs.specs.Told.{HasCause};
-ghost use Rattle.mem_fs.specs.MemDisk.{disk_of, fresh, with_dir, with_held, bytes_at, Places, Counts, IsFree, NoneFree, IsNextNumber, IsNextDescriptor};
+ghost use Rattle.call_fs.specs.Steady.{IsFree, IsNextDescriptor};
+ghost use Rattle.mem_fs.specs.MemDisk.{disk_of, fresh, with_dir, with_held, bytes_at, Places, Counts, NoneFree, IsNextNumber};
 
 use crate::picks::Picks;
 use crate::plan::Plan;
@@ -35,9 +36,9 @@ impl Model for MemFs {
 }
 
 impl MemFs {
-    /// An empty disk without directories. A new file takes the first of the picks that is free, and where there is none
-    /// the least free number from 1; a pick that isn't free is passed over. The calls at the indexes of `faults` fail,
-    /// counted from 1 over every call but `close`.
+    /// An empty disk without directories. A new file takes the next of the picks where that is free, else the least free
+    /// number from 1; a pick that isn't free is used up. The calls at the indexes of `faults` fail, counted from 1 over
+    /// every call but `close`.
     pub fn new(alloc: Global, picks: Vec<u64>, faults: Vec<u64>) -> Result<MemFs, Memory>
         ensures { result ≡ Ok (fresh picks.items faults.items) }
     {
@@ -95,12 +96,22 @@ fn next_number(store: &Store, picks: &[u64]) -> Option<(u64, usize)>
     ensures used { IfSome result (λ next. next.1 ≤ length picks.now) }
     ensures none { IfNone result (NoneFree (disk_of store.now)) }
 {
-    for (at, pick) in picks.iter().enumerate() {
-        if store.is_free(*pick) {
-            return Some((*pick, at + 1));
-        }
+    let Some(pick) = picks.first() else {
+        return Some((store.least_free()?, 0));
+    };
+    if store.is_free(*pick) {
+        return Some((*pick, 1));
     }
-    Some((store.least_free()?, picks.len()))
+    Some((store.least_free()?, 1))
+}
+
+/// Puts a name into the buffer, in place of what it had. The condition: a name can be as long.
+fn fill(into: &mut NameBuf, name: &[u8])
+    requires { length name.now ≤ 255 }
+    ensures { into.new ≡ name.now }
+{
+    into.clear();
+    into.extend(name).unwrap();
 }
 
 impl CallFs for MemFs {
@@ -110,12 +121,16 @@ impl CallFs for MemFs {
 
     ghost faults = { λ m. m.faults };
 
+    // without picks, and without calls that are to fail
+    ghost steady = { λ m. (m.picks ≡ []) × (m.plan ≡ []) };
+
     fn faults(&self) -> u64 {
         self.plan.faults
     }
 
     /// As the trait says. The new file takes the next number by the picks, and the least free descriptor.
     fn create_excl(&mut self, alloc: Global, now: u64, name: &[u8]) -> Result<(Fd, u64), FsError>
+        requires { IsMoment now }
         ensures told { Apply (disk_of self.old.held) now (call.CreateExcl name.now) (created result) (disk_of self.new.held) }
         ensures cause { HasCause self.old.faults self.new.faults result }
         ensures counts { Counts self.old self.new result }
@@ -142,7 +157,8 @@ impl CallFs for MemFs {
     }
 
     fn append(&mut self, _alloc: Global, now: u64, fd: Fd, bytes: &[u8]) -> Result<(), FsError>
-        requires { MayAppend (disk_of self.old.held) fd.0 }
+        requires moment { IsMoment now }
+        requires fits { MayAppend (disk_of self.old.held) fd.0 }
         ensures told { Apply (disk_of self.old.held) now (call.Append fd bytes.now) (done result) (disk_of self.new.held) }
         ensures cause { HasCause self.old.faults self.new.faults result }
         ensures counts { Counts self.old self.new result }
@@ -207,6 +223,7 @@ impl CallFs for MemFs {
 
     fn stat(&mut self, name: &[u8]) -> Result<Stat, FsError>
         ensures told { Apply (disk_of self.old.held) 0 (call.Stat name.now) (stated result) (disk_of self.new.held) }
+        ensures moment { IfOk result (λ stat. IsMoment stat.moment) }
         ensures cause { HasCause self.old.faults self.new.faults result }
         ensures counts { Counts self.old self.new result }
         ensures picks { self.new.picks ≡ self.old.picks }
@@ -230,8 +247,7 @@ impl CallFs for MemFs {
         }
         match self.store.next_name(dir, after) {
             Some(name) => {
-                into.clear();
-                into.extend(name);
+                fill(into, name);
                 Ok(true)
             }
             None => Ok(false),

@@ -1,5 +1,6 @@
 // One file in memory.
 ghost use Rattle.std.specs.Prelude.{◌≡◌, ◌++◌, ◌∷◌, ◌<◌, ◌↔◌, [], length, OnOk, OnErr, IsTrue, vec_len, vec_capacity};
+ghost use Rattle.call_fs.specs.Disk.{IsMoment};
 ghost use Rattle.call_fs.specs.Apply.{empty_file, grown, synced};
 ghost use Rattle.mem_fs.specs.MemFile.{settled_file};
 
@@ -18,19 +19,20 @@ pub struct FileData {
 
 impl Model for FileData {
     ghost use Rattle.std.specs.Prelude.{◌≤◌, length, All};
-    ghost use Rattle.call_fs.specs.Disk.{File};
+    ghost use Rattle.call_fs.specs.Disk.{File, IsMoment};
     ghost use Rattle.mem_fs.specs.MemFile.{cut_to};
 
     ghost Value = { File };
 
     ghost view = { λ f. record { bytes = f.bytes; older = cut_to f.bytes f.lengths.items; moment = f.moment } };
 
-    ghost invariant = { λ f. All (λ n. n ≤ length f.bytes) f.lengths.items };
+    ghost invariant = { λ f. All (λ n. n ≤ length f.bytes) f.lengths.items × IsMoment f.moment };
 }
 
 impl FileData {
     /// A new empty file. Takes no memory.
     pub fn new(alloc: Global, moment: u64) -> Self
+        requires { IsMoment moment }
         ensures { result ≡ empty_file moment }
     {
         FileData {
@@ -67,13 +69,15 @@ impl FileData {
 
     /// The moment of its creation or last write.
     pub fn moment(&self) -> u64
-        ensures { result ≡ self.now.moment }
+        ensures value { result ≡ self.now.moment }
+        ensures moment { IsMoment result }
     {
         self.moment
     }
 
     /// Writes bytes at the end. After an `Err` it is as before.
     pub fn append(&mut self, now: u64, bytes: &[u8]) -> Result<(), Memory>
+        requires { IsMoment now }
         ensures ok { OnOk result (self.new ≡ grown now bytes.now self.old) }
         ensures err { OnErr result (self.new ≡ self.old) }
     {

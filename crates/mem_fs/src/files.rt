@@ -1,5 +1,6 @@
 // The files of a disk in memory, by number.
 ghost use Rattle.std.specs.Prelude.{◌≡◌, ◌≢◌, ◌≤◌, ◌<◌, ◌+◌, ◌-◌, ◌^◌, ℕ, IsSome, IfSome, IfNone, IsTrue, ◌↔◌, OnOk, OnErr, length};
+ghost use Rattle.call_fs.specs.Disk.{IsMoment};
 ghost use Rattle.call_fs.specs.Apply.{grown, synced};
 ghost use Rattle.mem_fs.specs.Tables.{at_number, AreNumbersInOrder};
 ghost use Rattle.mem_fs.specs.MemDisk.{links_of, holds_of, IsIdle, Changes, on_file, linked, unlinked, closed};
@@ -8,7 +9,8 @@ use crate::file::{FileData, Inode};
 use crate::numbers;
 use call_fs::mail_bytes::Memory;
 
-/// Writes bytes at the end of a file. After an `Err` all is as before. The condition: the number is there.
+/// Writes bytes at the end of a file. After an `Err` all is as before. The conditions: the number is there, and `now` is
+/// a moment.
 pub fn append(
     files: &mut Vec<(u64, Inode)>,
     number: u64,
@@ -17,6 +19,7 @@ pub fn append(
 ) -> Result<(), Memory>
     requires in_order { AreNumbersInOrder files.old.items }
     requires there { IsSome (at_number files.old.items number) }
+    requires moment { IsMoment now }
     ensures ok { OnOk result (Changes files.old.items files.new.items number (on_file (grown now bytes.now))) }
     ensures err { OnErr result (files.new.items ≡ files.old.items) }
 {

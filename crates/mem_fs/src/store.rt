@@ -4,9 +4,10 @@ ghost use Rattle.std.specs.Option.{option_copied, option_map};
 ghost use Rattle.call_fs.specs.declared.calls.CallData.TheVariants as call;
 ghost use Rattle.call_fs.specs.declared.calls.Answer.TheVariants as answer;
 ghost use Rattle.call_fs.specs.Maps.{put, put_at};
-ghost use Rattle.call_fs.specs.Disk.{Disk, HasDir, IsUnused};
+ghost use Rattle.call_fs.specs.Disk.{Disk, HasDir, IsMoment, IsUnused};
 ghost use Rattle.call_fs.specs.Apply.{effect, IsStat, IsNextName, IsLastName};
-ghost use Rattle.mem_fs.specs.MemDisk.{disk_of, nothing, opened, bytes_at, IsFree, IsLeastFree, IsGreatestFree, IsNextDescriptor, NoneFree, AllOpen, with_dir, Places, PlacesNew};
+ghost use Rattle.call_fs.specs.Steady.{IsFree, IsLeastFree, IsNextDescriptor};
+ghost use Rattle.mem_fs.specs.MemDisk.{disk_of, nothing, opened, bytes_at, IsGreatestFree, NoneFree, AllOpen, with_dir, Places, PlacesNew};
 
 use crate::file::{FileData, Inode};
 use crate::{files, names, numbers, part};
@@ -109,6 +110,7 @@ impl Store {
         fd: Fd,
         number: u64,
     ) -> Result<(), Memory>
+        requires moment { IsMoment now }
         requires name { (disk_of self.old).names name.now ≡ None }
         requires number { IsFree (disk_of self.old) number }
         requires descriptor { IsNextDescriptor (disk_of self.old) fd.0 }
@@ -132,7 +134,8 @@ impl Store {
 
     /// Writes bytes at the end of an open file. After an `Err` it is as before.
     pub fn append(&mut self, now: u64, fd: Fd, bytes: &[u8]) -> Result<(), Memory>
-        requires { IsSome ((disk_of self.old).opens fd.0) }
+        requires moment { IsMoment now }
+        requires open { IsSome ((disk_of self.old).opens fd.0) }
         ensures ok { OnOk result (disk_of self.new ≡ effect (disk_of self.old) now (call.Append fd bytes.now) answer.Done 0) }
         ensures err { OnErr result (self.new ≡ self.old) }
     {
@@ -206,6 +209,7 @@ impl Store {
     /// What the file of a name is; None exactly where the name is missing.
     pub fn stat(&self, name: &[u8]) -> Option<Stat>
         ensures some { IfSome result (IsStat (disk_of self.now) name.now) }
+        ensures moment { IfSome result (λ stat. IsMoment stat.moment) }
         ensures none { IfNone result ((disk_of self.now).names name.now ≡ None) }
     {
         let (number, file) = self.file_of(name)?;

@@ -135,12 +135,14 @@ fn planned_calls_fail_and_picks_are_taken(rt: HostRuntime) -> Result<(), Fail> {
         disk.bytes_of(b"control/me").ok_or("no bytes")?,
         b"host".as_slice()
     );
-    assert_eq!(rt; create(alloc, &mut disk, b"pid/a")?, (Fd(1), 40));
+    assert_eq!(rt; create(alloc, &mut disk, b"pid/a")?, (Fd(1), 1));
     assert_eq!(rt; create(alloc, &mut disk, b"pid/b"), Err(FsError::Fault));
-    assert_eq!(rt; create(alloc, &mut disk, b"pid/b")?, (Fd(2), 7));
+    assert_eq!(rt; create(alloc, &mut disk, b"pid/b")?, (Fd(2), 40));
     assert_eq!(rt; disk.unlink(b"pid/a"), Err(FsError::Fault));
     assert_eq!(rt; disk.faults(), 2);
     assert_eq!(rt; disk.stat(b"control/me")?.number, 18446744073709551615);
-    assert_eq!(rt; create(alloc, &mut disk, b"pid/c")?, (Fd(3), 1));
+    assert_eq!(rt; create(alloc, &mut disk, b"pid/c")?, (Fd(3), 2));
+    assert_eq!(rt; create(alloc, &mut disk, b"pid/d")?, (Fd(4), 7));
+    assert_eq!(rt; create(alloc, &mut disk, b"pid/e")?, (Fd(5), 3));
     Ok(())
 }

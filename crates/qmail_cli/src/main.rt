@@ -38,7 +38,7 @@ fn run(rt: &HostRuntime, alloc: Global) -> Result<u8, Memory> {
         &mut WriterSink::new(rt.stderr()),
         &mut MemClock::new(Vec::new(alloc), 1),
         &mut MemPosts::new(Vec::new(alloc)),
-        &mut MemSpawner::new(alloc, Vec::new(alloc)),
+        &mut MemSpawner::new(alloc, Vec::new(alloc), Vec::new(alloc)),
         &OpenGate,
     ))
 }

@@ -1,5 +1,5 @@
 // A source over a reader, as standard input.
-ghost use Rattle.std.specs.Prelude.{◌≤◌, IfSome, length};
+ghost use Rattle.std.specs.Prelude.{◌≡◌, ◌≤◌, IfSome, length};
 
 use call_fs::outside::{Source, Took};
 use std::io::{ErrorKind, Read};
@@ -16,7 +16,9 @@ pub struct ReaderSource<R: Read + Drop> {
 
 impl<R: Read + Drop> ReaderSource<R> {
     /// A source over this reader.
-    pub fn new(input: R) -> Self {
+    pub fn new(input: R) -> Self
+        ensures { result.faults ≡ 0 }
+    {
         ReaderSource { input, faults: 0 }
     }
 }

@@ -13,7 +13,9 @@ pub struct WriterSink<W: Write + Drop> {
 
 impl<W: Write + Drop> WriterSink<W> {
     /// A sink over this writer.
-    pub fn new(output: W) -> Self {
+    pub fn new(output: W) -> Self
+        ensures { result.faults ≡ 0 }
+    {
         WriterSink { output, faults: 0 }
     }
 

@@ -18,3 +18,21 @@ pub mod NamesAfter
 pub mod Printed
 -- the directories of a disk
 pub mod Dirs
+-- a step of a world, as a step of a script
+pub mod ScriptSteps
+-- the steps of a run
+pub mod ScriptRuns
+-- the lines of a script as they are played
+pub mod ScriptLines
+-- the message numbers of the files in directories
+pub mod Gathered
+-- the message numbers that aren't in S1
+pub mod Numbers
+-- the fates of kept events
+pub mod Fates
+-- the recipients of an envelope, counted
+pub mod Recipients
+-- the fates of kept events are those of the history
+pub mod MailFates
+-- what was printed is what a history shows
+pub mod Showings

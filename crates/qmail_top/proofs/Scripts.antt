@@ -7,7 +7,7 @@ use Rattle.std.proofs.lemmas.List.{append-nil}
 use Rattle.std.proofs.lemmas.List.Elements.{All-nil, All-cons, All-push, All-head, All-tail}
 use Rattle.std.proofs.lemmas.Grind.{flat_map-append}
 use Rattle.qmail_top.specs.declared.scenario.line.Line.{Line}
-use Rattle.qmail_top.specs.Lines.{IsLine, IsScript, HasBadLine, IsUnbroken, completed, ended, most_bytes}
+use Rattle.qmail_top.specs.Lines.{IsScriptLine, IsScript, HasBadLine, IsUnbroken, completed, ended, most_bytes}
 use Rattle.qmail_top.specs.Reading.{IsCut, IsFirstLine}
 use Rattle.qmail_top.specs.Command.{IsRefused}
 use Rattle.qmail_top.proofs.Cuts.{contains-head, contains-tail, not-cut, same-cut}
@@ -41,13 +41,13 @@ first_last (b ∷ bytes) text some cut = record {
 }
 
 -- texts beside lines
-pub zip-push : (texts : List (List ℕ)) (lines : List Line) (text : List ℕ) (line : Line) → AllZip IsLine texts lines → IsLine text line → AllZip IsLine (texts ++ text ∷ []) (lines ++ line ∷ [])
+pub zip-push : (texts : List (List ℕ)) (lines : List Line) (text : List ℕ) (line : Line) → AllZip IsScriptLine texts lines → IsScriptLine text line → AllZip IsScriptLine (texts ++ text ∷ []) (lines ++ line ∷ [])
 zip-push [] [] text line h is = (is, tt)
 zip-push [] (l ∷ lines) text line h is = absurd h
 zip-push (t ∷ texts) [] text line h is = absurd h
 zip-push (t ∷ texts) (l ∷ lines) text line h is = (h.0, zip-push texts lines text line h.1 is)
 
-zip-length : (texts : List (List ℕ)) (lines : List Line) → AllZip IsLine texts lines → length texts ≡ length lines
+zip-length : (texts : List (List ℕ)) (lines : List Line) → AllZip IsScriptLine texts lines → length texts ≡ length lines
 zip-length [] [] h = refl
 zip-length [] (line ∷ lines) h = absurd h
 zip-length (text ∷ texts) [] h = absurd h
@@ -58,7 +58,7 @@ pub record HasRead (bytes rest : List ℕ) (lines : List Line) : Type 0 where
   pub texts : List (List ℕ)
   pub whole : completed bytes ≡ ended texts ++ completed rest
   pub each : All IsUnbroken texts
-  pub are_lines : AllZip IsLine texts lines
+  pub are_lines : AllZip IsScriptLine texts lines
 
 abbrev pub read_none : (bytes : List ℕ) → HasRead bytes bytes []
 read_none bytes = record { texts = []; whole = refl; each = All-nil IsUnbroken; are_lines = tt }
@@ -69,7 +69,7 @@ whole-push bytes rest text behind texts whole first =
     whole ∙ ap (λ t. ended texts ++ t) first.whole ∙ sym (append_assoc (ended texts) (text ++ 10 ∷ []) (completed behind))
     ∙ ap (λ t. t ++ completed behind) (ap (λ t. ended texts ++ t) (sym (append-nil (text ++ 10 ∷ []))) ∙ sym (flat_map-append (λ t. t ++ 10 ∷ []) texts (text ∷ [])))
 
-abbrev pub read_more : (bytes rest text behind : List ℕ) (lines : List Line) (line : Line) → HasRead bytes rest lines → IsFirstLine rest text behind → IsLine text line → HasRead bytes behind (lines ++ line ∷ [])
+abbrev pub read_more : (bytes rest text behind : List ℕ) (lines : List Line) (line : Line) → HasRead bytes rest lines → IsFirstLine rest text behind → IsScriptLine text line → HasRead bytes behind (lines ++ line ∷ [])
 read_more bytes rest text behind lines line read first is = record {
   texts = read.texts ++ text ∷ [];
   whole = whole-push bytes rest text behind read.texts read.whole first;
@@ -87,13 +87,13 @@ read_all bytes rest lines short read end = record {
 }
 
 -- texts that are lines
-are-good : (texts : List (List ℕ)) (lines : List Line) → AllZip IsLine texts lines → All (λ text. (line : Line) × IsLine text line) texts
-are-good [] [] h = All-nil (λ text. (line : Line) × IsLine text line)
+are-good : (texts : List (List ℕ)) (lines : List Line) → AllZip IsScriptLine texts lines → All (λ text. (line : Line) × IsScriptLine text line) texts
+are-good [] [] h = All-nil (λ text. (line : Line) × IsScriptLine text line)
 are-good [] (line ∷ lines) h = absurd h
 are-good (text ∷ texts) [] h = absurd h
-are-good (text ∷ texts) (line ∷ lines) h = All-cons (λ text. (line : Line) × IsLine text line) text texts (line, h.0) (are-good texts lines h.1)
+are-good (text ∷ texts) (line ∷ lines) h = All-cons (λ text. (line : Line) × IsScriptLine text line) text texts (line, h.0) (are-good texts lines h.1)
 
-pub bad_line : (bytes rest text behind : List ℕ) (lines : List Line) → HasRead bytes rest lines → IsFirstLine rest text behind → ((line : Line) → ¬ (IsLine text line)) → HasBadLine bytes (length lines + 1)
+pub bad_line : (bytes rest text behind : List ℕ) (lines : List Line) → HasRead bytes rest lines → IsFirstLine rest text behind → ((line : Line) → ¬ (IsScriptLine text line)) → HasBadLine bytes (length lines + 1)
 bad_line bytes rest text behind lines read first bad = record {
   before = read.texts;
   text = text;
@@ -119,12 +119,12 @@ more : (b : List ℕ) (before : List (List ℕ)) (text rest : List ℕ) → ende
 more b before text rest =
     append_assoc (b ++ 10 ∷ []) (ended (before ++ text ∷ [])) rest ∙ append_assoc b (10 ∷ []) (ended (before ++ text ∷ []) ++ rest)
 
-found : (before : List (List ℕ)) (text rest : List ℕ) (texts : List (List ℕ)) (lines : List Line) → All IsUnbroken (before ++ text ∷ []) → All IsUnbroken texts → AllZip IsLine texts lines → ended (before ++ text ∷ []) ++ rest ≡ ended texts → (line : Line) × IsLine text line
+found : (before : List (List ℕ)) (text rest : List ℕ) (texts : List (List ℕ)) (lines : List Line) → All IsUnbroken (before ++ text ∷ []) → All IsUnbroken texts → AllZip IsScriptLine texts lines → ended (before ++ text ∷ []) ++ rest ≡ ended texts → (line : Line) × IsScriptLine text line
 found [] text rest [] lines p q h e = absurd (not-cut text rest [] 10 (none-empty 10) (sym (flat text rest) ∙ e))
 found [] text rest (t ∷ texts) [] p q h e = absurd h
 found [] text rest (t ∷ texts) (line ∷ lines) p q h e =
     let same = same-cut t (ended texts) text rest 10 (unbroken-head t texts q) (unbroken-head text [] p) (sym (append_assoc t (10 ∷ []) (ended texts)) ∙ sym e ∙ flat text rest) in
-    (line, subst (λ (x : List ℕ). IsLine x line) same.0 h.0)
+    (line, subst (λ (x : List ℕ). IsScriptLine x line) same.0 h.0)
 found (b ∷ before) text rest [] lines p q h e =
     absurd (not-cut b (ended (before ++ text ∷ []) ++ rest) [] 10 (none-empty 10) (sym (more b before text rest) ∙ e))
 found (b ∷ before) text rest (t ∷ texts) [] p q h e = absurd h

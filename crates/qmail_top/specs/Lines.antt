@@ -77,6 +77,15 @@ IsLine text (Step actor) = (text ≡ joined (codes "step" ∷ actor ∷ [])) × 
 IsLine text (Run actor) = (text ≡ joined (codes "run" ∷ actor ∷ [])) × IsActorName actor
 IsLine text Show = text ≡ codes "show"
 
+-- the most bytes that a line may have, its newline not counted
+abbrev pub most_in_line : ℕ
+most_in_line = 65535
+
+-- a line of a script: no longer than a line may be
+pub record IsScriptLine (text : List ℕ) (line : Line) : Type 0 where
+  pub short : length text ≤ most_in_line
+  pub is_line : IsLine text line
+
 -- the bytes with a newline behind a last line that lacks one
 abbrev pub completed : List ℕ → List ℕ
 completed [] = []
@@ -100,7 +109,7 @@ pub record IsScript (bytes : List ℕ) (lines : List Line) : Type 0 where
   pub texts : List (List ℕ)
   pub whole : completed bytes ≡ ended texts
   pub each : All IsUnbroken texts
-  pub are_lines : AllZip IsLine texts lines
+  pub are_lines : AllZip IsScriptLine texts lines
 
 -- The k-th text, counted from 1, is no line, and those before it are.
 pub record HasBadLine (bytes : List ℕ) (k : ℕ) : Type 0 where
@@ -109,8 +118,8 @@ pub record HasBadLine (bytes : List ℕ) (k : ℕ) : Type 0 where
   pub rest : List ℕ
   pub whole : completed bytes ≡ ended (before ++ text ∷ []) ++ rest
   pub each : All IsUnbroken (before ++ text ∷ [])
-  pub good : All (λ other. (line : Line) × IsLine other line) before
-  pub bad : (line : Line) → ¬ (IsLine text line)
+  pub good : All (λ other. (line : Line) × IsScriptLine other line) before
+  pub bad : (line : Line) → ¬ (IsScriptLine text line)
   pub number : k ≡ length before + 1
 
 -- the number that bytes which are no script are refused with: 0 where they are too many, else that of the line

@@ -1,23 +1,22 @@
 -- The history that a script plays, and what each of its lines prints. Nothing fails while a script is played.
-use Rattle.std.specs.Prelude.{◌≡◌, ◌≢◌, ◌⊎◌, ℕ, zero, suc, ◌+◌, ◌-◌, ◌^◌, ◌<◌, ◌≤◌, min, List, [], ◌∷◌, ◌++◌, length, Bool, true, false, Option, Some, None, count_by, codes}
+use Rattle.std.specs.Prelude.{◌≡◌, ◌≢◌, ◌⊎◌, ℕ, zero, suc, ◌<◌, ◌≤◌, List, [], ◌∷◌, ◌++◌, length, Option, Some, None, IsSome, count_by, codes}
 use Rattle.call_fs.specs.declared.calls.CallData.{CallData}
 use Rattle.call_fs.specs.declared.calls.Answer.{Answer}
-use Rattle.call_fs.specs.declared.calls.Answer.TheVariants.{Created, Refused}
-use Rattle.call_fs.specs.declared.calls.FsError.TheVariants.{Fault, Memory}
-use Rattle.call_fs.specs.declared.program.Ready.{Ready}
+use Rattle.call_fs.specs.declared.calls.Answer.TheVariants.{Refused}
+use Rattle.call_fs.specs.declared.calls.FsError.TheVariants.{Memory}
 use Rattle.call_fs.specs.Apply.{Fits}
 use Rattle.call_fs.specs.Disk.{Disk}
-use Rattle.mem_fs.specs.MemDisk.{IsLeastFree, IsNextDescriptor}
+use Rattle.call_fs.specs.Steady.{IsSteadyAnswer}
 use Rattle.call_fs.specs.Program.{Due}
 use Rattle.queue_inject.specs.declared.injection.Arguments.{Arguments}
-use Rattle.queue_inject.specs.declared.injection.InputEnd.TheVariants.{Whole}
-use Rattle.queue_inject.specs.declared.received_line.Invoked.TheVariants.{Uid}
 use Rattle.queue_inject.specs.Table.{Next}
 use Rattle.mail_world.specs.declared.error.WorldError.{WorldError}
 use Rattle.mail_world.specs.declared.error.WorldError.TheVariants as error
-use Rattle.mail_world.specs.History.{Event, Life, State, Actor, after, queue_dirs}
+use Rattle.mail_world.specs.History.{Event, Life, State, Actor, after, is_start, queue_dirs}
 use Rattle.mail_world.specs.History.Event.{Start, Call, End}
 use Rattle.mail_world.specs.History.Life.{Alive}
+use Rattle.mail_world.specs.MailNames.{IsMailName}
+use Rattle.mail_world.specs.World.{input_ready, mail, pid_after}
 use Rattle.qmail_top.specs.declared.scenario.line.Line.{Line}
 use Rattle.qmail_top.specs.declared.scenario.line.Line.TheVariants as line
 use Rattle.qmail_top.specs.Shown.{line_of, IsShown}
@@ -32,21 +31,11 @@ pub record IsFirstDisk (d : Disk) : Type 0 where
   pub empty : (name : List ℕ) → d.names name ≡ None
   pub shut : (fd : ℕ) → d.opens fd ≡ None
 
--- a new file takes the least free number, and a descriptor is the least from 1 that isn't open
-abbrev pub TakesLeast : Disk → Answer → Type 0
-TakesLeast d (Created fd n) = IsNextDescriptor d fd.0 × IsLeastFree d n
-TakesLeast d answer = Unit {0}
-
--- what a disk answers that doesn't fail
+-- what a disk answers that doesn't fail and has memory
 pub record Answers (d : Disk) (call : CallData) (answer : Answer) : Type 0 where
   pub fits : Fits d call answer 0
-  pub no_fault : answer ≢ Refused Fault
+  pub steady : IsSteadyAnswer d answer
   pub no_memory : answer ≢ Refused Memory
-  pub least : TakesLeast d answer
-
--- an injector finds its input ready: it stands in its start
-abbrev pub input_ready : Ready
-input_ready = record { links = true ∷ false ∷ false ∷ false ∷ []; child = None }
 
 -- why a line is refused
 pub data Refusal : Type 0 where
@@ -98,31 +87,15 @@ DoesStep s a (Some x) outcome = DoesAlive s a x x.life outcome
 abbrev pub StepsTo : State → List ℕ → Outcome → Type 0
 StepsTo s a outcome = DoesStep s a (s.actors a) outcome
 
-abbrev pub is_start : Event → Bool
-is_start (Start a args) = true
-is_start event = false
-
--- Process numbers go from 77 in order of start, and stay at the last one.
+-- the process number of the next mail
 abbrev pub next_pid : List Event → ℕ
-next_pid h = min (77 + count_by is_start h) (2 ^ 32 - 1)
+next_pid h = pid_after (count_by is_start h)
 
--- a mail is started for user 1000, with its whole input
-abbrev pub arguments : List Event → ℕ → List ℕ → List ℕ → Arguments
-arguments h now message envelope = record {
-  uid = 1000;
-  pid = next_pid h;
-  invoked = Uid 1000;
-  start = now;
-  message = message;
-  message_end = Whole;
-  envelope = envelope;
-  envelope_end = Whole;
-}
-
--- what the start of a mail comes to, by whether its name was used
-abbrev pub mail_outcome : List ℕ → Arguments → Option Actor → Outcome
-mail_outcome name args None = Happens (Start name args)
-mail_outcome name args (Some x) = Is Taken
+-- What the start of a mail comes to: it is refused where its name was used, or is none that a mail may have.
+abbrev pub MailComesTo : State → List ℕ → Arguments → Outcome → Type 0
+MailComesTo s name args outcome =
+    (IsMailName name × (s.actors name ≡ None) × (outcome ≡ Happens (Start name args)))
+    ⊎ ((IsSome (s.actors name) ⊎ (¬ (IsMailName name))) × (outcome ≡ Is Taken))
 
 -- what an outcome adds to the history, and what is printed of it
 abbrev pub added : Outcome → List Event
@@ -164,8 +137,8 @@ pub record IsRun (d : Disk) (h : List Event) (a : List ℕ) (events : List Event
 -- What a line adds to a history, newest event first, and what it prints.
 abbrev pub Plays : Disk → List Event → Line → List Event → List ℕ → Type 0
 Plays d h (line.Mail name message envelope) events text =
-    let outcome = mail_outcome name (arguments h (after d h).now message envelope) ((after d h).actors name) in
-    (events ≡ added outcome) × (text ≡ printed name outcome)
+    (outcome : Outcome) × MailComesTo (after d h) name (mail (next_pid h) (after d h).now message envelope) outcome
+    × (events ≡ added outcome) × (text ≡ printed name outcome)
 Plays d h (line.Step actor) events text =
     (outcome : Outcome) × StepsTo (after d h) actor outcome × (events ≡ added outcome) × (text ≡ printed actor outcome)
 Plays d h (line.Run actor) events text = IsRun d h actor events text

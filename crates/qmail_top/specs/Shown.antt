@@ -1,5 +1,5 @@
 -- What `show` prints: how many names `pid/` has, the state of each number that isn't in S1, and how each mail fares.
-use Rattle.std.specs.Prelude.{◌≡◌, ◌≢◌, ◌↔◌, ℕ, zero, suc, ◌+◌, ◌^◌, ◌<◌, ◌≤◌, List, [], ◌∷◌, ◌++◌, length, Bool, false, ◌||◌, ◌&&◌, Option, Some, None, All, Contains, codes, flat_map, bytes_eq, if◌then◌else◌}
+use Rattle.std.specs.Prelude.{◌≡◌, ◌≢◌, ◌↔◌, ℕ, zero, suc, ◌+◌, ◌^◌, ◌<◌, ◌≤◌, List, [], ◌∷◌, ◌++◌, length, Bool, true, false, ◌||◌, ◌&&◌, Option, Some, None, All, Contains, codes, flat_map, bytes_eq, if◌then◌else◌}
 use Rattle.std.specs.List.{AllPairs}
 use Rattle.std.specs.List.Sorted.{IsStrictlyIncreasing}
 use Rattle.std.specs.Ordering.{nat_cmp}
@@ -19,10 +19,11 @@ use Rattle.queue_inject.specs.Names.Part.{Intd, Todo}
 use Rattle.queue_inject.specs.Texts.{recipients_of}
 use Rattle.mail_world.specs.declared.queue_states.State.{State as StateOf}
 use Rattle.mail_world.specs.declared.queue_states.State.TheVariants.{S1, S2, S3, S4, S5, Other}
-use Rattle.mail_world.specs.States.{state_of}
-use Rattle.mail_world.specs.History.{Event, Life, State, Actor, after}
+use Rattle.mail_world.specs.States.{state_of, is_there}
+use Rattle.mail_world.specs.History.{Event, Life, State, Actor, Injection, after}
 use Rattle.mail_world.specs.History.Event.{Start, Call}
 use Rattle.mail_world.specs.History.Life.{Alive, Over, Stopped}
+use Rattle.mail_world.specs.Headline.{IsInjected}
 
 -- the names of a directory, in byte order
 pub record AreNamesIn (d : Disk) (dir : List ℕ) (names : List (List ℕ)) : Type 0 where
@@ -80,12 +81,12 @@ is_accepted name [] = false
 is_accepted name ((Call a read ready call answer wrote) ∷ before) = (bytes_eq a name && is_accepting call answer) || is_accepted name before
 is_accepted name (event ∷ before) = is_accepted name before
 
--- `NAME.k STATUS` for so many recipients, counted from k; while todo holds a mail each of its recipients is pending
+-- `NAME.k pending` for so many recipients, counted from k
 abbrev pub recipient_lines : List ℕ → ℕ → ℕ → List ℕ
 recipient_lines name k zero = []
 recipient_lines name k (suc more) = line_of (name ++ 46 ∷ digits k) (codes "pending") ++ recipient_lines name (k + 1) more
 
--- `NAME STATUS`, and the lines of the recipients where the mail was accepted
+-- `NAME STATUS`, and a line for each recipient where the mail was accepted
 abbrev pub mail_lines : State → List Event → List ℕ → Arguments → Option Actor → List ℕ
 mail_lines s h name args None = []
 mail_lines s h name args (Some x) =
@@ -100,10 +101,18 @@ mails_of (event ∷ before) = mails_of before
 abbrev pub all_mail_lines : State → List Event → List ℕ
 all_mail_lines s h = flat_map (λ mail. mail_lines s h mail.0 mail.1 (s.actors mail.0)) (mails_of h)
 
+-- A recipient is pending while todo has its mail. Nothing takes a mail out of todo yet, so each recipient of each
+-- accepted mail is.
+abbrev pub AllPending : State → Type 0
+AllPending s =
+    (q : Injection) (recipient : ℕ) → IsInjected s.books q → q.accepted ≡ true → recipient < length (recipients_of q.args)
+    → is_there s.disk Todo q.number ≡ true
+
 -- what `show` prints after this history, which began with this disk
 pub record IsShown (d : Disk) (h : List Event) (text : List ℕ) : Type 0 where
   pub pids : List (List ℕ)
   pub numbers : List ℕ
   pub are_pids : AreNamesIn (after d h).disk (codes "pid") pids
   pub are_numbers : AreNumbersIn (after d h).disk numbers
+  pub pending : AllPending (after d h)
   pub text_is : text ≡ pid_line pids ++ (flat_map (number_line (after d h).disk) numbers ++ all_mail_lines (after d h) h)

@@ -1,13 +1,13 @@
 // Scripts: reading one, playing it, and showing what came of it.
 
 mod error;
+mod fates;
 mod line;
 mod numbers;
 mod playing;
 mod printing;
 mod queue_dirs;
 mod reading;
-mod roll;
 mod script;
 mod showing;
 

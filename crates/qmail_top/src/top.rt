@@ -1,6 +1,9 @@
 // The one public call.
-ghost use Rattle.std.specs.Prelude.{◌≡◌, ◌⊎◌, ◌↔◌, ◌∷◌, [], IsTrue, IfOk, IfErr, Contains};
+ghost use Rattle.std.specs.Prelude.{◌≡◌, ◌≢◌, ◌⊎◌, ◌↔◌, ◌++◌, ◌∷◌, [], List, ℕ, IsTrue, IfOk, IfErr, OnOk, OnErr, Contains};
 ghost use Rattle.call_fs.specs.Told.{Rose, Meets, OnTold};
+ghost use Rattle.qmail_top.specs.declared.scenario.line.Line.{Line};
+ghost use Rattle.qmail_top.specs.Lines.{IsScript};
+ghost use Rattle.qmail_top.specs.Text.{Prints, BeginsAtMost};
 ghost use Rattle.qmail_top.specs.Command.{IsPlay, IsReading, IsRefused, IsChecked, HasCause, IsBeforeOutput, status_of};
 
 use crate::scenario::{MAX_SCRIPT, PlayError, ScriptError, play, read_script};
@@ -48,6 +51,17 @@ pub fn qmail<
     ensures malformed { OnTold (M.left message.old) (λ script. result ≡ MALFORMED → IsRefused script) }
     ensures checked { OnTold (M.left message.old) (λ script. (result ≡ DONE) ⊎ (result ≡ OUTPUT) → ¬ (IsRefused script)) }
     ensures known { Contains (DONE ∷ MEMORY ∷ OUTPUT ∷ INPUT ∷ MALFORMED ∷ USAGE ∷ []) result }
+    ensures complete { OnTold (M.left message.old) (λ script. IsPlay words.now → (lines : List Line) → IsScript script lines
+        → ¬ (Rose (M.faults message.old) (M.faults message.new)) → ¬ (Rose (O.faults out.old) (O.faults out.new))
+        → (result ≡ DONE) ⊎ (result ≡ MEMORY)) }
+
+    // What is printed: the text of the script, whose history is legal, and safe at each prefix; or a front of that text,
+    // and nothing before the script was read to its end.
+    ensures prints { OnTold (M.left message.old) (λ script. result ≡ DONE → Meets (O.taken out.old) (O.taken out.new)
+        (λ before after. (text : List ℕ) × Prints script text × (after ≡ before ++ text))) }
+    ensures begins { OnTold (M.left message.old) (λ script. result ≢ DONE → Meets (O.taken out.old) (O.taken out.new)
+        (λ before after. (text : List ℕ) × BeginsAtMost script text × (after ≡ before ++ text))) }
+    ensures reached { Meets (M.left message.old) (M.left message.new) (λ script rest. rest ≢ [] → out.new ≡ out.old) }
 
     // what stays untouched
     ensures unread { result ≡ USAGE → message.new ≡ message.old }
@@ -121,6 +135,11 @@ fn play_message<M: Source, O: Sink>(
     message: &mut M,
     out: &mut O,
 ) -> Result<(), Failure>
+    ensures prints { OnTold (M.left message.old) (λ script. OnOk result (Meets (O.taken out.old) (O.taken out.new)
+        (λ before after. (text : List ℕ) × Prints script text × (after ≡ before ++ text)))) }
+    ensures begins { OnTold (M.left message.old) (λ script. OnErr result (Meets (O.taken out.old) (O.taken out.new)
+        (λ before after. (text : List ℕ) × BeginsAtMost script text × (after ≡ before ++ text)))) }
+    ensures reached { Meets (M.left message.old) (M.left message.new) (λ script rest. rest ≢ [] → out.new ≡ out.old) }
     ensures cause { IfErr result (λ why. HasCause why (record { before = M.faults message.old; after = M.faults message.new })
         (record { before = O.faults out.old; after = O.faults out.new })) }
     ensures unwritten { IfErr result (λ why. IsBeforeOutput why → out.new ≡ out.old) }
@@ -141,6 +160,8 @@ fn play_message<M: Source, O: Sink>(
 
 /// Reads a source to its end, or one byte past the most that a script may have.
 fn read_whole<M: Source>(alloc: Global, message: &mut M) -> Result<Vec<u8>, Failure>
+    ensures tells { Meets (M.left message.old) (M.left message.new)
+        (λ before after. (front : List ℕ) × (before ≡ front ++ after)) }
     ensures read { IfOk result (λ bytes. Meets (M.left message.old) (M.left message.new) (λ before after. IsReading before after bytes.items)) }
     ensures cause { IfErr result (λ why. (why ≡ Failure.Memory) ⊎ ((why ≡ Failure.Input) × Rose (M.faults message.old) (M.faults message.new))) }
 {

@@ -17,10 +17,11 @@ use Rattle.queue_inject.specs.declared.row.Row.TheVariants as at
 use Rattle.queue_inject.specs.Envelope.{Reading, read_envelope, todo_head}
 use Rattle.queue_inject.specs.Envelope.Reading.{Whole, Open, Broken}
 use Rattle.queue_inject.specs.Received.{received_text}
-use Rattle.queue_inject.specs.Texts.{limit, message_end, message_text, envelope_text, envelope_of, intd_text}
+use Rattle.queue_inject.specs.Texts.{Text, limit, message_end, message_text, envelope_text, envelope_of, intd_text}
 use Rattle.queue_inject.specs.Table.{Work, work_of, answered, moved, row_after, after_own, asked, call_of, has_input, is_late, in_time, Next}
-use Rattle.queue_inject.specs.Machine.{Progress, Heard, Machine, message_part, envelope_part, fed_on, ended_by, ended_on, is_told, is_call, fault_behind, message_known, todo_known, work_known, due_now}
+use Rattle.queue_inject.specs.Machine.{Progress, Heard, Machine, message_part, envelope_part, fed_on, ended_by, ended_on, is_over, is_told, is_call, fault_behind, message_known, todo_known, work_known, due_now}
 use Rattle.queue_inject.specs.Stands.{Told, HearsMessage, verdict_by, taken_by, verdict_of, taken, Reads, HearsEnvelope, Stands, GoesOn, Continues, EndsBy, Ends}
+use Rattle.queue_inject.proofs.Faults.{IsUnread, row_unread, asked_unread, answered_unread}
 
 -- More of an input
 
@@ -179,13 +180,12 @@ stands_ended m n args past end s e rest p text begun reads = record {
 
 -- What is due
 
-some_of : (o : Option InputEnd) → is_some o ≡ true → (end : InputEnd) × (o ≡ Some end)
-some_of None e = absurd (cc)
-some_of (Some end) e = (end, refl)
-
-both_told : (a b : Bool) → a && b ≡ true → (a ≡ true) × (b ≡ true)
-both_told true b e = (refl, e)
-both_told false b e = absurd (cc)
+over_tells : (first last : Option InputEnd) → is_over first last ≡ true
+    → (is_some first ≡ true) × ((is_some last ≡ true) ⊎ ((status : ℕ) × (message_end (unwrap_or first ends.Whole) ≡ Some status)))
+over_tells None last e = absurd (cc)
+over_tells (Some ends.Whole) last e = (refl, inl e)
+over_tells (Some ends.Unread) last e = (refl, inr (54, refl))
+over_tells (Some ends.Malformed) last e = (refl, inr (91, refl))
 
 told_whole : (o : Option InputEnd) (end : InputEnd) (fed whole : ℕ) → is_some o ≡ true → Told o end fed whole → (unwrap_or o ends.Whole ≡ end) × (fed ≡ whole)
 told_whole None end fed whole e t = absurd (cc)
@@ -227,14 +227,36 @@ todo_is h args e heard =
     ap (λ v. fault_behind v (unwrap_or h.progress.envelope_end ends.Whole)) (heard.read.verdict_is ∙ ap verdict_of all) ∙ ap (fault_behind (verdict_of args.envelope)) w.0 ∙ fault_is read next args.envelope_end in
     λ i. record { bytes = bytes i; fault = fault i }
 
-pub work_is : (m : Machine) (args : Arguments) (past : List Own) → Stands m args past → is_told m ≡ true → work_known m ≡ work_of args
-work_is m args past s told =
-    let w = both_told (is_some m.heard.progress.message_end) (is_some m.heard.progress.envelope_end) told in
+-- past the limit or not, a message that failed has a fault
+faulty : (past : Bool) (end : Option ℕ) (status : ℕ) → end ≡ Some status → (fault : ℕ) × ((if past then Some 31 else end) ≡ Some fault)
+faulty true end status e = (31, refl)
+faulty false end status e = (status, e)
+
+-- what a table does at a row, and after each answer
+abbrev Same : Work → Work → Row → Type 0
+Same a b row = (asked a row ≡ asked b row) × ((answer : Answer) → answered a row answer ≡ answered b row answer)
+
+-- Once the input is over, the table of what is known goes on as that of the arguments.
+pub table_is : (m : Machine) (args : Arguments) (past : List Own) → Stands m args past → is_told m ≡ true → Same (work_known m) (work_of args) m.row
+table_is m args past s told =
+    let w = over_tells m.heard.progress.message_end m.heard.progress.envelope_end told in
     let message = message_is m.heard args w.0 s.message in
-    let todo = todo_is m.heard args w.1 (s.envelope w.0) in
     let pid = s.pid in
     let start = s.start in
-    λ i. record { pid = pid i; start = start i; message = message i; todo = todo i }
+    ⊎_elim
+    (λ envelope.
+    let todo = todo_is m.heard args envelope (s.envelope w.0) in
+    let same : work_known m ≡ work_of args = λ i. record { pid = pid i; start = start i; message = message i; todo = todo i } in
+    (ap (λ k. asked k m.row) same, λ answer. ap (λ k. answered k m.row answer) same))
+    (λ failed.
+    let fault = faulty (nat_lt limit m.heard.progress.message_fed) (message_end (unwrap_or m.heard.progress.message_end ends.Whole)) failed.0 failed.1 in
+    let here : IsUnread m.row = subst IsUnread (sym s.row) (row_unread args past fault.0 (sym (ap (λ t. t.fault) message) ∙ fault.1)) in
+    let todo : Text = todo_known m.heard in
+    let same : work_known m ≡ record (work_of args) { todo = todo } = λ i. record { pid = pid i; start = start i; message = message i; todo = todo } in (
+      ap (λ k. asked k m.row) same ∙ asked_unread (work_of args) todo m.row here,
+      λ answer. ap (λ k. answered k m.row answer) same ∙ answered_unread (work_of args) todo m.row answer here,
+    ))
+    w.1
 
 -- a machine that waits does so at each row with a call
 waits : (a b : Work) (row : Row) (x y : Bool) → in_time false x (asked a row) ≡ in_time false y (asked b row)
@@ -250,7 +272,7 @@ due_by : (told : Bool) (m : Machine) (args : Arguments) (past : List Own) → is
     → in_time (told && has_input m.ready) (nat_lt (m.start + 86400) m.present) (asked (work_known m) m.row) ≡ Next args past m.present m.ready
 due_by true m args past e s input =
     ap (λ n. in_time (has_input m.ready) (nat_lt (n + 86400) m.present) (asked (work_known m) m.row)) s.start
-    ∙ ap (λ w. in_time (has_input m.ready) (is_late args m.present) (asked w m.row)) (work_is m args past s e)
+    ∙ ap (in_time (has_input m.ready) (is_late args m.present)) (table_is m args past s e).0
     ∙ ap (λ r. in_time (has_input m.ready) (is_late args m.present) (call_of args r)) s.row
 due_by false m args past e s input =
     let none : has_input m.ready ≡ false = not_true (has_input m.ready) (λ t. let told = input t in absurd (cc)) in
@@ -262,6 +284,9 @@ pub due_stands : (m : Machine) (args : Arguments) (past : List Own) → Stands m
 due_stands m args past s input = due_by (is_told m) m args past refl s input
 
 -- an injector that has ended stays so
+
+pub ended_by_row : (m : Machine) (status : ℕ) → asked (work_known m) m.row ≡ Due.Ended status → due_now m ≡ Due.Ended status
+ended_by_row m status e = ap (in_time (is_told m && has_input m.ready) (nat_lt (m.start + 86400) m.present)) e
 
 ended_goes_on : (told was is late later : Bool) (due : Due) (status : ℕ) → in_time (told && was) late due ≡ Due.Ended status → (IsTrue was → IsTrue is) → (late ≡ true → later ≡ true)
     → in_time (told && is) later due ≡ Due.Ended status
@@ -285,7 +310,7 @@ ended_stays m now ready status e order more =
     ended_goes_on (is_told m) (has_input m.ready) (has_input ready) (nat_lt (m.start + 86400) m.present) (nat_lt (m.start + 86400) now) (asked (work_known m) m.row) status e more
     (later_too (m.start + 86400) m.present now order)
 
--- an injector that makes a call was told both ends
+-- the input of an injector that makes a call is over
 call_told : (told input late : Bool) (due : Due) → is_call (in_time (told && input) late due) ≡ true → told ≡ true
 call_told true input late due e = refl
 call_told false input late (Due.File call) e = absurd (cc)
@@ -306,6 +331,6 @@ stands_answered m n args past event call answer bytes s due did is =
       start = ap (λ x. x.start) is ∙ s.start;
       message = subst (λ x. HearsMessage x.heard args) (sym is) s.message;
       envelope = subst (λ x. IsTrue (is_some x.heard.progress.message_end) → HearsEnvelope x.heard args) (sym is) s.envelope;
-      row = ap (λ x. x.row) is ∙ ap (λ w. answered w m.row answer) (work_is m args past s told) ∙ ap (λ r. moved args r answer) s.row
+      row = ap (λ x. x.row) is ∙ (table_is m args past s told).1 answer ∙ ap (λ r. moved args r answer) s.row
           ∙ ap (λ d. after_own args (row_after args past) d) (sym did);
     }

@@ -1,7 +1,8 @@
 pub mod DateTexts
 pub mod Dates
-pub mod Decimals
 pub mod Envelopes
+-- a message that fails
+pub mod Faults
 -- an envelope that is fed byte by byte
 pub mod Feeding
 -- which injector stands for which past

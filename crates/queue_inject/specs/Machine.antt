@@ -77,9 +77,15 @@ ended_on p end = record p {
   envelope_end = (ended_by p.message_end p.envelope_end end).1;
 }
 
--- both ends were told
+-- the input is over: the message ended well and the envelope was told to its end, or the message couldn't be read
+abbrev pub is_over : Option InputEnd → Option InputEnd → Bool
+is_over None last = false
+is_over (Some ends.Whole) last = is_some last
+is_over (Some ends.Unread) last = true
+is_over (Some ends.Malformed) last = true
+
 abbrev pub is_told : Machine → Bool
-is_told m = is_some m.heard.progress.message_end && is_some m.heard.progress.envelope_end
+is_told m = is_over m.heard.progress.message_end m.heard.progress.envelope_end
 
 -- What is due
 
@@ -89,7 +95,7 @@ fault_behind verdict.Open end = Some (end_status end)
 fault_behind verdict.Whole end = None
 fault_behind (verdict.Faulty status) end = Some status
 
--- the texts, where both ends were told
+-- The texts, where the input is over. Behind a fault of the message the table never reads the second.
 abbrev pub message_known : Heard → Text
 message_known h = record {
   bytes = h.message;

@@ -105,7 +105,8 @@ impl Injector {
         self.end(InputEnd::Whole);
     }
 
-    /// The message, or after it the envelope, could not be read on; where `bad`, since its package is malformed.
+    /// The message, or after it the envelope, could not be read on; where `bad`, since its package is malformed. After
+    /// a fault of the message its input is over.
     pub fn fail_input(&mut self, bad: bool)
         ensures stands { (args : Arguments) (past : List Own) → Stands self.old args past
             → Ends self.old.heard.progress args (if bad then InputEnd.Malformed else InputEnd.Unread) → Stands self.new args past }
@@ -136,15 +137,18 @@ impl Injector {
         requires { IsMoment now }
         ensures stands { (args : Arguments) (past : List Own) → Stands self.old args past → Stands self.new args past }
         ensures rest { self.new ≡ record self.old { present = now; ready = ready } }
-        // One that has ended stays so, where moments don't fall and its input stays ready.
-        ensures ended { (status : ℕ) → due_now self.old ≡ Ended status → self.old.present ≤ now
+        // One whose table is at its end has ended, and stays so whatever it is told.
+        ensures ended { (status : ℕ) → asked (work_known self.old) self.old.row ≡ Ended status
+            → (due_now self.old ≡ Ended status) × (due_now self.new ≡ Ended status) }
+        // Any other end is the timer's: it stays where moments don't fall and the input stays ready.
+        ensures timed_out { (status : ℕ) → due_now self.old ≡ Ended status → self.old.present ≤ now
             → (IsTrue (has_input self.old.ready) → IsTrue (has_input ready)) → due_now self.new ≡ Ended status }
     {
         self.present = now;
         self.ready = ready;
     }
 
-    /// What it does next. It waits while its input isn't ready or wasn't told to its end.
+    /// What it does next. It waits while its input isn't ready or isn't over.
     pub fn need(&self) -> Need<'_>
         ensures stands { (args : Arguments) (past : List Own) → Stands self.now args past
             → (IsTrue (has_input self.now.ready) → IsTrue (is_told self.now))

@@ -1,9 +1,9 @@
 // What an injector was fed.
-ghost use Rattle.std.specs.Prelude.{◌≡◌, ◌≤◌, ◌<◌, ◌+◌, ◌-◌, ◌++◌, ◌∷◌, [], List, ℕ, IfOk, IsTrue, length, take, is_some, ◌&&◌, Option};
+ghost use Rattle.std.specs.Prelude.{◌≡◌, ◌≤◌, ◌<◌, ◌+◌, ◌-◌, ◌++◌, ◌∷◌, [], List, ℕ, IfOk, IsTrue, length, take, is_some, Option};
 ghost use Rattle.call_fs.specs.Decimal.{digits};
 ghost use Rattle.queue_inject.specs.Envelope.{todo_head};
 ghost use Rattle.queue_inject.specs.Texts.{limit, message_end};
-ghost use Rattle.queue_inject.specs.Machine.{Heard, message_part, envelope_part, begun, fed_on, ended_on, message_known, todo_known};
+ghost use Rattle.queue_inject.specs.Machine.{Heard, message_part, envelope_part, begun, fed_on, ended_on, is_over, message_known, todo_known};
 ghost use Rattle.queue_inject.specs.Rows.{IsOutlook, verdict_after};
 ghost use Rattle.queue_inject.specs.Stands.{Reads};
 
@@ -94,11 +94,15 @@ impl Intake {
         self.room
     }
 
-    /// Whether both ends were told.
+    /// Whether the input is over: the message failed, or it ended and after it the envelope.
     pub fn is_told(&self) -> bool
-        ensures { result ≡ is_some self.now.progress.message_end && is_some self.now.progress.envelope_end }
+        ensures { result ≡ is_over self.now.progress.message_end self.now.progress.envelope_end }
     {
-        self.message_end.is_some() && self.envelope_end.is_some()
+        match self.message_end {
+            None => false,
+            Some(InputEnd::Whole) => self.envelope_end.is_some(),
+            Some(InputEnd::Unread | InputEnd::Malformed) => true,
+        }
     }
 
     /// The text of the message file, as far as it is known.
@@ -115,7 +119,7 @@ impl Intake {
         self.texts.second()
     }
 
-    /// What the table reads of the message file's text, once its end was told.
+    /// What the table reads of the message file's text, once the input is over.
     pub fn message_outlook(&self) -> Outlook
         ensures { IsOutlook result (message_known self.now) }
     {
@@ -129,7 +133,7 @@ impl Intake {
         Outlook { len, fault }
     }
 
-    /// What the table reads of the todo text, once its end was told.
+    /// What the table reads of the todo text, once the input is over; behind a message that failed it reads nothing of it.
     pub fn todo_outlook(&self) -> Outlook
         ensures { IsOutlook result (todo_known self.now) }
     {

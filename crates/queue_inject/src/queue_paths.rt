@@ -50,11 +50,11 @@ pub fn path(name: &Name, into: &mut NameBuf)
     into.clear();
     match name {
         Name::Pid { pid, start, seq } => {
-            into.extend(b"pid/");
+            put(into, b"pid/");
             extend_number(into, u64::from(*pid));
-            into.push(b'.');
+            put(into, b".");
             extend_number(into, *start);
-            into.push(b'.');
+            put(into, b".");
             extend_number(into, u64::from(*seq));
         }
         Name::Mess(n) => extend_split(into, b"mess/", *n),
@@ -75,7 +75,7 @@ fn extend_number(into: &mut NameBuf, n: u64)
 {
     let mut text = [0; 20];
     let len = dec(n, &mut text);
-    into.extend(&text[..len]);
+    put(into, &text[..len]);
 }
 
 // Puts a directory and a number at the end.
@@ -83,7 +83,7 @@ fn extend_flat(into: &mut NameBuf, dir: &[u8], n: u64)
     requires { length into.old + length dir.now ≤ 100 }
     ensures { into.new ≡ into.old ++ (dir.now ++ digits n) }
 {
-    into.extend(dir);
+    put(into, dir);
     extend_number(into, n);
 }
 
@@ -92,10 +92,18 @@ fn extend_split(into: &mut NameBuf, dir: &[u8], n: u64)
     requires { length into.old + length dir.now ≤ 100 }
     ensures { into.new ≡ into.old ++ (dir.now ++ split_text n) }
 {
-    into.extend(dir);
+    put(into, dir);
     extend_number(into, split(n));
-    into.push(b'/');
+    put(into, b"/");
     extend_number(into, n);
+}
+
+// Puts bytes at the end. The condition: there is room for them.
+fn put(into: &mut NameBuf, bytes: &[u8])
+    requires { length into.old + length bytes.now ≤ 255 }
+    ensures { into.new ≡ into.old ++ bytes.now }
+{
+    into.extend(bytes).unwrap();
 }
 
 /// The name that the queue uses with this text; `None` exactly where it uses none with it. Takes no memory.

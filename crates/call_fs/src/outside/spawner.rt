@@ -1,11 +1,12 @@
 // What starts children.
-ghost use Rattle.std.specs.Prelude.{◌≡◌, ◌≤◌, ℕ, List, [], Option, map};
+ghost use Rattle.std.specs.Prelude.{◌≡◌, ℕ, List, [], Option, map};
 ghost use Rattle.call_fs.specs.Told.{Records};
 ghost use Rattle.call_fs.specs.Streams.{Counts};
 ghost use Rattle.call_fs.specs.Children.{SpawnCall, Starts};
 ghost use Rattle.call_fs.specs.Children.SpawnCall.{Start, Feed, Finish, AskStatus};
-ghost use Rattle.call_fs.specs.Forms.{FeedsChild, StartsNext, after_status, channels, child_of, failed_spawn, status_of};
+ghost use Rattle.call_fs.specs.Forms.{FailsNext, FeedsChild, StartsNext, after_status, channels, child_of, new_plan, status_of};
 
+use crate::outside::fault_plan::FaultPlan;
 use crate::outside::sink::Gave;
 use std::alloc::Global;
 use std::marker::Model;
@@ -88,13 +89,13 @@ pub struct MemChild {
 }
 
 /// A spawner in memory: its children are started one after another, on the channels from 1, and then each start
-/// fails. A feeding or a question for a channel of none of them fails too.
+/// fails. A feeding or a question for a channel of none of them fails too, and so does each call that was planned to.
 #[derive(Debug, Drop)]
 pub struct MemSpawner {
     children: Vec<MemChild>,
     started: usize,
     fed: Vec<u8>,
-    faults: u64,
+    plan: FaultPlan,
 }
 
 impl Model for MemSpawner {
@@ -102,7 +103,7 @@ impl Model for MemSpawner {
 
     ghost Value = { SpawnForm };
 
-    ghost view = { λ s. record { all = s.children.items; started = s.started; fed = s.fed.items; faults = s.faults } };
+    ghost view = { λ s. record { all = s.children.items; started = s.started; fed = s.fed.items; plan = s.plan } };
 
     ghost use Rattle.std.specs.Prelude.{◌≤◌, length};
 
@@ -110,15 +111,16 @@ impl Model for MemSpawner {
 }
 
 impl MemSpawner {
-    /// A spawner of these children. Takes no memory.
-    pub fn new(alloc: Global, children: Vec<MemChild>) -> Self
-        ensures { result ≡ record { all = children.items; started = 0; fed = []; faults = 0 } }
+    /// A spawner of these children, whose calls with these numbers fail, counted from 1 over every call but `finish`.
+    /// Takes no memory.
+    pub fn new(alloc: Global, children: Vec<MemChild>, failing: Vec<u64>) -> Self
+        ensures { result ≡ record { all = children.items; started = 0; fed = []; plan = new_plan failing.items } }
     {
         MemSpawner {
             children,
             started: 0,
             fed: Vec::new(alloc),
-            faults: 0,
+            plan: FaultPlan::new(failing),
         }
     }
 
@@ -140,14 +142,6 @@ impl MemSpawner {
             None
         }
     }
-
-    /// Counts a failure.
-    fn count_failure(&mut self)
-        ensures counted { self.new ≡ failed_spawn self.old }
-        ensures later { self.old.faults ≤ self.new.faults }
-    {
-        self.faults = self.faults.saturating_add(1);
-    }
 }
 
 impl Spawner for MemSpawner {
@@ -158,17 +152,20 @@ impl Spawner for MemSpawner {
 
     ghost calls = { λ _. None };
 
-    ghost faults = { λ s. s.faults };
+    ghost faults = { λ s. s.plan.faults };
 
     fn faults(&self) -> u64 {
-        self.faults
+        self.plan.faults()
     }
 
     fn start(&mut self, _alloc: Global, _words: &[&[u8]]) -> Started
         ensures chan { Starts result (channels self.old.started) (channels self.new.started) }
         ensures next { StartsNext self.old result self.new }
-        ensures cause { Counts self.old.faults self.new.faults (result ≡ Started.Failed) }
+        ensures cause { Counts self.old.plan.faults self.new.plan.faults (result ≡ Started.Failed) }
     {
+        if self.plan.call_fails() {
+            return Started::Failed;
+        }
         if self.started < self.children.len() {
             if let Ok(chan) = u32::try_from(self.started + 1) {
                 let pid = self.children[self.started].pid;
@@ -176,35 +173,43 @@ impl Spawner for MemSpawner {
                 return Started::Chan { chan, pid };
             }
         }
-        self.count_failure();
+        self.plan.count_failure();
         Started::Failed
     }
 
     // It also fails where there is no memory.
     fn feed(&mut self, chan: u32, bytes: &[u8]) -> Gave
         ensures fed { FeedsChild self.old chan bytes.now result self.new }
-        ensures cause { Counts self.old.faults self.new.faults (result ≡ Gave.Failed) }
+        ensures cause { Counts self.old.plan.faults self.new.plan.faults (result ≡ Gave.Failed) }
     {
+        if self.plan.call_fails() {
+            return Gave::Failed;
+        }
         if self.child(chan).is_none() || self.fed.extend_from_slice(bytes).is_err() {
-            self.count_failure();
+            self.plan.count_failure();
             return Gave::Failed;
         }
         Gave::Done
     }
 
+    // It answers nothing, so it can't fail, and isn't counted as a call.
     fn finish(&mut self, _chan: u32)
         ensures { self.new ≡ self.old }
     {}
 
     fn status(&mut self, chan: u32) -> Status
-        ensures status { result ≡ status_of (child_of self.old chan) }
+        ensures fails { FailsNext self.old.plan → result ≡ Status.Failed }
+        ensures status { ¬ (FailsNext self.old.plan) → result ≡ status_of (child_of self.old chan) }
         ensures after { self.new ≡ after_status self.old result }
-        ensures cause { Counts self.old.faults self.new.faults (result ≡ Status.Failed) }
+        ensures cause { Counts self.old.plan.faults self.new.plan.faults (result ≡ Status.Failed) }
     {
+        if self.plan.call_fails() {
+            return Status::Failed;
+        }
         match self.child(chan) {
             Some(child) if child.status != Status::Failed => child.status,
             _ => {
-                self.count_failure();
+                self.plan.count_failure();
                 Status::Failed
             }
         }
@@ -223,21 +228,25 @@ mod tests {
             pid: 82,
             status: Status::Ended(99),
         };
-        let mut spawner = MemSpawner::new(alloc, vec![in alloc; child]?);
+        let children = vec![in alloc; child]?;
+        let mut spawner = MemSpawner::new(alloc, children, vec![in alloc; 1u64, 3, 6]?);
         let words = [b"sh".as_slice(), b"-c", b"exit 99"];
+        assert_eq!(rt; spawner.start(alloc, &words), Started::Failed);
         assert_eq!(rt;
             spawner.start(alloc, &words),
             Started::Chan { chan: 1, pid: 82 }
         );
+        assert_eq!(rt; spawner.feed(1, b"no"), Gave::Failed);
         assert_eq!(rt; spawner.feed(1, b"hi"), Gave::Done);
         spawner.finish(1);
         assert_eq!(rt; spawner.status(1), Status::Ended(99));
+        assert_eq!(rt; spawner.status(1), Status::Failed);
         assert_eq!(rt; spawner.fed(), b"hi".as_slice());
-        assert_eq!(rt; spawner.faults(), 0);
+        assert_eq!(rt; spawner.faults(), 3);
         assert_eq!(rt; spawner.start(alloc, &words), Started::Failed);
         assert_eq!(rt; spawner.feed(2, b"hi"), Gave::Failed);
         assert_eq!(rt; spawner.status(2), Status::Failed);
-        assert_eq!(rt; spawner.faults(), 3);
+        assert_eq!(rt; spawner.faults(), 6);
         Ok(())
     }
 }

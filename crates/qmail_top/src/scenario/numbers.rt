@@ -1,7 +1,11 @@
 // The names and the message numbers that a disk holds.
-ghost use Rattle.std.specs.Prelude.{IfOk, map};
+ghost use Rattle.std.specs.Prelude.{◌≡◌, ◌⊎◌, ◌↔◌, ◌++◌, ◌∷◌, ℕ, Contains, IfOk, IsTrue, OnOk, Some, is_some, map, option_map};
+ghost use Rattle.call_fs.specs.Decimal.{digits};
 ghost use Rattle.mem_fs.specs.MemDisk.{disk_of};
-ghost use Rattle.qmail_top.specs.Shown.{AreNamesIn};
+ghost use Rattle.queue_inject.specs.Names.{Part, is_number, name_of, path, split_text, used_name};
+ghost use Rattle.queue_inject.specs.Names.Name.{Of};
+ghost use Rattle.mail_world.specs.States.{is_there, state_of};
+ghost use Rattle.qmail_top.specs.Shown.{AreNamesIn, AreNumbersIn};
 
 use crate::scenario::queue_dirs::{FLAT_DIRS, SPLIT_DIRS, SPLITS, split_dir};
 use call_fs::NameBuf;
@@ -25,7 +29,9 @@ pub fn names_of<'a>(alloc: Global, disk: &'a MemFs, dir: &[u8]) -> Result<Vec<&'
 }
 
 /// The numbers that have a file in the queue, each once, in order.
-pub fn numbers_of(alloc: Global, disk: &MemFs) -> Result<Vec<u64>, Memory> {
+pub fn numbers_of(alloc: Global, disk: &MemFs) -> Result<Vec<u64>, Memory>
+    ensures { IfOk result (λ numbers. AreNumbersIn (disk_of disk.now.held) numbers.items) }
+{
     let mut numbers = Vec::new(alloc);
     for dir in &FLAT_DIRS {
         gather(alloc, disk, dir, &mut numbers)?;
@@ -38,13 +44,19 @@ pub fn numbers_of(alloc: Global, disk: &MemFs) -> Result<Vec<u64>, Memory> {
     Ok(numbers)
 }
 
-/// Adds the numbers of the files in a directory that has splits.
+/// Adds the numbers of the files in a directory that has splits, and none without a file.
 fn gather_splits(
     alloc: Global,
     disk: &MemFs,
     dir: &[u8],
     numbers: &mut Vec<u64>,
-) -> Result<(), Memory> {
+) -> Result<(), Memory>
+    ensures kept { OnOk result ((n : ℕ) → Contains numbers.old.items n → Contains numbers.new.items n) }
+    ensures only { OnOk result ((n : ℕ) → Contains numbers.new.items n → Contains numbers.old.items n
+        ⊎ (IsTrue (is_number n) × (part : Part) × IsTrue (is_there (disk_of disk.now.held) part n))) }
+    ensures all { OnOk result ((part : Part) (n : ℕ) → IsTrue (is_number n) → path (Of part n) ≡ dir.now ++ 47 ∷ split_text n
+        → IsTrue (is_there (disk_of disk.now.held) part n) → Contains numbers.new.items n) }
+{
     for split in 0..SPLITS {
         let split_dir = split_dir(alloc, dir, split)?;
         gather(alloc, disk, &split_dir, numbers)?;
@@ -52,8 +64,14 @@ fn gather_splits(
     Ok(())
 }
 
-/// Adds the numbers of the files in a directory.
-fn gather(alloc: Global, disk: &MemFs, dir: &[u8], numbers: &mut Vec<u64>) -> Result<(), Memory> {
+/// Adds the numbers of the files in a directory, and none without a file.
+fn gather(alloc: Global, disk: &MemFs, dir: &[u8], numbers: &mut Vec<u64>) -> Result<(), Memory>
+    ensures kept { OnOk result ((n : ℕ) → Contains numbers.old.items n → Contains numbers.new.items n) }
+    ensures only { OnOk result ((n : ℕ) → Contains numbers.new.items n → Contains numbers.old.items n
+        ⊎ (IsTrue (is_number n) × (part : Part) × IsTrue (is_there (disk_of disk.now.held) part n))) }
+    ensures all { OnOk result ((part : Part) (n : ℕ) → IsTrue (is_number n) → path (Of part n) ≡ dir.now ++ 47 ∷ digits n
+        → IsTrue (is_there (disk_of disk.now.held) part n) → Contains numbers.new.items n) }
+{
     for name in &names_of(alloc, disk, dir)? {
         if let Some(number) = number_of(alloc, dir, name)? {
             numbers.push(number)?;
@@ -63,26 +81,36 @@ fn gather(alloc: Global, disk: &MemFs, dir: &[u8], numbers: &mut Vec<u64>) -> Re
 }
 
 /// The message number of a name in a directory, where it has one.
-fn number_of(alloc: Global, dir: &[u8], name: &[u8]) -> Result<Option<u64>, Memory> {
+fn number_of(alloc: Global, dir: &[u8], name: &[u8]) -> Result<Option<u64>, Memory>
+    ensures { IfOk result (λ number. (n : ℕ)
+        → (number ≡ Some n) ↔ ((part : Part) × (used_name (dir.now ++ 47 ∷ name.now) ≡ Some (Of part n)))) }
+{
     let mut whole = Vec::from_slice(alloc, dir)?;
     whole.push(b'/')?;
     whole.extend_from_slice(name)?;
-    Ok(match parse(&whole) {
-        None | Some(Name::Pid { .. }) => None,
-        Some(
-            Name::Mess(n)
-            | Name::Intd(n)
-            | Name::Todo(n)
-            | Name::Info(n)
-            | Name::Local(n)
-            | Name::Remote(n)
-            | Name::Bounce(n),
-        ) => Some(n),
-    })
+    Ok(number_in(parse(&whole)))
+}
+
+/// The message number of a name, where there is one and it has one.
+fn number_in(name: Option<Name>) -> Option<u64>
+    ensures { (n : ℕ) → (result ≡ Some n) ↔ ((part : Part) × (option_map name_of name ≡ Some (Of part n))) }
+{
+    match name? {
+        Name::Pid { .. } => None,
+        Name::Mess(n)
+        | Name::Intd(n)
+        | Name::Todo(n)
+        | Name::Info(n)
+        | Name::Local(n)
+        | Name::Remote(n)
+        | Name::Bounce(n) => Some(n),
+    }
 }
 
 /// The state of a number, by which of its files are there.
-pub fn state_on(disk: &MemFs, number: u64) -> State {
+pub fn state_on(disk: &MemFs, number: u64) -> State
+    ensures { result ≡ state_of (disk_of disk.now.held) number }
+{
     state_of([
         is_there(disk, Name::Mess(number)),
         is_there(disk, Name::Intd(number)),
@@ -95,7 +123,9 @@ pub fn state_on(disk: &MemFs, number: u64) -> State {
 }
 
 /// Whether the file of a name is there.
-pub fn is_there(disk: &MemFs, name: Name) -> bool {
+pub fn is_there(disk: &MemFs, name: Name) -> bool
+    ensures { result ≡ is_some ((disk_of disk.now.held).names (path (name_of name))) }
+{
     let mut text = NameBuf::new();
     path(&name, &mut text);
     disk.bytes_of(text.as_slice()).is_some()

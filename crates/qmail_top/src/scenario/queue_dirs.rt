@@ -1,7 +1,7 @@
 // The directories of a script's disk.
-ghost use Rattle.std.specs.Prelude.{◌≡◌, ◌++◌, ◌∷◌, IfOk, OnOk};
+ghost use Rattle.std.specs.Prelude.{◌≡◌, ◌++◌, ◌∷◌, [], IfOk, OnOk};
 ghost use Rattle.call_fs.specs.Decimal.{digits};
-ghost use Rattle.mem_fs.specs.MemDisk.{disk_of};
+ghost use Rattle.mem_fs.specs.MemDisk.{disk_of, with_held};
 ghost use Rattle.mail_world.specs.History.{queue_dirs, splits_of};
 ghost use Rattle.qmail_top.specs.Played.{IsFirstDisk, with_dirs};
 
@@ -31,7 +31,8 @@ pub fn split_dir(alloc: Global, dir: &[u8], split: u64) -> Result<Vec<u8>, Memor
 
 /// The disk that a script begins with.
 pub fn first_disk(alloc: Global) -> Result<MemFs, Memory>
-    ensures { IfOk result (λ disk. IsFirstDisk (disk_of disk.held)) }
+    ensures disk { IfOk result (λ disk. IsFirstDisk (disk_of disk.held)) }
+    ensures steady { IfOk result (λ disk. (disk.picks ≡ []) × (disk.plan ≡ [])) }
 {
     let mut disk = MemFs::new(alloc, Vec::new(alloc), Vec::new(alloc))?;
     disk.dir(alloc, b"control")?;
@@ -43,7 +44,8 @@ pub fn first_disk(alloc: Global) -> Result<MemFs, Memory>
 
 /// Makes the queue's directories.
 fn make_queue(alloc: Global, disk: &mut MemFs) -> Result<(), Memory>
-    ensures { OnOk result (disk_of disk.new.held ≡ with_dirs (disk_of disk.old.held) queue_dirs) }
+    ensures dirs { OnOk result (disk_of disk.new.held ≡ with_dirs (disk_of disk.old.held) queue_dirs) }
+    ensures rest { disk.new ≡ with_held disk.old disk.new.held }
 {
     disk.dir(alloc, b"pid")?;
     disk.dir(alloc, b"intd")?;
@@ -57,7 +59,8 @@ fn make_queue(alloc: Global, disk: &mut MemFs) -> Result<(), Memory>
 
 /// Makes the directories of the splits, from the last to the first.
 fn make_splits(alloc: Global, dir: &[u8], disk: &mut MemFs) -> Result<(), Memory>
-    ensures { OnOk result (disk_of disk.new.held ≡ with_dirs (disk_of disk.old.held) (splits_of dir.now 23)) }
+    ensures dirs { OnOk result (disk_of disk.new.held ≡ with_dirs (disk_of disk.old.held) (splits_of dir.now 23)) }
+    ensures rest { disk.new ≡ with_held disk.old disk.new.held }
 {
     let mut split = SPLITS;
     while split > 0 {

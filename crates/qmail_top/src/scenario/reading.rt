@@ -5,7 +5,7 @@ ghost use Rattle.call_fs.specs.Escape.{unescaped};
 ghost use Rattle.queue_inject.specs.Envelope.{record_of, IsAddress};
 ghost use Rattle.qmail_top.specs.declared.scenario.line.Line.{Line};
 ghost use Rattle.qmail_top.specs.declared.scenario.line.Line.TheVariants as LineOf;
-ghost use Rattle.qmail_top.specs.Lines.{IsActorName, IsChildName, IsCount, child_kinds, IsLine, IsScript, IsScriptFault};
+ghost use Rattle.qmail_top.specs.Lines.{IsActorName, IsChildName, IsCount, child_kinds, IsLine, IsScriptLine, IsScript, IsScriptFault};
 ghost use Rattle.mail_world.specs.MailNames.{IsMailName};
 ghost use Rattle.qmail_top.specs.Reading.{IsCut, keyword_text, keyword_texts, IsWritten, IsWrittenSender, HasRecipients, HasEnvelope, IsFirstLine};
 
@@ -17,6 +17,9 @@ use std::alloc::{AllocError, AllocFailed, Global};
 
 /// The most bytes that a script may have.
 pub const MAX_SCRIPT: usize = 16_777_216;
+
+/// The most bytes that a line may have, its newline not counted.
+const MAX_LINE: usize = 65_535;
 
 /// The most bytes that an address may have.
 const MAX_ADDRESS: usize = 1002;
@@ -97,8 +100,19 @@ fn cut(text: &[u8], byte: u8) -> (&[u8], Option<&[u8]>)
     }
 }
 
-/// Reads a line.
+/// Reads a line. `Malformed` also where it is too long.
 fn read_line(alloc: Global, text: &[u8]) -> Result<Line, LineError>
+    ensures ok { IfOk result (IsScriptLine text.now) }
+    ensures err { IfErr result (λ why. why ≡ LineError.Malformed → (line : Line) → ¬ (IsScriptLine text.now line)) }
+{
+    if text.len() > MAX_LINE {
+        return Err(LineError::Malformed);
+    }
+    parse_line(alloc, text)
+}
+
+/// Reads a line by its words, however long it is.
+fn parse_line(alloc: Global, text: &[u8]) -> Result<Line, LineError>
     ensures ok { IfOk result (IsLine text.now) }
     ensures err { IfErr result (λ why. why ≡ LineError.Malformed → (line : Line) → ¬ (IsLine text.now line)) }
 {

@@ -1,31 +1,113 @@
 // What `show` prints.
-ghost use Rattle.std.specs.Prelude.{◌≡◌, ◌++◌, ◌∷◌, OnOk, codes};
+ghost use Rattle.std.specs.Prelude.{◌≡◌, ◌++◌, ◌∷◌, List, ℕ, length, OnOk, codes, flat_map};
 ghost use Rattle.call_fs.specs.Decimal.{digits};
-ghost use Rattle.qmail_top.specs.Shown.{line_of, state_word, status_word, recipient_lines};
+ghost use Rattle.call_fs.specs.Disk.{Disk};
+ghost use Rattle.mem_fs.specs.MemDisk.{disk_of};
+ghost use Rattle.queue_inject.specs.Texts.{recipients_of};
+ghost use Rattle.mail_world.specs.History.{Event as Happening};
+ghost use Rattle.mail_world.specs.World.{Happened};
+ghost use Rattle.qmail_top.specs.Shown.{IsShown, line_of, state_word, status_word, recipient_lines, number_line};
+ghost use Rattle.qmail_top.specs.Fates.{fate_of, fate_lines, start_lines};
 
-use crate::scenario::numbers::{is_there, names_of, numbers_of, state_on};
+use crate::scenario::fates::{Fate, Fates};
+use crate::scenario::numbers::{names_of, numbers_of, state_on};
 use crate::scenario::printing::{put_line, put_number};
-use crate::scenario::roll::{Roll, Standing};
 use call_fs::mail_bytes::Memory;
-use mail_world::World;
 use mail_world::queue_states::State;
+use mail_world::{Event, Program, World};
 use mem_fs::MemFs;
-use queue_inject::queue_paths::Name;
+use queue_inject::Arguments;
+use queue_inject::envelope_records::{EnvStep, EnvelopeReader};
 use std::alloc::Global;
 
+/// The most bytes of an envelope that an injector reads.
+const ENVELOPE_LIMIT: usize = 1_073_741_824;
+
 /// Puts at the end of a text how many names `pid/` has, the state of each number that isn't in S1, and how each mail
-/// fares.
-pub fn show(alloc: Global, world: &World<MemFs>, text: &mut Vec<u8>) -> Result<(), Memory> {
+/// fares. A recipient of an accepted mail is pending: nothing takes a mail out of todo yet.
+pub fn show(alloc: Global, world: &World<MemFs>, text: &mut Vec<u8>) -> Result<(), Memory>
+    ensures { OnOk result ((own : List ℕ) × (text.new.items ≡ text.old.items ++ own)
+        × ((d : Disk) (h : List Happening) → Happened (λ m. Some (disk_of m.held)) d world.now h → IsShown d h own)) }
+{
     let pids = names_of(alloc, world.disk(), b"pid")?;
     put_pids(text, pids.len())?;
-    for number in &numbers_of(alloc, world.disk())? {
-        put_state(text, *number, state_on(world.disk(), *number))?;
-    }
-    let roll = Roll::of(alloc, world.history().events())?;
-    for standing in roll.standings() {
-        put_standing(text, world.disk(), standing)?;
+    let numbers = numbers_of(alloc, world.disk())?;
+    put_states(text, world.disk(), &numbers)?;
+    let events = world.history().events();
+    let fates = Fates::of(alloc, events)?;
+    put_mails(text, &fates, events)
+}
+
+/// Puts the line of each of these numbers at the end of a text.
+fn put_states(text: &mut Vec<u8>, disk: &MemFs, numbers: &[u64]) -> Result<(), Memory>
+    ensures { OnOk result (text.new.items ≡ text.old.items ++ flat_map (number_line (disk_of disk.now.held)) numbers.now) }
+{
+    for number in numbers {
+        put_state(text, *number, state_on(disk, *number))?;
     }
     Ok(())
+}
+
+/// Puts the lines of each mail that these events start at the end of a text.
+fn put_mails(text: &mut Vec<u8>, fates: &Fates, events: &[Event]) -> Result<(), Memory>
+    ensures { OnOk result (text.new.items ≡ text.old.items ++ flat_map (start_lines (fate_of fates.now)) events.now) }
+{
+    for event in events {
+        put_mail(text, fates, event)?;
+    }
+    Ok(())
+}
+
+/// Puts the lines of the mail that this event starts, where it does, at the end of a text.
+fn put_mail(text: &mut Vec<u8>, fates: &Fates, event: &Event) -> Result<(), Memory>
+    ensures { OnOk result (text.new.items ≡ text.old.items ++ start_lines (fate_of fates.now) event.now) }
+{
+    match event {
+        Event::Start {
+            actor,
+            program: Program::Injector(arguments),
+        } => put_fate(
+            text,
+            actor.as_slice(),
+            fates.find(actor.as_slice()),
+            arguments,
+        ),
+        Event::Call { .. } | Event::End { .. } => Ok(()),
+    }
+}
+
+/// Puts the lines of a mail that fares so at the end of a text.
+fn put_fate(
+    text: &mut Vec<u8>,
+    name: &[u8],
+    fate: Fate,
+    arguments: &Arguments,
+) -> Result<(), Memory>
+    ensures { OnOk result (text.new.items ≡ text.old.items ++ fate_lines name.now fate arguments.now) }
+{
+    put_status(text, name, fate.ended)?;
+    if fate.accepted {
+        put_recipients(text, name, recipients(arguments))?;
+    }
+    Ok(())
+}
+
+/// How many recipients a mail has: none where no envelope ends within the limit.
+fn recipients(arguments: &Arguments) -> u64
+    ensures { result ≡ length (recipients_of arguments.now) }
+{
+    let envelope = arguments.envelope.as_slice();
+    let read = &envelope[..ENVELOPE_LIMIT.min(envelope.len())];
+    let mut reader = EnvelopeReader::new();
+    let mut count: u64 = 0;
+    for byte in read {
+        match reader.feed(*byte) {
+            EnvStep::Recipient => count += 1,
+            EnvStep::End => return count,
+            EnvStep::More | EnvStep::Sender | EnvStep::Fault(_) => {}
+        }
+    }
+    0
 }
 
 /// Puts the line of the names in `pid/` at the end of a text.
@@ -61,17 +143,6 @@ fn word_of(state: State) -> &'static [u8]
         State::S5 => b"S5",
         State::Other => b"other",
     }
-}
-
-/// Puts the lines of a mail at the end of a text: its status, and that of each recipient while todo holds the mail.
-fn put_standing(text: &mut Vec<u8>, disk: &MemFs, standing: &Standing<'_>) -> Result<(), Memory> {
-    put_status(text, standing.name, standing.ended)?;
-    if let Some(number) = standing.accepted_as
-        && is_there(disk, Name::Todo(number))
-    {
-        put_recipients(text, standing.name, standing.recipients())?;
-    }
-    Ok(())
 }
 
 /// Puts the line of an injector at the end of a text, which has ended with this status, or not yet.

@@ -43,7 +43,7 @@ fn call(
         &mut log,
         &mut MemClock::new(Vec::new(alloc), 1),
         &mut MemPosts::new(Vec::new(alloc)),
-        &mut MemSpawner::new(alloc, Vec::new(alloc)),
+        &mut MemSpawner::new(alloc, Vec::new(alloc), Vec::new(alloc)),
         &OpenGate,
     );
     Ok(Outcome {
@@ -144,6 +144,24 @@ fn play_address(rt: &HostRuntime, length: usize) -> Result<u8, Fail> {
 fn an_address_has_at_most_1002_bytes(rt: HostRuntime) -> Result<(), Fail> {
     assert_eq!(rt; play_address(&rt, 1002)?, 0);
     assert_eq!(rt; play_address(&rt, 1003)?, 91);
+    Ok(())
+}
+
+/// Plays a mail whose line has so many bytes.
+fn play_line(rt: &HostRuntime, length: usize) -> Result<u8, Fail> {
+    let alloc = rt.alloc();
+    let mut script = String::from_str(alloc, "mail a a@x b@y : ")?;
+    for _ in 17..length {
+        script.push('x')?;
+    }
+    script.push_str("\nrun a\n")?;
+    Ok(play(rt, script.as_str())?.status)
+}
+
+#[test]
+fn a_line_has_at_most_65535_bytes(rt: HostRuntime) -> Result<(), Fail> {
+    assert_eq!(rt; play_line(&rt, 65_535)?, 0);
+    assert_eq!(rt; play_line(&rt, 65_536)?, 91);
     Ok(())
 }
 

@@ -135,7 +135,6 @@ fn an_input_that_fails_ends_it(rt: HostRuntime) -> Result<(), Fail> {
         let mut injector = Injector::new(rt.alloc(), 1000, 77, Invoked::Bounce, 0, 2)?;
         injector.feed(b"hi");
         injector.fail_input(bad);
-        injector.fail_input(bad);
         at(0, &mut injector);
         for letter in b"cddd" {
             answer(&mut injector, answer_of(*letter))?;
@@ -143,5 +142,28 @@ fn an_input_that_fails_ends_it(rt: HostRuntime) -> Result<(), Fail> {
         let found = words(rt.alloc(), injector.need())?;
         assert_eq!(rt; found.as_str(), expected);
     }
+    Ok(())
+}
+
+#[test]
+fn a_message_that_fails_needs_no_envelope(rt: HostRuntime) -> Result<(), Fail> {
+    let rows = [
+        ("create pid/77.0.1", Answer::Created(Fd(1), 1)),
+        ("link pid/77.0.1 mess/1/1", Answer::Done),
+        ("unlink pid/77.0.1", Answer::Done),
+        ("append 1 8192", Answer::Done),
+        ("unlink mess/1/1", Answer::Done),
+    ];
+    let mut injector = Injector::new(rt.alloc(), 1000, 77, Invoked::Uid(1000), 0, 8192)?;
+    injector.feed(&[b'x'; 8192]);
+    injector.fail_input(false);
+    at(0, &mut injector);
+    for row in &rows {
+        let now = words(rt.alloc(), injector.need())?;
+        assert_eq!(rt; now.as_str(), row.0);
+        answer(&mut injector, row.1.copy())?;
+    }
+    let last = words(rt.alloc(), injector.need())?;
+    assert_eq!(rt; last.as_str(), "end 54");
     Ok(())
 }

@@ -2,4 +2,4 @@ use Rattle.mail_world.proofs.Headline.{headline}
 use Rattle.mail_world.proofs.laws.headline.Goals as goal
 
 pub returns : goal.returns
-returns c = headline c.names_are_exact.ensures
+returns c = headline

@@ -55,4 +55,4 @@ returns-clause-goes_on g c = λ opening h.
     let i = c.self.inside in
     let args = mail i.next_pid i.present c.args.message.now c.args.envelope.now in
     let at = (goal.at.returns-clause-goes_on g c).After-saturating_add-self-inside in
-    rw (← c.self.view_is, started g at) (start_goes_on opening (g.D.CallFs.disk i.disk) (place_of i.places) i.actors.items i.history.events.items i.present h i.next_pid c.args.name.now args c.self.invariant (new_name g at) refl)
+    rw (← c.self.view_is, started g at) (start_goes_on opening (g.D.CallFs.disk i.disk) (place_of i.places) i.actors.items i.history.events.items i.present h i.next_pid c.args.name.now args c.self.invariant (new_name g at))

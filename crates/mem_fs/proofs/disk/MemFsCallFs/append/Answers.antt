@@ -10,4 +10,4 @@ returns-in_err-begin-clause-told c =
     let p = err_from_is_err_and c.from_residual.result c.from_residual.ensures.1 in
     let why = c.in_err-begin.ensures.fault in
     rw (p.1, p.2, why)
-    (0, (c.requires, omega arith), ap (λ (m : Planned). disk_of m.held) c.self.view_is ∙ sym (changed-nothing (disk_of c.args.self.now.held) (open_at c.args.self.now.held.opens c.args.fd.0)))
+    (0, (c.requires.fits, omega arith), ap (λ (m : Planned). disk_of m.held) c.self.view_is ∙ sym (changed-nothing (disk_of c.args.self.now.held) (open_at c.args.self.now.held.opens c.args.fd.0)))

@@ -10,6 +10,6 @@ returns-clause-told c =
     let there = subst (λ (h : Held). Contains h.dirs c.args.dir.now) same (c.is_dir.ensures.0 c.if-not-is_dir.false) in
     elim c.match-next_name.branch [
       | in-Some w ↦ rw (w.result-is, w.into-is, w.self-inside-is)
-          (0, (there, rw w.extend.ensures (rw w.clear.ensures (subst (λ (h : Held). IsNextName (disk_of h) c.args.dir.now c.args.after.now w.in-Some.name.now) same w.in-Some.ensures.some))), ap disk_of same)
+          (0, (there, rw w.fill.ensures (subst (λ (h : Held). IsNextName (disk_of h) c.args.dir.now c.args.after.now w.in-Some.name.now) same w.in-Some.ensures.some)), ap disk_of same)
       | in-None w ↦ rw (w.result-is, w.self-inside-is) (0, (there, subst (λ (h : Held). IsLastName (disk_of h) c.args.dir.now c.args.after.now) same w.in-None.ensures.none), ap disk_of same)
     ]

@@ -1,5 +1,10 @@
-use Rattle.std.proofs.Common.{◌≤◌}
+use Rattle.std.proofs.Common.{◌≡◌, ◌≤◌, ◌++◌, take}
+use Rattle.call_fs.specs.Told.{Meets}
+use Rattle.qmail_top.proofs.ScriptLines.{HavePlayed}
 use Rattle.qmail_top.proofs.scenario.playing.play.Given as goal
 
 abbrev pub invariant-loop-line : goal.invariant-loop-line
-invariant-loop-line g l = g.O.Sink.faults l.initial.out ≤ g.O.Sink.faults l.out
+invariant-loop-line g l =
+    (g.O.Sink.faults l.initial.out ≤ g.O.Sink.faults l.out)
+    × (so : HavePlayed (take l.line-index l.line-items) l.world)
+    × Meets (g.O.Sink.taken l.initial.out) (g.O.Sink.taken l.out) (λ before after. after ≡ before ++ so.text)

@@ -6,8 +6,8 @@ use Rattle.mail_world.specs.History.{splits_of}
 use Rattle.qmail_top.proofs.Dirs.{dirs-twice, all_dirs}
 use Rattle.qmail_top.proofs.scenario.queue_dirs.make_queue.Goals as goal
 
-pub returns : goal.returns
-returns c =
+pub returns-clause-dirs : goal.returns-clause-dirs
+returns-clause-dirs c =
     let start = disk_of c.args.disk.now.held in
     let flat = dirs-twice start (disk_of c.dir-3.new.self.held) (disk_of c.dir-4.new.self.held) (codes "pid" ∷ codes "intd" ∷ codes "todo" ∷ []) (codes "bounce" ∷ [])
     (dirs-twice start (disk_of c.dir-2.new.self.held) (disk_of c.dir-3.new.self.held) (codes "pid" ∷ codes "intd" ∷ []) (codes "todo" ∷ [])
@@ -17,5 +17,5 @@ returns c =
     on_ok_weaker c.make_splits-4.result
     (λ last. all_dirs start (disk_of c.dir-4.new.self.held) (disk_of c.make_splits.new.disk.held) (disk_of c.make_splits-2.new.disk.held) (disk_of c.make_splits-3.new.disk.held) (disk_of c.make_splits-4.new.disk.held)
     (codes "pid" ∷ codes "intd" ∷ codes "todo" ∷ codes "bounce" ∷ []) (splits_of (codes "mess") 23) (splits_of (codes "info") 23) (splits_of (codes "local") 23) (splits_of (codes "remote") 23)
-    flat c.in_ok-make_splits.ensures c.in_ok-make_splits-2.ensures c.in_ok-make_splits-3.ensures last)
-    c.make_splits-4.ensures
+    flat c.in_ok-make_splits.ensures.dirs c.in_ok-make_splits-2.ensures.dirs c.in_ok-make_splits-3.ensures.dirs last)
+    c.make_splits-4.ensures.dirs
