@@ -9,6 +9,7 @@ use Rattle.call_fs.specs.declared.calls.CallData.{CallData}
 use Rattle.call_fs.specs.declared.calls.CallData.TheVariants.{CreateExcl, Append, Sync, Close, Link, Unlink, Stat, NextName}
 use Rattle.call_fs.specs.declared.calls.Answer.{Answer}
 use Rattle.call_fs.specs.declared.calls.Answer.TheVariants as answer
+use Rattle.call_fs.specs.declared.calls.Told.{Told}
 use Rattle.call_fs.specs.Maps.{put, put_at}
 use Rattle.call_fs.specs.Disk.{File, Open, Mode, Disk, HasDir, IsUnused, MayUse, MayAppend}
 
@@ -119,7 +120,19 @@ Fits d (NextName dir after) (answer.Refused NotThere) wrote = ¬ (Contains d.dir
 Fits d (NextName dir after) (answer.Refused Fault) wrote = Unit {0}
 Fits d call told wrote = ⊥
 
--- From this disk, at this moment, the call may get this answer and leave that disk.
+-- Which bytes an answer holds: those of a read. None of these calls reads any.
+abbrev pub IsReadBy : Disk → CallData → Told → Type 0
+IsReadBy d (CreateExcl name) told = told.bytes ≡ []
+IsReadBy d (Append fd bytes) told = told.bytes ≡ []
+IsReadBy d (Sync fd) told = told.bytes ≡ []
+IsReadBy d (Close fd) told = told.bytes ≡ []
+IsReadBy d (Link old new) told = told.bytes ≡ []
+IsReadBy d (Unlink name) told = told.bytes ≡ []
+IsReadBy d (Stat name) told = told.bytes ≡ []
+IsReadBy d (NextName dir after) told = told.bytes ≡ []
+
+-- From this disk, at this moment, the call may get this answer and leave that disk. It doesn't speak of the bytes of a
+-- read, which are those of `IsReadBy`.
 abbrev pub Apply : Disk → ℕ → CallData → Answer → Disk → Type 0
 Apply before now call told after = (wrote : ℕ) × Fits before call told wrote × (after ≡ effect before now call told wrote)
 

@@ -9,6 +9,7 @@ use Rattle.call_fs.specs.declared.calls.CallData.{CallData}
 use Rattle.call_fs.specs.declared.calls.CallData.TheVariants.{CreateExcl, Append, Sync, Close, Link, Unlink, Stat, NextName}
 use Rattle.call_fs.specs.declared.calls.Answer.{Answer}
 use Rattle.call_fs.specs.declared.calls.Answer.TheVariants as answer
+use Rattle.call_fs.specs.declared.calls.Told.{Told}
 use Rattle.call_fs.specs.declared.calls.Recorded.{Recorded}
 
 -- the call that a program makes, with its bytes
@@ -40,6 +41,10 @@ next_found (Ok true) name = answer.Name name
 next_found (Ok false) name = answer.NoName
 next_found (Err why) name = answer.Refused why
 
+-- an answer without bytes of a read
+abbrev pub without_bytes : Answer → Told
+without_bytes told = record { answer = told; bytes = [] }
+
 -- the entry of a call that reads no bytes
 abbrev pub entry : CallData → Answer → Recorded
-entry call told = record { call = call; told = record { answer = told; bytes = [] } }
+entry call told = record { call = call; told = without_bytes told }

@@ -1,7 +1,9 @@
 -- What each answer of a file call means, apart from the others.
 use Rattle.std.specs.Prelude.{◌≡◌, ◌⊎◌, ℕ, ◌≤◌, List, length, Bool, true, false, Option, Some, None, Result, IsErrOf}
 use Rattle.call_fs.specs.declared.calls.FsError.{FsError}
-use Rattle.call_fs.specs.declared.calls.FsError.TheVariants.{Fault, Memory}
+use Rattle.call_fs.specs.declared.calls.FsError.TheVariants.{NotThere, Fault, Memory}
+use Rattle.call_fs.specs.declared.calls.CallData.{CallData}
+use Rattle.call_fs.specs.declared.calls.CallData.TheVariants.{CreateExcl, Append, Sync, Close, Link, Unlink, Stat, NextName}
 use Rattle.call_fs.specs.declared.calls.Answer.{Answer}
 use Rattle.call_fs.specs.declared.calls.Answer.TheVariants as answer
 use Rattle.call_fs.specs.Maps.{put, put_at}
@@ -52,3 +54,27 @@ IsFound d dir after false name = IsLastName d dir after
 abbrev pub IsMomentIn : Answer → Type 0
 IsMomentIn (answer.Stat stat) = IsMoment stat.moment
 IsMomentIn other = Unit {0}
+
+-- Which answers a kind of call may get at all, also of a disk that doesn't tell. Any other pair never comes.
+abbrev pub IsAnswerTo : CallData → Answer → Type 0
+IsAnswerTo (CreateExcl name) (answer.Created fd n) = Unit {0}
+IsAnswerTo (CreateExcl name) (answer.Refused why) = Unit {0}
+IsAnswerTo (Append fd bytes) answer.Done = Unit {0}
+IsAnswerTo (Append fd bytes) (answer.Refused Fault) = Unit {0}
+IsAnswerTo (Append fd bytes) (answer.Refused Memory) = Unit {0}
+IsAnswerTo (Sync fd) answer.Done = Unit {0}
+IsAnswerTo (Sync fd) (answer.Refused Fault) = Unit {0}
+IsAnswerTo (Close fd) answer.Done = Unit {0}
+IsAnswerTo (Link old new) answer.Done = Unit {0}
+IsAnswerTo (Link old new) (answer.Refused why) = Unit {0}
+IsAnswerTo (Unlink name) answer.Done = Unit {0}
+IsAnswerTo (Unlink name) (answer.Refused NotThere) = Unit {0}
+IsAnswerTo (Unlink name) (answer.Refused Fault) = Unit {0}
+IsAnswerTo (Stat name) (answer.Stat stat) = Unit {0}
+IsAnswerTo (Stat name) (answer.Refused NotThere) = Unit {0}
+IsAnswerTo (Stat name) (answer.Refused Fault) = Unit {0}
+IsAnswerTo (NextName dir after) (answer.Name name) = Unit {0}
+IsAnswerTo (NextName dir after) answer.NoName = Unit {0}
+IsAnswerTo (NextName dir after) (answer.Refused NotThere) = Unit {0}
+IsAnswerTo (NextName dir after) (answer.Refused Fault) = Unit {0}
+IsAnswerTo call other = ⊥

@@ -6,7 +6,7 @@ ghost use Rattle.call_fs.specs.declared.calls.Recorded.{Recorded as Entry};
 ghost use Rattle.call_fs.specs.Disk.{Disk, HasDir, IsMoment, MayUse, MayAppend};
 ghost use Rattle.call_fs.specs.Calls.{data_of, created, done, stated, next_found, entry};
 ghost use Rattle.call_fs.specs.Apply.{Apply, MayCall, IsNew, IsLinkable, IsStat, changed, grown, synced};
-ghost use Rattle.call_fs.specs.Columns.{IsTold, IsFound, IsMomentIn, GrewPart, IsUnchanged, LacksLink, with_new, with_name, without_open};
+ghost use Rattle.call_fs.specs.Columns.{IsAnswerTo, IsTold, IsFound, IsMomentIn, GrewPart, IsUnchanged, LacksLink, with_new, with_name, without_open};
 ghost use Rattle.call_fs.specs.Steady.{IsSteadyAnswer};
 ghost use Rattle.call_fs.specs.Told.{HasCause, AnswerHasCause, Meets, OnTold, Records};
 
@@ -196,6 +196,7 @@ pub fn perform<D: CallFs>(
     ensures told { Meets (D.disk disk.old) (D.disk disk.new)
         (λ before after. Apply before now (data_of call.entry) result after) }
     ensures recorded { Records (D.calls disk.old) (D.calls disk.new) (entry (data_of call.entry) result) }
+    ensures kind { IsAnswerTo (data_of call.entry) result }
     ensures moment { IsMomentIn result }
     ensures steady { D.steady disk.old → D.steady disk.new
         × OnTold (D.disk disk.old) (λ before. IsSteadyAnswer before result) }
@@ -227,6 +228,7 @@ fn next_name<D: CallFs>(disk: &mut D, dir: &[u8], after: &[u8]) -> Answer
     ensures told { Meets (D.disk disk.old) (D.disk disk.new)
         (λ before later. Apply before 0 (call.NextName dir.now after.now) result later) }
     ensures recorded { Records (D.calls disk.old) (D.calls disk.new) (entry (call.NextName dir.now after.now) result) }
+    ensures kind { IsAnswerTo (call.NextName dir.now after.now) result }
     ensures moment { IsMomentIn result }
     ensures steady { D.steady disk.old → D.steady disk.new
         × OnTold (D.disk disk.old) (λ before. IsSteadyAnswer before result) }

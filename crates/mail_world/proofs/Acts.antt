@@ -4,16 +4,16 @@ use Rattle.std.proofs.lemmas.Bool.Decides.{eqb_tells}
 use Rattle.call_fs.specs.declared.calls.CallData.{CallData}
 use Rattle.call_fs.specs.declared.calls.CallData.TheVariants as call
 use Rattle.call_fs.specs.declared.calls.Answer.{Answer}
+use Rattle.call_fs.specs.declared.calls.Told.{Told}
 use Rattle.call_fs.specs.declared.calls.Answer.TheVariants as told
 use Rattle.call_fs.specs.declared.program.Ready.{Ready}
 use Rattle.call_fs.specs.Maps.{put}
 use Rattle.call_fs.specs.Program.Did.{Called}
-use Rattle.queue_inject.specs.declared.injection.Arguments.{Arguments}
+use Rattle.mail_world.specs.declared.event.Program.{Program}
 use Rattle.mail_world.specs.declared.actor.Actor.{Actor as Held}
 use Rattle.mail_world.specs.declared.event.Event.{Event as Kept}
 use Rattle.mail_world.specs.declared.event.Event.TheVariants as kept
-use Rattle.mail_world.specs.declared.event.Program.TheVariants.{Injector}
-use Rattle.mail_world.specs.History.{State, Actor, called, finished, happens, held_by, unless_by}
+use Rattle.mail_world.specs.History.{State, Actor, start_of, called, finished, happens, held_by, unless_by}
 use Rattle.mail_world.specs.History.Event.{Start}
 use Rattle.mail_world.specs.History.Life.{Alive, Over}
 use Rattle.mail_world.specs.World.{IsEndOf, EndsAt}
@@ -48,11 +48,11 @@ held_other h a b c told.NoName fd apart was = was
 held_other h a b c (told.Refused why) fd apart was = was
 
 -- a call is its actor's alone
-pub call_alone : (s : State) (a : List ℕ) (x : Actor) (p : ℕ) (ready : Ready) (c : CallData) (answer : Answer)
-    → ActsAlone a s (called s a p ready c answer 0 (Some x)) (kept.Call a p ready c (record { answer = answer; bytes = [] }))
-call_alone s a x p ready c answer = record {
+pub call_alone : (s : State) (a : List ℕ) (x : Actor) (p : ℕ) (ready : Ready) (c : CallData) (got : Told)
+    → ActsAlone a s (called s a p ready c got 0 (Some x)) (kept.Call a p ready c got)
+call_alone s a x p ready c got = record {
   actors = λ b apart. put_at_other s.actors a _ b apart;
-  holder = λ b apart fd was. held_other s.holder a b c answer fd apart was;
+  holder = λ b apart fd was. held_other s.holder a b c got.answer fd apart was;
   no_end = λ b apart h. h;
 }
 
@@ -76,8 +76,8 @@ end_alone s a x p ready status = record {
   no_end = λ b apart h. apart (sym h);
 }
 
-pub start_alone : (s : State) (a : List ℕ) (args : Arguments) → StartsAlone a s (happens s (Start a args)) (kept.Start a (Injector args))
-start_alone s a args = record {
+pub start_alone : (s : State) (a : List ℕ) (program : Program) → StartsAlone a s (happens s (Start a program)) (kept.Start a program)
+start_alone s a program = record {
   actors = λ b apart. put_at_other s.actors a _ b apart;
   holder = refl;
   no_end = λ b h. h;
@@ -85,15 +85,15 @@ start_alone s a args = record {
 }
 
 -- the actor that made a call
-pub call_member : (s : State) (events : List Kept) (p : ℕ) (x y : Held) (ready : Ready) (c : CallData) (answer : Answer) (m : IsMember s events p x)
+pub call_member : (s : State) (events : List Kept) (p : ℕ) (x y : Held) (ready : Ready) (c : CallData) (got : Told) (m : IsMember s events p x)
     → x.ended ≡ None → y.name ≡ x.name → y.ended ≡ x.ended
-    → Follows y.machine m.actor.args ((record { read = p; ready = ready; did = Called c answer [] }) ∷ m.actor.past)
-    → IsMember (called s x.name p ready c answer 0 (Some m.actor)) (events ++ kept.Call x.name p ready c (record { answer = answer; bytes = [] }) ∷ []) p y
-call_member s events p x y ready c answer m alive name ended follows =
-    let k : Kept = kept.Call x.name p ready c (record { answer = answer; bytes = [] }) in
-    let t = called s x.name p ready c answer 0 (Some m.actor) in
+    → Follows y.machine m.actor.program ((record { read = p; ready = ready; did = Called c got.answer got.bytes }) ∷ m.actor.past)
+    → IsMember (called s x.name p ready c got 0 (Some m.actor)) (events ++ kept.Call x.name p ready c got ∷ []) p y
+call_member s events p x y ready c got m alive name ended follows =
+    let k : Kept = kept.Call x.name p ready c got in
+    let t = called s x.name p ready c got 0 (Some m.actor) in
     record {
-      actor = record { args = m.actor.args; past = (record { read = p; ready = ready; did = Called c answer [] }) ∷ m.actor.past; life = m.actor.life };
+      actor = record { program = m.actor.program; past = (record { read = p; ready = ready; did = Called c got.answer got.bytes }) ∷ m.actor.past; life = m.actor.life };
       is = ap t.actors name ∙ put_at_same s.actors x.name _;
       follows = follows;
       in_order = omega arith;
@@ -106,13 +106,13 @@ call_member s events p x y ready c answer m alive name ended follows =
 
 -- the actor that ended
 pub end_member : (s : State) (events : List Kept) (p : ℕ) (x y : Held) (ready : Ready) (status : ℕ) (m : IsMember s events p x)
-    → x.ended ≡ None → y.name ≡ x.name → y.ended ≡ Some (length events) → Follows y.machine m.actor.args m.actor.past
+    → x.ended ≡ None → y.name ≡ x.name → y.ended ≡ Some (length events) → Follows y.machine m.actor.program m.actor.past
     → IsMember (finished s x.name (Over status) (Some m.actor)) (events ++ kept.End x.name p ready status ∷ []) p y
 end_member s events p x y ready status m alive name ended follows =
     let k : Kept = kept.End x.name p ready status in
     let t = finished s x.name (Over status) (Some m.actor) in
     record {
-      actor = record { args = m.actor.args; past = m.actor.past; life = Over status };
+      actor = record { program = m.actor.program; past = m.actor.past; life = Over status };
       is = ap t.actors name ∙ put_at_same s.actors x.name _;
       follows = follows;
       in_order = m.in_order;
@@ -129,14 +129,14 @@ end_member s events p x y ready status m alive name ended follows =
     }
 
 -- a new actor
-pub start_member : (s : State) (events : List Kept) (p : ℕ) (y : Held) (a : List ℕ) (args : Arguments)
-    → IsStranger s events a → y.name ≡ a → y.ended ≡ None → Follows y.machine args [] → args.start ≡ p
-    → IsMember (happens s (Start a args)) (events ++ kept.Start a (Injector args) ∷ []) p y
-start_member s events p y a args stranger name ended follows now =
-    let k : Kept = kept.Start a (Injector args) in
-    let t = happens s (Start a args) in
+pub start_member : (s : State) (events : List Kept) (p : ℕ) (y : Held) (a : List ℕ) (program : Program)
+    → IsStranger s events a → y.name ≡ a → y.ended ≡ None → Follows y.machine program [] → start_of program ≡ p
+    → IsMember (happens s (Start a program)) (events ++ kept.Start a program ∷ []) p y
+start_member s events p y a program stranger name ended follows now =
+    let k : Kept = kept.Start a program in
+    let t = happens s (Start a program) in
     record {
-      actor = record { args = args; past = []; life = Alive };
+      actor = record { program = program; past = []; life = Alive };
       is = ap t.actors name ∙ put_at_same s.actors a _;
       follows = follows;
       in_order = omega arith;
@@ -149,7 +149,7 @@ start_member s events p y a args stranger name ended follows now =
 
 -- a machine that looked stands as before
 pub look_member : (s : State) (events : List Kept) (p : ℕ) (x y : Held) (m : IsMember s events p x)
-    → y.name ≡ x.name → y.ended ≡ x.ended → Follows y.machine m.actor.args m.actor.past → IsMember s events p y
+    → y.name ≡ x.name → y.ended ≡ x.ended → Follows y.machine m.actor.program m.actor.past → IsMember s events p y
 look_member s events p x y m name ended follows = record {
   actor = m.actor;
   is = ap s.actors name ∙ m.is;

@@ -7,10 +7,13 @@ use Rattle.queue_inject.specs.Names.{Name}
 use Rattle.queue_inject.specs.Names.Name.{Pid, Of}
 use Rattle.queue_inject.specs.Names.Part.{Mess}
 use Rattle.queue_inject.specs.Table.{row_after}
-use Rattle.mail_world.specs.History.{Injection, Actor}
-use Rattle.mail_world.specs.Headline.{IsInjected}
+use Rattle.call_fs.specs.Program.{Own}
+use Rattle.mail_world.specs.declared.event.Program.{Program}
+use Rattle.mail_world.specs.declared.event.Program.TheVariants.{Injector}
+use Rattle.mail_world.specs.History.{Injection, Actor, Life}
+use Rattle.mail_world.specs.Headline.{IsInjected, HasQueued}
 use Rattle.mail_world.proofs.Looks.{Entry}
-use Rattle.mail_world.proofs.Invariant.{Queue, look, About, about, IsOpen, IsBegun, Holds, AtLink, AtMess, AtUnlink, AtTodo, Relies, HasQueued, Settles, InTime, Fares}
+use Rattle.mail_world.proofs.Invariant.{Queue, look, About, about, IsOpen, IsBegun, Holds, AtLink, AtMess, AtUnlink, AtTodo, Relies, Settles, InTime, FaresBy, Fares}
 use Rattle.mail_world.proofs.Invariant.Role.{AsMessage}
 
 -- a name concerns a number: a part its own, a pid name that of its file
@@ -108,13 +111,16 @@ module _ (now : ℕ) (a : List ℕ) (m : Option ℕ) (q r : Queue) (E : Elsewher
     relies_frame (at.Failed status) h = tt
 
   -- another actor fares as before
-  pub fares_frame : (o : List ℕ) → o ≢ a → (x : Actor) → Fares now q o x → Fares now r o x
-  fares_frame o other x h = record {
+  fares_by : (o : List ℕ) → o ≢ a → (program : Program) (past : List Own) (life : Life) → FaresBy now q o program past life → FaresBy now r o program past life
+  fares_by o other (Injector args) past life h = record {
     stands = λ alive. let s = h.stands alive in record {
-      relies = λ soon. relies_frame o other x.args soon (row_after x.args x.past) (s.relies soon);
-      settles = settles_frame o x.args (row_after x.args x.past) s.settles;
+      relies = λ soon. relies_frame o other args soon (row_after args past) (s.relies soon);
+      settles = settles_frame o args (row_after args past) s.settles;
     };
-    queued = λ row. queued_frame o x.args (h.queued row);
+    queued = λ row. queued_frame o args (h.queued row);
     ends = h.ends;
     reads = h.reads;
   }
+
+  pub fares_frame : (o : List ℕ) → o ≢ a → (x : Actor) → Fares now q o x → Fares now r o x
+  fares_frame o other x h = fares_by o other x.program x.past x.life h

@@ -5,11 +5,14 @@ use Rattle.call_fs.specs.Survival.{Survives, AllSurvive, settled, halted}
 use Rattle.queue_inject.specs.Names.{Name}
 use Rattle.queue_inject.specs.Names.Name.{Of}
 use Rattle.queue_inject.specs.Names.Part.{Mess, Intd, Todo}
+use Rattle.call_fs.specs.Program.{Own}
+use Rattle.mail_world.specs.declared.event.Program.{Program}
+use Rattle.mail_world.specs.declared.event.Program.TheVariants.{Injector}
 use Rattle.mail_world.specs.History.{happens, State, Life, stopped, cut_off}
 use Rattle.mail_world.specs.History.Event.{Halt}
 use Rattle.mail_world.specs.History.Life.{Alive, Over, Stopped}
 use Rattle.mail_world.proofs.Looks.{Entry, entry, find_some, find_none, not_found, found, mapped_some}
-use Rattle.mail_world.proofs.Invariant.{Role, Queue, look, IsRecent, about, Phase, Sound, Fares, Inv, queue}
+use Rattle.mail_world.proofs.Invariant.{Role, Queue, look, IsRecent, about, Phase, Sound, FaresBy, Fares, Inv, queue}
 use Rattle.mail_world.proofs.Invariant.Role.{AsMessage, AsPart, AsOld}
 use Rattle.mail_world.proofs.Invariant.Phase.{Free, Queued}
 
@@ -111,6 +114,15 @@ module _ (q : Queue) (contents : ℕ → List ℕ) (survives : AllSurvive q.disk
     over = G.over;
   }
 
+fares_halt : (now : ℕ) (q : Queue) (contents : ℕ → List ℕ) (a : List ℕ) (program : Program) (past : List Own) (life : Life)
+    → FaresBy now q a program past life → FaresBy now (after_halt contents q) a program past (cut_off life)
+fares_halt now q contents a (Injector args) past life F = record {
+  stands = λ alive. absurd (never_alive life alive);
+  queued = F.queued;
+  ends = λ over. F.ends (still_over life over);
+  reads = F.reads;
+}
+
 -- no actor lives on, and what ended stays ended
 pub kept_halt : (s : State) (contents : ℕ → List ℕ) → AllSurvive s.disk contents → Inv s → Inv (happens s (Halt contents))
 kept_halt s contents survives I = record {
@@ -118,11 +130,6 @@ kept_halt s contents survives I = record {
   sound = sound_after (queue s I.role) contents survives I.sound;
   actors = λ a y h.
       let w = mapped_some stopped (s.actors a) y h in
-      let F = I.actors a w.0 w.1 in
-      subst (Fares s.now (after_halt contents (queue s I.role)) a) w.2 (record {
-        stands = λ alive. absurd (never_alive w.0.life alive);
-        queued = F.queued;
-        ends = λ over. F.ends (still_over w.0.life over);
-        reads = F.reads;
-      });
+      let q = queue s I.role in
+      subst (Fares s.now (after_halt contents q) a) w.2 (fares_halt s.now q contents a w.0.program w.0.past w.0.life (I.actors a w.0 w.1));
 }

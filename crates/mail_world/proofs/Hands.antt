@@ -6,27 +6,29 @@ use Rattle.std.specs.List.{slice_get}
 use Rattle.call_fs.specs.declared.calls.Fd.{Fd}
 use Rattle.call_fs.specs.declared.calls.CallData.{CallData}
 use Rattle.call_fs.specs.declared.calls.Answer.{Answer}
+use Rattle.call_fs.specs.declared.calls.Told.{Told}
 use Rattle.call_fs.specs.declared.program.Ready.{Ready}
 use Rattle.call_fs.specs.Disk.{Disk, Open, Mode}
 use Rattle.call_fs.specs.Maps.{put}
 use Rattle.call_fs.specs.Program.{Own}
 use Rattle.call_fs.specs.Program.Did.{Called}
-use Rattle.queue_inject.specs.declared.injection.Arguments.{Arguments}
 use Rattle.queue_inject.specs.declared.row.Row.{Row}
 use Rattle.queue_inject.specs.declared.row.Row.TheVariants as at
 use Rattle.queue_inject.specs.Table.{row_after}
+use Rattle.mail_world.specs.declared.event.Program.{Program}
+use Rattle.mail_world.specs.declared.event.Program.TheVariants.{Injector}
 use Rattle.mail_world.specs.declared.actor.Actor.{Actor as Held}
 use Rattle.mail_world.specs.declared.event.Event.{Event as Kept}
 use Rattle.mail_world.specs.History.{State, Actor, Life, called, finished, happens, held_by, unless_by, shut_by}
 use Rattle.mail_world.specs.History.Event.{Start}
 use Rattle.mail_world.specs.History.Life.{Alive, Over}
-use Rattle.mail_world.specs.Inside.{IsMember, AreActors, HasOpen, IsOpenTo, IsOwn, HasRow, AreApart, has, is_by}
+use Rattle.mail_world.specs.Inside.{IsMember, AreActors, HasOpen, IsOpenTo, IsOwn, HasRow, HasNeeds, AreApart, has, is_by}
 use Rattle.mail_world.specs.Acting.{AreOpen, opened}
 use Rattle.mail_world.proofs.Lists.{each_set, each_push}
 use Rattle.call_fs.proofs.Maps.{put_same, put_other, put_at_same, put_at_other}
 use Rattle.mail_world.proofs.Tests.{same_text, other_text}
 use Rattle.mail_world.proofs.Descriptors.{has_push, apart_push, all_open}
-use Rattle.mail_world.proofs.Opens.{Opens, has_made, row_stays, row_moves}
+use Rattle.mail_world.proofs.Opens.{Opens, has_made, needs_stay, needs_move, needs_none}
 use Rattle.mail_world.proofs.Crew.{apart_by}
 use Rattle.mail_world.proofs.Acts.{freed, kept_on}
 
@@ -78,19 +80,20 @@ own_apart d e h g a answer fds (inr s) held lists apart =
     (apart_push fds s.fd apart (lists s.fd.0 ∙ nobody d (h s.fd.0) a s.fd.0 s.new (held s.fd.0)))
 
 -- one actor makes a call
-pub call_opens : (places : List ℕ → Option ℕ) (actors : List Held) (s : State) (events : List Kept) (p i : ℕ) (x y : Held) (m : IsMember s events p x) (d e : Disk) (ready : Ready) (c : CallData) (answer : Answer)
+pub call_opens : (places : List ℕ → Option ℕ) (actors : List Held) (s : State) (events : List Kept) (p i : ℕ) (x y : Held) (m : IsMember s events p x) (d e : Disk) (ready : Ready) (c : CallData) (got : Told)
     → AreActors places actors s events p → slice_get actors i ≡ Some x → m.actor.life ≡ Alive
-    → y.name ≡ x.name → y.descriptors.items ≡ x.descriptors.items ++ opened answer
-    → Opens d e s.holder (held_by s.holder x.name c answer) x.name answer
-    → IsOpenTo d actors s → IsOpenTo e (set actors i y) (called s x.name p ready c answer 0 (Some m.actor))
-call_opens places actors s events p i x y m d e ready c answer crew is alive name list opens open_to =
-    let t = called s x.name p ready c answer 0 (Some m.actor) in
+    → y.name ≡ x.name → y.descriptors.items ≡ x.descriptors.items ++ opened got.answer
+    → Opens d e s.holder (held_by s.holder x.name c got.answer) x.name got.answer
+    → IsOpenTo d actors s → IsOpenTo e (set actors i y) (called s x.name p ready c got 0 (Some m.actor))
+call_opens places actors s events p i x y m d e ready c got crew is alive name list opens open_to =
+    let answer = got.answer in
+    let t = called s x.name p ready c got 0 (Some m.actor) in
     let mine = open_to.each i x is in
-    let own : Own = record { read = p; ready = ready; did = Called c answer [] } in
-    let now : Actor = record { args = m.actor.args; past = own ∷ m.actor.past; life = m.actor.life } in
-    let row : HasRow e t.holder x.name (row_after m.actor.args (own ∷ m.actor.past)) =
-    row_moves e t.holder x.name m.actor.args (row_after m.actor.args m.actor.past) answer
-    (row_stays d e s.holder t.holder x.name x.name answer (row_after m.actor.args m.actor.past) opens (mine.needs m.actor m.is alive))
+    let own : Own = record { read = p; ready = ready; did = Called c answer got.bytes } in
+    let now : Actor = record { program = m.actor.program; past = own ∷ m.actor.past; life = m.actor.life } in
+    let needed : HasNeeds e t.holder x.name m.actor.program (own ∷ m.actor.past) =
+    needs_move e t.holder x.name m.actor.program m.actor.past p ready c got
+    (needs_stay d e s.holder t.holder x.name x.name answer m.actor.program m.actor.past opens (mine.needs m.actor m.is alive))
     (has_made d e s.holder t.holder x.name answer opens) in
     record {
       held = held_stays d e s.holder t.holder x.name answer opens open_to.held;
@@ -101,8 +104,8 @@ call_opens places actors s events p i x y m d e ready c answer crew is alive nam
             needs = λ actor at lives.
                 let both : ◌≡◌ {A = Option Actor} (Some now) (Some actor) = sym (put_at_same s.actors x.name (Some now)) ∙ ap t.actors (sym name) ∙ at in
                 let same : now ≡ actor = cc in
-                subst (λ (a : List ℕ). HasRow e t.holder a (row_after actor.args actor.past)) (sym name)
-                (subst (λ (z : Actor). HasRow e t.holder x.name (row_after z.args z.past)) same row);
+                subst (λ (a : List ℕ). HasNeeds e t.holder a actor.program actor.past) (sym name)
+                (subst (λ (z : Actor). HasNeeds e t.holder x.name z.program z.past) same needed);
           })
           (λ j z other at.
           let old = open_to.each j z at in
@@ -110,7 +113,7 @@ call_opens places actors s events p i x y m d e ready c answer crew is alive nam
           record {
             lists = other_list d e s.holder t.holder x.name z.name answer z.descriptors.items opens apart open_to.held old.lists;
             apart = old.apart;
-            needs = λ actor known lives. row_stays d e s.holder t.holder x.name z.name answer (row_after actor.args actor.past) opens
+            needs = λ actor known lives. needs_stay d e s.holder t.holder x.name z.name answer actor.program actor.past opens
                 (old.needs actor (sym (put_at_other s.actors x.name _ z.name apart) ∙ known) lives);
           });
     }
@@ -149,6 +152,10 @@ row_after_end d h a b (at.CleanMess n status) apart own = tt
 row_after_end d h a b at.Queued apart own = tt
 row_after_end d h a b (at.Failed status) apart own = tt
 
+needs_after_end : (d : Disk) (h : ℕ → Option (List ℕ)) (a b : List ℕ) (program : Program) (past : List Own) → b ≢ a
+    → HasNeeds d h b program past → HasNeeds (shut_by a h d) (λ fd. unless_by a (h fd) (h fd)) b program past
+needs_after_end d h a b (Injector args) past apart own = row_after_end d h a b (row_after args past) apart own
+
 -- one actor ends
 pub end_opens : (places : List ℕ → Option ℕ) (actors : List Held) (s : State) (events : List Kept) (p i : ℕ) (x y : Held) (m : IsMember s events p x) (d : Disk) (status : ℕ)
     → AreActors places actors s events p → slice_get actors i ≡ Some x → y.name ≡ x.name → y.descriptors.items ≡ []
@@ -156,7 +163,7 @@ pub end_opens : (places : List ℕ → Option ℕ) (actors : List Held) (s : Sta
 end_opens places actors s events p i x y m d status crew is name none open_to =
     let t = finished s x.name (Over status) (Some m.actor) in
     let e = shut_by x.name s.holder d in
-    let now : Actor = record { args = m.actor.args; past = m.actor.past; life = Over status } in
+    let now : Actor = record { program = m.actor.program; past = m.actor.past; life = Over status } in
     record {
       held = λ fd b at. let on = held_on x.name (s.holder fd) b at in subst IsSome (sym (on.1 (d.opens fd))) (open_to.held fd b on.0);
       each = each_set (λ j (z : Held). HasOpen e t z) actors i y
@@ -174,18 +181,18 @@ end_opens places actors s events p i x y m d status crew is name none open_to =
           record {
             lists = λ fd. old.lists fd ∙ sym (kept_on x.name z.name (s.holder fd) apart);
             apart = old.apart;
-            needs = λ actor known lives. row_after_end d s.holder x.name z.name (row_after actor.args actor.past) apart
+            needs = λ actor known lives. needs_after_end d s.holder x.name z.name actor.program actor.past apart
                 (old.needs actor (sym (put_at_other s.actors x.name _ z.name apart) ∙ known) lives);
           });
     }
 
 -- a new actor has nothing open
-pub start_opens : (places : List ℕ → Option ℕ) (actors : List Held) (s : State) (events : List Kept) (p : ℕ) (y : Held) (a : List ℕ) (args : Arguments) (d : Disk)
+pub start_opens : (places : List ℕ → Option ℕ) (actors : List Held) (s : State) (events : List Kept) (p : ℕ) (y : Held) (a : List ℕ) (program : Program) (d : Disk)
     → AreActors places actors s events p → places a ≡ None → y.name ≡ a → y.descriptors.items ≡ []
-    → IsOpenTo d actors s → IsOpenTo d (actors ++ y ∷ []) (happens s (Start a args))
-start_opens places actors s events p y a args d crew new name none open_to =
-    let t = happens s (Start a args) in
-    let now : Actor = record { args = args; past = []; life = Alive } in
+    → IsOpenTo d actors s → IsOpenTo d (actors ++ y ∷ []) (happens s (Start a program))
+start_opens places actors s events p y a program d crew new name none open_to =
+    let t = happens s (Start a program) in
+    let now : Actor = record { program = program; past = []; life = Alive } in
     record {
       held = open_to.held;
       each = each_push (λ j (z : Held). HasOpen d t z) actors y
@@ -195,7 +202,7 @@ start_opens places actors s events p y a args d crew new name none open_to =
             needs = λ actor at lives.
                 let both : ◌≡◌ {A = Option Actor} (Some now) (Some actor) = sym (put_at_same s.actors a (Some now)) ∙ ap t.actors (sym name) ∙ at in
                 let same : now ≡ actor = cc in
-                subst (λ (z : Actor). HasRow d t.holder y.name (row_after z.args z.past)) same tt;
+                subst (λ (z : Actor). HasNeeds d t.holder y.name z.program z.past) same (needs_none d t.holder y.name program);
           })
           (λ j z at.
           let old = open_to.each j z at in
@@ -217,7 +224,7 @@ look_opens actors s i x y d is name list open_to =
           (record {
             lists = λ fd. ap (has fd) list ∙ old.lists fd ∙ ap (λ (a : List ℕ). is_by a (s.holder fd)) (sym name);
             apart = subst AreApart (sym list) old.apart;
-            needs = λ actor known lives. subst (λ (a : List ℕ). HasRow d s.holder a (row_after actor.args actor.past)) (sym name) (old.needs actor (ap s.actors (sym name) ∙ known) lives);
+            needs = λ actor known lives. subst (λ (a : List ℕ). HasNeeds d s.holder a actor.program actor.past) (sym name) (old.needs actor (ap s.actors (sym name) ∙ known) lives);
           })
           (λ j z other at. open_to.each j z at);
     }

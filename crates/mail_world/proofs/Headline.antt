@@ -8,11 +8,15 @@ use Rattle.queue_inject.specs.Names.Part.{Mess, Intd, Todo, Info, Local, Remote,
 use Rattle.queue_inject.specs.Texts.{message_text, intd_text, entered, todo_of}
 use Rattle.mail_world.specs.declared.queue_states.State.TheVariants.{Other}
 use Rattle.mail_world.specs.States.{state_by, is_there, state_of}
-use Rattle.mail_world.specs.History.{Event, Injection, State, after, Legal}
-use Rattle.mail_world.specs.Headline.{IsInjected, IsValid, IsPending, Safe, Headline}
+use Rattle.call_fs.specs.Program.{Own}
+use Rattle.mail_world.specs.declared.event.Program.{Program}
+use Rattle.mail_world.specs.declared.event.Program.TheVariants.{Injector}
+use Rattle.mail_world.specs.History.{Event, Injection, Life, State, after, Legal}
+use Rattle.mail_world.specs.History.Life.{Over}
+use Rattle.mail_world.specs.Headline.{IsInjected, IsValid, IsPending, IsBooked, EndsWell, Safe, Headline}
 use Rattle.mail_world.specs.Headline.Accounted.{Pending}
 use Rattle.mail_world.proofs.Looks.{Entry, find_some, find_none, not_found, found}
-use Rattle.mail_world.proofs.Invariant.{look, About, about, IsQueued, Phase, Inv, queue}
+use Rattle.mail_world.proofs.Invariant.{look, About, about, IsQueued, Phase, FaresBy, Inv, queue}
 use Rattle.mail_world.proofs.Invariant.Phase.{Free, Queued}
 use Rattle.mail_world.proofs.Kept.{always}
 
@@ -104,6 +108,12 @@ module _ (s : State) (I : Inv s) where
   lives_on : (i : Injection) → IsInjected s.books i → i.accepted ≡ true → s.books.living i.number ≡ Some i
   lives_on i h accepted = ⊎_elim (λ (l : s.books.living i.number ≡ Some i). l) (λ (o : Among i s.books.over). absurd (I.sound.over i o accepted)) h
 
+  booked : (a : List ℕ) (program : Program) (past : List Own) (life : Life) → FaresBy s.now (queue s I.role) a program past life → IsBooked s.books a program past
+  booked a (Injector args) past life F = F.queued
+
+  ends_well : (a : List ℕ) (program : Program) (past : List Own) (life : Life) → FaresBy s.now (queue s I.role) a program past life → life ≡ Over 0 → EndsWell s.books a program
+  ends_well a (Injector args) past life F over = F.queued (F.ends over)
+
   pub safe : Safe s
   safe = record {
     states = states;
@@ -111,8 +121,8 @@ module _ (s : State) (I : Inv s) where
     messages = λ i n lives accepted h. (is_kept i lives accepted).message n h;
     valid = λ i h accepted. (is_kept i (lives_on i h accepted) accepted).valid;
     accounted = λ i h accepted recipient lt. let lives = lives_on i h accepted in Pending lives (is_kept i lives accepted).pending;
-    queued = λ a x h row. (I.actors a x h).queued row;
-    ends = λ a x h over. let F = I.actors a x h in F.queued (F.ends over);
+    queued = λ a x h. booked a x.program x.past x.life (I.actors a x h);
+    ends = λ a x h over. ends_well a x.program x.past x.life (I.actors a x h) over;
   }
 
 legal_before : (d : Disk) (later before : List Event) → Legal d (later ++ before) → Legal d before

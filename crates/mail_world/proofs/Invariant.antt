@@ -9,9 +9,12 @@ use Rattle.queue_inject.specs.Names.Name.{Pid, Of}
 use Rattle.queue_inject.specs.Names.Part.{Mess, Intd, Todo, Info, Local, Remote, Bounce}
 use Rattle.queue_inject.specs.Texts.{message_text, intd_text}
 use Rattle.queue_inject.specs.Table.{row_after}
-use Rattle.mail_world.specs.History.{Injection, Books, Actor, State, begun, latest}
+use Rattle.call_fs.specs.Program.{Own}
+use Rattle.mail_world.specs.declared.event.Program.{Program}
+use Rattle.mail_world.specs.declared.event.Program.TheVariants.{Injector}
+use Rattle.mail_world.specs.History.{Injection, Books, Actor, Life, State, begun, latest}
 use Rattle.mail_world.specs.History.Life.{Alive, Over}
-use Rattle.mail_world.specs.Headline.{IsInjected, IsValid}
+use Rattle.mail_world.specs.Headline.{IsValid, HasQueued}
 use Rattle.mail_world.proofs.Looks.{Entry, find}
 
 -- what a file was made as: the message of an injector, or a part of a number; or it was there at the beginning
@@ -184,10 +187,6 @@ Relies q a args (at.CleanMess n status) = Holds q a args n (λ w. IsBare w a arg
 Relies q a args at.Queued = Unit {0}
 Relies q a args (at.Failed status) = Unit {0}
 
--- an accepted injection of that actor, with its arguments
-abbrev pub HasQueued : Books → List ℕ → Arguments → Type 0
-HasQueued b a args = (i : Injection) × IsInjected b i × (i.actor ≡ a) × (i.args ≡ args) × (i.accepted ≡ true)
-
 -- what the end that a row leads to will say
 abbrev pub Settles : Books → List ℕ → Arguments → Row → Type 0
 Settles b a args (at.CleanIntd n status) = status ≢ 0
@@ -214,13 +213,20 @@ pub record Stands (now : ℕ) (q : Queue) (a : List ℕ) (args : Arguments) (row
   pub relies : InTime now args → Relies q a args row
   pub settles : Settles q.books a args row
 
--- What holds of an actor: by its row while it lives; where it has queued its message, whether it lives or not; and of
--- its end and its readings.
-pub record Fares (now : ℕ) (q : Queue) (a : List ℕ) (x : Actor) : Type 0 where
-  pub stands : x.life ≡ Alive → Stands now q a x.args (row_after x.args x.past)
-  pub queued : row_after x.args x.past ≡ at.Queued → HasQueued q.books a x.args
-  pub ends : x.life ≡ Over 0 → row_after x.args x.past ≡ at.Queued
-  pub reads : x.args.start ≤ latest x.args x.past
+-- What holds of an injector: by its row while it lives; where it has queued its message, whether it lives or not; and
+-- of its end and its readings.
+pub record InjectorFares (now : ℕ) (q : Queue) (a : List ℕ) (args : Arguments) (past : List Own) (life : Life) : Type 0 where
+  pub stands : life ≡ Alive → Stands now q a args (row_after args past)
+  pub queued : row_after args past ≡ at.Queued → HasQueued q.books a args
+  pub ends : life ≡ Over 0 → row_after args past ≡ at.Queued
+  pub reads : args.start ≤ latest (Injector args) past
+
+-- what holds of an actor, by its program
+abbrev pub FaresBy : ℕ → Queue → List ℕ → Program → List Own → Life → Type 0
+FaresBy now q a (Injector args) past life = InjectorFares now q a args past life
+
+abbrev pub Fares : ℕ → Queue → List ℕ → Actor → Type 0
+Fares now q a x = FaresBy now q a x.program x.past x.life
 
 -- a life is over only where nothing was accepted
 abbrev pub NoneLost : Books → Type 0

@@ -2,10 +2,11 @@
 use Rattle.std.proofs.Common.{◌≡◌, ◌≢◌, ℕ, ◌+◌, ◌≤◌, List, [], ◌∷◌, Bool, true, false, Option, Some, None, refl, sym, ap, ◌∙◌, subst, ⊎_elim, arith, nat_lt, ltb-false, le_refl, le_trans}
 use Rattle.call_fs.specs.Disk.{Disk}
 use Rattle.call_fs.specs.Maps.{put_at}
-use Rattle.call_fs.specs.Program.{Due}
+use Rattle.call_fs.specs.Program.{Due, Own}
 use Rattle.call_fs.specs.Program.Did.{Called}
 use Rattle.call_fs.specs.declared.calls.CallData.{CallData}
-use Rattle.call_fs.specs.declared.calls.Answer.{Answer}
+use Rattle.call_fs.specs.Apply.{Fits}
+use Rattle.call_fs.specs.declared.calls.Told.{Told}
 use Rattle.call_fs.specs.declared.program.Ready.{Ready as Found}
 use Rattle.queue_inject.specs.declared.injection.Arguments.{Arguments}
 use Rattle.queue_inject.specs.declared.row.Row.{Row}
@@ -13,13 +14,15 @@ use Rattle.queue_inject.specs.declared.row.Row.TheVariants as at
 use Rattle.queue_inject.specs.Names.Part.{Intd, Todo}
 use Rattle.queue_inject.specs.Names.Name.{Pid, Of}
 use Rattle.queue_inject.specs.Table.{row_after, call_of, in_time}
-use Rattle.mail_world.specs.History.{Books, Event, Life, Actor, State, booked, called, unless_by, shut_by, finished, happens, MayCall, MayEnd, IsLiving, Allowed, Opening, opening, after, Legal}
+use Rattle.mail_world.specs.declared.event.Program.{Program}
+use Rattle.mail_world.specs.declared.event.Program.TheVariants.{Injector}
+use Rattle.mail_world.specs.History.{Books, Event, Life, Actor, State, next_of, booked, called, unless_by, shut_by, finished, happens, MayRead, MayCall, MayEnd, IsLiving, Allowed, Opening, opening, after, Legal}
 use Rattle.mail_world.specs.History.Event.{Start, Call, End, Stop, Moment, Halt}
 use Rattle.mail_world.specs.History.Life.{Alive, Over, Stopped}
 use Rattle.call_fs.proofs.Maps.{put_at_cases}
 use Rattle.mail_world.proofs.Tests.{unless_same, tells_number}
 use Rattle.mail_world.proofs.Looks.{find_none, found}
-use Rattle.mail_world.proofs.Invariant.{Queue, NamesSuit, Phase, IsHeld, Settles, InTime, Fares, Sound, Inv, queue}
+use Rattle.mail_world.proofs.Invariant.{Queue, NamesSuit, Phase, IsHeld, Settles, InTime, FaresBy, Fares, Sound, Inv, queue}
 use Rattle.mail_world.proofs.Invariant.Role.{AsOld}
 use Rattle.mail_world.proofs.Invariant.Phase.{Free}
 use Rattle.mail_world.proofs.Frame.{Elsewhere, about_same, fares_frame}
@@ -84,40 +87,45 @@ module _ (s : State) (I : Inv s) where
     over = O.over;
   }
 
-  kept_start : (a : List ℕ) (args : Arguments) → Inv (with_actor s (queue s I.role) a (record { args = args; past = []; life = Alive }))
-  kept_start a args = kept_by a None (queue s I.role) _ (nothing_elsewhere s.now (queue s I.role) a) I.sound (record {
+  start_fares : (a : List ℕ) (program : Program) → FaresBy s.now (queue s I.role) a program [] Alive
+  start_fares a (Injector args) = record {
     stands = λ _. record { relies = λ _. tt; settles = tt };
     queued = λ h. absurd (cc);
     ends = λ h. absurd (cc);
     reads = le_refl args.start;
-  })
+  }
 
-  called_by : (a : List ℕ) (read : ℕ) (ready : Found) (call : CallData) (answer : Answer) (wrote : ℕ)
-      (m : MayCall s a read ready call answer wrote) → Inv (called s a read ready call answer wrote (Some m.actor))
-  called_by a read ready call answer wrote m =
-      let x = m.actor in
+  kept_start : (a : List ℕ) (program : Program) → Inv (with_actor s (queue s I.role) a (record { program = program; past = []; life = Alive }))
+  kept_start a program = kept_by a None (queue s I.role) _ (nothing_elsewhere s.now (queue s I.role) a) I.sound (start_fares a program)
+
+  -- a call, by the program that makes it
+  called_by : (a : List ℕ) (read : ℕ) (ready : Found) (call : CallData) (told : Told) (wrote : ℕ) (program : Program) (past : List Own) (life : Life)
+      → MayRead s a (record { program = program; past = past; life = life }) read → next_of program past read ready ≡ Due.File call
+      → Fits s.disk call told.answer wrote → Inv (called s a read ready call told wrote (Some (record { program = program; past = past; life = life })))
+  called_by a read ready call told wrote (Injector args) past life reads next fits =
       let q = queue s I.role in
-      let F = I.actors a x m.reads.is in
-      let S = F.stands m.reads.alive in
-      let due = call_due _ _ _ call m.due in
-      let late : x.args.start ≤ read = le_trans F.reads m.reads.no_earlier in
-      let soon : InTime s.now x.args = in_time_call s.now x.args.start read due.1 m.reads.no_stall in
-      let w = step s.now q a x.args I.sound read late wrote (row_after x.args x.past) call due.0 (S.relies soon, S.settles) answer m.fits in
+      let F = I.actors a (record { program = Injector args; past = past; life = life }) reads.is in
+      let S = F.stands reads.alive in
+      let due = call_due _ _ _ call next in
+      let late : args.start ≤ read = le_trans F.reads reads.no_earlier in
+      let soon : InTime s.now args = in_time_call s.now args.start read due.1 reads.no_stall in
+      let w = step s.now q a args I.sound read late wrote (row_after args past) call due.0 (S.relies soon, S.settles) told.answer fits in
       let O = w.1 in
-      kept_by a O.number (queue_after q a x.args read call answer wrote w.0)
-      (record { args = x.args; past = (record { read = read; ready = ready; did = Called call answer [] }) ∷ x.past; life = x.life })
-      O.elsewhere (sound_by a x.args _ _ O)
+      kept_by a O.number (queue_after q a args read call told.answer wrote w.0)
+      (record { program = Injector args; past = (record { read = read; ready = ready; did = Called call told.answer told.bytes }) ∷ past; life = life })
+      O.elsewhere (sound_by a args _ _ O)
       (record {
         stands = λ _. record { relies = λ _. O.next.0; settles = O.next.1 };
-        queued = λ row. subst (Settles (booked s.books a x.args call answer) a x.args) row O.next.1;
-        ends = λ h. absurd (not_over x.life 0 m.reads.alive h);
+        queued = λ row. subst (Settles (booked s.books a args call told.answer) a args) row O.next.1;
+        ends = λ h. absurd (not_over life 0 reads.alive h);
         reads = late;
       })
 
-  kept_call : (a : List ℕ) (read : ℕ) (ready : Found) (call : CallData) (answer : Answer) (wrote : ℕ)
-      → MayCall s a read ready call answer wrote → Inv (called s a read ready call answer wrote (s.actors a))
-  kept_call a read ready call answer wrote m =
-      subst (λ o. Inv (called s a read ready call answer wrote o)) (sym m.reads.is) (called_by a read ready call answer wrote m)
+  kept_call : (a : List ℕ) (read : ℕ) (ready : Found) (call : CallData) (told : Told) (wrote : ℕ)
+      → MayCall s a read ready call told wrote → Inv (called s a read ready call told wrote (s.actors a))
+  kept_call a read ready call told wrote m =
+      let x = m.actor in
+      subst (λ o. Inv (called s a read ready call told wrote o)) (sym m.reads.is) (called_by a read ready call told wrote x.program x.past x.life m.reads m.due m.fits)
 
   -- an end or a stop shuts what the actor had open
   still_open : (a o : List ℕ) (fd i : ℕ) → o ≢ a → IsHeld s.disk.opens s.holder o fd i
@@ -127,12 +135,24 @@ module _ (s : State) (I : Inv s) where
     held = ap (λ w. unless_by a w (s.holder fd)) h.held ∙ unless_same o a None (s.holder fd) other ∙ h.held;
   }
 
+  -- the queue then
+  abbrev shut_queue : List ℕ → Queue
+  shut_queue a = record { disk = shut_by a s.holder s.disk; holder = λ fd. unless_by a (s.holder fd) (s.holder fd); books = s.books; role = I.role }
+
+  -- a program that is at its end with 0
+  abbrev IsDone : Program → List Own → Type 0
+  IsDone (Injector args) past = row_after args past ≡ at.Queued
+
+  finish_fares : (a : List ℕ) (program : Program) (past : List Own) (old life : Life) → FaresBy s.now (queue s I.role) a program past old
+      → (life ≡ Alive → ⊥) → (life ≡ Over 0 → IsDone program past) → FaresBy s.now (shut_queue a) a program past life
+  finish_fares a (Injector args) past old life F dead ends = record { stands = λ h. absurd (dead h); queued = F.queued; ends = ends; reads = F.reads }
+
   finished_by : (a : List ℕ) (life : Life) (x : Actor) → Fares s.now (queue s I.role) a x
-      → (life ≡ Alive → ⊥) → (life ≡ Over 0 → row_after x.args x.past ≡ at.Queued) → Inv (finished s a life (Some x))
+      → (life ≡ Alive → ⊥) → (life ≡ Over 0 → IsDone x.program x.past) → Inv (finished s a life (Some x))
   finished_by a life x F dead ends =
       kept_by a None
-      (record { disk = shut_by a s.holder s.disk; holder = λ fd. unless_by a (s.holder fd) (s.holder fd); books = s.books; role = I.role })
-      (record { args = x.args; past = x.past; life = life })
+      (shut_queue a)
+      (record { program = x.program; past = x.past; life = life })
       (record {
         looks = λ _ _. refl;
         living = λ _ _. refl;
@@ -142,19 +162,23 @@ module _ (s : State) (I : Inv s) where
         accepted = λ _ h _. h;
       })
       (record { suits = I.sound.suits; fine = I.sound.fine; over = I.sound.over })
-      (record { stands = λ h. absurd (dead h); queued = F.queued; ends = ends; reads = F.reads })
+      (finish_fares a x.program x.past x.life life F dead ends)
 
   kept_finish : (a : List ℕ) (life : Life) (x : Actor) → s.actors a ≡ Some x
-      → (life ≡ Alive → ⊥) → (life ≡ Over 0 → row_after x.args x.past ≡ at.Queued) → Inv (finished s a life (s.actors a))
+      → (life ≡ Alive → ⊥) → (life ≡ Over 0 → IsDone x.program x.past) → Inv (finished s a life (s.actors a))
   kept_finish a life x is dead ends = subst (λ o. Inv (finished s a life o)) (sym is) (finished_by a life x (I.actors a x is) dead ends)
+
+  ends_done : (a : List ℕ) (program : Program) (past : List Own) (life : Life) (read : ℕ) (ready : Found) → FaresBy s.now (queue s I.role) a program past life
+      → life ≡ Alive → next_of program past read ready ≡ Due.Ended 0 → IsDone program past
+  ends_done a (Injector args) past life read ready F alive next =
+      ends_queued s.books a args (row_after args past) (end_due _ _ _ next) (F.stands alive).settles
 
   kept_end : (a : List ℕ) (read : ℕ) (ready : Found) (status : ℕ) → MayEnd s a read ready status → Inv (finished s a (Over status) (s.actors a))
   kept_end a read ready status m =
       let x = m.actor in
       kept_finish a (Over status) x m.reads.is (λ h. cc) (λ h.
       let zero_status : status ≡ 0 = cc in
-      let due = end_due _ _ _ (m.due ∙ ap Due.Ended zero_status) in
-      ends_queued s.books a x.args (row_after x.args x.past) due ((I.actors a x m.reads.is).stands m.reads.alive).settles)
+      ends_done a x.program x.past x.life read ready (I.actors a x m.reads.is) m.reads.alive (m.due ∙ ap Due.Ended zero_status))
 
   kept_stop : (a : List ℕ) → IsLiving s a → Inv (finished s a Stopped (s.actors a))
   kept_stop a m = kept_finish a Stopped m.actor m.is (λ h. cc) (λ h. absurd (cc))
@@ -164,17 +188,20 @@ module _ (s : State) (I : Inv s) where
   kept_moment m later = record {
     role = I.role;
     sound = I.sound;
-    actors = λ a x h. let F = I.actors a x h in record {
+    actors = λ a x h. later_fares a x.program x.past x.life (I.actors a x h);
+  } where
+    later_fares : (a : List ℕ) (program : Program) (past : List Own) (life : Life) → FaresBy s.now (queue s I.role) a program past life
+        → FaresBy m (queue s I.role) a program past life
+    later_fares a (Injector args) past life F = record {
       stands = λ alive. let S = F.stands alive in record { relies = λ soon. S.relies (omega (arith, later, soon)); settles = S.settles };
       queued = F.queued;
       ends = F.ends;
       reads = F.reads;
-    };
-  }
+    }
 
 kept : (s : State) (e : Event) → Inv s → Allowed s e → Inv (happens s e)
-kept s (Start a args) I h = kept_start s I a args
-kept s (Call a read ready call answer wrote) I h = kept_call s I a read ready call answer wrote h
+kept s (Start a program) I h = kept_start s I a program
+kept s (Call a read ready call told wrote) I h = kept_call s I a read ready call told wrote h
 kept s (End a read ready status) I h = kept_end s I a read ready status h
 kept s (Stop a) I h = kept_stop s I a h
 kept s (Moment m) I h = kept_moment s I m h.no_earlier

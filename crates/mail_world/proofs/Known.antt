@@ -3,7 +3,7 @@ use Rattle.std.proofs.Common.{◌≡◌, ℕ, List, [], ◌∷◌, ◌++◌, Opt
 use Rattle.std.proofs.lemmas.List.{reverse-append}
 use Rattle.std.specs.List.{AllZip}
 use Rattle.call_fs.specs.declared.calls.CallData.{CallData}
-use Rattle.call_fs.specs.declared.calls.Answer.{Answer}
+use Rattle.call_fs.specs.declared.calls.Told.{Told}
 use Rattle.call_fs.specs.declared.program.Ready.{Ready}
 use Rattle.call_fs.specs.Disk.{Disk}
 use Rattle.call_fs.specs.Maps.{put_at}
@@ -25,11 +25,11 @@ put_alike m n a v e = ap (λ (m : List ℕ → Option Actor). put_at m a v) e
 freed_alike : (h g : ℕ → Option (List ℕ)) (a : List ℕ) → h ≡ g → ◌≡◌ {A = ℕ → Option (List ℕ)} (λ fd. unless_by a (h fd) (h fd)) (λ fd. unless_by a (g fd) (g fd))
 freed_alike h g a e = let freed : (ℕ → Option (List ℕ)) → ℕ → Option (List ℕ) = λ h fd. unless_by a (h fd) (h fd) in ap freed e
 
-called_alike : (s t : State) (a : List ℕ) (read : ℕ) (ready : Ready) (call : CallData) (answer : Answer) (w v : ℕ) (x : Option Actor)
-    → AreAlike s t → AreAlike (called s a read ready call answer w x) (called t a read ready call answer v x)
-called_alike s t a read ready call answer w v None c = c
-called_alike s t a read ready call answer w v (Some x) c = record {
-  holder = ap (λ (h : ℕ → Option (List ℕ)). held_by h a call answer) c.holder;
+called_alike : (s t : State) (a : List ℕ) (read : ℕ) (ready : Ready) (call : CallData) (got : Told) (w v : ℕ) (x : Option Actor)
+    → AreAlike s t → AreAlike (called s a read ready call got w x) (called t a read ready call got v x)
+called_alike s t a read ready call got w v None c = c
+called_alike s t a read ready call got w v (Some x) c = record {
+  holder = ap (λ (h : ℕ → Option (List ℕ)). held_by h a call got.answer) c.holder;
   now = c.now;
   actors = put_alike s.actors t.actors a _ c.actors;
 }
@@ -43,16 +43,16 @@ finished_alike s t a life (Some x) c = record {
 }
 
 happens_alike : (s t : State) (k : Kept) (e : Event) → Tells k e → AreAlike s t → AreAlike (happens s e) (happens t (event_of k))
-happens_alike s t k (Start a args) told c =
-    subst (λ (k : Kept). AreAlike (happens s (Start a args)) (happens t (event_of k))) (sym told) (record {
+happens_alike s t k (Start a program) told c =
+    subst (λ (k : Kept). AreAlike (happens s (Start a program)) (happens t (event_of k))) (sym told) (record {
       holder = c.holder;
       now = c.now;
       actors = put_alike s.actors t.actors a _ c.actors;
     })
-happens_alike s t k (Call a read ready call answer wrote) told c =
-    subst (λ (k : Kept). AreAlike (happens s (Call a read ready call answer wrote)) (happens t (event_of k))) (sym told)
-    (subst (λ (x : Option Actor). AreAlike (called s a read ready call answer wrote (s.actors a)) (called t a read ready call answer 0 x))
-    (ap (λ (m : List ℕ → Option Actor). m a) c.actors) (called_alike s t a read ready call answer wrote 0 (s.actors a) c))
+happens_alike s t k (Call a read ready call got wrote) told c =
+    subst (λ (k : Kept). AreAlike (happens s (Call a read ready call got wrote)) (happens t (event_of k))) (sym told)
+    (subst (λ (x : Option Actor). AreAlike (called s a read ready call got wrote (s.actors a)) (called t a read ready call got 0 x))
+    (ap (λ (m : List ℕ → Option Actor). m a) c.actors) (called_alike s t a read ready call got wrote 0 (s.actors a) c))
 happens_alike s t k (End a read ready status) told c =
     subst (λ (k : Kept). AreAlike (happens s (End a read ready status)) (happens t (event_of k))) (sym told)
     (subst (λ (x : Option Actor). AreAlike (finished s a (Life.Over status) (s.actors a)) (finished t a (Life.Over status) x))

@@ -7,15 +7,14 @@ use Rattle.std.proofs.lemmas.List.Sums.{sum_by-append}
 use Rattle.std.specs.Prelude.{count_by, if◌then◌else◌}
 use Rattle.std.specs.List.{AllZip}
 use Rattle.call_fs.specs.declared.calls.CallData.{CallData}
-use Rattle.call_fs.specs.declared.calls.Answer.{Answer}
+use Rattle.call_fs.specs.declared.calls.Told.{Told}
 use Rattle.call_fs.specs.declared.program.Ready.{Ready}
 use Rattle.call_fs.specs.Disk.{Disk}
 use Rattle.call_fs.specs.Maps.{put_at}
 use Rattle.call_fs.proofs.Maps.{put_at_same, put_at_other}
-use Rattle.queue_inject.specs.declared.injection.Arguments.{Arguments}
+use Rattle.mail_world.specs.declared.event.Program.{Program}
 use Rattle.mail_world.specs.declared.event.Event.{Event as Kept}
 use Rattle.mail_world.specs.declared.event.Event.TheVariants as kept
-use Rattle.mail_world.specs.declared.event.Program.TheVariants.{Injector}
 use Rattle.mail_world.specs.History.{Event, Actor, Life, State, Allowed, Legal, called, finished, happens, after, is_start as starts_one}
 use Rattle.mail_world.specs.History.Event.{Start, Call, End, Stop, Moment, Halt}
 use Rattle.mail_world.specs.History.Life.{Alive, Over, Stopped}
@@ -45,10 +44,10 @@ still_there m b x y a is = ⊎_elim
     (λ f. ap is_some (put_at_other m b (Some y) a f.0))
     (text_cases a b)
 
-called_there : (s : State) (b : List ℕ) (read : ℕ) (ready : Ready) (call : CallData) (answer : Answer) (w : ℕ) (o : Option Actor) (a : List ℕ)
-    → s.actors b ≡ o → is_some ((called s b read ready call answer w o).actors a) ≡ is_some (s.actors a)
-called_there s b read ready call answer w None a is = refl
-called_there s b read ready call answer w (Some x) a is = still_there s.actors b x _ a is
+called_there : (s : State) (b : List ℕ) (read : ℕ) (ready : Ready) (call : CallData) (got : Told) (w : ℕ) (o : Option Actor) (a : List ℕ)
+    → s.actors b ≡ o → is_some ((called s b read ready call got w o).actors a) ≡ is_some (s.actors a)
+called_there s b read ready call got w None a is = refl
+called_there s b read ready call got w (Some x) a is = still_there s.actors b x _ a is
 
 finished_there : (s : State) (b : List ℕ) (life : Life) (o : Option Actor) (a : List ℕ) → s.actors b ≡ o → is_some ((finished s b life o).actors a) ≡ is_some (s.actors a)
 finished_there s b life None a is = refl
@@ -61,11 +60,11 @@ started_there m b y a = ⊎_elim
     (text_cases a b)
 
 happens_started : (s : State) (k : Kept) (e : Event) (a : List ℕ) → Tells k e → (is_some (s.actors a) || starts a k) ≡ is_some ((happens s e).actors a)
-happens_started s k (Start b args) a told =
-    subst (λ (k : Kept). (is_some (s.actors a) || starts a k) ≡ is_some ((happens s (Start b args)).actors a)) (sym told) (started_there s.actors b _ a)
-happens_started s k (Call b read ready call answer w) a told =
-    subst (λ (k : Kept). (is_some (s.actors a) || starts a k) ≡ is_some ((happens s (Call b read ready call answer w)).actors a)) (sym told)
-    (or-false (is_some (s.actors a)) ∙ sym (called_there s b read ready call answer w (s.actors b) a refl))
+happens_started s k (Start b program) a told =
+    subst (λ (k : Kept). (is_some (s.actors a) || starts a k) ≡ is_some ((happens s (Start b program)).actors a)) (sym told) (started_there s.actors b _ a)
+happens_started s k (Call b read ready call got w) a told =
+    subst (λ (k : Kept). (is_some (s.actors a) || starts a k) ≡ is_some ((happens s (Call b read ready call got w)).actors a)) (sym told)
+    (or-false (is_some (s.actors a)) ∙ sym (called_there s b read ready call got w (s.actors b) a refl))
 happens_started s k (End b read ready status) a told =
     subst (λ (k : Kept). (is_some (s.actors a) || starts a k) ≡ is_some ((happens s (End b read ready status)).actors a)) (sym told)
     (or-false (is_some (s.actors a)) ∙ sym (finished_there s b (Over status) (s.actors b) a refl))
@@ -82,8 +81,8 @@ started_is d h events a told =
 
 -- how many were started
 starts_alike : (k : Kept) (e : Event) → Tells k e → is_start k ≡ starts_one e
-starts_alike k (Start a args) told = ap is_start told
-starts_alike k (Call a read ready call answer w) told = ap is_start told
+starts_alike k (Start a program) told = ap is_start told
+starts_alike k (Call a read ready call got w) told = ap is_start told
 starts_alike k (End a read ready status) told = ap is_start told
 starts_alike k (Stop a) told = absurd told
 starts_alike k (Moment m) told = absurd told
@@ -136,19 +135,19 @@ marked_put events k m b o a other new was = ⊎_elim
 record Agree (s : State) (events : List Kept) : Type 0 where
   pub each : (a : List ℕ) → Marked events a (s.actors a)
 
-start_marked : (s : State) (events : List Kept) (b : List ℕ) (args : Arguments) → Agree s events → Allowed s (Start b args)
-    → Agree (happens s (Start b args)) (events ++ kept.Start b (Injector args) ∷ [])
-start_marked s events b args was allowed =
-    let k : Kept = kept.Start b (Injector args) in record {
+start_marked : (s : State) (events : List Kept) (b : List ℕ) (program : Program) → Agree s events → Allowed s (Start b program)
+    → Agree (happens s (Start b program)) (events ++ kept.Start b program ∷ [])
+start_marked s events b program was allowed =
+    let k : Kept = kept.Start b program in record {
       each = λ a. marked_put events k s.actors b _ a (λ apart h. h)
           (λ at h. subst (λ (o : Option Actor). Marked events b o) allowed.new (was.each b) at (ends_other events k b at (λ h. h) h)) (was.each a);
     }
 
-call_marked : (s : State) (events : List Kept) (b : List ℕ) (read : ℕ) (ready : Ready) (call : CallData) (answer : Answer) (w : ℕ) → Agree s events
+call_marked : (s : State) (events : List Kept) (b : List ℕ) (read : ℕ) (ready : Ready) (call : CallData) (got : Told) (w : ℕ) → Agree s events
     → (x : Actor) → s.actors b ≡ Some x
-    → Agree (called s b read ready call answer w (Some x)) (events ++ kept.Call b read ready call (record { answer = answer; bytes = [] }) ∷ [])
-call_marked s events b read ready call answer w was x is =
-    let k : Kept = kept.Call b read ready call (record { answer = answer; bytes = [] }) in record {
+    → Agree (called s b read ready call got w (Some x)) (events ++ kept.Call b read ready call got ∷ [])
+call_marked s events b read ready call got w was x is =
+    let k : Kept = kept.Call b read ready call got in record {
       each = λ a. marked_put events k s.actors b _ a (λ apart h. h)
           (lasts_still events k b x.life (λ h. h) (subst (λ (o : Option Actor). Marked events b o) is (was.each b))) (was.each a);
     }
@@ -161,12 +160,12 @@ end_marked s events b read ready status was x =
     }
 
 happens_marked : (s : State) (events : List Kept) (k : Kept) (e : Event) → Tells k e → Agree s events → Allowed s e → Agree (happens s e) (events ++ k ∷ [])
-happens_marked s events k (Start b args) told was allowed =
-    subst (λ (k : Kept). Agree (happens s (Start b args)) (events ++ k ∷ [])) (sym told) (start_marked s events b args was allowed)
-happens_marked s events k (Call b read ready call answer w) told was allowed =
-    subst (λ (k : Kept). Agree (happens s (Call b read ready call answer w)) (events ++ k ∷ [])) (sym told)
-    (subst (λ (o : Option Actor). Agree (called s b read ready call answer w o) (events ++ kept.Call b read ready call (record { answer = answer; bytes = [] }) ∷ []))
-    (sym allowed.reads.is) (call_marked s events b read ready call answer w was allowed.actor allowed.reads.is))
+happens_marked s events k (Start b program) told was allowed =
+    subst (λ (k : Kept). Agree (happens s (Start b program)) (events ++ k ∷ [])) (sym told) (start_marked s events b program was allowed)
+happens_marked s events k (Call b read ready call got w) told was allowed =
+    subst (λ (k : Kept). Agree (happens s (Call b read ready call got w)) (events ++ k ∷ [])) (sym told)
+    (subst (λ (o : Option Actor). Agree (called s b read ready call got w o) (events ++ kept.Call b read ready call got ∷ []))
+    (sym allowed.reads.is) (call_marked s events b read ready call got w was allowed.actor allowed.reads.is))
 happens_marked s events k (End b read ready status) told was allowed =
     subst (λ (k : Kept). Agree (happens s (End b read ready status)) (events ++ k ∷ [])) (sym told)
     (subst (λ (o : Option Actor). Agree (finished s b (Over status) o) (events ++ kept.End b read ready status ∷ []))

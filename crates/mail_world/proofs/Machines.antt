@@ -4,14 +4,20 @@ use Rattle.call_fs.specs.declared.calls.Call.{Call}
 use Rattle.call_fs.specs.declared.program.Need.{Need}
 use Rattle.call_fs.specs.declared.program.Need.TheVariants as need
 use Rattle.call_fs.specs.declared.program.Ready.{Ready}
+use Rattle.call_fs.specs.declared.calls.CallData.{CallData}
+use Rattle.call_fs.specs.declared.calls.Answer.{Answer}
 use Rattle.call_fs.specs.Program.{Own, due_of}
 use Rattle.queue_inject.specs.declared.injection.Arguments.{Arguments}
 use Rattle.queue_inject.specs.declared.injection.InputEnd.TheVariants.{Whole}
 use Rattle.queue_inject.specs.Table.{Next, has_input}
 use Rattle.queue_inject.specs.Machine.{Machine, Progress, begun, fed_on, ended_on, is_over, is_told}
 use Rattle.queue_inject.specs.Stands.{Stands, Continues, Ends}
+use Rattle.mail_world.specs.declared.event.Program.{Program}
+use Rattle.mail_world.specs.declared.event.Program.TheVariants.{Injector}
+use Rattle.mail_world.specs.History.{next_of}
 use Rattle.mail_world.specs.World.{input_ready}
 use Rattle.mail_world.specs.Inside.{Follows}
+use Rattle.mail_world.specs.Acting.{with_call}
 use Rattle.mail_world.proofs.Opens.{IsAct, next_act}
 
 told_by : Progress → Bool
@@ -23,20 +29,20 @@ unfolding told_by
 told_still m n same told = let progress : n.heard.progress ≡ m.heard.progress = cc in subst (λ (p : Progress). IsTrue (told_by p)) (sym progress) told
 
 -- a machine that looked needs what is next
-pub next_of : (m n : Machine) (r : Need) (p : ℕ) (args : Arguments) (past : List Own) → n ≡ record m { present = p; ready = input_ready }
-    → (Stands m args past → Stands n args past)
-    → (Stands n args past → (IsTrue (has_input n.ready) → IsTrue (is_told n)) → due_of r ≡ Next args past n.present n.ready)
-    → Follows m args past → due_of r ≡ Next args past p input_ready
-next_of m n r p args past is stands needs f =
+pub needs_next : (m n : Machine) (r : Need) (p : ℕ) (program : Program) (past : List Own) → n ≡ record m { present = p; ready = input_ready }
+    → ((args : Arguments) → Stands m args past → Stands n args past)
+    → ((args : Arguments) → Stands n args past → (IsTrue (has_input n.ready) → IsTrue (is_told n)) → due_of r ≡ Next args past n.present n.ready)
+    → Follows m program past → due_of r ≡ next_of program past p input_ready
+needs_next m n r p (Injector args) past is stands needs f =
     let present : n.present ≡ p = ap (λ (m : Machine). m.present) is in
     let ready : n.ready ≡ input_ready = ap (λ (m : Machine). m.ready) is in
-    needs (stands f.stands) (λ h. told_still m n (ap (λ (m : Machine). m.heard) is) f.told)
+    needs args (stands args f.stands) (λ h. told_still m n (ap (λ (m : Machine). m.heard) is) f.told)
     ∙ ap (λ (k : ℕ). Next args past k n.ready) present ∙ ap (λ (r : Ready). Next args past p r) ready
 
 -- an injector that finds its input ready neither waits nor needs anything but a call
-pub calls_or_ends : (n : Need) (args : Arguments) (past : List Own) (now : ℕ) → due_of n ≡ Next args past now input_ready
+pub calls_or_ends : (n : Need) (program : Program) (past : List Own) (now : ℕ) → due_of n ≡ next_of program past now input_ready
     → ((c : Call) → n ≡ need.File c → ⊥) → ((status : ℕ) → n ≡ need.Ended status → ⊥) → ⊥
-calls_or_ends n args past now is no_call no_status = by_need n (subst IsAct (sym is) (next_act args past now)) no_call no_status where
+calls_or_ends n program past now is no_call no_status = by_need n (subst IsAct (sym is) (next_act program past now)) no_call no_status where
   by_need : (n : Need) → IsAct (due_of n) → ((c : Call) → n ≡ need.File c → ⊥) → ((status : ℕ) → n ≡ need.Ended status → ⊥) → ⊥
   by_need (need.File c) act no_file no_end = no_file c refl
   by_need (need.Take port) act no_file no_end = act
@@ -46,6 +52,17 @@ calls_or_ends n args past now is no_call no_status = by_need n (subst IsAct (sym
   by_need need.Wait act no_file no_end = act
   by_need (need.Ended status) act no_file no_end = no_end status refl
 
+-- a machine that looked stands as before
+pub looked_follows : (m n : Machine) (program : Program) (past : List Own) → ((args : Arguments) → Stands m args past → Stands n args past) → n.heard ≡ m.heard
+    → Follows m program past → Follows n program past
+looked_follows m n (Injector args) past stands same f = record { stands = stands args f.stands; told = told_still m n same f.told }
+
+-- and so does one that was told its answer, with it as its newest event
+pub told_follows : (m n : Machine) (program : Program) (past : List Own) (call : CallData) (answer : Answer)
+    → ((args : Arguments) → Stands m args past → Stands n args (with_call m past call answer)) → n.heard ≡ m.heard
+    → Follows m program past → Follows n program (with_call m past call answer)
+told_follows m n (Injector args) past call answer stands same f = record { stands = stands args f.stands; told = told_still m n same f.told }
+
 -- An injector that was fed a message and told its end, and then an envelope and its end, stands for them.
 pub fed_whole : (m f e g n : Machine) (args : Arguments) (room : ℕ)
     → m.heard.progress ≡ begun room → Stands m args []
@@ -53,7 +70,7 @@ pub fed_whole : (m f e g n : Machine) (args : Arguments) (room : ℕ)
     → e.heard.progress ≡ ended_on f.heard.progress Whole → (Stands f args [] → Ends f.heard.progress args Whole → Stands e args [])
     → g.heard.progress ≡ fed_on e.heard.progress args.envelope → (Stands e args [] → Continues e.heard.progress args args.envelope → Stands g args [])
     → n.heard.progress ≡ ended_on g.heard.progress Whole → (Stands g args [] → Ends g.heard.progress args Whole → Stands n args [])
-    → args.message_end ≡ Whole → args.envelope_end ≡ Whole → Follows n args []
+    → args.message_end ≡ Whole → args.envelope_end ≡ Whole → Follows n (Injector args) []
 unfolding told_by
 fed_whole m f e g n args room p₀ s₀ p₁ s₁ p₂ s₂ p₃ s₃ p₄ s₄ message_whole envelope_whole =
     let a = begun room in

@@ -1,24 +1,28 @@
 -- What the calls of an injector open, and what its rows need open.
-use Rattle.std.proofs.Common.{◌≡◌, ◌≢◌, ◌⊎◌, inl, inr, ℕ, ◌+◌, List, [], length, Bool, true, false, if◌then◌else◌, nat_lt, nat_le, Option, Some, None, IsSome, refl, sym, ap, ◌∙◌, subst}
+use Rattle.std.proofs.Common.{◌≡◌, ◌≢◌, ◌⊎◌, inl, inr, ℕ, ◌+◌, List, [], ◌∷◌, length, Bool, true, false, if◌then◌else◌, nat_lt, nat_le, Option, Some, None, IsSome, refl, sym, ap, ◌∙◌, subst}
 use Rattle.call_fs.specs.declared.calls.Fd.{Fd}
 use Rattle.call_fs.specs.declared.calls.FsError.TheVariants.{NotThere, Exists, Fault, Memory}
 use Rattle.call_fs.specs.declared.calls.CallData.{CallData}
 use Rattle.call_fs.specs.declared.calls.CallData.TheVariants as call
 use Rattle.call_fs.specs.declared.calls.Answer.{Answer}
 use Rattle.call_fs.specs.declared.calls.Answer.TheVariants as told
+use Rattle.call_fs.specs.declared.calls.Told.{Told}
 use Rattle.call_fs.specs.declared.program.Ready.{Ready}
 use Rattle.call_fs.specs.Disk.{Disk, File, Open, Mode, MayUse, MayAppend, IsForAppend}
 use Rattle.call_fs.specs.Maps.{put}
 use Rattle.call_fs.specs.Apply.{effect, changed, Fits, MayCall}
 use Rattle.call_fs.specs.Program.{Due, Own}
+use Rattle.call_fs.specs.Program.Did.{Called}
 use Rattle.queue_inject.specs.declared.injection.Arguments.{Arguments}
 use Rattle.queue_inject.specs.declared.row.Row.{Row}
 use Rattle.queue_inject.specs.declared.row.Row.TheVariants as at
 use Rattle.queue_inject.specs.Texts.{Text, message_text, intd_text}
-use Rattle.queue_inject.specs.Table.{moved, call_of, in_message, in_todo, past_piece, piece_size, row_after, in_time, has_input, is_late, Next}
-use Rattle.mail_world.specs.History.{held_by}
+use Rattle.queue_inject.specs.Table.{moved, call_of, in_message, in_todo, past_piece, piece_size, row_after, in_time, has_input, is_late}
+use Rattle.mail_world.specs.declared.event.Program.{Program}
+use Rattle.mail_world.specs.declared.event.Program.TheVariants.{Injector}
+use Rattle.mail_world.specs.History.{next_of, held_by}
 use Rattle.mail_world.specs.World.{input_ready}
-use Rattle.mail_world.specs.Inside.{IsOwn, HasRow}
+use Rattle.mail_world.specs.Inside.{IsOwn, HasRow, HasNeeds}
 use Rattle.mail_world.specs.Acting.{opened}
 use Rattle.call_fs.proofs.Maps.{put_same, put_other}
 
@@ -137,6 +141,11 @@ row_stays d e h g a b answer (at.CleanMess n status) s own = tt
 row_stays d e h g a b answer at.Queued s own = tt
 row_stays d e h g a b answer (at.Failed status) s own = tt
 
+-- and so does what another program needs
+pub needs_stay : (d e : Disk) (h g : ℕ → Option (List ℕ)) (a b : List ℕ) (answer : Answer) (program : Program) (past : List Own) → Opens d e h g a answer
+    → HasNeeds d h b program past → HasNeeds e g b program past
+needs_stay d e h g a b answer (Injector args) past s own = row_stays d e h g a b answer (row_after args past) s own
+
 -- the rows within a text
 in_piece : (d : Disk) (h : ℕ → Option (List ℕ)) (a : List ℕ) (bytes : List ℕ) (fault : Option ℕ) (done : ℕ) (more end : Row) (bad : ℕ → Row)
     → HasRow d h a more → HasRow d h a end → ((status : ℕ) → HasRow d h a (bad status)) → HasRow d h a (past_piece bytes fault done more end bad)
@@ -182,6 +191,14 @@ row_moves d h a args (at.CleanMess n status) answer own made = tt
 row_moves d h a args at.Queued answer own made = tt
 row_moves d h a args (at.Failed status) answer own made = tt
 
+pub needs_move : (d : Disk) (h : ℕ → Option (List ℕ)) (a : List ℕ) (program : Program) (past : List Own) (read : ℕ) (ready : Ready) (c : CallData) (got : Told)
+    → HasNeeds d h a program past → HasMade d h a got.answer → HasNeeds d h a program ((record { read = read; ready = ready; did = Called c got.answer got.bytes }) ∷ past)
+needs_move d h a (Injector args) past read ready c got own made = row_moves d h a args (row_after args past) got.answer own made
+
+-- a program that starts needs nothing
+pub needs_none : (d : Disk) (h : ℕ → Option (List ℕ)) (a : List ℕ) (program : Program) → HasNeeds d h a program []
+needs_none d h a (Injector args) = tt
+
 -- the call that is due may be made, and closes nothing
 abbrev pub MayDo : Disk → Due → Type 0
 MayDo d (Due.File c) = MayCall d c × ClosesNone c
@@ -214,15 +231,15 @@ in_time_may d true false (Due.File c) may = may
 in_time_may d false late (Due.File c) may = tt
 in_time_may d input late (Due.Take port) may = tt
 in_time_may d input late (Due.Give port bytes) may = tt
-in_time_may d input late Due.Start may = tt
+in_time_may d input late (Due.Start child) may = tt
 in_time_may d input late (Due.Command bytes) may = tt
 in_time_may d input late Due.Wait may = tt
 in_time_may d input late (Due.Ended status) may = tt
 
--- an injector may do what is next, where its row has its descriptor
-pub next_may : (d : Disk) (h : ℕ → Option (List ℕ)) (a : List ℕ) (args : Arguments) (past : List Own) (now : ℕ) (ready : Ready)
-    → HasRow d h a (row_after args past) → MayDo d (Next args past now ready)
-next_may d h a args past now ready own = in_time_may d (has_input ready) (is_late args now) (call_of args (row_after args past)) (row_may d h a args (row_after args past) own)
+-- a program may do what is next, where it has what it needs
+pub next_may : (d : Disk) (h : ℕ → Option (List ℕ)) (a : List ℕ) (program : Program) (past : List Own) (now : ℕ) (ready : Ready)
+    → HasNeeds d h a program past → MayDo d (next_of program past now ready)
+next_may d h a (Injector args) past now ready own = in_time_may d (has_input ready) (is_late args now) (call_of args (row_after args past)) (row_may d h a args (row_after args past) own)
 
 -- a file call or an end
 abbrev pub IsAct : Due → Type 0
@@ -251,10 +268,10 @@ in_time_act false (Due.File c) act = tt
 in_time_act late (Due.Ended status) act = tt
 in_time_act late (Due.Take port) act = absurd act
 in_time_act late (Due.Give port bytes) act = absurd act
-in_time_act late Due.Start act = absurd act
+in_time_act late (Due.Start child) act = absurd act
 in_time_act late (Due.Command bytes) act = absurd act
 in_time_act late Due.Wait act = absurd act
 
 -- an injector whose input is ready never waits
-pub next_act : (args : Arguments) (past : List Own) (now : ℕ) → IsAct (Next args past now input_ready)
-next_act args past now = in_time_act (is_late args now) (call_of args (row_after args past)) (row_act args (row_after args past))
+pub next_act : (program : Program) (past : List Own) (now : ℕ) → IsAct (next_of program past now input_ready)
+next_act (Injector args) past now = in_time_act (is_late args now) (call_of args (row_after args past)) (row_act args (row_after args past))

@@ -5,6 +5,7 @@ use Rattle.call_fs.specs.declared.calls.CallData.TheVariants as call
 use Rattle.call_fs.specs.declared.calls.Answer.{Answer}
 use Rattle.call_fs.specs.declared.calls.Answer.TheVariants.{Refused}
 use Rattle.call_fs.specs.declared.calls.FsError.TheVariants.{Fault}
+use Rattle.call_fs.specs.declared.calls.Told.{Told}
 use Rattle.call_fs.specs.declared.program.Ready.{Ready}
 use Rattle.call_fs.specs.Disk.{Disk}
 use Rattle.call_fs.specs.Apply.{effect, Fits}
@@ -23,18 +24,18 @@ wrote_nothing d (call.Stat name) (Refused Fault) w other = absurd (other refl)
 wrote_nothing d (call.NextName dir last) (Refused Fault) w other = absurd (other refl)
 wrote_nothing d c answer w other = ((λ fits. fits), (λ now. refl))
 
-called_same : (s : State) (a : List ℕ) (read : ℕ) (ready : Ready) (c : CallData) (answer : Answer) (w v : ℕ) (o : Option Actor) → effect s.disk read c answer w ≡ effect s.disk read c answer v
-    → called s a read ready c answer w o ≡ called s a read ready c answer v o
-called_same s a read ready c answer w v None same = refl
-called_same s a read ready c answer w v (Some x) same =
-    let t = called s a read ready c answer w (Some x) in
+called_same : (s : State) (a : List ℕ) (read : ℕ) (ready : Ready) (c : CallData) (got : Told) (w v : ℕ) (o : Option Actor) → effect s.disk read c got.answer w ≡ effect s.disk read c got.answer v
+    → called s a read ready c got w o ≡ called s a read ready c got v o
+called_same s a read ready c got w v None same = refl
+called_same s a read ready c got w v (Some x) same =
+    let t = called s a read ready c got w (Some x) in
     ap (λ (d : Disk). record { disk = d; holder = t.holder; now = t.now; actors = t.actors; books = t.books }) same
 
 -- so the event may be read as one that wrote nothing
-pub call_wrote_nothing : (s : State) (a : List ℕ) (read : ℕ) (ready : Ready) (c : CallData) (answer : Answer) (w : ℕ) → answer ≢ Refused Fault → Allowed s (Call a read ready c answer w)
-    → Allowed s (Call a read ready c answer 0) × (happens s (Call a read ready c answer w) ≡ happens s (Call a read ready c answer 0))
-call_wrote_nothing s a read ready c answer w other allowed =
-    let same = wrote_nothing s.disk c answer w other in (
-      record { actor = allowed.actor; reads = allowed.reads; due = allowed.due; fits = same.0 allowed.fits },
-      called_same s a read ready c answer w 0 (s.actors a) (same.1 read),
+pub call_wrote_nothing : (s : State) (a : List ℕ) (read : ℕ) (ready : Ready) (c : CallData) (got : Told) (w : ℕ) → got.answer ≢ Refused Fault → Allowed s (Call a read ready c got w)
+    → Allowed s (Call a read ready c got 0) × (happens s (Call a read ready c got w) ≡ happens s (Call a read ready c got 0))
+call_wrote_nothing s a read ready c got w other allowed =
+    let same = wrote_nothing s.disk c got.answer w other in (
+      record { actor = allowed.actor; reads = allowed.reads; due = allowed.due; fits = same.0 allowed.fits; bytes = allowed.bytes },
+      called_same s a read ready c got w 0 (s.actors a) (same.1 read),
     )

@@ -6,26 +6,25 @@ use Rattle.std.specs.Prelude.{count_by, if◌then◌else◌}
 use Rattle.std.specs.List.{slice_get}
 use Rattle.call_fs.specs.declared.calls.CallData.{CallData}
 use Rattle.call_fs.specs.declared.calls.Answer.{Answer}
+use Rattle.call_fs.specs.Calls.{without_bytes}
 use Rattle.call_fs.specs.Disk.{Disk}
 use Rattle.call_fs.specs.Maps.{put_at}
-use Rattle.call_fs.specs.Apply.{Apply}
+use Rattle.call_fs.specs.Apply.{Apply, IsReadBy}
 use Rattle.call_fs.specs.Told.{OnTold, Meets}
 use Rattle.call_fs.specs.Program.{Due}
 use Rattle.call_fs.specs.Program.Did.{Called}
-use Rattle.queue_inject.specs.declared.injection.Arguments.{Arguments}
-use Rattle.queue_inject.specs.Table.{Next}
 use Rattle.mail_world.specs.declared.actor.Actor.{Actor as Held}
 use Rattle.mail_world.specs.declared.event.Event.{Event as Kept}
 use Rattle.mail_world.specs.declared.event.Event.TheVariants as kept
-use Rattle.mail_world.specs.declared.event.Program.TheVariants.{Injector}
-use Rattle.mail_world.specs.History.{Event, State, called, finished, happens, held_by, shut_by}
+use Rattle.mail_world.specs.declared.event.Program.{Program}
+use Rattle.mail_world.specs.History.{Event, State, next_of, start_of, called, finished, happens, held_by, shut_by}
 use Rattle.mail_world.specs.History.Event.{Start}
 use Rattle.mail_world.specs.History.Life.{Over}
 use Rattle.mail_world.specs.World.{next_pid, is_start, input_ready, IsHistory, IsStep}
 use Rattle.mail_world.specs.Inside.{known, Follows, IsMember, AreActors, IsOpenTo, IsWorld}
 use Rattle.mail_world.specs.Acting.{MayAct, MayMake, AreOpen, HasActed, call_event, opened, shut}
 use Rattle.mail_world.proofs.Known.{known_push}
-use Rattle.mail_world.proofs.Histories.{IsActing, call_told, end_told, start_told}
+use Rattle.mail_world.proofs.Histories.{IsActing, reads_none, call_told, end_told, start_told}
 use Rattle.mail_world.proofs.Descriptors.{shut_listed}
 use Rattle.mail_world.proofs.Opens.{Opens, MayDo, opens_by, next_may}
 use Rattle.mail_world.proofs.Lists.{some_at}
@@ -50,6 +49,12 @@ met_on None (Some y) P R S f h met = absurd met
 met_on (Some x) None P R S f h met = absurd met
 met_on (Some x) (Some y) P R S f h met = f x y h met
 
+met_by : {X : Type 0} (t u : Option X) (R S : X → X → Type 0) → ((x y : X) → R x y → S x y) → Meets t u R → Meets t u S
+met_by None None R S f met = tt
+met_by None (Some y) R S f met = absurd met
+met_by (Some x) None R S f met = absurd met
+met_by (Some x) (Some y) R S f met = f x y met
+
 pid_push : (events : List Kept) (k : Kept) → next_pid (events ++ k ∷ []) ≡ min (77 + (count_by is_start events + (if is_start k then 1 else 0))) (2 ^ 32 - 1)
 pid_push events k = ap (λ (n : ℕ). min (77 + n) (2 ^ 32 - 1)) (sum_by-append (λ e. if is_start e then 1 else 0) events (k ∷ []) ∙ omega arith)
 
@@ -61,25 +66,25 @@ pub record StandsAt (places : List ℕ → Option ℕ) (actors : List Held) (s :
 
 -- what an injector may do next closes nothing
 may_do : (d : Disk) (s : State) (actors : List Held) (events : List Kept) (i : ℕ) (x : Held) (p : ℕ) (m : IsMember s events p x) → x.ended ≡ None → slice_get actors i ≡ Some x
-    → IsOpenTo d actors s → MayDo d (Next m.actor.args m.actor.past p input_ready)
+    → IsOpenTo d actors s → MayDo d (next_of m.actor.program m.actor.past p input_ready)
 may_do d s actors events i x p m lives is o =
-    next_may d s.holder x.name m.actor.args m.actor.past p input_ready ((o.each i x is).needs m.actor m.is (m.alive lives))
+    next_may d s.holder x.name m.actor.program m.actor.past p input_ready ((o.each i x is).needs m.actor m.is (m.alive lives))
 
 -- what is due may be made
 pub may_act : (told : Option Disk) (places : List ℕ → Option ℕ) (actors : List Held) (s : State) (events : List Kept) (p n i : ℕ) (x : Held)
     → IsWorld told places actors s events p n → StandsAt places actors s events p i x → MayAct told x.machine p
 may_act told places actors s events p n i x w at = record {
-  args = at.member.actor.args;
+  program = at.member.actor.program;
   past = at.member.actor.past;
   follows = at.member.follows;
-  may = on_told told (λ d. IsOpenTo d actors s) (λ d. MayMake d (Next at.member.actor.args at.member.actor.past p input_ready))
-      (λ d o. may_make d (Next at.member.actor.args at.member.actor.past p input_ready) (may_do d s actors events i x p at.member at.lives at.is o)) w.opens;
+  may = on_told told (λ d. IsOpenTo d actors s) (λ d. MayMake d (next_of at.member.actor.program at.member.actor.past p input_ready))
+      (λ d o. may_make d (next_of at.member.actor.program at.member.actor.past p input_ready) (may_do d s actors events i x p at.member at.lives at.is o)) w.opens;
 } where
   may_make : (d : Disk) (due : Due) → MayDo d due → MayMake d due
   may_make d (Due.File c) may = may.0
   may_make d (Due.Take port) may = tt
   may_make d (Due.Give port bytes) may = tt
-  may_make d Due.Start may = tt
+  may_make d (Due.Start child) may = tt
   may_make d (Due.Command bytes) may = tt
   may_make d Due.Wait may = tt
   may_make d (Due.Ended status) may = tt
@@ -87,7 +92,7 @@ may_act told places actors s events p n i x w at = record {
 -- an actor's machine looked
 pub look_keeps : (told : Option Disk) (places : List ℕ → Option ℕ) (actors : List Held) (s : State) (events : List Kept) (p n i : ℕ) (x y : Held)
     → IsWorld told places actors s events p n → (at : StandsAt places actors s events p i x)
-    → y.name ≡ x.name → y.ended ≡ x.ended → y.descriptors.items ≡ x.descriptors.items → Follows y.machine at.member.actor.args at.member.actor.past
+    → y.name ≡ x.name → y.ended ≡ x.ended → y.descriptors.items ≡ x.descriptors.items → Follows y.machine at.member.actor.program at.member.actor.past
     → IsWorld told places (set actors i y) s events p n
 look_keeps told places actors s events p n i x y w at name ended list follows = record {
   moment = w.moment;
@@ -103,34 +108,34 @@ acting s p x events m lives = record { is = m.is; alive = m.alive lives; in_orde
 -- what is open after a call
 call_open : (d e : Disk) (places : List ℕ → Option ℕ) (actors : List Held) (s : State) (events : List Kept) (p i : ℕ) (x y : Held) (at : StandsAt places actors s events p i x) (c : CallData) (answer : Answer)
     → AreActors places actors s events p → y.name ≡ x.name → y.descriptors.items ≡ x.descriptors.items ++ opened answer
-    → Next at.member.actor.args at.member.actor.past p input_ready ≡ Due.File c → Apply d p c answer e
-    → IsOpenTo d actors s → IsOpenTo e (set actors i y) (called s x.name p input_ready c answer 0 (Some at.member.actor))
+    → next_of at.member.actor.program at.member.actor.past p input_ready ≡ Due.File c → Apply d p c answer e
+    → IsOpenTo d actors s → IsOpenTo e (set actors i y) (called s x.name p input_ready c (without_bytes answer) 0 (Some at.member.actor))
 call_open d e places actors s events p i x y at c answer crew name list due applied o =
     let may : MayDo d (Due.File c) = subst (MayDo d) due (may_do d s actors events i x p at.member at.lives at.is o) in
     let opens : Opens d e s.holder (held_by s.holder x.name c answer) x.name answer =
     subst (λ (e : Disk). Opens d e s.holder (held_by s.holder x.name c answer) x.name answer) (sym applied.2) (opens_by d p c answer applied.0 s.holder x.name may.1 applied.1) in
-    call_opens places actors s events p i x y at.member d e input_ready c answer crew at.is (at.member.alive at.lives) name list opens o
+    call_opens places actors s events p i x y at.member d e input_ready c (without_bytes answer) crew at.is (at.member.alive at.lives) name list opens o
 
 -- an actor made a call
 pub call_keeps : (old new : Option Disk) (places : List ℕ → Option ℕ) (actors : List Held) (events : List Kept) (p n i : ℕ) (x y : Held) (c : CallData) (answer : Answer)
     → IsWorld old places actors (known events) events p n → (at : StandsAt places actors (known events) events p i x)
     → y.name ≡ x.name → y.ended ≡ x.ended → y.descriptors.items ≡ x.descriptors.items ++ opened answer
-    → Next at.member.actor.args at.member.actor.past p input_ready ≡ Due.File c
-    → Follows y.machine at.member.actor.args ((record { read = p; ready = input_ready; did = Called c answer [] }) ∷ at.member.actor.past)
+    → next_of at.member.actor.program at.member.actor.past p input_ready ≡ Due.File c
+    → Follows y.machine at.member.actor.program ((record { read = p; ready = input_ready; did = Called c answer [] }) ∷ at.member.actor.past)
     → Meets old new (λ d e. Apply d p c answer e)
     → IsWorld new places (set actors i y) (known (events ++ call_event x.name p c answer ∷ [])) (events ++ call_event x.name p c answer ∷ []) p n
 call_keeps old new places actors events p n i x y c answer w at name ended list due follows made =
     let s = known events in
     let m = at.member in
     let k = call_event x.name p c answer in
-    let t = called s x.name p input_ready c answer 0 (Some m.actor) in
-    let is : known (events ++ k ∷ []) ≡ t = known_push events k ∙ ap (called s x.name p input_ready c answer 0) m.is in
+    let t = called s x.name p input_ready c (without_bytes answer) 0 (Some m.actor) in
+    let is : known (events ++ k ∷ []) ≡ t = known_push events k ∙ ap (called s x.name p input_ready c (without_bytes answer) 0) m.is in
     subst (λ (s : State). IsWorld new places (set actors i y) s (events ++ k ∷ []) p n) (sym is) (record {
       moment = w.moment;
       now = w.now;
       pid = w.pid ∙ sym (pid_push events k ∙ omega arith);
-      kept = crew_acts places actors s t events k p i x y w.kept at.is name (call_alone s x.name m.actor p input_ready c answer) (λ a. refl)
-          (call_member s events p x y input_ready c answer m at.lives name ended follows);
+      kept = crew_acts places actors s t events k p i x y w.kept at.is name (call_alone s x.name m.actor p input_ready c (without_bytes answer)) (λ a. refl)
+          (call_member s events p x y input_ready c (without_bytes answer) m at.lives name ended follows);
       opens = on_both old new (λ d. IsOpenTo d actors s) (λ d. IsOpenTo d (set actors i y) t) (λ d e. Apply d p c answer e)
           (λ d e applied o. call_open d e places actors s events p i x y at c answer w.kept name list due applied o) made w.opens;
     })
@@ -138,12 +143,13 @@ call_keeps old new places actors events p n i x y c answer w at name ended list 
 -- and its history goes on
 pub call_goes_on : (o : Disk) (old new : Option Disk) (places : List ℕ → Option ℕ) (actors : List Held) (events : List Kept) (p : ℕ) (h : List Event) (n i : ℕ) (x : Held) (c : CallData) (answer : Answer)
     → (at : StandsAt places actors (known events) events p i x)
-    → Next at.member.actor.args at.member.actor.past p input_ready ≡ Due.File c
+    → next_of at.member.actor.program at.member.actor.past p input_ready ≡ Due.File c
     → Meets old new (λ d e. Apply d p c answer e)
     → IsSomeAnd old (λ d. IsHistory o d events p h)
     → (e : Event) × IsSomeAnd new (λ d. IsHistory o d (events ++ call_event x.name p c answer ∷ []) p (e ∷ h))
 call_goes_on o old new places actors events p h n i x c answer at due made begun =
-    call_told o old new events p h x.name at.member.actor input_ready c answer (acting (known events) p x events at.member at.lives) due made begun
+    call_told o old new events p h x.name at.member.actor input_ready c (without_bytes answer) (acting (known events) p x events at.member at.lives) due
+    (met_by old new (λ d e. Apply d p c answer e) (λ d e. Apply d p c answer e × IsReadBy d c (without_bytes answer)) (λ d e applied. (applied, reads_none d c answer)) made) begun
 
 -- what an actor has open can be closed
 pub may_end : (told : Option Disk) (places : List ℕ → Option ℕ) (actors : List Held) (s : State) (events : List Kept) (p n i : ℕ) (x : Held)
@@ -163,7 +169,7 @@ shut_is old new places actors s events p n i x w at met =
 pub end_keeps : (old new : Option Disk) (places : List ℕ → Option ℕ) (actors : List Held) (events : List Kept) (p n i : ℕ) (x y : Held) (status : ℕ)
     → IsWorld old places actors (known events) events p n → (at : StandsAt places actors (known events) events p i x)
     → y.name ≡ x.name → y.ended ≡ Some (length events) → y.descriptors.items ≡ []
-    → Follows y.machine at.member.actor.args at.member.actor.past
+    → Follows y.machine at.member.actor.program at.member.actor.past
     → Meets old new (λ d e. e ≡ shut x.descriptors.items d)
     → IsWorld new places (set actors i y) (known (events ++ kept.End x.name p input_ready status ∷ [])) (events ++ kept.End x.name p input_ready status ∷ []) p n
 end_keeps old new places actors events p n i x y status w at name ended list follows made =
@@ -185,7 +191,7 @@ end_keeps old new places actors events p n i x y status w at name ended list fol
 
 pub end_goes_on : (o : Disk) (old new : Option Disk) (places : List ℕ → Option ℕ) (actors : List Held) (events : List Kept) (p : ℕ) (h : List Event) (n i : ℕ) (x : Held) (status : ℕ)
     → IsWorld old places actors (known events) events p n → (at : StandsAt places actors (known events) events p i x)
-    → Next at.member.actor.args at.member.actor.past p input_ready ≡ Due.Ended status
+    → next_of at.member.actor.program at.member.actor.past p input_ready ≡ Due.Ended status
     → Meets old new (λ d e. e ≡ shut x.descriptors.items d)
     → IsSomeAnd old (λ d. IsHistory o d events p h)
     → (e : Event) × IsSomeAnd new (λ d. IsHistory o d (events ++ kept.End x.name p input_ready status ∷ []) p (e ∷ h))
@@ -200,12 +206,12 @@ pub acted_keeps : (did : Option ℕ) (old new : Option Disk) (places : List ℕ 
 acted_keeps None old new places actors events later p n i x y w at acted =
     subst (λ (l : List Kept). IsWorld new places (set actors i y) (known l) l p n) (sym acted.event)
     (call_keeps old new places actors events p n i x y acted.call acted.told w at acted.name acted.ended acted.descriptors
-    (acted.due at.member.actor.args at.member.actor.past at.member.follows)
-    (acted.follows at.member.actor.args at.member.actor.past at.member.follows) acted.made)
+    (acted.due at.member.actor.program at.member.actor.past at.member.follows)
+    (acted.follows at.member.actor.program at.member.actor.past at.member.follows) acted.made)
 acted_keeps (Some status) old new places actors events later p n i x y w at acted =
     subst (λ (l : List Kept). IsWorld new places (set actors i y) (known l) l p n) (sym acted.event)
     (end_keeps old new places actors events p n i x y status w at acted.name acted.ended acted.descriptors
-    (acted.follows at.member.actor.args at.member.actor.past at.member.follows) acted.closed)
+    (acted.follows at.member.actor.program at.member.actor.past at.member.follows) acted.closed)
 
 pub acted_goes_on : (o : Disk) (did : Option ℕ) (old new : Option Disk) (places : List ℕ → Option ℕ) (actors : List Held) (events later : List Kept) (p : ℕ) (h : List Event) (n i : ℕ) (x y : Held)
     → IsWorld old places actors (known events) events p n → StandsAt places actors (known events) events p i x → HasActed did old new x y events later p
@@ -213,10 +219,10 @@ pub acted_goes_on : (o : Disk) (did : Option ℕ) (old new : Option Disk) (place
     → (e : Event) × IsSomeAnd new (λ d. IsHistory o d later p (e ∷ h))
 acted_goes_on o None old new places actors events later p h n i x y w at acted begun =
     subst (λ (l : List Kept). (e : Event) × IsSomeAnd new (λ d. IsHistory o d l p (e ∷ h))) (sym acted.event)
-    (call_goes_on o old new places actors events p h n i x acted.call acted.told at (acted.due at.member.actor.args at.member.actor.past at.member.follows) acted.made begun)
+    (call_goes_on o old new places actors events p h n i x acted.call acted.told at (acted.due at.member.actor.program at.member.actor.past at.member.follows) acted.made begun)
 acted_goes_on o (Some status) old new places actors events later p h n i x y w at acted begun =
     subst (λ (l : List Kept). (e : Event) × IsSomeAnd new (λ d. IsHistory o d l p (e ∷ h))) (sym acted.event)
-    (end_goes_on o old new places actors events p h n i x status w at (acted.due at.member.actor.args at.member.actor.past at.member.follows) acted.closed begun)
+    (end_goes_on o old new places actors events p h n i x status w at (acted.due at.member.actor.program at.member.actor.past at.member.follows) acted.closed begun)
 
 -- the actor that a place has
 pub stands_at : (told : Option Disk) (places : List ℕ → Option ℕ) (actors : List Held) (s : State) (events : List Kept) (p n i : ℕ) (a : List ℕ) (x : Held)
@@ -237,30 +243,30 @@ in_range told places actors s events p n a w i place =
     slice_get_within actors i named.0 named.1
 
 -- an actor started
-pub start_keeps : (told : Option Disk) (places next : List ℕ → Option ℕ) (actors : List Held) (events : List Kept) (p n q : ℕ) (y : Held) (a : List ℕ) (args : Arguments)
+pub start_keeps : (told : Option Disk) (places next : List ℕ → Option ℕ) (actors : List Held) (events : List Kept) (p n q : ℕ) (y : Held) (a : List ℕ) (program : Program)
     → IsWorld told places actors (known events) events p n → places a ≡ None → ((b : List ℕ) → next b ≡ put_at places a (Some (length actors)) b)
-    → y.name ≡ a → y.ended ≡ None → y.descriptors.items ≡ [] → Follows y.machine args [] → args.start ≡ p → q ≡ min (n + 1) (2 ^ 32 - 1)
-    → IsWorld told next (actors ++ y ∷ []) (known (events ++ kept.Start a (Injector args) ∷ [])) (events ++ kept.Start a (Injector args) ∷ []) p q
-start_keeps told places next actors events p n q y a args w new put name ended list follows start pid =
+    → y.name ≡ a → y.ended ≡ None → y.descriptors.items ≡ [] → Follows y.machine program [] → start_of program ≡ p → q ≡ min (n + 1) (2 ^ 32 - 1)
+    → IsWorld told next (actors ++ y ∷ []) (known (events ++ kept.Start a program ∷ [])) (events ++ kept.Start a program ∷ []) p q
+start_keeps told places next actors events p n q y a program w new put name ended list follows start pid =
     let s = known events in
-    let k = kept.Start a (Injector args) in
-    let t = happens s (Start a args) in
+    let k = kept.Start a program in
+    let t = happens s (Start a program) in
     let was = w.pid in
     subst (λ (s : State). IsWorld told next (actors ++ y ∷ []) s (events ++ k ∷ []) p q) (sym (known_push events k)) (record {
       moment = w.moment;
       now = w.now;
       pid = omega (arith, pid_push events k);
-      kept = crew_starts places actors s t events k p a y next w.kept new put name (start_alone s a args)
-          (start_member s events p y a args (w.kept.strangers a new) name ended follows start);
+      kept = crew_starts places actors s t events k p a y next w.kept new put name (start_alone s a program)
+          (start_member s events p y a program (w.kept.strangers a new) name ended follows start);
       opens = on_told told (λ d. IsOpenTo d actors s) (λ d. IsOpenTo d (actors ++ y ∷ []) t)
-          (λ d o. start_opens places actors s events p y a args d w.kept new name list o) w.opens;
+          (λ d o. start_opens places actors s events p y a program d w.kept new name list o) w.opens;
     })
 
-pub start_goes_on : (o : Disk) (told : Option Disk) (places : List ℕ → Option ℕ) (actors : List Held) (events : List Kept) (p : ℕ) (h : List Event) (n : ℕ) (a : List ℕ) (args : Arguments)
+pub start_goes_on : (o : Disk) (told : Option Disk) (places : List ℕ → Option ℕ) (actors : List Held) (events : List Kept) (p : ℕ) (h : List Event) (n : ℕ) (a : List ℕ) (program : Program)
     → IsWorld told places actors (known events) events p n → places a ≡ None
     → IsSomeAnd told (λ d. IsHistory o d events p h)
-    → (e : Event) × IsSomeAnd told (λ d. IsHistory o d (events ++ kept.Start a (Injector args) ∷ []) p (e ∷ h))
-start_goes_on o told places actors events p h n a args w new begun = start_told o told events p h a args (w.kept.strangers a new).unknown begun
+    → (e : Event) × IsSomeAnd told (λ d. IsHistory o d (events ++ kept.Start a program ∷ []) p (e ∷ h))
+start_goes_on o told places actors events p h n a program w new begun = start_told o told events p h a program (w.kept.strangers a new).unknown begun
 
 -- a world without actors
 pub new_keeps : (told : Option Disk) (places : List ℕ → Option ℕ) → ((a : List ℕ) → places a ≡ None) → IsWorld told places [] (known []) [] 0 77

@@ -5,22 +5,23 @@ use Rattle.call_fs.specs.declared.calls.Fd.{Fd}
 use Rattle.call_fs.specs.declared.calls.CallData.{CallData}
 use Rattle.call_fs.specs.declared.calls.Answer.{Answer}
 use Rattle.call_fs.specs.declared.calls.Answer.TheVariants as answer
+use Rattle.call_fs.specs.Calls.{without_bytes}
 use Rattle.call_fs.specs.Disk.{Disk}
 use Rattle.call_fs.specs.Steady.{IsSteadyAnswer}
 use Rattle.call_fs.specs.Told.{OnTold, Meets}
 use Rattle.call_fs.specs.Apply.{Apply, MayCall}
 use Rattle.call_fs.specs.Program.{Due, Own}
 use Rattle.call_fs.specs.Program.Did.{Called}
-use Rattle.queue_inject.specs.declared.injection.Arguments.{Arguments}
-use Rattle.queue_inject.specs.Table.{Next}
 use Rattle.queue_inject.specs.Machine.{Machine}
 use Rattle.mail_world.specs.declared.event.Event.{Event as Kept}
 use Rattle.mail_world.specs.declared.event.Event.TheVariants as kept
+use Rattle.mail_world.specs.declared.event.Program.{Program}
 use Rattle.mail_world.specs.declared.actor.Actor.{Actor as Held}
 use Rattle.mail_world.specs.declared.actor.Came.{Came}
 use Rattle.mail_world.specs.declared.actor.Came.TheVariants as came
 use Rattle.mail_world.specs.declared.error.WorldError.{WorldError}
 use Rattle.mail_world.specs.declared.error.WorldError.TheVariants as why
+use Rattle.mail_world.specs.History.{next_of}
 use Rattle.mail_world.specs.World.{input_ready}
 use Rattle.mail_world.specs.Inside.{Follows, has}
 
@@ -46,10 +47,10 @@ MayMake d other = Unit {0}
 
 -- a machine that may act at this moment
 pub record MayAct (disk : Option Disk) (machine : Machine) (now : ℕ) : Type 0 where
-  pub args : Arguments
+  pub program : Program
   pub past : List Own
-  pub follows : Follows machine args past
-  pub may : OnTold disk (λ d. MayMake d (Next args past now input_ready))
+  pub follows : Follows machine program past
+  pub may : OnTold disk (λ d. MayMake d (next_of program past now input_ready))
 
 -- what came was due
 abbrev pub due_by : Came → Due
@@ -72,15 +73,15 @@ with_call machine past call answer = (record { read = machine.present; ready = m
 
 -- a call that came, as it is kept
 abbrev pub call_event : List ℕ → ℕ → CallData → Answer → Kept
-call_event a now call answer = kept.Call a now input_ready call (record { answer = answer; bytes = [] })
+call_event a now call answer = kept.Call a now input_ready call (without_bytes answer)
 
 -- a step made a call, and the machine was told its answer
 pub record HasCalled (old new : Option Disk) (x y : Held) (before now_kept : List Kept) (now : ℕ) : Type 0 where
   pub call : CallData
   pub told : Answer
   pub event : now_kept ≡ before ++ call_event x.name now call told ∷ []
-  pub due : (args : Arguments) (past : List Own) → Follows x.machine args past → Next args past now input_ready ≡ Due.File call
-  pub follows : (args : Arguments) (past : List Own) → Follows x.machine args past → Follows y.machine args ((record { read = now; ready = input_ready; did = Called call told [] }) ∷ past)
+  pub due : (program : Program) (past : List Own) → Follows x.machine program past → next_of program past now input_ready ≡ Due.File call
+  pub follows : (program : Program) (past : List Own) → Follows x.machine program past → Follows y.machine program ((record { read = now; ready = input_ready; did = Called call told [] }) ∷ past)
   pub made : Meets old new (λ d e. Apply d now call told e)
   pub name : y.name ≡ x.name
   pub descriptors : y.descriptors.items ≡ x.descriptors.items ++ opened told
@@ -89,8 +90,8 @@ pub record HasCalled (old new : Option Disk) (x y : Held) (before now_kept : Lis
 -- a step was the actor's end, and what it had open is closed
 pub record HasEnded (status : ℕ) (old new : Option Disk) (x y : Held) (before now_kept : List Kept) (now : ℕ) : Type 0 where
   pub event : now_kept ≡ before ++ kept.End x.name now input_ready status ∷ []
-  pub due : (args : Arguments) (past : List Own) → Follows x.machine args past → Next args past now input_ready ≡ Due.Ended status
-  pub follows : (args : Arguments) (past : List Own) → Follows x.machine args past → Follows y.machine args past
+  pub due : (program : Program) (past : List Own) → Follows x.machine program past → next_of program past now input_ready ≡ Due.Ended status
+  pub follows : (program : Program) (past : List Own) → Follows x.machine program past → Follows y.machine program past
   pub closed : Meets old new (λ d e. e ≡ shut x.descriptors.items d)
   pub name : y.name ≡ x.name
   pub descriptors : y.descriptors.items ≡ []
@@ -102,7 +103,7 @@ HasActed (Some status) old new x y before now_kept now = HasEnded status old new
 
 -- the machine has looked, and nothing came of it
 pub record HasLooked (x y : Held) : Type 0 where
-  pub follows : (args : Arguments) (past : List Own) → Follows x.machine args past → Follows y.machine args past
+  pub follows : (program : Program) (past : List Own) → Follows x.machine program past → Follows y.machine program past
   pub name : y.name ≡ x.name
   pub descriptors : y.descriptors.items ≡ x.descriptors.items
   pub ended : y.ended ≡ x.ended

@@ -8,6 +8,9 @@ use Rattle.queue_inject.specs.declared.injection.Arguments.{Arguments}
 use Rattle.queue_inject.specs.declared.row.Row.TheVariants as Row
 use Rattle.queue_inject.specs.Table.{row_after}
 use Rattle.queue_inject.specs.Texts.{message_text, intd_text, entered, todo_of, recipients_of}
+use Rattle.call_fs.specs.Program.{Own}
+use Rattle.mail_world.specs.declared.event.Program.{Program}
+use Rattle.mail_world.specs.declared.event.Program.TheVariants.{Injector}
 use Rattle.mail_world.specs.declared.queue_states.State.TheVariants.{Other}
 use Rattle.mail_world.specs.States.{state_of}
 use Rattle.mail_world.specs.History.{Event, Actor, Injection, Books, State, after, Legal}
@@ -32,6 +35,18 @@ pub record IsValid (args : Arguments) : Type 0 where
 pub data Accounted (s : State) (q : Injection) (recipient : ℕ) : Type 0 where
   Pending : s.books.living q.number ≡ Some q → IsPending s.disk q → Accounted s q recipient
 
+-- an accepted injection of that actor, with its arguments
+abbrev pub HasQueued : Books → List ℕ → Arguments → Type 0
+HasQueued b a args = (q : Injection) × IsInjected b q × (q.actor ≡ a) × (q.args ≡ args) × (q.accepted ≡ true)
+
+-- what the past of a program has put into the books: where an injector has queued its message, its accepted injection
+abbrev pub IsBooked : Books → List ℕ → Program → List Own → Type 0
+IsBooked b a (Injector args) past = row_after args past ≡ Row.Queued → HasQueued b a args
+
+-- what a program's end with 0 says: an injector's, that it has an accepted injection
+abbrev pub EndsWell : Books → List ℕ → Program → Type 0
+EndsWell b a (Injector args) = HasQueued b a args
+
 pub record Safe (s : State) : Type 0 where
   -- each number is in one of the states S1 to S5
   pub states : (n : ℕ) → state_of s.disk n ≢ Other
@@ -45,9 +60,9 @@ pub record Safe (s : State) : Type 0 where
   -- each recipient of each accepted injection is accounted for
   pub accounted : (q : Injection) → IsInjected s.books q → q.accepted ≡ true → (recipient : ℕ) → recipient < length (recipients_of q.args) → Accounted s q recipient
   -- an injector's Ok link to todo accepts its injection, however it ends
-  pub queued : (a : List ℕ) (x : Actor) → s.actors a ≡ Some x → row_after x.args x.past ≡ Row.Queued → (q : Injection) × IsInjected s.books q × (q.actor ≡ a) × (q.args ≡ x.args) × (q.accepted ≡ true)
-  -- an end with 0 comes only of an accepted injection
-  pub ends : (a : List ℕ) (x : Actor) → s.actors a ≡ Some x → x.life ≡ Over 0 → (q : Injection) × IsInjected s.books q × (q.actor ≡ a) × (q.args ≡ x.args) × (q.accepted ≡ true)
+  pub queued : (a : List ℕ) (x : Actor) → s.actors a ≡ Some x → IsBooked s.books a x.program x.past
+  -- an injector's end with 0 comes only of an accepted injection
+  pub ends : (a : List ℕ) (x : Actor) → s.actors a ≡ Some x → x.life ≡ Over 0 → EndsWell s.books a x.program
 
 -- However the calls interleave and wherever a program or the machine stops: each prefix of a legal history is safe.
 abbrev pub Headline : Type 0

@@ -5,10 +5,11 @@ use Rattle.call_fs.specs.declared.calls.CallData.{CallData}
 use Rattle.call_fs.specs.declared.calls.CallData.TheVariants.{Close, Link}
 use Rattle.call_fs.specs.declared.calls.Answer.{Answer}
 use Rattle.call_fs.specs.declared.calls.Answer.TheVariants.{Created, Opened, Done}
+use Rattle.call_fs.specs.declared.calls.Told.{Told}
 use Rattle.call_fs.specs.declared.program.Ready.{Ready}
 use Rattle.call_fs.specs.Maps.{put, put_at}
 use Rattle.call_fs.specs.Disk.{Disk, IsMoment}
-use Rattle.call_fs.specs.Apply.{effect, Fits}
+use Rattle.call_fs.specs.Apply.{effect, Fits, IsReadBy}
 use Rattle.call_fs.specs.Survival.{AllSurvive, halted}
 use Rattle.call_fs.specs.Program.{Due, Own}
 use Rattle.call_fs.specs.Program.Did.{Called}
@@ -18,12 +19,14 @@ use Rattle.queue_inject.specs.Names.{Name, Part, path, parse}
 use Rattle.queue_inject.specs.Names.Name.{Of}
 use Rattle.queue_inject.specs.Names.Part.{Mess, Intd, Todo}
 use Rattle.queue_inject.specs.Table.{Next}
+use Rattle.mail_world.specs.declared.event.Program.{Program}
+use Rattle.mail_world.specs.declared.event.Program.TheVariants.{Injector}
 
 -- One event. `wrote` is how many bytes a failed write had written, which no program is told. `contents` is what a
 -- machine stop left of each file.
 pub data Event : Type 0 where
-  Start : (actor : List ℕ) (args : Arguments) → Event
-  Call : (actor : List ℕ) (read : ℕ) (ready : Ready) (call : CallData) (answer : Answer) (wrote : ℕ) → Event
+  Start : (actor : List ℕ) (program : Program) → Event
+  Call : (actor : List ℕ) (read : ℕ) (ready : Ready) (call : CallData) (told : Told) (wrote : ℕ) → Event
   End : (actor : List ℕ) (read : ℕ) (ready : Ready) (status : ℕ) → Event
   Stop : (actor : List ℕ) → Event
   Moment : ℕ → Event
@@ -31,12 +34,20 @@ pub data Event : Type 0 where
 
 -- any start
 abbrev pub is_start : Event → Bool
-is_start (Start a args) = true
-is_start (Call a read ready call answer wrote) = false
+is_start (Start a program) = true
+is_start (Call a read ready call told wrote) = false
 is_start (End a read ready status) = false
 is_start (Stop a) = false
 is_start (Moment m) = false
 is_start (Halt contents) = false
+
+-- what a program must do next: after this past, newest event first, at this moment, with this ready
+abbrev pub next_of : Program → List Own → ℕ → Ready → Due
+next_of (Injector args) past now ready = Next args past now ready
+
+-- the moment at which a program was started
+abbrev pub start_of : Program → ℕ
+start_of (Injector args) = args.start
 
 -- alive, ended with a status, or stopped from outside
 pub data Life : Type 0 where
@@ -44,9 +55,9 @@ pub data Life : Type 0 where
   Over : (status : ℕ) → Life
   Stopped : Life
 
--- an actor: an injector with its arguments, its own past, newest event first, and whether it lives
+-- an actor: the program that it runs, its own past, newest event first, and whether it lives
 pub record Actor : Type 0 where
-  pub args : Arguments
+  pub program : Program
   pub past : List Own
   pub life : Life
 
@@ -94,6 +105,10 @@ abbrev pub booked : Books → List ℕ → Arguments → CallData → Answer →
 booked b a args (Link old new) Done = linked b a args old (parse new)
 booked b a args call answer = b
 
+-- what they say after a call, by the program that made it
+abbrev pub booked_by : Books → List ℕ → Program → CallData → Answer → Books
+booked_by b a (Injector args) call answer = booked b a args call answer
+
 -- whose each descriptor is after a call
 abbrev pub held_by : (ℕ → Option (List ℕ)) → List ℕ → CallData → Answer → ℕ → Option (List ℕ)
 held_by holder a call (Created fd n) = put holder fd.0 (Some a)
@@ -101,18 +116,18 @@ held_by holder a call (Opened fd) = put holder fd.0 (Some a)
 held_by holder a (Close fd) Done = put holder fd.0 None
 held_by holder a call answer = holder
 
-abbrev pub called : State → List ℕ → ℕ → Ready → CallData → Answer → ℕ → Option Actor → State
-called s a read ready call answer wrote None = s
-called s a read ready call answer wrote (Some x) = record {
-  disk = effect s.disk read call answer wrote;
-  holder = held_by s.holder a call answer;
+abbrev pub called : State → List ℕ → ℕ → Ready → CallData → Told → ℕ → Option Actor → State
+called s a read ready call told wrote None = s
+called s a read ready call told wrote (Some x) = record {
+  disk = effect s.disk read call told.answer wrote;
+  holder = held_by s.holder a call told.answer;
   now = s.now;
   actors = put_at s.actors a (Some (record {
-    args = x.args;
-    past = (record { read = read; ready = ready; did = Called call answer [] }) ∷ x.past;
+    program = x.program;
+    past = (record { read = read; ready = ready; did = Called call told.answer told.bytes }) ∷ x.past;
     life = x.life;
   }));
-  books = booked s.books a x.args call answer;
+  books = booked_by s.books a x.program call told.answer;
 }
 
 -- a descriptor of that actor is gone
@@ -131,7 +146,7 @@ finished s a life (Some x) = record {
   disk = shut_by a s.holder s.disk;
   holder = λ fd. unless_by a (s.holder fd) (s.holder fd);
   now = s.now;
-  actors = put_at s.actors a (Some (record { args = x.args; past = x.past; life = life }));
+  actors = put_at s.actors a (Some (record { program = x.program; past = x.past; life = life }));
   books = s.books;
 }
 
@@ -141,18 +156,18 @@ cut_off (Over status) = Over status
 cut_off Stopped = Stopped
 
 abbrev pub stopped : Actor → Actor
-stopped x = record { args = x.args; past = x.past; life = cut_off x.life }
+stopped x = record { program = x.program; past = x.past; life = cut_off x.life }
 
 -- the state after one event more
 abbrev pub happens : State → Event → State
-happens s (Start a args) = record {
+happens s (Start a program) = record {
   disk = s.disk;
   holder = s.holder;
   now = s.now;
-  actors = put_at s.actors a (Some (record { args = args; past = []; life = Alive }));
+  actors = put_at s.actors a (Some (record { program = program; past = []; life = Alive }));
   books = s.books;
 }
-happens s (Call a read ready call answer wrote) = called s a read ready call answer wrote (s.actors a)
+happens s (Call a read ready call told wrote) = called s a read ready call told wrote (s.actors a)
 happens s (End a read ready status) = finished s a (Over status) (s.actors a)
 happens s (Stop a) = finished s a Stopped (s.actors a)
 happens s (Moment m) = record { disk = s.disk; holder = s.holder; now = m; actors = s.actors; books = s.books }
@@ -165,35 +180,36 @@ happens s (Halt contents) = record {
 }
 
 -- the last moment that an actor read
-abbrev pub latest : Arguments → List Own → ℕ
-latest args [] = args.start
-latest args (event ∷ before) = event.read
+abbrev pub latest : Program → List Own → ℕ
+latest program [] = start_of program
+latest program (event ∷ before) = event.read
 
 -- A living actor may read this moment: none that lies before one that it read, or after the present one, and none
 -- that lies over twelve hours back.
 pub record MayRead (s : State) (a : List ℕ) (x : Actor) (read : ℕ) : Type 0 where
   pub is : s.actors a ≡ Some x
   pub alive : x.life ≡ Alive
-  pub no_earlier : latest x.args x.past ≤ read
+  pub no_earlier : latest x.program x.past ≤ read
   pub no_later : read ≤ s.now
   pub no_stall : s.now ≤ read + 43200
 
 -- a start takes a name that no actor had
-pub record MayStart (s : State) (a : List ℕ) (args : Arguments) : Type 0 where
+pub record MayStart (s : State) (a : List ℕ) (program : Program) : Type 0 where
   pub new : s.actors a ≡ None
 
--- a call that is next by the actor's table, with an answer that the disk may give
-pub record MayCall (s : State) (a : List ℕ) (read : ℕ) (ready : Ready) (call : CallData) (answer : Answer) (wrote : ℕ) : Type 0 where
+-- a call that is next by the actor's table, with an answer that the disk may give, and the bytes of a read
+pub record MayCall (s : State) (a : List ℕ) (read : ℕ) (ready : Ready) (call : CallData) (told : Told) (wrote : ℕ) : Type 0 where
   pub actor : Actor
   pub reads : MayRead s a actor read
-  pub due : Next actor.args actor.past read ready ≡ Due.File call
-  pub fits : Fits s.disk call answer wrote
+  pub due : next_of actor.program actor.past read ready ≡ Due.File call
+  pub fits : Fits s.disk call told.answer wrote
+  pub bytes : IsReadBy s.disk call told
 
 -- an end that is next by the actor's table
 pub record MayEnd (s : State) (a : List ℕ) (read : ℕ) (ready : Ready) (status : ℕ) : Type 0 where
   pub actor : Actor
   pub reads : MayRead s a actor read
-  pub due : Next actor.args actor.past read ready ≡ Due.Ended status
+  pub due : next_of actor.program actor.past read ready ≡ Due.Ended status
 
 pub record IsLiving (s : State) (a : List ℕ) : Type 0 where
   pub actor : Actor
@@ -207,8 +223,8 @@ pub record MayCome (s : State) (m : ℕ) : Type 0 where
 
 -- which events may happen in a state
 abbrev pub Allowed : State → Event → Type 0
-Allowed s (Start a args) = MayStart s a args
-Allowed s (Call a read ready call answer wrote) = MayCall s a read ready call answer wrote
+Allowed s (Start a program) = MayStart s a program
+Allowed s (Call a read ready call told wrote) = MayCall s a read ready call told wrote
 Allowed s (End a read ready status) = MayEnd s a read ready status
 Allowed s (Stop a) = IsLiving s a
 Allowed s (Moment m) = MayCome s m

@@ -13,6 +13,7 @@ use Rattle.queue_inject.specs.Machine.{Machine, is_told}
 use Rattle.queue_inject.specs.Stands.{Stands}
 use Rattle.mail_world.specs.declared.event.Event.{Event as Kept}
 use Rattle.mail_world.specs.declared.event.Event.TheVariants as kept
+use Rattle.mail_world.specs.declared.event.Program.{Program}
 use Rattle.mail_world.specs.declared.event.Program.TheVariants.{Injector}
 use Rattle.mail_world.specs.declared.actor.Actor.{Actor as Held}
 use Rattle.mail_world.specs.History.{Event, Actor, State, after, latest}
@@ -22,8 +23,8 @@ use Rattle.mail_world.specs.World.{EndsAt, was_started, next_pid}
 
 -- a kept event, read as one whose failed write had written nothing
 abbrev pub event_of : Kept → Event
-event_of (kept.Start a (Injector args)) = Start a args
-event_of (kept.Call a read ready call told) = Call a read ready call told.answer 0
+event_of (kept.Start a program) = Start a program
+event_of (kept.Call a read ready call told) = Call a read ready call told 0
 event_of (kept.End a read ready status) = End a read ready status
 
 -- any disk
@@ -34,17 +35,21 @@ nowhere = record { dirs = []; names = λ _. None; files = λ _. record { bytes =
 abbrev pub known : List Kept → State
 known events = after nowhere (map event_of (reverse events))
 
--- a machine stands for this past, and was told its whole input
-pub record Follows (machine : Machine) (args : Arguments) (past : List Own) : Type 0 where
+-- an injector's machine stands for this past, and was told its whole input
+pub record Injects (machine : Machine) (args : Arguments) (past : List Own) : Type 0 where
   pub stands : Stands machine args past
   pub told : IsTrue (is_told machine)
+
+-- a machine is that of this program with this past
+abbrev pub Follows : Machine → Program → List Own → Type 0
+Follows machine (Injector args) past = Injects machine args past
 
 -- what is kept of an actor is what is known of it
 pub record IsMember (s : State) (events : List Kept) (present : ℕ) (x : Held) : Type 0 where
   pub actor : Actor
   pub is : s.actors x.name ≡ Some actor
-  pub follows : Follows x.machine actor.args actor.past
-  pub in_order : latest actor.args actor.past ≤ present
+  pub follows : Follows x.machine actor.program actor.past
+  pub in_order : latest actor.program actor.past ≤ present
   pub alive : x.ended ≡ None → actor.life ≡ Alive
   pub ends : (at : ℕ) → EndsAt events x.name at ↔ (x.ended ≡ Some at)
 
@@ -93,11 +98,15 @@ HasRow d holder a (at.AppendTodo n fd done) = IsOwn d holder a fd.0
 HasRow d holder a (at.SyncTodo n fd) = IsOwn d holder a fd.0
 HasRow d holder a row = Unit {0}
 
+-- what a program with this past needs open
+abbrev pub HasNeeds : Disk → (ℕ → Option (List ℕ)) → List ℕ → Program → List Own → Type 0
+HasNeeds d holder a (Injector args) past = HasRow d holder a (row_after args past)
+
 -- what an actor has open is its own, and what it needs is open
 pub record HasOpen (d : Disk) (s : State) (x : Held) : Type 0 where
   pub lists : (fd : ℕ) → has fd x.descriptors.items ≡ is_by x.name (s.holder fd)
   pub apart : AreApart x.descriptors.items
-  pub needs : (actor : Actor) → s.actors x.name ≡ Some actor → actor.life ≡ Alive → HasRow d s.holder x.name (row_after actor.args actor.past)
+  pub needs : (actor : Actor) → s.actors x.name ≡ Some actor → actor.life ≡ Alive → HasNeeds d s.holder x.name actor.program actor.past
 
 -- what an actor holds is open
 pub record IsOpenTo (d : Disk) (actors : List Held) (s : State) : Type 0 where

@@ -4,6 +4,7 @@ use Rattle.std.specs.List.{AllZip, list_any, slice_get}
 use Rattle.call_fs.specs.declared.calls.CallData.{CallData}
 use Rattle.call_fs.specs.declared.calls.Answer.{Answer}
 use Rattle.call_fs.specs.declared.program.Ready.{Ready}
+use Rattle.call_fs.specs.Calls.{without_bytes}
 use Rattle.call_fs.specs.Disk.{Disk}
 use Rattle.call_fs.specs.Steady.{IsSteadyAnswer}
 use Rattle.call_fs.specs.Told.{OnTold}
@@ -19,8 +20,8 @@ use Rattle.mail_world.specs.Headline.{Safe}
 
 -- A kept event tells an event: all of it but how much a failed write had written, which no program is told.
 abbrev pub Tells : Kept → Event → Type 0
-Tells event (Start a args) = event ≡ kept.Start a (Injector args)
-Tells event (Call a read ready call answer wrote) = event ≡ kept.Call a read ready call (record { answer = answer; bytes = [] })
+Tells event (Start a program) = event ≡ kept.Start a program
+Tells event (Call a read ready call told wrote) = event ≡ kept.Call a read ready call told
 Tells event (End a read ready status) = event ≡ kept.End a read ready status
 Tells event (Stop a) = ⊥
 Tells event (Moment m) = ⊥
@@ -115,7 +116,7 @@ started_world old name message envelope = record {
 -- A step of that actor appends one event: a file call with its answer, or the end that was told.
 abbrev pub IsStep : {D : Type 0} → List ℕ → Option ℕ → Seen D → Seen D → Type 0
 IsStep a None old new =
-    (call : CallData) × (answer : Answer) × (new.events ≡ old.events ++ kept.Call a old.present input_ready call (record { answer = answer; bytes = [] }) ∷ [])
+    (call : CallData) × (answer : Answer) × (new.events ≡ old.events ++ kept.Call a old.present input_ready call (without_bytes answer) ∷ [])
 IsStep a (Some status) old new = new.events ≡ old.events ++ kept.End a old.present input_ready status ∷ []
 
 -- an event that a steady disk, which is this one before it, lets happen

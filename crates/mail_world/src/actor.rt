@@ -4,9 +4,10 @@ ghost use Rattle.call_fs.specs.declared.calls.CallData.{CallData as Made};
 ghost use Rattle.call_fs.specs.Disk.{IsMoment};
 ghost use Rattle.call_fs.specs.Told.{OnTold, Meets};
 ghost use Rattle.call_fs.specs.Program.{Own};
-ghost use Rattle.queue_inject.specs.declared.injection.Arguments.{Arguments as Started};
-ghost use Rattle.queue_inject.specs.Table.{Next};
 ghost use Rattle.queue_inject.specs.Machine.{due_now, is_call};
+ghost use Rattle.mail_world.specs.declared.event.Program.{Program};
+ghost use Rattle.mail_world.specs.declared.event.Program.TheVariants.{Injector as Injecting};
+ghost use Rattle.mail_world.specs.History.{next_of};
 ghost use Rattle.mail_world.specs.World.{mail, input_ready, StaysSteady};
 ghost use Rattle.mail_world.specs.Inside.{Follows};
 ghost use Rattle.mail_world.specs.Acting.{MayAct, AreOpen, due_by, IsMade, IsSteadyCame, HasActed, HasLooked, with_call, opened, shut};
@@ -71,16 +72,16 @@ impl Actor {
     fn ask<D: CallFs>(&mut self, alloc: Global, disk: &mut D, now: u64) -> Result<Came, Memory>
         requires moment { IsMoment now }
         requires may { MayAct (D.disk disk.old) self.old.machine now }
-        ensures due { IfOk result (λ came. (args : Started) (past : List Own)
-            → Follows self.old.machine args past → Next args past now input_ready ≡ due_by came) }
+        ensures due { IfOk result (λ came. (program : Program) (past : List Own)
+            → Follows self.old.machine program past → next_of program past now input_ready ≡ due_by came) }
         ensures made { IfOk result (λ came. IsMade came now (D.disk disk.old) (D.disk disk.new)) }
         ensures steady { IfOk result (λ came. D.steady disk.old → D.steady disk.new
             × OnTold (D.disk disk.old) (λ before. IsSteadyCame before came)) }
         ensures room { OnOk result (vec_len self.new.descriptors < vec_capacity self.new.descriptors) }
 
         // The machine stands as before, and has read this moment.
-        ensures follows { (args : Started) (past : List Own)
-            → Follows self.old.machine args past → Follows self.new.machine args past }
+        ensures follows { (program : Program) (past : List Own)
+            → Follows self.old.machine program past → Follows self.new.machine program past }
         ensures present { OnOk result (self.new.machine.present ≡ now) }
         ensures ready { OnOk result (self.new.machine.ready ≡ input_ready) }
         ensures due_now { IfOk result (λ came. due_now self.new.machine ≡ due_by came) }
@@ -161,8 +162,8 @@ impl Actor {
     fn take(&mut self, answer: Answer)
         requires due { IsTrue (is_call (due_now self.old.machine)) }
         requires room { vec_len self.old.descriptors < vec_capacity self.old.descriptors }
-        ensures follows { (args : Started) (past : List Own) (call : Made) → Follows self.old.machine args past
-            → Follows self.new.machine args (with_call self.old.machine past call answer) }
+        ensures follows { (program : Program) (past : List Own) (call : Made) → Follows self.old.machine program past
+            → Follows self.new.machine program (with_call self.old.machine past call answer) }
         ensures descriptors { self.new.descriptors.items ≡ self.old.descriptors.items ++ opened answer }
         ensures name { self.new.name ≡ self.old.name }
         ensures ended { self.new.ended ≡ self.old.ended }
@@ -229,7 +230,8 @@ pub fn injector_of(
     envelope: &[u8],
 ) -> Result<Injector, Memory>
     requires { IsMoment start }
-    ensures { IfOk result (λ machine. Follows machine (mail pid start message.now envelope.now) []) }
+    ensures { IfOk result (λ machine.
+        Follows machine (Injecting (mail pid start message.now envelope.now)) []) }
 {
     let Some(room) = message.len().checked_add(envelope.len()) else {
         return Err(AllocError);

@@ -8,10 +8,11 @@ use Rattle.call_fs.specs.declared.calls.CallData.{CallData}
 use Rattle.call_fs.specs.declared.calls.CallData.TheVariants.{Link}
 use Rattle.call_fs.specs.declared.calls.Answer.{Answer}
 use Rattle.call_fs.specs.declared.calls.Answer.TheVariants.{Created, Opened, Count, Done, Stat as Stated, Name as Named, NoName, Refused}
+use Rattle.call_fs.specs.declared.calls.Told.{Told}
 use Rattle.call_fs.specs.declared.program.Ready.{Ready}
 use Rattle.call_fs.specs.Disk.{Disk}
 use Rattle.call_fs.specs.Maps.{put_at}
-use Rattle.call_fs.specs.Program.{Due}
+use Rattle.call_fs.specs.Program.{Due, Own}
 use Rattle.queue_inject.specs.declared.injection.Arguments.{Arguments}
 use Rattle.queue_inject.specs.declared.row.Row.{Row}
 use Rattle.queue_inject.specs.declared.row.Row.TheVariants as at
@@ -23,7 +24,9 @@ use Rattle.queue_inject.specs.Texts.{recipients_of}
 use Rattle.queue_inject.proofs.Paths.{exact}
 use Rattle.mail_world.specs.declared.event.Event.{Event as Kept}
 use Rattle.mail_world.specs.declared.event.Event.TheVariants as kept
-use Rattle.mail_world.specs.History.{Event, Actor, Life, State, MayCall, called, finished, happens, after, Legal}
+use Rattle.mail_world.specs.declared.event.Program.{Program}
+use Rattle.mail_world.specs.declared.event.Program.TheVariants.{Injector}
+use Rattle.mail_world.specs.History.{Event, Actor, Life, State, next_of, MayCall, called, finished, happens, after, Legal}
 use Rattle.mail_world.specs.History.Event.{Start, Call, End, Stop, Moment, Halt}
 use Rattle.mail_world.specs.History.Life.{Alive, Over}
 use Rattle.mail_world.specs.World.{Tells}
@@ -83,9 +86,12 @@ timely true false (Due.File own) call h = h
 timely false late (Due.File own) call h = absurd (cc)
 timely input late due call h = absurd (cc)
 
-call_agrees : (s : State) (a : List ℕ) (read : ℕ) (ready : Ready) (call : CallData) (answer : Answer) (wrote : ℕ)
-    → MayCall s a read ready call answer wrote → is_accepting call answer ≡ queues call answer
-call_agrees s a read ready call answer wrote may = row_agrees may.actor.args _ call (timely _ _ _ call may.due) answer
+next_agrees : (program : Program) (past : List Own) (read : ℕ) (ready : Ready) (call : CallData) → next_of program past read ready ≡ Due.File call → Agrees call
+next_agrees (Injector args) past read ready call due = row_agrees args _ call (timely _ _ _ call due)
+
+call_agrees : (s : State) (a : List ℕ) (read : ℕ) (ready : Ready) (call : CallData) (got : Told) (wrote : ℕ)
+    → MayCall s a read ready call got wrote → is_accepting call got.answer ≡ queues call got.answer
+call_agrees s a read ready call got wrote may = next_agrees may.actor.program may.actor.past read ready call may.due got.answer
 
 -- An actor's life, as its fate tells it.
 
@@ -142,18 +148,18 @@ fares_told : (d : Disk) (events : List Kept) (h : List Event) → Legal d h → 
 fares_told d [] [] legal told a = refl
 fares_told d [] (e ∷ h) legal told a = absurd told
 fares_told d (k ∷ events) [] legal told a = absurd told
-fares_told d (k ∷ events) ((Start b args) ∷ h) legal told a =
+fares_told d (k ∷ events) ((Start b program) ∷ h) legal told a =
     let s = after d h in
     let before = fares_told d events h legal.0 told.1 in
-    subst (λ (k : Kept). Fares ((happens s (Start b args)).actors a) (fate_by k (fate_in events) a)) (sym told.0)
+    subst (λ (k : Kept). Fares ((happens s (Start b program)).actors a) (fate_by k (fate_in events) a)) (sym told.0)
     (start_fares s.actors (fate_in events) b _ refl legal.1.new before a)
-fares_told d (k ∷ events) ((Call b read ready call answer wrote) ∷ h) legal told a =
+fares_told d (k ∷ events) ((Call b read ready call got wrote) ∷ h) legal told a =
     let s = after d h in
     let before = fares_told d events h legal.0 told.1 in
     let x = legal.1.actor in
-    subst (λ (k : Kept). Fares ((happens s (Call b read ready call answer wrote)).actors a) (fate_by k (fate_in events) a)) (sym told.0)
-    (subst (λ (o : Option Actor). Fares ((called s b read ready call answer wrote o).actors a) (fate_by (kept.Call b read ready call (record { answer = answer; bytes = [] })) (fate_in events) a)) (sym legal.1.reads.is)
-    (call_fares s.actors (fate_in events) (queues call answer) b x _ refl legal.1.reads.is before a))
+    subst (λ (k : Kept). Fares ((happens s (Call b read ready call got wrote)).actors a) (fate_by k (fate_in events) a)) (sym told.0)
+    (subst (λ (o : Option Actor). Fares ((called s b read ready call got wrote o).actors a) (fate_by (kept.Call b read ready call got) (fate_in events) a)) (sym legal.1.reads.is)
+    (call_fares s.actors (fate_in events) (queues call got.answer) b x _ refl legal.1.reads.is before a))
 fares_told d (k ∷ events) ((End b read ready status) ∷ h) legal told a =
     let s = after d h in
     let before = fares_told d events h legal.0 told.1 in
@@ -193,11 +199,11 @@ accepted_told : (d : Disk) (events : List Kept) (h : List Event) → Legal d h �
 accepted_told d [] [] legal told a = refl
 accepted_told d [] (e ∷ h) legal told a = absurd told
 accepted_told d (k ∷ events) [] legal told a = absurd told
-accepted_told d (k ∷ events) ((Start b args) ∷ h) legal told a =
+accepted_told d (k ∷ events) ((Start b program) ∷ h) legal told a =
     accepted_told d events h legal.0 told.1 a ∙ sym (ap (λ (k : Kept). (fate_by k (fate_in events) a).accepted) told.0)
-accepted_told d (k ∷ events) ((Call b read ready call answer wrote) ∷ h) legal told a =
-    ap (λ t. (bytes_eq b a && t) || is_accepted a h) (call_agrees (after d h) b read ready call answer wrote legal.1)
-    ∙ accept_step (fate_in events) (queues call answer) (is_accepted a h) b a (accepted_told d events h legal.0 told.1 a)
+accepted_told d (k ∷ events) ((Call b read ready call got wrote) ∷ h) legal told a =
+    ap (λ t. (bytes_eq b a && t) || is_accepted a h) (call_agrees (after d h) b read ready call got wrote legal.1)
+    ∙ accept_step (fate_in events) (queues call got.answer) (is_accepted a h) b a (accepted_told d events h legal.0 told.1 a)
     ∙ sym (ap (λ (k : Kept). (fate_by k (fate_in events) a).accepted) told.0)
 accepted_told d (k ∷ events) ((End b read ready status) ∷ h) legal told a =
     accepted_told d events h legal.0 told.1 a
@@ -211,8 +217,8 @@ accepted_told d (k ∷ events) ((Halt contents) ∷ h) legal told a = absurd tol
 
 abbrev IsStarted : List ℕ → List Event → Type 0
 IsStarted a [] = ⊥
-IsStarted a ((Start b args) ∷ h) = (b ≡ a) ⊎ IsStarted a h
-IsStarted a ((Call b read ready call answer wrote) ∷ h) = IsStarted a h
+IsStarted a ((Start b program) ∷ h) = (b ≡ a) ⊎ IsStarted a h
+IsStarted a ((Call b read ready call got wrote) ∷ h) = IsStarted a h
 IsStarted a ((End b read ready status) ∷ h) = IsStarted a h
 IsStarted a ((Stop b) ∷ h) = IsStarted a h
 IsStarted a ((Moment m) ∷ h) = IsStarted a h
@@ -224,10 +230,10 @@ some_put actors b x a h = ⊎_elim
     (λ w. ap is_some w.1 ∙ ⊎_elim (λ e. absurd (w.0 (sym e))) (λ s. s) h)
     (put_at_cases actors b (Some x) a)
 
-some_called : (s : State) (b : List ℕ) (read : ℕ) (ready : Ready) (call : CallData) (answer : Answer) (wrote : ℕ) (o : Option Actor) (a : List ℕ)
-    → IsSome (s.actors a) → IsSome ((called s b read ready call answer wrote o).actors a)
-some_called s b read ready call answer wrote None a h = h
-some_called s b read ready call answer wrote (Some x) a h = some_put s.actors b _ a (inr h)
+some_called : (s : State) (b : List ℕ) (read : ℕ) (ready : Ready) (call : CallData) (got : Told) (wrote : ℕ) (o : Option Actor) (a : List ℕ)
+    → IsSome (s.actors a) → IsSome ((called s b read ready call got wrote o).actors a)
+some_called s b read ready call got wrote None a h = h
+some_called s b read ready call got wrote (Some x) a h = some_put s.actors b _ a (inr h)
 
 some_finished : (s : State) (b : List ℕ) (life : Life) (o : Option Actor) (a : List ℕ) → IsSome (s.actors a) → IsSome ((finished s b life o).actors a)
 some_finished s b life None a h = h
@@ -237,10 +243,10 @@ started_some : (d : Disk) (events : List Kept) (h : List Event) → AllZip Tells
 started_some d [] [] told a was = absurd was
 started_some d [] (e ∷ h) told a was = absurd told
 started_some d (k ∷ events) [] told a was = absurd told
-started_some d (k ∷ events) ((Start b args) ∷ h) told a was =
+started_some d (k ∷ events) ((Start b program) ∷ h) told a was =
     some_put (after d h).actors b _ a (⊎_elim (λ e. inl e) (λ w. inr (started_some d events h told.1 a w)) was)
-started_some d (k ∷ events) ((Call b read ready call answer wrote) ∷ h) told a was =
-    some_called (after d h) b read ready call answer wrote ((after d h).actors b) a (started_some d events h told.1 a was)
+started_some d (k ∷ events) ((Call b read ready call got wrote) ∷ h) told a was =
+    some_called (after d h) b read ready call got wrote ((after d h).actors b) a (started_some d events h told.1 a was)
 started_some d (k ∷ events) ((End b read ready status) ∷ h) told a was =
     some_finished (after d h) b (Over status) ((after d h).actors b) a (started_some d events h told.1 a was)
 started_some d (k ∷ events) ((Stop b) ∷ h) told a was = absurd told.0
@@ -269,13 +275,13 @@ lines_told : (fates : List ℕ → Fate) (g : List ℕ × Arguments → List ℕ
 lines_told fates g [] [] told each = refl
 lines_told fates g [] (e ∷ h) told each = absurd told
 lines_told fates g (k ∷ events) [] told each = absurd told
-lines_told fates g (k ∷ events) ((Start b args) ∷ h) told each =
+lines_told fates g (k ∷ events) ((Start b (Injector args)) ∷ h) told each =
     lines_push (start_lines fates) events k
     ∙ ap (λ l. flat_map (start_lines fates) (reverse events) ++ l) (ap (start_lines fates) told.0 ∙ each b args (inl refl))
     ∙ ap (λ l. l ++ g (b, args)) (lines_told fates g events h told.1 (λ a args w. each a args (inr w)))
     ∙ ap (λ l. flat_map g (mails_of h) ++ l) (sym (append-nil (g (b, args))))
     ∙ sym (flat_map-append g (mails_of h) ((b, args) ∷ []))
-lines_told fates g (k ∷ events) ((Call b read ready call answer wrote) ∷ h) told each =
+lines_told fates g (k ∷ events) ((Call b read ready call got wrote) ∷ h) told each =
     lines_push (start_lines fates) events k
     ∙ ap (λ l. flat_map (start_lines fates) (reverse events) ++ l) (ap (start_lines fates) told.0)
     ∙ append-nil (flat_map (start_lines fates) (reverse events))

@@ -92,15 +92,15 @@ mail_started d old new name message envelope text h playing good started goes =
     let disk : new.disk ≡ old.disk = ap (λ (w : Seen Planned). w.disk) started in
     let next = goes d h playing.is in
     let is : IsHistory d (disk_of new.disk.held) (old.events ++ k ∷ []) old.present (next.0 ∷ h) = moved d (disk_of new.disk.held) new.events (old.events ++ k ∷ []) new.present old.present (next.0 ∷ h) events present next.1 in
-    let told : next.0 ≡ Start name args = start_told name args next.0 (last_told old.events k next.0 h is.told) in
-    let now : IsHistory d (disk_of new.disk.held) new.events new.present (Start name args ∷ h) = subst (λ (e : Event). IsHistory d (disk_of new.disk.held) new.events new.present (e ∷ h)) told next.1 in
+    let told : next.0 ≡ Start name (Injector args) = start_told name (Injector args) next.0 (last_told old.events k next.0 h is.told) in
+    let now : IsHistory d (disk_of new.disk.held) new.events new.present (Start name (Injector args) ∷ h) = subst (λ (e : Event). IsHistory d (disk_of new.disk.held) new.events new.present (e ∷ h)) told next.1 in
     let same : args ≡ mail (next_pid h) (after d h).now message envelope =
     ap (λ n. mail (pid_after n) old.present message envelope) (starts_is h old.events playing.is.told)
     ∙ ap (λ p. mail (next_pid h) p message envelope) (sym playing.is.moment) in
     record {
-      events = Start name args ∷ [];
+      events = Start name (Injector args) ∷ [];
       own = [];
-      plays = (Happens (Start name args), inl (good, now.legal.1.new, ap (λ args. Happens (Start name args)) same), refl, refl);
+      plays = (Happens (Start name (Injector args)), inl (good, now.legal.1.new, ap (λ args. Happens (Start name (Injector args))) same), refl, refl);
       playing = record {
         is = now;
         picks = ap (λ (m : Planned). m.picks) disk ∙ playing.picks;

@@ -8,17 +8,16 @@ use Rattle.call_fs.specs.declared.calls.Answer.TheVariants.{Refused}
 use Rattle.call_fs.specs.declared.calls.FsError.TheVariants.{Memory}
 use Rattle.call_fs.specs.declared.calls.Told.{Told}
 use Rattle.call_fs.specs.declared.program.Ready.{Ready}
+use Rattle.call_fs.specs.Calls.{without_bytes}
 use Rattle.call_fs.specs.Disk.{Disk}
 use Rattle.call_fs.specs.Program.{Due}
 use Rattle.call_fs.specs.Steady.{IsSteadyAnswer}
 use Rattle.mem_fs.specs.MemDisk.{Planned, disk_of}
 use Rattle.call_fs.proofs.Maps.{put_at_same}
-use Rattle.queue_inject.specs.declared.injection.Arguments.{Arguments}
-use Rattle.queue_inject.specs.Table.{Next}
 use Rattle.mail_world.specs.declared.event.Event.{Event as Kept}
 use Rattle.mail_world.specs.declared.event.Event.TheVariants as kept
-use Rattle.mail_world.specs.declared.event.Program.TheVariants.{Injector}
-use Rattle.mail_world.specs.History.{Event, Actor, Life, State, IsLiving, called, finished, after}
+use Rattle.mail_world.specs.declared.event.Program.{Program}
+use Rattle.mail_world.specs.History.{Event, Actor, Life, State, next_of, IsLiving, called, finished, after}
 use Rattle.mail_world.specs.History.Event.{Start, Call, End, Stop, Moment, Halt}
 use Rattle.mail_world.specs.History.Life.{Alive, Over}
 use Rattle.mail_world.specs.World.{Seen, Tells, IsHistory, GoesOn, IsStep, EndsAt, was_started, input_ready, StaysSteady}
@@ -41,64 +40,61 @@ told_by events k e f h one told =
     (one, (subst (λ (l : List Kept). AllZip Tells l (e ∷ h)) (reverse-append events (k ∷ [])) told).1)
 
 -- which event a kept one tells
-call_told : (a : List ℕ) (p : ℕ) (ready : Ready) (call : CallData) (answer : Answer) (e : Event)
-    → Tells (kept.Call a p ready call (record { answer = answer; bytes = [] })) e → (w : ℕ) × (e ≡ Call a p ready call answer w)
-call_told a p ready call answer (Start b args) told = absurd (cc)
-call_told a p ready call answer (Call b q r c n w) told =
-    let same_told : ◌≡◌ {A = Told} (record { answer = answer; bytes = [] }) (record { answer = n; bytes = [] }) = cc in
-    let same : answer ≡ n = ap (λ (t : Told). t.answer) same_told in
-    (w, cc)
-call_told a p ready call answer (End b q r status) told = absurd (cc)
-call_told a p ready call answer (Stop b) told = absurd told
-call_told a p ready call answer (Moment m) told = absurd told
-call_told a p ready call answer (Halt contents) told = absurd told
+call_told : (a : List ℕ) (p : ℕ) (ready : Ready) (call : CallData) (got : Told) (e : Event)
+    → Tells (kept.Call a p ready call got) e → (w : ℕ) × (e ≡ Call a p ready call got w)
+call_told a p ready call got (Start b program) told = absurd (cc)
+call_told a p ready call got (Call b q r c n w) told = (w, cc)
+call_told a p ready call got (End b q r status) told = absurd (cc)
+call_told a p ready call got (Stop b) told = absurd told
+call_told a p ready call got (Moment m) told = absurd told
+call_told a p ready call got (Halt contents) told = absurd told
 
 end_told : (a : List ℕ) (p : ℕ) (ready : Ready) (status : ℕ) (e : Event) → Tells (kept.End a p ready status) e → e ≡ End a p ready status
-end_told a p ready status (Start b args) told = absurd (cc)
+end_told a p ready status (Start b program) told = absurd (cc)
 end_told a p ready status (Call b q r c n w) told = absurd (cc)
 end_told a p ready status (End b q r other) told = cc
 end_told a p ready status (Stop b) told = absurd told
 end_told a p ready status (Moment m) told = absurd told
 end_told a p ready status (Halt contents) told = absurd told
 
-pub start_told : (a : List ℕ) (args : Arguments) (e : Event) → Tells (kept.Start a (Injector args)) e → e ≡ Start a args
-start_told a args (Start b other) told = cc
-start_told a args (Call b q r c n w) told = absurd (cc)
-start_told a args (End b q r status) told = absurd (cc)
-start_told a args (Stop b) told = absurd told
-start_told a args (Moment m) told = absurd told
-start_told a args (Halt contents) told = absurd told
+pub start_told : (a : List ℕ) (program : Program) (e : Event) → Tells (kept.Start a program) e → e ≡ Start a program
+start_told a program (Start b other) told = cc
+start_told a program (Call b q r c n w) told = absurd (cc)
+start_told a program (End b q r status) told = absurd (cc)
+start_told a program (Stop b) told = absurd told
+start_told a program (Moment m) told = absurd told
+start_told a program (Halt contents) told = absurd told
 
 -- What a living actor does next
 
 does : (s : State) (a : List ℕ) (p : ℕ) (x : Actor) (due : Due) (outcome : Outcome) → s.actors a ≡ Some x → x.life ≡ Alive → s.now ≡ p
-    → Next x.args x.past p input_ready ≡ due → DoesNext s a due outcome → StepsTo s a outcome
+    → next_of x.program x.past p input_ready ≡ due → DoesNext s a due outcome → StepsTo s a outcome
 does s a p x due outcome is alive now next h =
     subst (λ (o : Option Actor). DoesStep s a o outcome) (sym is)
     (subst (λ (life : Life). DoesAlive s a x life outcome) (sym alive)
-    (subst (λ (due : Due). DoesNext s a due outcome) (sym (ap (λ q. Next x.args x.past q input_ready) now ∙ next)) h))
+    (subst (λ (due : Due). DoesNext s a due outcome) (sym (ap (λ q. next_of x.program x.past q input_ready) now ∙ next)) h))
 
 -- a living one isn't refused as gone, or as unknown
 next_not : (s : State) (a : List ℕ) (due : Due) (why : Refusal) → DoesNext s a due (Is why) → why ≡ Refusal.NotWaiting
 next_not s a (Due.File call) why h = let e = h.2 in absurd (cc)
 next_not s a (Due.Take port) why h = cc
 next_not s a (Due.Give port bytes) why h = cc
-next_not s a Due.Start why h = cc
+next_not s a (Due.Start child) why h = cc
 next_not s a (Due.Command bytes) why h = cc
 next_not s a Due.Wait why h = cc
 next_not s a (Due.Ended status) why h = absurd (cc)
 
 pub alive_waits : (s : State) (a : List ℕ) (x : Actor) (why : Refusal) → s.actors a ≡ Some x → x.life ≡ Alive → StepsTo s a (Is why) → why ≡ Refusal.NotWaiting
 alive_waits s a x why is alive h =
-    next_not s a (Next x.args x.past s.now input_ready) why
+    next_not s a (next_of x.program x.past s.now input_ready) why
     (subst (λ (life : Life). DoesAlive s a x life (Is why)) alive (subst (λ (o : Option Actor). DoesStep s a o (Is why)) is h))
 
 -- Calls
 
-call_actor : (s : State) (a : List ℕ) (read : ℕ) (ready : Ready) (call : CallData) (answer : Answer) (w : ℕ) (x : Actor) → s.actors a ≡ Some x
-    → (y : Actor) × ((called s a read ready call answer w (s.actors a)).actors a ≡ Some y) × (y.life ≡ x.life)
-call_actor s a read ready call answer w x is =
-    subst (λ (o : Option Actor). (y : Actor) × ((called s a read ready call answer w o).actors a ≡ Some y) × (y.life ≡ x.life)) (sym is)
+call_actor : (s : State) (a : List ℕ) (read : ℕ) (ready : Ready) (call : CallData) (got : Told) (w : ℕ) (x : Actor) → s.actors a ≡ Some x
+    → (y : Actor) × ((called s a read ready call got w (s.actors a)).actors a ≡ Some y) × (y.life ≡ x.life)
+call_actor s a read ready call got w x is =
+    subst (λ (o : Option Actor). (y : Actor) × ((called s a read ready call got w o).actors a ≡ Some y) × (y.life ≡ x.life)) (sym is)
     (_, put_at_same s.actors a _, refl)
 
 -- one event more, by a step of that actor
@@ -107,27 +103,27 @@ record Stepped (o d : Disk) (events : List Kept) (p : ℕ) (a : List ℕ) (h : L
   pub steps : StepsTo (after o h) a (Happens event)
   pub is : IsHistory o d events p (event ∷ h)
 
-call_steps : (o d d' : Disk) (events : List Kept) (p : ℕ) (h : List Event) (a : List ℕ) (call : CallData) (answer : Answer) (e : Event)
-    → IsHistory o d events p h → answer ≢ Refused Memory → IsSteadyAnswer d answer
-    → IsHistory o d' (events ++ kept.Call a p input_ready call (record { answer = answer; bytes = [] }) ∷ []) p (e ∷ h)
-    → (done : Stepped o d' (events ++ kept.Call a p input_ready call (record { answer = answer; bytes = [] }) ∷ []) p a h) × IsLiving (after o (done.event ∷ h)) a
-call_steps o d d' events p h a call answer e was memory steady is =
+call_steps : (o d d' : Disk) (events : List Kept) (p : ℕ) (h : List Event) (a : List ℕ) (call : CallData) (got : Told) (e : Event)
+    → IsHistory o d events p h → got.answer ≢ Refused Memory → IsSteadyAnswer d got.answer
+    → IsHistory o d' (events ++ kept.Call a p input_ready call got ∷ []) p (e ∷ h)
+    → (done : Stepped o d' (events ++ kept.Call a p input_ready call got ∷ []) p a h) × IsLiving (after o (done.event ∷ h)) a
+call_steps o d d' events p h a call got e was memory steady is =
     let s = after o h in
-    let k : Kept = kept.Call a p input_ready call (record { answer = answer; bytes = [] }) in
-    let told = call_told a p input_ready call answer e (last_told events k e h is.told) in
+    let k : Kept = kept.Call a p input_ready call got in
+    let told = call_told a p input_ready call got e (last_told events k e h is.told) in
     let w = told.0 in
-    let at_w : IsHistory o d' (events ++ k ∷ []) p (Call a p input_ready call answer w ∷ h) = subst (λ (e : Event). IsHistory o d' (events ++ k ∷ []) p (e ∷ h)) told.1 is in
-    let zero = call_wrote_nothing s a p input_ready call answer w steady.no_fault at_w.legal.1 in
+    let at_w : IsHistory o d' (events ++ k ∷ []) p (Call a p input_ready call got w ∷ h) = subst (λ (e : Event). IsHistory o d' (events ++ k ∷ []) p (e ∷ h)) told.1 is in
+    let zero = call_wrote_nothing s a p input_ready call got w steady.no_fault at_w.legal.1 in
     let may = zero.0 in
-    let f : Event = Call a p input_ready call answer 0 in
-    let living = call_actor s a p input_ready call answer 0 may.actor may.reads.is in (
+    let f : Event = Call a p input_ready call got 0 in
+    let living = call_actor s a p input_ready call got 0 may.actor may.reads.is in (
       record {
         event = f;
         steps = does s a p may.actor (Due.File call) (Happens f) may.reads.is may.reads.alive was.moment may.due
-            (answer, record { fits = may.fits; steady = subst (λ (d : Disk). IsSteadyAnswer d answer) (sym was.disk) steady; no_memory = memory }, ap (λ q. Happens (Call a q input_ready call answer 0)) (sym was.moment));
+            (got, record { fits = may.fits; bytes = may.bytes; steady = subst (λ (d : Disk). IsSteadyAnswer d got.answer) (sym was.disk) steady; no_memory = memory }, ap (λ q. Happens (Call a q input_ready call got 0)) (sym was.moment));
         is = record {
           legal = (was.legal, may);
-          told = told_by events k (Call a p input_ready call answer w) f h refl at_w.told;
+          told = told_by events k (Call a p input_ready call got w) f h refl at_w.told;
           disk = ap (λ (t : State). t.disk) (sym zero.1) ∙ at_w.disk;
           moment = ap (λ (t : State). t.now) (sym zero.1) ∙ at_w.moment;
         };
@@ -215,12 +211,12 @@ pub stepped : (o : Disk) (old new : Seen Planned) (a : List ℕ) (ended : Option
     → HasStepped o new a ended h
 stepped o old new a None h playing step same goes steady memory =
     let call = step.0 in
-    let answer = step.1 in
-    let k : Kept = kept.Call a old.present input_ready call (record { answer = answer; bytes = [] }) in
+    let got = without_bytes step.1 in
+    let k : Kept = kept.Call a old.present input_ready call got in
     let next = goes o h playing.is in
     let stays = steady (playing.picks, playing.plan) in
-    let done = call_steps o (disk_of old.disk.held) (disk_of new.disk.held) old.events old.present h a call answer next.0 playing.is
-    (not_memory answer (sym (memory old.events k step.2))) (stays.1 k step.2)
+    let done = call_steps o (disk_of old.disk.held) (disk_of new.disk.held) old.events old.present h a call got next.0 playing.is
+    (not_memory got.answer (sym (memory old.events k step.2))) (stays.1 k step.2)
     (moved o (disk_of new.disk.held) new.events (old.events ++ k ∷ []) new.present old.present (next.0 ∷ h) step.2 same next.1) in
     record {
       event = done.0.event;

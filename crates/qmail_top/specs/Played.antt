@@ -1,18 +1,18 @@
 -- The history that a script plays, and what each of its lines prints. Nothing fails while a script is played.
 use Rattle.std.specs.Prelude.{◌≡◌, ◌≢◌, ◌⊎◌, ℕ, zero, suc, ◌<◌, ◌≤◌, List, [], ◌∷◌, ◌++◌, length, Option, Some, None, IsSome, count_by, codes}
 use Rattle.call_fs.specs.declared.calls.CallData.{CallData}
-use Rattle.call_fs.specs.declared.calls.Answer.{Answer}
 use Rattle.call_fs.specs.declared.calls.Answer.TheVariants.{Refused}
 use Rattle.call_fs.specs.declared.calls.FsError.TheVariants.{Memory}
-use Rattle.call_fs.specs.Apply.{Fits}
+use Rattle.call_fs.specs.declared.calls.Told.{Told}
+use Rattle.call_fs.specs.Apply.{Fits, IsReadBy}
 use Rattle.call_fs.specs.Disk.{Disk}
 use Rattle.call_fs.specs.Steady.{IsSteadyAnswer}
 use Rattle.call_fs.specs.Program.{Due}
 use Rattle.queue_inject.specs.declared.injection.Arguments.{Arguments}
-use Rattle.queue_inject.specs.Table.{Next}
 use Rattle.mail_world.specs.declared.error.WorldError.{WorldError}
 use Rattle.mail_world.specs.declared.error.WorldError.TheVariants as error
-use Rattle.mail_world.specs.History.{Event, Life, State, Actor, after, is_start, queue_dirs}
+use Rattle.mail_world.specs.declared.event.Program.TheVariants.{Injector}
+use Rattle.mail_world.specs.History.{Event, Life, State, Actor, next_of, after, is_start, queue_dirs}
 use Rattle.mail_world.specs.History.Event.{Start, Call, End}
 use Rattle.mail_world.specs.History.Life.{Alive}
 use Rattle.mail_world.specs.MailNames.{IsMailName}
@@ -32,10 +32,11 @@ pub record IsFirstDisk (d : Disk) : Type 0 where
   pub shut : (fd : ℕ) → d.opens fd ≡ None
 
 -- what a disk answers that doesn't fail and has memory
-pub record Answers (d : Disk) (call : CallData) (answer : Answer) : Type 0 where
-  pub fits : Fits d call answer 0
-  pub steady : IsSteadyAnswer d answer
-  pub no_memory : answer ≢ Refused Memory
+pub record Answers (d : Disk) (call : CallData) (told : Told) : Type 0 where
+  pub fits : Fits d call told.answer 0
+  pub bytes : IsReadBy d call told
+  pub steady : IsSteadyAnswer d told.answer
+  pub no_memory : told.answer ≢ Refused Memory
 
 -- why a line is refused
 pub data Refusal : Type 0 where
@@ -71,12 +72,12 @@ pub data Outcome : Type 0 where
 
 -- by what the actor must do next, whether it lives, and whether it was started
 abbrev pub DoesNext : State → List ℕ → Due → Outcome → Type 0
-DoesNext s a (Due.File call) outcome = (answer : Answer) × Answers s.disk call answer × (outcome ≡ Happens (Call a s.now input_ready call answer 0))
+DoesNext s a (Due.File call) outcome = (told : Told) × Answers s.disk call told × (outcome ≡ Happens (Call a s.now input_ready call told 0))
 DoesNext s a (Due.Ended status) outcome = outcome ≡ Happens (End a s.now input_ready status)
 DoesNext s a due outcome = outcome ≡ Is NotWaiting
 
 abbrev pub DoesAlive : State → List ℕ → Actor → Life → Outcome → Type 0
-DoesAlive s a x Alive outcome = DoesNext s a (Next x.args x.past s.now input_ready) outcome
+DoesAlive s a x Alive outcome = DoesNext s a (next_of x.program x.past s.now input_ready) outcome
 DoesAlive s a x life outcome = outcome ≡ Is Gone
 
 abbrev pub DoesStep : State → List ℕ → Option Actor → Outcome → Type 0
@@ -94,7 +95,7 @@ next_pid h = pid_after (count_by is_start h)
 -- What the start of a mail comes to: it is refused where its name was used, or is none that a mail may have.
 abbrev pub MailComesTo : State → List ℕ → Arguments → Outcome → Type 0
 MailComesTo s name args outcome =
-    (IsMailName name × (s.actors name ≡ None) × (outcome ≡ Happens (Start name args)))
+    (IsMailName name × (s.actors name ≡ None) × (outcome ≡ Happens (Start name (Injector args))))
     ⊎ ((IsSome (s.actors name) ⊎ (¬ (IsMailName name))) × (outcome ≡ Is Taken))
 
 -- what an outcome adds to the history, and what is printed of it

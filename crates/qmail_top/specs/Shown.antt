@@ -17,6 +17,7 @@ use Rattle.queue_inject.specs.Names.{Name, path, parse}
 use Rattle.queue_inject.specs.Names.Name.{Of}
 use Rattle.queue_inject.specs.Names.Part.{Intd, Todo}
 use Rattle.queue_inject.specs.Texts.{recipients_of}
+use Rattle.mail_world.specs.declared.event.Program.TheVariants.{Injector}
 use Rattle.mail_world.specs.declared.queue_states.State.{State as StateOf}
 use Rattle.mail_world.specs.declared.queue_states.State.TheVariants.{S1, S2, S3, S4, S5, Other}
 use Rattle.mail_world.specs.States.{state_of, is_there}
@@ -78,7 +79,7 @@ is_accepting call answer = false
 -- that injector made such a link
 abbrev pub is_accepted : List ℕ → List Event → Bool
 is_accepted name [] = false
-is_accepted name ((Call a read ready call answer wrote) ∷ before) = (bytes_eq a name && is_accepting call answer) || is_accepted name before
+is_accepted name ((Call a read ready call told wrote) ∷ before) = (bytes_eq a name && is_accepting call told.answer) || is_accepted name before
 is_accepted name (event ∷ before) = is_accepted name before
 
 -- `NAME.k pending` for so many recipients, counted from k
@@ -95,7 +96,7 @@ mail_lines s h name args (Some x) =
 -- the mails that were started, in order
 abbrev pub mails_of : List Event → List (List ℕ × Arguments)
 mails_of [] = []
-mails_of ((Start a args) ∷ before) = mails_of before ++ (a, args) ∷ []
+mails_of ((Start a (Injector args)) ∷ before) = mails_of before ++ (a, args) ∷ []
 mails_of (event ∷ before) = mails_of before
 
 abbrev pub all_mail_lines : State → List Event → List ℕ

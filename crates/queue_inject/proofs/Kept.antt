@@ -297,7 +297,7 @@ ended_goes_on true true is false later (Due.File call) status e more on = absurd
 ended_goes_on true true is true later (Due.File call) status e more on = ap (λ i. in_time i later (Due.File call)) (more refl) ∙ ap (λ l. in_time true l (Due.File call)) (on refl) ∙ e
 ended_goes_on told was is late later (Due.Take port) status e more on = e
 ended_goes_on told was is late later (Due.Give port bytes) status e more on = e
-ended_goes_on told was is late later Due.Start status e more on = e
+ended_goes_on told was is late later (Due.Start child) status e more on = e
 ended_goes_on told was is late later (Due.Command bytes) status e more on = e
 ended_goes_on told was is late later Due.Wait status e more on = e
 
@@ -316,7 +316,7 @@ call_told true input late due e = refl
 call_told false input late (Due.File call) e = absurd (cc)
 call_told false input late (Due.Take port) e = absurd (cc)
 call_told false input late (Due.Give port bytes) e = absurd (cc)
-call_told false input late Due.Start e = absurd (cc)
+call_told false input late (Due.Start child) e = absurd (cc)
 call_told false input late (Due.Command bytes) e = absurd (cc)
 call_told false input late Due.Wait e = absurd (cc)
 call_told false input late (Due.Ended status) e = absurd (cc)

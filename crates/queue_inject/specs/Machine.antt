@@ -117,7 +117,7 @@ abbrev pub is_call : Due → Bool
 is_call (Due.File call) = true
 is_call (Due.Take port) = false
 is_call (Due.Give port bytes) = false
-is_call Due.Start = false
+is_call (Due.Start child) = false
 is_call (Due.Command bytes) = false
 is_call Due.Wait = false
 is_call (Due.Ended status) = false

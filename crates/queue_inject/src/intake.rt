@@ -133,7 +133,8 @@ impl Intake {
         Outlook { len, fault }
     }
 
-    /// What the table reads of the todo text, once the input is over; behind a message that failed it reads nothing of it.
+    /// What the table reads of the todo text, once the input is over. Behind a message that failed it reads nothing of
+    /// it.
     pub fn todo_outlook(&self) -> Outlook
         ensures { IsOutlook result (todo_known self.now) }
     {

@@ -1,8 +1,8 @@
 use Rattle.std.proofs.Common.{◌≡◌, List, [], ◌∷◌, ◌++◌, ap, ◌∙◌, subst}
 use Rattle.call_fs.specs.Program.{Due, Own}
 use Rattle.call_fs.specs.Program.Did.{Called}
-use Rattle.queue_inject.specs.declared.injection.Arguments.{Arguments}
-use Rattle.queue_inject.specs.Table.{Next}
+use Rattle.mail_world.specs.declared.event.Program.{Program}
+use Rattle.mail_world.specs.History.{next_of}
 use Rattle.mail_world.specs.declared.actor.Came.{Came}
 use Rattle.mail_world.specs.declared.event.Event.{Event as Kept}
 use Rattle.mail_world.specs.declared.event.Event.TheVariants as kept
@@ -19,8 +19,8 @@ returns-in-Called-clause-acted g c =
     let machine = c.ask.new.self.machine in
     let present = asked.present in
     let ready = asked.ready in
-    let due : (args : Arguments) (past : List Own) → Follows c.args.self.now.machine args past → Next args past now input_ready ≡ Due.File made.call =
-    λ args past f. asked.due args past f ∙ ap due_by made.is in
+    let due : (program : Program) (past : List Own) → Follows c.args.self.now.machine program past → next_of program past now input_ready ≡ Due.File made.call =
+    λ program past f. asked.due program past f ∙ ap due_by made.is in
     let name = asked.name in
     let told = c.told-told.ensures in
     let copied = c.copy.ensures in
@@ -31,9 +31,9 @@ returns-in-Called-clause-acted g c =
       told = made.answer;
       event = c.put.ensures ∙ ap (λ (l : List Kept). l ++ put ∷ []) c.in_ok-reserve.ensures.same ∙ ap (λ (k : Kept). c.args.history.now.events.items ++ k ∷ []) event;
       due = due;
-      follows = λ args past f.
+      follows = λ program past f.
           let past_is : with_call machine past made.call made.answer ≡ (record { read = now; ready = input_ready; did = Called made.call made.answer [] }) ∷ past = cc in
-          subst (Follows c.take.new.self.machine args) past_is (c.take.ensures.follows args past made.call (asked.follows args past f));
+          subst (Follows c.take.new.self.machine program) past_is (c.take.ensures.follows program past made.call (asked.follows program past f));
       made = subst (λ (came : Came). IsMade came now (g.D.CallFs.disk c.args.disk.now) (g.D.CallFs.disk c.ask.new.disk)) made.is asked.made;
       name = c.take.ensures.name ∙ name;
       descriptors = cc;

@@ -1,15 +1,27 @@
-use Rattle.std.proofs.Common.{ap, sym, ◌∙◌}
-use Rattle.call_fs.specs.Program.{due_of}
-use Rattle.mail_world.proofs.Machines.{next_of, calls_or_ends}
+use Rattle.std.proofs.Common.{ap, sym, ◌∙◌, subst}
+use Rattle.call_fs.specs.Program.{Due, due_of}
+use Rattle.call_fs.specs.Told.{OnTold}
+use Rattle.mail_world.specs.Acting.{MayMake}
+use Rattle.mail_world.proofs.Machines.{needs_next, calls_or_ends}
 use Rattle.mail_world.proofs.actor.Actor.ask.Goals as goal
+
+pub perform-answer-requires-clause-fits : goal.perform-answer-requires-clause-fits
+perform-answer-requires-clause-fits g c =
+    let may = c.requires.may in
+    let is = needs_next c.args.self.now.machine c.look.new.self c.need.result c.args.now may.program may.past c.look.ensures.rest
+    (λ args. c.look.ensures.stands args may.past) (λ args. c.need.ensures.stands args may.past) may.follows in
+    subst (λ (due : Due). OnTold (g.D.CallFs.disk c.args.disk.now) (λ before. MayMake before due)) (sym is ∙ ap due_of c.in-File.is) may.may
 
 pub unreachable-requires : goal.unreachable-requires
 unreachable-requires g c =
     let may = c.requires.may in
-    calls_or_ends c.need.result may.args may.past c.args.now
-    (next_of c.args.self.now.machine c.look.new.self c.need.result c.args.now may.args may.past c.look.ensures.rest (c.look.ensures.stands may.args may.past) (c.need.ensures.stands may.args may.past) may.follows)
+    calls_or_ends c.need.result may.program may.past c.args.now
+    (needs_next c.args.self.now.machine c.look.new.self c.need.result c.args.now may.program may.past c.look.ensures.rest
+    (λ args. c.look.ensures.stands args may.past) (λ args. c.need.ensures.stands args may.past) may.follows)
     c.in_default.not-File c.in_default.not-Ended
 
 pub returns-in-Ended-clause-due : goal.returns-in-Ended-clause-due
-returns-in-Ended-clause-due g c = λ args past f.
-    sym (next_of c.args.self.now.machine c.look.new.self c.need.result c.args.now args past c.look.ensures.rest (c.look.ensures.stands args past) (c.need.ensures.stands args past) f) ∙ ap due_of c.in-Ended.is
+returns-in-Ended-clause-due g c = λ program past f.
+    sym (needs_next c.args.self.now.machine c.look.new.self c.need.result c.args.now program past c.look.ensures.rest
+    (λ args. c.look.ensures.stands args past) (λ args. c.need.ensures.stands args past) f)
+    ∙ ap due_of c.in-Ended.is

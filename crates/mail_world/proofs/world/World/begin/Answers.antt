@@ -46,13 +46,13 @@ invariant_of-self-2 g c =
     let many : c.len.result ≡ length i.actors.items = c.len.ensures ∙ c.reserve-2.new.self.ok.0 ∙ ap length held in
     let put : (b : List ℕ) → place_of c.add.new.self b ≡ put_at (place_of i.places) a (Some (length i.actors.items)) b =
     λ b. c.in_ok-add.ensures.ok b ∙ ap (λ (n : List ℕ). put_at (place_of i.places) n (Some c.len.result) b) c.as_slice.ensures ∙ ap (λ (n : ℕ). put_at (place_of i.places) a (Some n) b) many in
-    let machine = subst (λ (m : Machine). Follows m args []) (sym c.new-actor.ensures.machine) c.in_ok-machine.ensures in
+    let machine = subst (λ (m : Machine). Follows m (Injector args) []) (sym c.new-actor.ensures.machine) c.in_ok-machine.ensures in
     rw (actors, event) (start_keeps (g.D.CallFs.disk i.disk) (place_of i.places) (place_of c.add.new.self) i.actors.items i.history.events.items i.present i.next_pid c.saturating_add-self-inside.result
-    c.new-actor.result a args c.self.invariant new put name c.new-actor.ensures.ended c.new-actor.ensures.descriptors machine refl c.saturating_add-self-inside.ensures)
+    c.new-actor.result a (Injector args) c.self.invariant new put name c.new-actor.ensures.ended c.new-actor.ensures.descriptors machine refl c.saturating_add-self-inside.ensures)
 
 pub returns-clause-goes_on : goal.returns-clause-goes_on
 returns-clause-goes_on g c = λ opening h.
     let i = c.self.inside in
     let args = mail i.next_pid i.present c.args.message.now c.args.envelope.now in
     let at = (goal.at.returns-clause-goes_on g c).After-saturating_add-self-inside in
-    rw (← c.self.view_is, started g at) (start_goes_on opening (g.D.CallFs.disk i.disk) (place_of i.places) i.actors.items i.history.events.items i.present h i.next_pid c.args.name.now args c.self.invariant (new_name g at))
+    rw (← c.self.view_is, started g at) (start_goes_on opening (g.D.CallFs.disk i.disk) (place_of i.places) i.actors.items i.history.events.items i.present h i.next_pid c.args.name.now (Injector args) c.self.invariant (new_name g at))

@@ -65,7 +65,7 @@ invariant_of-self g c =
     let disk = c.in_err-act.ensures.err in
     let same = c.in_err-act.ensures.same in
     rw (same, disk) (look_keeps (g.D.CallFs.disk i.disk) (place_of i.places) i.actors.items (known i.history.events.items) i.history.events.items i.present i.next_pid place x c.act.new.self
-    c.self.invariant at.0 looked.name looked.ended looked.descriptors (looked.follows at.0.member.actor.args at.0.member.actor.past at.0.member.follows))
+    c.self.invariant at.0 looked.name looked.ended looked.descriptors (looked.follows at.0.member.actor.program at.0.member.actor.past at.0.member.follows))
 
 pub returns-in_err-act-clause-gone : goal.returns-in_err-act-clause-gone
 returns-in_err-act-clause-gone g c =
