@@ -1,5 +1,5 @@
 -- What a disk holds: which name is which file, what each file has, and what is open.
-use Rattle.std.specs.Prelude.{◌≡◌, ◌≢◌, ◌⊎◌, ℕ, ◌≤◌, ◌==◌, List, [], ◌∷◌, Option, Some, IsSome, Contains}
+use Rattle.std.specs.Prelude.{◌≡◌, ◌≢◌, ◌⊎◌, ℕ, ◌≤◌, ◌==◌, List, [], ◌∷◌, length, Option, Some, IsSome, Contains}
 use Rattle.std.specs.List.{before_last}
 use Rattle.call_fs.specs.declared.calls.How.{How}
 
@@ -7,11 +7,15 @@ use Rattle.call_fs.specs.declared.calls.How.{How}
 abbrev pub IsMoment : ℕ → Type 0
 IsMoment now = now ≤ 250000000000
 
--- A file: its bytes, its earlier versions back to the last sync, newest first, and the moment of its creation or
--- last write. The last version is what the last sync put on the disk; a file with no earlier version is synced.
+-- A file: its bytes; its bytes at the last sync, none where there was none; what places of those were given since, each
+-- with its value, oldest first; the least and the greatest length at that sync or since; and the moment of its creation
+-- or last write.
 pub record File : Type 0 where
   pub bytes : List ℕ
-  pub older : List (List ℕ)
+  pub kept : List ℕ
+  pub given : List (ℕ × ℕ)
+  pub least : ℕ
+  pub greatest : ℕ
   pub moment : ℕ
 
 -- how a descriptor came to be: a file was created, or opened for this
@@ -44,7 +48,7 @@ pub record IsUnused (d : Disk) (n : ℕ) : Type 0 where
   pub unnamed : (name : List ℕ) → d.names name ≢ Some n
   pub unopened : (fd : ℕ) (o : Open) → d.opens fd ≡ Some o → o.number ≢ n
 
--- any call but a write takes any open descriptor
+-- a call that changes no file takes any open descriptor, and a sync too
 abbrev pub MayUse : Disk → ℕ → Type 0
 MayUse d fd = IsSome (d.opens fd)
 
@@ -56,25 +60,31 @@ IsForAppend (Opened how) = how ≡ How.Append
 abbrev pub MayAppend : Disk → ℕ → Type 0
 MayAppend d fd = (o : Open) × (d.opens fd ≡ Some o) × IsForAppend o.mode
 
--- the last of a list that isn't empty
-abbrev pub last_of : {A : Type 0} → A → List A → A
-last_of x [] = x
-last_of x (y ∷ ys) = last_of y ys
+-- places are overwritten of a file that was opened for that
+abbrev pub IsForWrite : Mode → Type 0
+IsForWrite Created = ⊥
+IsForWrite (Opened how) = how ≡ How.Write
+
+abbrev pub MayWrite : Disk → ℕ → Type 0
+MayWrite d fd = (o : Open) × (d.opens fd ≡ Some o) × IsForWrite o.mode
+
+-- any file is cut but one that was opened for reading
+abbrev pub IsForCut : Mode → Type 0
+IsForCut Created = Unit {0}
+IsForCut (Opened how) = how ≢ How.Read
+
+abbrev pub MayCut : Disk → ℕ → Type 0
+MayCut d fd = (o : Open) × (d.opens fd ≡ Some o) × IsForCut o.mode
 
 -- one of the list
 abbrev pub Among : {A : Type 0} → A → List A → Type 0
 Among x [] = ⊥
 Among x (y ∷ ys) = (x ≡ y) ⊎ Among x ys
 
--- the bytes at the last sync, none where there was no sync
-abbrev pub synced_bytes : File → List ℕ
-synced_bytes f = last_of f.bytes f.older
-
--- each version since the last sync
-abbrev pub versions : File → List (List ℕ)
-versions f = f.bytes ∷ f.older
-
 -- The file holds just these bytes, and all of them are on the disk.
 pub record IsSynced (f : File) (bytes : List ℕ) : Type 0 where
   pub holds : f.bytes ≡ bytes
-  pub all : f.older ≡ []
+  pub all : f.kept ≡ bytes
+  pub none_given : f.given ≡ []
+  pub no_shorter : f.least ≡ length bytes
+  pub no_longer : f.greatest ≡ length bytes

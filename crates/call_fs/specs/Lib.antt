@@ -16,13 +16,3 @@ pub mod Survival
 pub mod Told
 -- what a program needs and what came of it, as owned data
 pub mod Program
--- numbers as decimal text
-pub mod Decimal
--- bytes as printable text
-pub mod Escape
--- bytes that come in and go out
-pub mod Streams
--- children and their posts
-pub mod Children
--- forms in memory of what lies outside
-pub mod Forms

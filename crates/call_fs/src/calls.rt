@@ -3,7 +3,7 @@ ghost use Rattle.std.specs.Prelude.{◌≡◌, IfOk};
 ghost use Rattle.call_fs.specs.Calls.{data_of};
 
 use crate::NameBuf;
-use crate::mail_bytes::{ByteText, Memory};
+use mail_bytes::{ByteText, Memory};
 use std::alloc::{AllocError, AllocFailed, Global};
 use thiserror::Error;
 
@@ -77,8 +77,16 @@ pub struct Stat {
 pub enum Call<'a> {
     /// Makes a new empty file under this name, open.
     CreateExcl(&'a [u8]),
+    /// Opens the file of this name.
+    Open(&'a [u8], How),
+    /// Reads from this place on at most so many bytes.
+    ReadAt(Fd, u64, u64),
+    /// Overwrites from this place on.
+    WriteAt(Fd, u64, &'a [u8]),
     /// Writes bytes at the end.
     Append(Fd, &'a [u8]),
+    /// Cuts the file to at most this length.
+    Truncate(Fd, u64),
     /// Waits until the contents are on the disk.
     Sync(Fd),
     /// Closes the descriptor.
@@ -98,8 +106,16 @@ pub enum Call<'a> {
 pub enum CallData {
     /// As `Call::CreateExcl`.
     CreateExcl(ByteText),
+    /// As `Call::Open`.
+    Open(ByteText, How),
+    /// As `Call::ReadAt`.
+    ReadAt(Fd, u64, u64),
+    /// As `Call::WriteAt`.
+    WriteAt(Fd, u64, ByteText),
     /// As `Call::Append`.
     Append(Fd, ByteText),
+    /// As `Call::Truncate`.
+    Truncate(Fd, u64),
     /// As `Call::Sync`.
     Sync(Fd),
     /// As `Call::Close`.
@@ -121,10 +137,17 @@ impl CallData {
     {
         match call {
             Call::CreateExcl(name) => Ok(CallData::CreateExcl(ByteText::from_slice(alloc, name)?)),
+            Call::Open(name, how) => Ok(CallData::Open(ByteText::from_slice(alloc, name)?, how)),
+            Call::ReadAt(fd, at, len) => Ok(CallData::ReadAt(fd, at, len)),
+            Call::WriteAt(fd, at, bytes) => {
+                let bytes = ByteText::from_slice(alloc, bytes)?;
+                Ok(CallData::WriteAt(fd, at, bytes))
+            }
             Call::Append(fd, bytes) => {
                 let bytes = ByteText::from_slice(alloc, bytes)?;
                 Ok(CallData::Append(fd, bytes))
             }
+            Call::Truncate(fd, len) => Ok(CallData::Truncate(fd, len)),
             Call::Sync(fd) => Ok(CallData::Sync(fd)),
             Call::Close(fd) => Ok(CallData::Close(fd)),
             Call::Link(old, new) => {

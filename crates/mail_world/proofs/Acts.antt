@@ -13,11 +13,11 @@ use Rattle.mail_world.specs.declared.event.Program.{Program}
 use Rattle.mail_world.specs.declared.actor.Actor.{Actor as Held}
 use Rattle.mail_world.specs.declared.event.Event.{Event as Kept}
 use Rattle.mail_world.specs.declared.event.Event.TheVariants as kept
-use Rattle.mail_world.specs.History.{State, Actor, start_of, called, finished, happens, held_by, unless_by}
+use Rattle.mail_world.specs.History.{State, Actor, Life, start_of, called, finished, happens, held_by, unless_by}
 use Rattle.mail_world.specs.History.Event.{Start}
-use Rattle.mail_world.specs.History.Life.{Alive, Over}
-use Rattle.mail_world.specs.World.{IsEndOf, EndsAt}
-use Rattle.mail_world.specs.Inside.{IsMember, IsStranger, Follows, is_by}
+use Rattle.mail_world.specs.History.Life.{Alive, Over, Stopped}
+use Rattle.mail_world.specs.World.{IsEndOf, EndsAt, starts, is_start}
+use Rattle.mail_world.specs.Inside.{event_of, IsMember, IsStranger, Follows, is_by}
 use Rattle.mail_world.proofs.Lists.{some_pushed, some_last}
 use Rattle.call_fs.proofs.Maps.{put_same, put_other, put_at_same, put_at_other}
 use Rattle.mail_world.proofs.Tests.{other_text}
@@ -35,7 +35,11 @@ held_other h a b c (told.Created made n) fd apart was = others_put h b made.0 (S
 held_other h a b c (told.Opened made) fd apart was = others_put h b made.0 (Some a) fd (other_text a b (λ e. apart (sym e))) was
 held_other h a b (call.Close made) told.Done fd apart was = others_put h b made.0 None fd refl was
 held_other h a b (call.CreateExcl name) told.Done fd apart was = was
+held_other h a b (call.Open name how) told.Done fd apart was = was
+held_other h a b (call.ReadAt made at len) told.Done fd apart was = was
+held_other h a b (call.WriteAt made at bytes) told.Done fd apart was = was
 held_other h a b (call.Append made bytes) told.Done fd apart was = was
+held_other h a b (call.Truncate made len) told.Done fd apart was = was
 held_other h a b (call.Sync made) told.Done fd apart was = was
 held_other h a b (call.Link old new) told.Done fd apart was = was
 held_other h a b (call.Unlink name) told.Done fd apart was = was
@@ -67,13 +71,28 @@ kept_on a b (Some c) apart = elim (bytes_eq c a) as (λ t. bytes_eq c a ≡ t �
   | false ↦ λ e. refl
 ] refl
 
--- and so is an end
-pub end_alone : (s : State) (a : List ℕ) (x : Actor) (p : ℕ) (ready : Ready) (status : ℕ)
-    → ActsAlone a s (finished s a (Over status) (Some x)) (kept.End a p ready status)
-end_alone s a x p ready status = record {
+-- with this kept event that actor's life becomes this one
+pub record Finishes (a : List ℕ) (k : Kept) (life : Life) : Type 0 where
+  pub happens : (s : State) → happens s (event_of k) ≡ finished s a life (s.actors a)
+  pub none_starts : is_start k ≡ false
+  pub nobody_starts : (b : List ℕ) → starts b k ≡ false
+  pub mine : IsEndOf a k
+  pub alone : (b : List ℕ) → IsEndOf b k → a ≡ b
+  pub dead : life ≢ Alive
+
+pub end_finishes : (a : List ℕ) (p : ℕ) (ready : Ready) (status : ℕ) → Finishes a (kept.End a p ready status) (Over status)
+end_finishes a p ready status =
+    record { happens = λ s. refl; none_starts = refl; nobody_starts = λ b. refl; mine = refl; alone = λ b h. h; dead = λ e. cc }
+
+pub stop_finishes : (a : List ℕ) → Finishes a (kept.Stop a) Stopped
+stop_finishes a = record { happens = λ s. refl; none_starts = refl; nobody_starts = λ b. refl; mine = refl; alone = λ b h. h; dead = λ e. cc }
+
+-- and so is an end or a stop
+pub finish_alone : (s : State) (a : List ℕ) (x : Actor) (k : Kept) (life : Life) → Finishes a k life → ActsAlone a s (finished s a life (Some x)) k
+finish_alone s a x k life f = record {
   actors = λ b apart. put_at_other s.actors a _ b apart;
   holder = λ b apart fd was. kept_on a b (s.holder fd) apart ∙ was;
-  no_end = λ b apart h. apart (sym h);
+  no_end = λ b apart h. apart (sym (f.alone b h));
 }
 
 pub start_alone : (s : State) (a : List ℕ) (program : Program) → StartsAlone a s (happens s (Start a program)) (kept.Start a program)
@@ -104,27 +123,27 @@ call_member s events p x y ready c got m alive name ended follows =
       );
     }
 
--- the actor that ended
-pub end_member : (s : State) (events : List Kept) (p : ℕ) (x y : Held) (ready : Ready) (status : ℕ) (m : IsMember s events p x)
+-- the actor that ended or was stopped
+pub finish_member : (s : State) (events : List Kept) (p : ℕ) (x y : Held) (k : Kept) (life : Life) (m : IsMember s events p x) → Finishes x.name k life
     → x.ended ≡ None → y.name ≡ x.name → y.ended ≡ Some (length events) → Follows y.machine m.actor.program m.actor.past
-    → IsMember (finished s x.name (Over status) (Some m.actor)) (events ++ kept.End x.name p ready status ∷ []) p y
-end_member s events p x y ready status m alive name ended follows =
-    let k : Kept = kept.End x.name p ready status in
-    let t = finished s x.name (Over status) (Some m.actor) in
+    → IsMember (finished s x.name life (Some m.actor)) (events ++ k ∷ []) p y
+finish_member s events p x y k life m f alive name ended follows =
+    let t = finished s x.name life (Some m.actor) in
     record {
-      actor = record { program = m.actor.program; past = m.actor.past; life = Over status };
+      actor = record { program = m.actor.program; past = m.actor.past; life = life };
       is = ap t.actors name ∙ put_at_same s.actors x.name _;
       follows = follows;
       in_order = m.in_order;
       alive = λ e. let both : ◌≡◌ {A = Option ℕ} None (Some (length events)) = sym e ∙ ended in absurd (cc);
       ends = λ at. (
         (λ h. ⊎_elim
-            (λ f. ended ∙ ap Some (sym f.0))
-            (λ f. let both : ◌≡◌ {A = Option ℕ} None (Some at) = sym alive ∙ (m.ends at).0 f in absurd (cc))
+            (λ here. ended ∙ ap Some (sym here.0))
+            (λ there. let both : ◌≡◌ {A = Option ℕ} None (Some at) = sym alive ∙ (m.ends at).0 there in absurd (cc))
             (some_pushed (IsEndOf x.name) events k at (subst (λ (a : List ℕ). EndsAt (events ++ k ∷ []) a at) name h))),
         (λ e. let both : ◌≡◌ {A = Option ℕ} (Some (length events)) (Some at) = sym ended ∙ e in
             let last : length events ≡ at = cc in
-            subst (λ (at : ℕ). EndsAt (events ++ k ∷ []) y.name at) last (some_last (IsEndOf y.name) events k (sym name))),
+            subst (λ (at : ℕ). EndsAt (events ++ k ∷ []) y.name at) last
+            (some_last (IsEndOf y.name) events k (subst (λ (a : List ℕ). IsEndOf a k) (sym name) f.mine))),
       );
     }
 

@@ -1,12 +1,12 @@
 -- The actors that a world keeps, as one event comes.
-use Rattle.std.proofs.Common.{◌≡◌, ◌≢◌, ℕ, List, [], ◌∷◌, ◌++◌, length, set, false, ◌||◌, is_some, Option, Some, None, IsSomeAnd, sym, ap, ◌∙◌, subst, ⊎_elim, bytes_eq}
+use Rattle.std.proofs.Common.{◌≡◌, ◌≢◌, ℕ, ◌≤◌, List, [], ◌∷◌, ◌++◌, length, set, false, ◌||◌, is_some, Option, Some, None, IsSomeAnd, sym, ap, ◌∙◌, subst, ⊎_elim, arith, bytes_eq}
 use Rattle.std.proofs.Math.Bool.{or-false, or-true}
 use Rattle.std.proofs.lemmas.List.Folds.{list_any-append}
 use Rattle.std.specs.List.{slice_get}
 use Rattle.call_fs.specs.Maps.{put_at}
 use Rattle.mail_world.specs.declared.actor.Actor.{Actor as Held}
 use Rattle.mail_world.specs.declared.event.Event.{Event as Kept}
-use Rattle.mail_world.specs.History.{State}
+use Rattle.mail_world.specs.History.{State, Actor}
 use Rattle.mail_world.specs.World.{IsEndOf, EndsAt, starts, was_started}
 use Rattle.mail_world.specs.Inside.{IsMember, IsStranger, AreActors, is_by}
 use Rattle.call_fs.proofs.Maps.{put_at_same, put_at_other}
@@ -79,6 +79,29 @@ crew_looks places actors s events p i x y crew is same new = record {
   named = λ a j at. some_set (λ (z : Held). z.name ≡ a) actors i x y j is (λ e. same ∙ e) (crew.named a j at);
   strangers = crew.strangers;
   started = crew.started;
+}
+
+-- an event of no actor comes, and the present moment is a later one
+pub crew_waits : (places : List ℕ → Option ℕ) (actors : List Held) (s t : State) (events : List Kept) (k : Kept) (p q : ℕ) → p ≤ q
+    → AreActors places actors s events p → t.actors ≡ s.actors → t.holder ≡ s.holder → ((a : List ℕ) → ¬ IsEndOf a k) → ((a : List ℕ) → starts a k ≡ false)
+    → AreActors places actors t (events ++ k ∷ []) q
+crew_waits places actors s t events k p q later crew same holder no_end no_start = record {
+  placed = crew.placed;
+  members = λ i x is. let m = crew.members i x is in let order = m.in_order in record {
+    actor = m.actor;
+    is = ap (λ (f : List ℕ → Option Actor). f x.name) same ∙ m.is;
+    follows = m.follows;
+    in_order = omega arith;
+    alive = m.alive;
+    ends = λ at. ((λ h. (m.ends at).0 (ends_other events k x.name at (no_end x.name) h)), (λ e. ends_still events k x.name at ((m.ends at).1 e)));
+  };
+  named = crew.named;
+  strangers = λ a none. let m = crew.strangers a none in record {
+    unknown = ap (λ (f : List ℕ → Option Actor). f a) same ∙ m.unknown;
+    no_end = λ at h. m.no_end at (ends_other events k a at (no_end a) h);
+    holds_none = λ fd. ap (λ (f : ℕ → Option (List ℕ)). is_by a (f fd)) holder ∙ m.holds_none fd;
+  };
+  started = λ a. started_push events k a ∙ ap (λ b. was_started events a || b) (no_start a) ∙ or-false (was_started events a) ∙ crew.started a;
 }
 
 -- an event starts that actor, and leaves the others as they were

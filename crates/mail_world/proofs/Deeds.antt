@@ -5,9 +5,9 @@ use Rattle.call_fs.specs.Disk.{File, Mode}
 use Rattle.call_fs.specs.Apply.{empty_file, IsNew}
 use Rattle.queue_inject.specs.declared.injection.Arguments.{Arguments}
 use Rattle.queue_inject.specs.declared.row.Row.{Row}
-use Rattle.queue_inject.specs.Names.{Name, path}
-use Rattle.queue_inject.specs.Names.Name.{Pid, Of}
-use Rattle.queue_inject.specs.Names.Part.{Mess, Intd, Todo, Info, Local, Remote, Bounce}
+use Rattle.queue_paths.specs.Names.{Name, path}
+use Rattle.queue_paths.specs.Names.Name.{Pid, Of}
+use Rattle.queue_paths.specs.Names.Part.{Mess, Intd, Todo, Info, Local, Remote, Bounce}
 use Rattle.mail_world.specs.History.{Injection, Books}
 use Rattle.mail_world.specs.Headline.{IsInjected}
 use Rattle.call_fs.proofs.Maps.{put_cases, put_same, put_other}

@@ -1,21 +1,30 @@
 -- Lists of descriptors, and what a call opens.
-use Rattle.std.proofs.Common.{◌≡◌, ◌≢◌, ℕ, List, [], ◌∷◌, ◌++◌, Bool, true, false, ◌||◌, if◌then◌else◌, eqb, Option, Some, None, IsSome, refl, sym, ap, ◌∙◌, subst, ⊎_elim}
+use Rattle.std.proofs.Common.{◌≡◌, ◌≢◌, ℕ, List, [], ◌∷◌, ◌++◌, Bool, true, false, ◌||◌, if◌then◌else◌, eqb, Option, Some, None, IsSome, Result, Ok, Err, refl, sym, ap, ◌∙◌, subst, ⊎_elim}
 use Rattle.std.proofs.Math.Path.{fun_ext}
 use Rattle.std.proofs.Math.Bool.{or-false, or-true}
 use Rattle.std.proofs.lemmas.Bool.{eqb-false}
 use Rattle.std.proofs.lemmas.Bool.Decides.{eqb_tells}
 use Rattle.std.proofs.lemmas.List.Folds.{list_any-append}
+use Rattle.std.specs.Prelude.{IsOk}
 use Rattle.call_fs.specs.declared.calls.Fd.{Fd}
+use Rattle.call_fs.specs.declared.calls.FsError.{FsError}
 use Rattle.call_fs.specs.declared.calls.CallData.TheVariants as call
 use Rattle.call_fs.specs.declared.calls.Answer.TheVariants as told
 use Rattle.call_fs.specs.Disk.{Disk, Open, MayUse}
 use Rattle.call_fs.specs.Maps.{put}
 use Rattle.call_fs.specs.Apply.{effect, Apply}
+use Rattle.call_fs.specs.Calls.{done}
 use Rattle.call_fs.specs.Told.{OnTold, Meets}
 use Rattle.mail_world.specs.History.{unless_by, shut_by}
 use Rattle.call_fs.proofs.Maps.{put_other}
 use Rattle.mail_world.specs.Inside.{has, AreApart, is_by}
 use Rattle.mail_world.specs.Acting.{AreOpen, shut}
+
+-- a close is always Ok
+pub close_told : (old new : Option Disk) (fd : Fd) (result : Result (Unit {0}) FsError) → IsOk result
+    → Meets old new (λ d e. Apply d 0 (call.Close fd) (done result) e) → Meets old new (λ d e. Apply d 0 (call.Close fd) told.Done e)
+close_told old new fd (Ok x) ok h = h
+close_told old new fd (Err why) ok h = absurd (cc)
 
 pub eqb_flip : (a b : ℕ) → eqb a b ≡ eqb b a
 eqb_flip a b = ⊎_elim

@@ -3,9 +3,9 @@ use Rattle.std.proofs.Common.{◌≡◌, ◌≢◌, ℕ, List, true, Option, Som
 use Rattle.queue_inject.specs.declared.injection.Arguments.{Arguments}
 use Rattle.queue_inject.specs.declared.row.Row.{Row}
 use Rattle.queue_inject.specs.declared.row.Row.TheVariants as at
-use Rattle.queue_inject.specs.Names.{Name}
-use Rattle.queue_inject.specs.Names.Name.{Pid, Of}
-use Rattle.queue_inject.specs.Names.Part.{Mess}
+use Rattle.queue_paths.specs.Names.{Name}
+use Rattle.queue_paths.specs.Names.Name.{Pid, Of}
+use Rattle.queue_paths.specs.Names.Part.{Mess}
 use Rattle.queue_inject.specs.Table.{row_after}
 use Rattle.call_fs.specs.Program.{Own}
 use Rattle.mail_world.specs.declared.event.Program.{Program}

@@ -1,10 +1,10 @@
 -- A machine stop: what was synced survives as it was.
 use Rattle.std.proofs.Common.{◌≡◌, ℕ, suc, ◌<◌, ◌≤◌, List, [], ◌∷◌, length, Option, Some, None, refl, sym, ap, ◌∙◌, subst, ⊎_elim, arith, slice_get, le_antisymm}
 use Rattle.call_fs.specs.Disk.{File, Among, IsSynced}
-use Rattle.call_fs.specs.Survival.{Survives, AllSurvive, settled, halted}
-use Rattle.queue_inject.specs.Names.{Name}
-use Rattle.queue_inject.specs.Names.Name.{Of}
-use Rattle.queue_inject.specs.Names.Part.{Mess, Intd, Todo}
+use Rattle.call_fs.specs.Survival.{HadAt, Survives, AllSurvive, settled, halted}
+use Rattle.queue_paths.specs.Names.{Name}
+use Rattle.queue_paths.specs.Names.Name.{Of}
+use Rattle.queue_paths.specs.Names.Part.{Mess, Intd, Todo}
 use Rattle.call_fs.specs.Program.{Own}
 use Rattle.mail_world.specs.declared.event.Program.{Program}
 use Rattle.mail_world.specs.declared.event.Program.TheVariants.{Injector}
@@ -28,19 +28,22 @@ same_lists (x ∷ xs) (y ∷ ys) l h =
 
 -- what survives of a synced file
 survives_synced : (f : File) (bytes text : List ℕ) → IsSynced f text → Survives f bytes → bytes ≡ text
-survives_synced f bytes text h s = go (subst (λ (g : File). Survives g bytes) (λ i. record { bytes = h.holds i; older = h.all i; moment = f.moment }) s)
+survives_synced f bytes text h s =
+    let low : length text ≤ length bytes = omega (arith, h.no_shorter, s.no_shorter) in
+    let high : length bytes ≤ length text = omega (arith, h.no_longer, s.no_longer) in
+    let size : length f.kept ≡ length text = ap length h.all in
+    same_lists bytes text (le_antisymm high low) (λ k lt. had k (slice_get bytes k) (s.below k (omega arith) (omega arith)))
   where
-    only : (v : List ℕ) → Among v (text ∷ []) → v ≡ text
-    only v w = ⊎_elim (λ e. e) (λ w. absurd w) w
-
-    go : Survives (record { bytes = text; older = []; moment = f.moment }) bytes → bytes ≡ text
-    go s =
-        let low : length text ≤ length bytes = subst (λ (v : List ℕ). length v ≤ length bytes) (only _ s.no_shorter.1) s.no_shorter.2 in
-        let high : length bytes ≤ length text = subst (λ (v : List ℕ). length bytes ≤ length v) (only _ s.no_longer.1) s.no_longer.2 in
-        same_lists bytes text (le_antisymm high low) (λ k lt. let w = s.below k lt (omega arith) in w.2 ∙ ap (λ v. slice_get v k) (only _ w.1))
+    had : (k : ℕ) (value : Option ℕ) → HadAt f k value → value ≡ slice_get text k
+    had k value w = ⊎_elim
+        (λ (kept : value ≡ slice_get f.kept k). kept ∙ ap (λ (t : List ℕ). slice_get t k) h.all)
+        (λ given. absurd (subst (λ (places : List (ℕ × ℕ)). Among (k, given.0) places) h.none_given given.1))
+        w
 
 settled_synced : (f : File) (bytes text : List ℕ) → IsSynced f text → Survives f bytes → IsSynced (settled bytes f) text
-settled_synced f bytes text h s = record { holds = survives_synced f bytes text h s; all = refl }
+settled_synced f bytes text h s =
+    let same = survives_synced f bytes text h s in
+    record { holds = same; all = same; none_given = refl; no_shorter = ap length same; no_longer = ap length same }
 
 settled_recent : (role : Role) (f : File) (bytes : List ℕ) → IsRecent f role → IsRecent (settled bytes f) role
 settled_recent (AsMessage actor args) f bytes h = h

@@ -20,8 +20,8 @@ use Rattle.mail_world.specs.declared.event.Program.TheVariants.{Injector}
 use Rattle.mail_world.specs.declared.actor.Actor.{Actor as Held}
 use Rattle.mail_world.specs.declared.event.Event.{Event as Kept}
 use Rattle.mail_world.specs.History.{State, Actor, Life, called, finished, happens, held_by, unless_by, shut_by}
-use Rattle.mail_world.specs.History.Event.{Start}
-use Rattle.mail_world.specs.History.Life.{Alive, Over}
+use Rattle.mail_world.specs.History.Event.{Start, Moment}
+use Rattle.mail_world.specs.History.Life.{Alive}
 use Rattle.mail_world.specs.Inside.{IsMember, AreActors, HasOpen, IsOpenTo, IsOwn, HasRow, HasNeeds, AreApart, has, is_by}
 use Rattle.mail_world.specs.Acting.{AreOpen, opened}
 use Rattle.mail_world.proofs.Lists.{each_set, each_push}
@@ -156,14 +156,14 @@ needs_after_end : (d : Disk) (h : ℕ → Option (List ℕ)) (a b : List ℕ) (p
     → HasNeeds d h b program past → HasNeeds (shut_by a h d) (λ fd. unless_by a (h fd) (h fd)) b program past
 needs_after_end d h a b (Injector args) past apart own = row_after_end d h a b (row_after args past) apart own
 
--- one actor ends
-pub end_opens : (places : List ℕ → Option ℕ) (actors : List Held) (s : State) (events : List Kept) (p i : ℕ) (x y : Held) (m : IsMember s events p x) (d : Disk) (status : ℕ)
+-- one actor ends or is stopped
+pub finish_opens : (places : List ℕ → Option ℕ) (actors : List Held) (s : State) (events : List Kept) (p i : ℕ) (x y : Held) (m : IsMember s events p x) (d : Disk) (life : Life) → life ≢ Alive
     → AreActors places actors s events p → slice_get actors i ≡ Some x → y.name ≡ x.name → y.descriptors.items ≡ []
-    → IsOpenTo d actors s → IsOpenTo (shut_by x.name s.holder d) (set actors i y) (finished s x.name (Over status) (Some m.actor))
-end_opens places actors s events p i x y m d status crew is name none open_to =
-    let t = finished s x.name (Over status) (Some m.actor) in
+    → IsOpenTo d actors s → IsOpenTo (shut_by x.name s.holder d) (set actors i y) (finished s x.name life (Some m.actor))
+finish_opens places actors s events p i x y m d life dead crew is name none open_to =
+    let t = finished s x.name life (Some m.actor) in
     let e = shut_by x.name s.holder d in
-    let now : Actor = record { program = m.actor.program; past = m.actor.past; life = Over status } in
+    let now : Actor = record { program = m.actor.program; past = m.actor.past; life = life } in
     record {
       held = λ fd b at. let on = held_on x.name (s.holder fd) b at in subst IsSome (sym (on.1 (d.opens fd))) (open_to.held fd b on.0);
       each = each_set (λ j (z : Held). HasOpen e t z) actors i y
@@ -173,7 +173,7 @@ end_opens places actors s events p i x y m d status crew is name none open_to =
             needs = λ actor at lives.
                 let both : ◌≡◌ {A = Option Actor} (Some now) (Some actor) = sym (put_at_same s.actors x.name (Some now)) ∙ ap t.actors (sym name) ∙ at in
                 let same : now ≡ actor = cc in
-                let over : ◌≡◌ {A = Life} (Over status) Alive = ap (λ (z : Actor). z.life) same ∙ lives in absurd (cc);
+                absurd (dead (ap (λ (z : Actor). z.life) same ∙ lives));
           })
           (λ j z other at.
           let old = open_to.each j z at in
@@ -213,6 +213,13 @@ start_opens places actors s events p y a program d crew new name none open_to =
             needs = λ actor known lives. old.needs actor (sym (put_at_other s.actors a _ z.name apart) ∙ known) lives;
           });
     }
+
+-- a moment opens nothing
+pub moment_opens : (actors : List Held) (s : State) (m : ℕ) (d : Disk) → IsOpenTo d actors s → IsOpenTo d actors (happens s (Moment m))
+moment_opens actors s m d open_to = record {
+  held = open_to.held;
+  each = λ i x is. let old = open_to.each i x is in record { lists = old.lists; apart = old.apart; needs = old.needs };
+}
 
 -- a look opens nothing
 pub look_opens : (actors : List Held) (s : State) (i : ℕ) (x y : Held) (d : Disk) → slice_get actors i ≡ Some x → y.name ≡ x.name → y.descriptors.items ≡ x.descriptors.items

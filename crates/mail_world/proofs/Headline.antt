@@ -2,9 +2,9 @@
 use Rattle.std.proofs.Common.{◌≡◌, ◌≢◌, ℕ, List, [], ◌∷◌, ◌++◌, Bool, true, false, Option, Some, None, is_some, refl, ap, subst, subst₂, ⊎_elim}
 use Rattle.call_fs.specs.Disk.{Disk, Among, IsSynced}
 use Rattle.queue_inject.specs.declared.injection.Arguments.{Arguments}
-use Rattle.queue_inject.specs.Names.{Part, path}
-use Rattle.queue_inject.specs.Names.Name.{Of}
-use Rattle.queue_inject.specs.Names.Part.{Mess, Intd, Todo, Info, Local, Remote, Bounce}
+use Rattle.queue_paths.specs.Names.{Part, path}
+use Rattle.queue_paths.specs.Names.Name.{Of}
+use Rattle.queue_paths.specs.Names.Part.{Mess, Intd, Todo, Info, Local, Remote, Bounce}
 use Rattle.queue_inject.specs.Texts.{message_text, intd_text, entered, todo_of}
 use Rattle.mail_world.specs.declared.queue_states.State.TheVariants.{Other}
 use Rattle.mail_world.specs.States.{state_by, is_there, state_of}

@@ -1,43 +1,49 @@
--- A history of a world goes on with one event more.
+-- What led to a world's disk goes on with one event more; and where it began with an opening disk, it is legal.
 use Rattle.std.proofs.Common.{◌≡◌, ℕ, ◌≤◌, List, [], ◌∷◌, ◌++◌, Option, Some, None, IsSomeAnd, refl, sym, ap, ◌∙◌, subst, arith}
 use Rattle.std.proofs.lemmas.List.{reverse-append}
 use Rattle.std.specs.List.{AllZip}
 use Rattle.call_fs.specs.declared.calls.CallData.{CallData}
-use Rattle.call_fs.specs.declared.calls.CallData.TheVariants.{CreateExcl, Append, Sync, Close, Link, Unlink, Stat, NextName}
+use Rattle.call_fs.specs.declared.calls.CallData.TheVariants.{CreateExcl, Open, ReadAt, WriteAt, Append, Truncate, Sync, Close, Link, Unlink, Stat, NextName}
 use Rattle.call_fs.specs.declared.calls.Answer.{Answer}
 use Rattle.call_fs.specs.declared.calls.Told.{Told}
 use Rattle.call_fs.specs.declared.program.Ready.{Ready}
 use Rattle.call_fs.specs.Calls.{without_bytes}
-use Rattle.call_fs.specs.Disk.{Disk}
+use Rattle.call_fs.specs.Disk.{Disk, IsMoment}
 use Rattle.call_fs.specs.Apply.{effect, Fits, Apply, IsReadBy}
 use Rattle.call_fs.specs.Program.{Due}
-use Rattle.call_fs.specs.Told.{Meets}
+use Rattle.call_fs.specs.Told.{OnTold, Meets}
 use Rattle.mail_world.specs.declared.event.Program.{Program}
 use Rattle.mail_world.specs.declared.event.Event.{Event as Kept}
 use Rattle.mail_world.specs.declared.event.Event.TheVariants as kept
-use Rattle.mail_world.specs.History.{Event, Actor, Life, State, next_of, Allowed, MayRead, happens, called, finished, shut_by, after, latest}
-use Rattle.mail_world.specs.History.Event.{Start, Call, End}
+use Rattle.mail_world.specs.History.{Event, Actor, Life, State, next_of, Allowed, MayRead, happens, called, finished, shut_by, after, latest, Opening, EachAllowed, Legal}
+use Rattle.mail_world.specs.History.Event.{Start, Call, End, Stop, Moment}
 use Rattle.mail_world.specs.History.Life.{Alive}
-use Rattle.mail_world.specs.World.{Tells, IsHistory}
-use Rattle.mail_world.specs.Inside.{known}
+use Rattle.mail_world.specs.World.{Tells, Leads, IsHistory, EachSafe}
+use Rattle.mail_world.specs.Headline.{Headline}
+use Rattle.mail_world.specs.Inside.{IsLed, known}
 use Rattle.mail_world.proofs.Known.{AreAlike, after_known}
+use Rattle.mail_world.proofs.Opens.{IsPlain}
 
--- no call of today reads bytes
-pub reads_none : (d : Disk) (call : CallData) (answer : Answer) → IsReadBy d call (without_bytes answer)
-reads_none d (CreateExcl name) answer = refl
-reads_none d (Append fd bytes) answer = refl
-reads_none d (Sync fd) answer = refl
-reads_none d (Close fd) answer = refl
-reads_none d (Link old new) answer = refl
-reads_none d (Unlink name) answer = refl
-reads_none d (Stat name) answer = refl
-reads_none d (NextName dir last) answer = refl
+-- no plain call reads bytes
+pub reads_none : (d : Disk) (call : CallData) (answer : Answer) → IsPlain call → IsReadBy d call (without_bytes answer)
+reads_none d (CreateExcl name) answer plain = refl
+reads_none d (Open name how) answer plain = refl
+reads_none d (ReadAt fd at len) answer plain = absurd plain
+reads_none d (WriteAt fd at bytes) answer plain = refl
+reads_none d (Append fd bytes) answer plain = refl
+reads_none d (Truncate fd len) answer plain = refl
+reads_none d (Sync fd) answer plain = refl
+reads_none d (Close fd) answer plain = refl
+reads_none d (Link old new) answer plain = refl
+reads_none d (Unlink name) answer plain = refl
+reads_none d (Stat name) answer plain = refl
+reads_none d (NextName dir last) answer plain = refl
 
 history_push : (o d : Disk) (events : List Kept) (p : ℕ) (h : List Event) (k : Kept) (e : Event)
-    → IsHistory o d events p h → Tells k e → Allowed (after o h) e
-    → IsHistory o (happens (after o h) e).disk (events ++ k ∷ []) (happens (after o h) e).now (e ∷ h)
+    → Leads o d events p h → Tells k e → Allowed (after o h) e
+    → Leads o (happens (after o h) e).disk (events ++ k ∷ []) (happens (after o h) e).now (e ∷ h)
 history_push o d events p h k e is told allowed = record {
-  legal = (is.legal, allowed);
+  allowed = (is.allowed, allowed);
   told = subst (λ (l : List Kept). AllZip Tells l (e ∷ h)) (sym (reverse-append events (k ∷ []))) (told, is.told);
   disk = refl;
   moment = refl;
@@ -74,8 +80,8 @@ may_read s t a p x same now acts = record {
 }
 
 call_goes_on : (o d d' : Disk) (events : List Kept) (p : ℕ) (h : List Event) (a : List ℕ) (x : Actor) (ready : Ready) (call : CallData) (got : Told)
-    → IsHistory o d events p h → IsActing (known events) a p x → next_of x.program x.past p ready ≡ Due.File call → Apply d p call got.answer d' → IsReadBy d call got
-    → (e : Event) × IsHistory o d' (events ++ kept.Call a p ready call got ∷ []) p (e ∷ h)
+    → Leads o d events p h → IsActing (known events) a p x → next_of x.program x.past p ready ≡ Due.File call → Apply d p call got.answer d' → IsReadBy d call got
+    → (e : Event) × Leads o d' (events ++ kept.Call a p ready call got ∷ []) p (e ∷ h)
 call_goes_on o d d' events p h a x ready call got is acts due applied bytes =
     let s = after o h in
     let w = applied.0 in
@@ -92,35 +98,62 @@ call_goes_on o d d' events p h a x ready call got is acts due applied bytes =
     let next = history_push o d events p h k e is refl allowed in (
       e,
       record {
-        legal = next.legal;
+        allowed = next.allowed;
         told = next.told;
         disk = called_disk s a p ready call got w (s.actors a) x reads.is ∙ ap (λ (d : Disk). effect d p call got.answer w) is.disk ∙ sym applied.2;
         moment = called_now s a p ready call got w (s.actors a) ∙ is.moment;
       },
     )
 
+-- an event with which an actor is over
+finish_goes_on : (o d : Disk) (events : List Kept) (p : ℕ) (h : List Event) (a : List ℕ) (x : Actor) (life : Life) (k : Kept) (e : Event)
+    → Leads o d events p h → (known events).actors a ≡ Some x → Tells k e → Allowed (after o h) e
+    → happens (after o h) e ≡ finished (after o h) a life ((after o h).actors a)
+    → Leads o (shut_by a (known events).holder d) (events ++ k ∷ []) p (e ∷ h)
+finish_goes_on o d events p h a x life k e is there tells allowed over =
+    let s = after o h in
+    let same = after_known o events h is.told in
+    let here : s.actors a ≡ Some x = ap (λ (m : List ℕ → Option Actor). m a) same.actors ∙ there in
+    let next = history_push o d events p h k e is tells allowed in record {
+      allowed = next.allowed;
+      told = next.told;
+      disk = ap (λ (t : State). t.disk) over ∙ finished_disk s a life (s.actors a) x here ∙ ap (λ (g : ℕ → Option (List ℕ)). shut_by a g s.disk) same.holder ∙ ap (shut_by a (known events).holder) is.disk;
+      moment = ap (λ (t : State). t.now) over ∙ finished_now s a life (s.actors a) ∙ is.moment;
+    }
+
 end_goes_on : (o d : Disk) (events : List Kept) (p : ℕ) (h : List Event) (a : List ℕ) (x : Actor) (ready : Ready) (status : ℕ)
-    → IsHistory o d events p h → IsActing (known events) a p x → next_of x.program x.past p ready ≡ Due.Ended status
-    → (e : Event) × IsHistory o (shut_by a (known events).holder d) (events ++ kept.End a p ready status ∷ []) p (e ∷ h)
+    → Leads o d events p h → IsActing (known events) a p x → next_of x.program x.past p ready ≡ Due.Ended status
+    → (e : Event) × Leads o (shut_by a (known events).holder d) (events ++ kept.End a p ready status ∷ []) p (e ∷ h)
 end_goes_on o d events p h a x ready status is acts due =
     let s = after o h in
     let e : Event = End a p ready status in
-    let same = after_known o events h is.told in
-    let reads : MayRead s a x p = may_read s (known events) a p x same is.moment acts in
+    let reads : MayRead s a x p = may_read s (known events) a p x (after_known o events h is.told) is.moment acts in
     let allowed : Allowed s e = record { actor = x; reads = reads; due = due } in
-    let next = history_push o d events p h (kept.End a p ready status) e is refl allowed in (
-      e,
-      record {
-        legal = next.legal;
-        told = next.told;
-        disk = finished_disk s a (Life.Over status) (s.actors a) x reads.is ∙ ap (λ (g : ℕ → Option (List ℕ)). shut_by a g s.disk) same.holder ∙ ap (shut_by a (known events).holder) is.disk;
-        moment = finished_now s a (Life.Over status) (s.actors a) ∙ is.moment;
-      },
-    )
+    (e, finish_goes_on o d events p h a x (Life.Over status) (kept.End a p ready status) e is acts.is refl allowed refl)
+
+stop_goes_on : (o d : Disk) (events : List Kept) (p : ℕ) (h : List Event) (a : List ℕ) (x : Actor)
+    → Leads o d events p h → IsActing (known events) a p x
+    → (e : Event) × Leads o (shut_by a (known events).holder d) (events ++ kept.Stop a ∷ []) p (e ∷ h)
+stop_goes_on o d events p h a x is acts =
+    let s = after o h in
+    let e : Event = Stop a in
+    let reads : MayRead s a x p = may_read s (known events) a p x (after_known o events h is.told) is.moment acts in
+    let allowed : Allowed s e = record { actor = x; is = reads.is; alive = reads.alive } in
+    (e, finish_goes_on o d events p h a x Life.Stopped (kept.Stop a) e is acts.is refl allowed refl)
+
+moment_goes_on : (o d : Disk) (events : List Kept) (p m : ℕ) (h : List Event) → IsMoment m → p ≤ m
+    → Leads o d events p h → (e : Event) × Leads o d (events ++ kept.Moment m ∷ []) m (e ∷ h)
+moment_goes_on o d events p m h moment later is =
+    let s = after o h in
+    let e : Event = Moment m in
+    let now = is.moment in
+    let allowed : Allowed s e = record { moment = moment; no_earlier = omega arith } in
+    let next = history_push o d events p h (kept.Moment m) e is refl allowed in
+    (e, record { allowed = next.allowed; told = next.told; disk = is.disk; moment = refl })
 
 start_goes_on : (o d : Disk) (events : List Kept) (p : ℕ) (h : List Event) (a : List ℕ) (program : Program)
-    → IsHistory o d events p h → (known events).actors a ≡ None
-    → (e : Event) × IsHistory o d (events ++ kept.Start a program ∷ []) p (e ∷ h)
+    → Leads o d events p h → (known events).actors a ≡ None
+    → (e : Event) × Leads o d (events ++ kept.Start a program ∷ []) p (e ∷ h)
 start_goes_on o d events p h a program is new =
     let s = after o h in
     let e : Event = Start a program in
@@ -129,30 +162,92 @@ start_goes_on o d events p h a program is new =
       new = ap (λ (m : List ℕ → Option Actor). m a) same.actors ∙ new;
     } in
     let next = history_push o d events p h (kept.Start a program) e is refl allowed in
-    (e, record { legal = next.legal; told = next.told; disk = is.disk; moment = is.moment })
+    (e, record { allowed = next.allowed; told = next.told; disk = is.disk; moment = is.moment })
 
--- the same where the disk tells
-pub call_told : (o : Disk) (old new : Option Disk) (events : List Kept) (p : ℕ) (h : List Event) (a : List ℕ) (x : Actor) (ready : Ready) (call : CallData) (got : Told)
+-- whatever led to the old disk, one event more leads to the new one
+abbrev pub LeadsOn : Option Disk → Option Disk → List Kept → List Kept → ℕ → ℕ → Type 0
+LeadsOn old new events later p q = (o : Disk) (h : List Event) → IsSomeAnd old (λ d. Leads o d events p h) → (e : Event) × IsSomeAnd new (λ d. Leads o d later q (e ∷ h))
+
+pub call_told : (old new : Option Disk) (events : List Kept) (p : ℕ) (a : List ℕ) (x : Actor) (ready : Ready) (call : CallData) (got : Told)
     → IsActing (known events) a p x → next_of x.program x.past p ready ≡ Due.File call → Meets old new (λ d d'. Apply d p call got.answer d' × IsReadBy d call got)
-    → IsSomeAnd old (λ d. IsHistory o d events p h)
-    → (e : Event) × IsSomeAnd new (λ d. IsHistory o d (events ++ kept.Call a p ready call got ∷ []) p (e ∷ h))
-call_told o (Some d) (Some d') events p h a x ready call got acts due met is = call_goes_on o d d' events p h a x ready call got is acts due met.0 met.1
-call_told o (Some d) None events p h a x ready call got acts due met is = absurd met
-call_told o None new events p h a x ready call got acts due met is = absurd is
+    → LeadsOn old new events (events ++ kept.Call a p ready call got ∷ []) p p
+call_told (Some d) (Some d') events p a x ready call got acts due met o h is = call_goes_on o d d' events p h a x ready call got is acts due met.0 met.1
+call_told (Some d) None events p a x ready call got acts due met o h is = absurd met
+call_told None new events p a x ready call got acts due met o h is = absurd is
 
-pub end_told : (o : Disk) (old new : Option Disk) (events : List Kept) (p : ℕ) (h : List Event) (a : List ℕ) (x : Actor) (ready : Ready) (status : ℕ)
+pub end_told : (old new : Option Disk) (events : List Kept) (p : ℕ) (a : List ℕ) (x : Actor) (ready : Ready) (status : ℕ)
     → IsActing (known events) a p x → next_of x.program x.past p ready ≡ Due.Ended status → Meets old new (λ d d'. d' ≡ shut_by a (known events).holder d)
-    → IsSomeAnd old (λ d. IsHistory o d events p h)
-    → (e : Event) × IsSomeAnd new (λ d. IsHistory o d (events ++ kept.End a p ready status ∷ []) p (e ∷ h))
-end_told o (Some d) (Some d') events p h a x ready status acts due met is =
+    → LeadsOn old new events (events ++ kept.End a p ready status ∷ []) p p
+end_told (Some d) (Some d') events p a x ready status acts due met o h is =
     let next = end_goes_on o d events p h a x ready status is acts due in
-    (next.0, subst (λ (d : Disk). IsHistory o d (events ++ kept.End a p ready status ∷ []) p (next.0 ∷ h)) (sym met) next.1)
-end_told o (Some d) None events p h a x ready status acts due met is = absurd met
-end_told o None new events p h a x ready status acts due met is = absurd is
+    (next.0, subst (λ (d : Disk). Leads o d (events ++ kept.End a p ready status ∷ []) p (next.0 ∷ h)) (sym met) next.1)
+end_told (Some d) None events p a x ready status acts due met o h is = absurd met
+end_told None new events p a x ready status acts due met o h is = absurd is
 
-pub start_told : (o : Disk) (old : Option Disk) (events : List Kept) (p : ℕ) (h : List Event) (a : List ℕ) (program : Program)
-    → (known events).actors a ≡ None
-    → IsSomeAnd old (λ d. IsHistory o d events p h)
-    → (e : Event) × IsSomeAnd old (λ d. IsHistory o d (events ++ kept.Start a program ∷ []) p (e ∷ h))
-start_told o (Some d) events p h a program new is = start_goes_on o d events p h a program is new
-start_told o None events p h a program new is = absurd is
+pub stop_told : (old new : Option Disk) (events : List Kept) (p : ℕ) (a : List ℕ) (x : Actor)
+    → IsActing (known events) a p x → Meets old new (λ d d'. d' ≡ shut_by a (known events).holder d)
+    → LeadsOn old new events (events ++ kept.Stop a ∷ []) p p
+stop_told (Some d) (Some d') events p a x acts met o h is =
+    let next = stop_goes_on o d events p h a x is acts in
+    (next.0, subst (λ (d : Disk). Leads o d (events ++ kept.Stop a ∷ []) p (next.0 ∷ h)) (sym met) next.1)
+stop_told (Some d) None events p a x acts met o h is = absurd met
+stop_told None new events p a x acts met o h is = absurd is
+
+pub moment_told : (told : Option Disk) (events : List Kept) (p m : ℕ) → IsMoment m → p ≤ m → LeadsOn told told events (events ++ kept.Moment m ∷ []) p m
+moment_told (Some d) events p m moment later o h is = moment_goes_on o d events p m h moment later is
+moment_told None events p m moment later o h is = absurd is
+
+pub start_told : (told : Option Disk) (events : List Kept) (p : ℕ) (a : List ℕ) (program : Program)
+    → (known events).actors a ≡ None → LeadsOn told told events (events ++ kept.Start a program ∷ []) p p
+start_told (Some d) events p a program new o h is = start_goes_on o d events p h a program is new
+start_told None events p a program new o h is = absurd is
+
+-- so, where a history led to the old disk, one leads to the new one
+pub led_on : (old new : Option Disk) (R : Disk → Disk → Type 0) (events later : List Kept) (p q : ℕ)
+    → Meets old new R → LeadsOn old new events later p q → OnTold old (λ d. IsLed d events p) → OnTold new (λ d. IsLed d later q)
+led_on None None R events later p q met on led = tt
+led_on None (Some e) R events later p q met on led = absurd met
+led_on (Some d) None R events later p q met on led = absurd met
+led_on (Some d) (Some e) R events later p q met on led = let next = on led.0 led.1 led.2 in (led.0, next.0 ∷ led.1, next.1)
+
+pub led_still : (told : Option Disk) (events later : List Kept) (p q : ℕ)
+    → LeadsOn told told events later p q → OnTold told (λ d. IsLed d events p) → OnTold told (λ d. IsLed d later q)
+led_still None events later p q on led = tt
+led_still (Some d) events later p q on led = led_on (Some d) (Some d) (λ d e. d ≡ e) events later p q refl on led
+
+-- a legal history is one that began with an opening disk, and of which each event might happen when it did
+legal_by : (d : Disk) (h : List Event) → Opening d → EachAllowed d h → Legal d h
+legal_by d [] opens allowed = opens
+legal_by d (e ∷ h) opens allowed = (legal_by d h opens allowed.0, allowed.1)
+
+legal_opens : (d : Disk) (h : List Event) → Legal d h → Opening d
+legal_opens d [] legal = legal
+legal_opens d (e ∷ h) legal = legal_opens d h legal.0
+
+legal_allowed : (d : Disk) (h : List Event) → Legal d h → EachAllowed d h
+legal_allowed d [] legal = tt
+legal_allowed d (e ∷ h) legal = (legal_allowed d h legal.0, legal.1)
+
+-- so a legal history goes on
+pub goes_on : (old new : Option Disk) (events later : List Kept) (p q : ℕ) → LeadsOn old new events later p q
+    → (o : Disk) (h : List Event) → IsSomeAnd old (λ d. IsHistory o d events p h) → (e : Event) × IsSomeAnd new (λ d. IsHistory o d later q (e ∷ h))
+goes_on None new events later p q on o h is = absurd is
+goes_on (Some d) new events later p q on o h is =
+    let next = on o h (record { allowed = legal_allowed o h is.legal; told = is.told; disk = is.disk; moment = is.moment }) in
+    (next.0, begun new next.0 next.1) where
+      begun : (new : Option Disk) (e : Event) → IsSomeAnd new (λ d. Leads o d later q (e ∷ h)) → IsSomeAnd new (λ d. IsHistory o d later q (e ∷ h))
+      begun None e leads = absurd leads
+      begun (Some d) e leads = record {
+        legal = legal_by o (e ∷ h) (legal_opens o h is.legal) leads.allowed;
+        told = leads.told;
+        disk = leads.disk;
+        moment = leads.moment;
+      }
+
+-- what led to a world from a disk to begin with is legal and safe
+pub led_safe : Headline → (told : Option Disk) (events : List Kept) (p : ℕ) → OnTold told (λ d. IsLed d events p)
+    → OnTold told (λ d. (o : Disk) × (h : List Event) × Leads o d events p h × (Opening o → Legal o h × EachSafe o h))
+led_safe law None events p led = tt
+led_safe law (Some d) events p led = (led.0, led.1, led.2, λ opens. safe led.0 led.1 (legal_by led.0 led.1 opens led.2.allowed)) where
+  safe : (o : Disk) (h : List Event) → Legal o h → Legal o h × EachSafe o h
+  safe o h legal = (legal, λ later before is. law o later before (subst (Legal o) (sym is) legal))

@@ -4,9 +4,9 @@ use Rattle.call_fs.specs.Disk.{Disk, File, Mode, Open, Among, IsSynced}
 use Rattle.queue_inject.specs.declared.injection.Arguments.{Arguments}
 use Rattle.queue_inject.specs.declared.row.Row.{Row}
 use Rattle.queue_inject.specs.declared.row.Row.TheVariants as at
-use Rattle.queue_inject.specs.Names.{Name, Part}
-use Rattle.queue_inject.specs.Names.Name.{Pid, Of}
-use Rattle.queue_inject.specs.Names.Part.{Mess, Intd, Todo, Info, Local, Remote, Bounce}
+use Rattle.queue_paths.specs.Names.{Name, Part}
+use Rattle.queue_paths.specs.Names.Name.{Pid, Of}
+use Rattle.queue_paths.specs.Names.Part.{Mess, Intd, Todo, Info, Local, Remote, Bounce}
 use Rattle.queue_inject.specs.Texts.{message_text, intd_text}
 use Rattle.queue_inject.specs.Table.{row_after}
 use Rattle.call_fs.specs.Program.{Own}
@@ -23,7 +23,7 @@ pub data Role : Type 0 where
   AsPart : Part → ℕ → Role
   AsOld : Role
 
--- The queue at one point: its disk, whose each open descriptor is, its books, and what each file was made as.
+-- The queue at one point: its disk, who holds each open descriptor, its books, and what each file was made as.
 pub record Queue : Type 0 where
   pub disk : Disk
   pub holder : ℕ → Option (List ℕ)

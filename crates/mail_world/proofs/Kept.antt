@@ -11,8 +11,8 @@ use Rattle.call_fs.specs.declared.program.Ready.{Ready as Found}
 use Rattle.queue_inject.specs.declared.injection.Arguments.{Arguments}
 use Rattle.queue_inject.specs.declared.row.Row.{Row}
 use Rattle.queue_inject.specs.declared.row.Row.TheVariants as at
-use Rattle.queue_inject.specs.Names.Part.{Intd, Todo}
-use Rattle.queue_inject.specs.Names.Name.{Pid, Of}
+use Rattle.queue_paths.specs.Names.Part.{Intd, Todo}
+use Rattle.queue_paths.specs.Names.Name.{Pid, Of}
 use Rattle.queue_inject.specs.Table.{row_after, call_of, in_time}
 use Rattle.mail_world.specs.declared.event.Program.{Program}
 use Rattle.mail_world.specs.declared.event.Program.TheVariants.{Injector}

@@ -57,8 +57,12 @@ happens_alike s t k (End a read ready status) told c =
     subst (λ (k : Kept). AreAlike (happens s (End a read ready status)) (happens t (event_of k))) (sym told)
     (subst (λ (x : Option Actor). AreAlike (finished s a (Life.Over status) (s.actors a)) (finished t a (Life.Over status) x))
     (ap (λ (m : List ℕ → Option Actor). m a) c.actors) (finished_alike s t a (Life.Over status) (s.actors a) c))
-happens_alike s t k (Stop a) told c = absurd told
-happens_alike s t k (Moment m) told c = absurd told
+happens_alike s t k (Stop a) told c =
+    subst (λ (k : Kept). AreAlike (happens s (Stop a)) (happens t (event_of k))) (sym told)
+    (subst (λ (x : Option Actor). AreAlike (finished s a Life.Stopped (s.actors a)) (finished t a Life.Stopped x))
+    (ap (λ (m : List ℕ → Option Actor). m a) c.actors) (finished_alike s t a Life.Stopped (s.actors a) c))
+happens_alike s t k (Moment m) told c =
+    subst (λ (k : Kept). AreAlike (happens s (Moment m)) (happens t (event_of k))) (sym told) (record { holder = c.holder; now = refl; actors = c.actors })
 happens_alike s t k (Halt contents) told c = absurd told
 
 told_alike : (d : Disk) (events : List Kept) (h : List Event) → AllZip Tells events h → AreAlike (after d h) (after nowhere (map event_of events))

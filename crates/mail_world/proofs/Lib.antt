@@ -44,6 +44,8 @@ pub mod Hands
 pub mod Index
 -- what a world keeps
 pub mod Worlds
+-- how many actors live
+pub mod Living
 -- when a step is refused
 pub mod Refusals
 -- who was started and who has ended, by the kept events

@@ -5,9 +5,9 @@ use Rattle.call_fs.specs.Disk.{Among}
 use Rattle.queue_inject.specs.declared.injection.Arguments.{Arguments}
 use Rattle.queue_inject.specs.declared.row.Row.{Row}
 use Rattle.queue_inject.specs.declared.row.Row.TheVariants as at
-use Rattle.queue_inject.specs.Names.{Name, path}
-use Rattle.queue_inject.specs.Names.Name.{Pid, Of}
-use Rattle.queue_inject.specs.Names.Part.{Mess, Intd, Todo}
+use Rattle.queue_paths.specs.Names.{Name, path}
+use Rattle.queue_paths.specs.Names.Name.{Pid, Of}
+use Rattle.queue_paths.specs.Names.Part.{Mess, Intd, Todo}
 use Rattle.queue_inject.specs.Texts.{message_text}
 use Rattle.queue_inject.specs.Table.{in_message}
 use Rattle.mail_world.specs.History.{Injection, Books, begun, accept}

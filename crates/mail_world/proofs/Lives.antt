@@ -68,8 +68,11 @@ happens_started s k (Call b read ready call got w) a told =
 happens_started s k (End b read ready status) a told =
     subst (λ (k : Kept). (is_some (s.actors a) || starts a k) ≡ is_some ((happens s (End b read ready status)).actors a)) (sym told)
     (or-false (is_some (s.actors a)) ∙ sym (finished_there s b (Over status) (s.actors b) a refl))
-happens_started s k (Stop b) a told = absurd told
-happens_started s k (Moment m) a told = absurd told
+happens_started s k (Stop b) a told =
+    subst (λ (k : Kept). (is_some (s.actors a) || starts a k) ≡ is_some ((happens s (Stop b)).actors a)) (sym told)
+    (or-false (is_some (s.actors a)) ∙ sym (finished_there s b Stopped (s.actors b) a refl))
+happens_started s k (Moment m) a told =
+    subst (λ (k : Kept). (is_some (s.actors a) || starts a k) ≡ is_some (s.actors a)) (sym told) (or-false (is_some (s.actors a)))
 happens_started s k (Halt contents) a told = absurd told
 
 -- the actors that were started are those that there are
@@ -84,8 +87,8 @@ starts_alike : (k : Kept) (e : Event) → Tells k e → is_start k ≡ starts_on
 starts_alike k (Start a program) told = ap is_start told
 starts_alike k (Call a read ready call got w) told = ap is_start told
 starts_alike k (End a read ready status) told = ap is_start told
-starts_alike k (Stop a) told = absurd told
-starts_alike k (Moment m) told = absurd told
+starts_alike k (Stop a) told = ap is_start told
+starts_alike k (Moment m) told = ap is_start told
 starts_alike k (Halt contents) told = absurd told
 
 one_more : (m n : ℕ) (b c : Bool) → m ≡ n → b ≡ c → m + (0 + (if b then 1 else 0)) ≡ (0 + (if c then 1 else 0)) + n
@@ -106,7 +109,7 @@ starts_is h events told =
 abbrev Lasts : List Kept → List ℕ → Life → Type 0
 Lasts events a Alive = (at : ℕ) → ¬ EndsAt events a at
 Lasts events a (Over status) = (at : ℕ) × EndsAt events a at
-Lasts events a Stopped = ⊥
+Lasts events a Stopped = (at : ℕ) × EndsAt events a at
 
 -- and of whoever has the name
 abbrev Marked : List Kept → List ℕ → Option Actor → Type 0
@@ -116,7 +119,7 @@ Marked events a (Some x) = Lasts events a x.life
 lasts_still : (events : List Kept) (k : Kept) (a : List ℕ) (life : Life) → ¬ IsEndOf a k → Lasts events a life → Lasts (events ++ k ∷ []) a life
 lasts_still events k a Alive other was = λ at h. was at (ends_other events k a at other h)
 lasts_still events k a (Over status) other was = (was.0, ends_still events k a was.0 was.1)
-lasts_still events k a Stopped other was = was
+lasts_still events k a Stopped other was = (was.0, ends_still events k a was.0 was.1)
 
 marked_still : (events : List Kept) (k : Kept) (a : List ℕ) (o : Option Actor) → ¬ IsEndOf a k → Marked events a o → Marked (events ++ k ∷ []) a o
 marked_still events k a None other was = λ at h. was at (ends_other events k a at other h)
@@ -159,6 +162,12 @@ end_marked s events b read ready status was x =
       each = λ a. marked_put events k s.actors b _ a (λ apart h. apart (sym h)) (length events, some_last (IsEndOf b) events k refl) (was.each a);
     }
 
+stop_marked : (s : State) (events : List Kept) (b : List ℕ) → Agree s events → (x : Actor) → Agree (finished s b Stopped (Some x)) (events ++ kept.Stop b ∷ [])
+stop_marked s events b was x =
+    let k : Kept = kept.Stop b in record {
+      each = λ a. marked_put events k s.actors b _ a (λ apart h. apart (sym h)) (length events, some_last (IsEndOf b) events k refl) (was.each a);
+    }
+
 happens_marked : (s : State) (events : List Kept) (k : Kept) (e : Event) → Tells k e → Agree s events → Allowed s e → Agree (happens s e) (events ++ k ∷ [])
 happens_marked s events k (Start b program) told was allowed =
     subst (λ (k : Kept). Agree (happens s (Start b program)) (events ++ k ∷ [])) (sym told) (start_marked s events b program was allowed)
@@ -170,8 +179,13 @@ happens_marked s events k (End b read ready status) told was allowed =
     subst (λ (k : Kept). Agree (happens s (End b read ready status)) (events ++ k ∷ [])) (sym told)
     (subst (λ (o : Option Actor). Agree (finished s b (Over status) o) (events ++ kept.End b read ready status ∷ []))
     (sym allowed.reads.is) (end_marked s events b read ready status was allowed.actor))
-happens_marked s events k (Stop b) told was allowed = absurd told
-happens_marked s events k (Moment m) told was allowed = absurd told
+happens_marked s events k (Stop b) told was allowed =
+    subst (λ (k : Kept). Agree (happens s (Stop b)) (events ++ k ∷ [])) (sym told)
+    (subst (λ (o : Option Actor). Agree (finished s b Stopped o) (events ++ kept.Stop b ∷ []))
+    (sym allowed.is) (stop_marked s events b was allowed.actor))
+happens_marked s events k (Moment m) told was allowed =
+    subst (λ (k : Kept). Agree (happens s (Moment m)) (events ++ k ∷ [])) (sym told)
+    (record { each = λ a. marked_still events (kept.Moment m) a (s.actors a) (λ h. h) (was.each a) })
 happens_marked s events k (Halt contents) told was allowed = absurd told
 
 marked : (d : Disk) (h : List Event) (events : List Kept) → Legal d h → AllZip Tells (reverse events) h → Agree (after d h) events
@@ -180,25 +194,25 @@ marked d h events legal told =
     (λ events h k e one was legal. happens_marked (after d h) events k e one (was legal.0) legal.1)
     events h told legal
 
--- an actor whose end was kept is over
+-- an actor whose end or stop was kept lives no more
 pub ended_is : (d : Disk) (h : List Event) (events : List Kept) (a : List ℕ) (at : ℕ) → Legal d h → AllZip Tells (reverse events) h → EndsAt events a at
-    → (x : Actor) × ((after d h).actors a ≡ Some x) × (status : ℕ) × (x.life ≡ Over status)
+    → (x : Actor) × ((after d h).actors a ≡ Some x) × (x.life ≢ Alive)
 ended_is d h events a at legal told ends = by_actor ((after d h).actors a) ((marked d h events legal told).each a) where
-  by_life : (life : Life) → Lasts events a life → (status : ℕ) × (life ≡ Over status)
+  by_life : (life : Life) → Lasts events a life → life ≢ Alive
   by_life Alive m = absurd (m at ends)
-  by_life (Over status) m = (status, refl)
-  by_life Stopped m = absurd m
+  by_life (Over status) m = λ e. cc
+  by_life Stopped m = λ e. cc
 
-  by_actor : (o : Option Actor) → Marked events a o → (x : Actor) × (o ≡ Some x) × (status : ℕ) × (x.life ≡ Over status)
+  by_actor : (o : Option Actor) → Marked events a o → (x : Actor) × (o ≡ Some x) × (x.life ≢ Alive)
   by_actor None m = absurd (m at ends)
-  by_actor (Some x) m = let w = by_life x.life m in (x, refl, w.0, w.1)
+  by_actor (Some x) m = (x, refl, by_life x.life m)
 
--- and no other one is: it lives, or its end was kept
-pub not_stopped : (d : Disk) (h : List Event) (events : List Kept) (a : List ℕ) (x : Actor) → Legal d h → AllZip Tells (reverse events) h → (after d h).actors a ≡ Some x
-    → (x.life ≡ Alive) ⊎ ((status : ℕ) × (at : ℕ) × (x.life ≡ Over status) × EndsAt events a at)
-not_stopped d h events a x legal told is =
+-- and no other one is: it lives, or its end or stop was kept
+pub lives_or_ended : (d : Disk) (h : List Event) (events : List Kept) (a : List ℕ) (x : Actor) → Legal d h → AllZip Tells (reverse events) h → (after d h).actors a ≡ Some x
+    → (x.life ≡ Alive) ⊎ ((at : ℕ) × EndsAt events a at)
+lives_or_ended d h events a x legal told is =
     by_life x.life (subst (λ (o : Option Actor). Marked events a o) is ((marked d h events legal told).each a)) where
-      by_life : (life : Life) → Lasts events a life → (life ≡ Alive) ⊎ ((status : ℕ) × (at : ℕ) × (life ≡ Over status) × EndsAt events a at)
+      by_life : (life : Life) → Lasts events a life → (life ≡ Alive) ⊎ ((at : ℕ) × EndsAt events a at)
       by_life Alive m = inl refl
-      by_life (Over status) m = inr (status, m.0, refl, m.1)
-      by_life Stopped m = absurd m
+      by_life (Over status) m = inr m
+      by_life Stopped m = inr m

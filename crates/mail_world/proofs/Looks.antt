@@ -2,9 +2,9 @@
 use Rattle.std.proofs.Common.{◌≡◌, ◌≢◌, ℕ, List, Option, Some, None, option_map, refl, sym, ap, ◌∙◌}
 use Rattle.call_fs.specs.Maps.{put, put_at}
 use Rattle.call_fs.specs.Disk.{File}
-use Rattle.queue_inject.specs.Names.{Name, path}
+use Rattle.queue_paths.specs.Names.{Name, path}
 use Rattle.call_fs.proofs.Maps.{put_same, put_other, put_at_same, put_at_other}
-use Rattle.queue_inject.proofs.Paths.{path_injective}
+use Rattle.queue_paths.proofs.Paths.{path_injective}
 
 -- a file, and its number
 pub record Entry : Type 0 where

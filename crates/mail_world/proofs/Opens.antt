@@ -11,13 +11,14 @@ use Rattle.call_fs.specs.declared.program.Ready.{Ready}
 use Rattle.call_fs.specs.Disk.{Disk, File, Open, Mode, MayUse, MayAppend, IsForAppend}
 use Rattle.call_fs.specs.Maps.{put}
 use Rattle.call_fs.specs.Apply.{effect, changed, Fits, MayCall}
+use Rattle.call_fs.specs.Columns.{HasRoomFor}
 use Rattle.call_fs.specs.Program.{Due, Own}
 use Rattle.call_fs.specs.Program.Did.{Called}
 use Rattle.queue_inject.specs.declared.injection.Arguments.{Arguments}
 use Rattle.queue_inject.specs.declared.row.Row.{Row}
 use Rattle.queue_inject.specs.declared.row.Row.TheVariants as at
 use Rattle.queue_inject.specs.Texts.{Text, message_text, intd_text}
-use Rattle.queue_inject.specs.Table.{moved, call_of, in_message, in_todo, past_piece, piece_size, row_after, in_time, has_input, is_late}
+use Rattle.queue_inject.specs.Table.{work_of, settled, moved, call_of, in_message, in_todo, past_piece, piece_size, row_after, in_time, has_input, is_late}
 use Rattle.mail_world.specs.declared.event.Program.{Program}
 use Rattle.mail_world.specs.declared.event.Program.TheVariants.{Injector}
 use Rattle.mail_world.specs.History.{next_of, held_by}
@@ -26,10 +27,27 @@ use Rattle.mail_world.specs.Inside.{IsOwn, HasRow, HasNeeds}
 use Rattle.mail_world.specs.Acting.{opened}
 use Rattle.call_fs.proofs.Maps.{put_same, put_other}
 
--- nothing is closed
-abbrev pub ClosesNone : CallData → Type 0
-ClosesNone (call.Close fd) = ⊥
-ClosesNone other = Unit {0}
+-- no file that is there is opened, read or closed
+abbrev pub IsPlain : CallData → Type 0
+IsPlain (call.Open name how) = ⊥
+IsPlain (call.ReadAt fd at len) = ⊥
+IsPlain (call.Close fd) = ⊥
+IsPlain other = Unit {0}
+
+-- so no read asks for more than there is room for
+pub plain_room : (room : ℕ) (c : CallData) → IsPlain c → HasRoomFor room c
+plain_room room (call.CreateExcl name) plain = tt
+plain_room room (call.Open name how) plain = absurd plain
+plain_room room (call.ReadAt fd at len) plain = absurd plain
+plain_room room (call.WriteAt fd at bytes) plain = tt
+plain_room room (call.Append fd bytes) plain = tt
+plain_room room (call.Truncate fd len) plain = tt
+plain_room room (call.Sync fd) plain = tt
+plain_room room (call.Close fd) plain = absurd plain
+plain_room room (call.Link old new) plain = tt
+plain_room room (call.Unlink name) plain = tt
+plain_room room (call.Stat name) plain = tt
+plain_room room (call.NextName dir last) plain = tt
 
 -- the open descriptors and their holders stay
 pub record OpensNone (d e : Disk) (h g : ℕ → Option (List ℕ)) (answer : Answer) : Type 0 where
@@ -54,16 +72,27 @@ changed_opens d None f = refl
 changed_opens d (Some o) f = refl
 
 pub opens_by : (d : Disk) (now : ℕ) (c : CallData) (answer : Answer) (w : ℕ) (h : ℕ → Option (List ℕ)) (a : List ℕ)
-    → ClosesNone c → Fits d c answer w → Opens d (effect d now c answer w) h (held_by h a c answer) a answer
+    → IsPlain c → Fits d c answer w → Opens d (effect d now c answer w) h (held_by h a c answer) a answer
 opens_by d now (call.CreateExcl name) (told.Created fd n) w h a none fits = inr (record { fd = fd; number = n; is = refl; new = fits.not_open; opens = refl; holder = refl })
 opens_by d now (call.CreateExcl name) (told.Refused why) w h a none fits = inl (record { opens = refl; holder = refl; none = refl })
 opens_by d now (call.CreateExcl name) answer w h a none fits = absurd fits
+opens_by d now (call.Open name how) answer w h a none fits = absurd none
+opens_by d now (call.ReadAt fd at len) answer w h a none fits = absurd none
+opens_by d now (call.WriteAt fd at bytes) told.Done w h a none fits = inl (record { opens = changed_opens d (d.opens fd.0) _; holder = refl; none = refl })
+opens_by d now (call.WriteAt fd at bytes) (told.Refused NotThere) w h a none fits = absurd fits
+opens_by d now (call.WriteAt fd at bytes) (told.Refused Exists) w h a none fits = absurd fits
+opens_by d now (call.WriteAt fd at bytes) (told.Refused Fault) w h a none fits = inl (record { opens = changed_opens d (d.opens fd.0) _; holder = refl; none = refl })
+opens_by d now (call.WriteAt fd at bytes) (told.Refused Memory) w h a none fits = inl (record { opens = refl; holder = refl; none = refl })
+opens_by d now (call.WriteAt fd at bytes) answer w h a none fits = absurd fits
 opens_by d now (call.Append fd bytes) told.Done w h a none fits = inl (record { opens = changed_opens d (d.opens fd.0) _; holder = refl; none = refl })
 opens_by d now (call.Append fd bytes) (told.Refused NotThere) w h a none fits = absurd fits
 opens_by d now (call.Append fd bytes) (told.Refused Exists) w h a none fits = absurd fits
 opens_by d now (call.Append fd bytes) (told.Refused Fault) w h a none fits = inl (record { opens = changed_opens d (d.opens fd.0) _; holder = refl; none = refl })
 opens_by d now (call.Append fd bytes) (told.Refused Memory) w h a none fits = inl (record { opens = refl; holder = refl; none = refl })
 opens_by d now (call.Append fd bytes) answer w h a none fits = absurd fits
+opens_by d now (call.Truncate fd len) told.Done w h a none fits = inl (record { opens = changed_opens d (d.opens fd.0) _; holder = refl; none = refl })
+opens_by d now (call.Truncate fd len) (told.Refused why) w h a none fits = inl (record { opens = refl; holder = refl; none = refl })
+opens_by d now (call.Truncate fd len) answer w h a none fits = absurd fits
 opens_by d now (call.Sync fd) told.Done w h a none fits = inl (record { opens = changed_opens d (d.opens fd.0) _; holder = refl; none = refl })
 opens_by d now (call.Sync fd) (told.Refused why) w h a none fits = inl (record { opens = refl; holder = refl; none = refl })
 opens_by d now (call.Sync fd) answer w h a none fits = absurd fits
@@ -166,7 +195,7 @@ todo_row d h a text n fd done own =
 pub row_moves : (d : Disk) (h : ℕ → Option (List ℕ)) (a : List ℕ) (args : Arguments) (row : Row) (answer : Answer) → HasRow d h a row → HasMade d h a answer → HasRow d h a (moved args row answer)
 row_moves d h a args (at.Create seq) (told.Created fd n) own made = made
 row_moves d h a args (at.Create seq) (told.Refused Exists) own made =
-    elim (nat_lt seq 9) as (λ t. HasRow d h a (if t then at.Create (seq + 1) else at.Failed 63)) [ true ↦ tt | false ↦ tt ]
+    elim (nat_lt seq 9) as (λ t. HasRow d h a (settled (work_of args) (if t then at.Create (seq + 1) else at.Failed 63))) [ true ↦ tt | false ↦ tt ]
 row_moves d h a args (at.Create seq) answer own made = tt
 row_moves d h a args (at.LinkMess seq n fd) told.Done own made = own
 row_moves d h a args (at.LinkMess seq n fd) answer own made = tt
@@ -199,9 +228,9 @@ needs_move d h a (Injector args) past read ready c got own made = row_moves d h 
 pub needs_none : (d : Disk) (h : ℕ → Option (List ℕ)) (a : List ℕ) (program : Program) → HasNeeds d h a program []
 needs_none d h a (Injector args) = tt
 
--- the call that is due may be made, and closes nothing
+-- the call that is due may be made, and is a plain one
 abbrev pub MayDo : Disk → Due → Type 0
-MayDo d (Due.File c) = MayCall d c × ClosesNone c
+MayDo d (Due.File c) = MayCall d c × IsPlain c
 MayDo d other = Unit {0}
 
 may_append : (d : Disk) (h : ℕ → Option (List ℕ)) (a : List ℕ) (fd : ℕ) → IsOwn d h a fd → MayAppend d fd
@@ -241,9 +270,9 @@ pub next_may : (d : Disk) (h : ℕ → Option (List ℕ)) (a : List ℕ) (progra
     → HasNeeds d h a program past → MayDo d (next_of program past now ready)
 next_may d h a (Injector args) past now ready own = in_time_may d (has_input ready) (is_late args now) (call_of args (row_after args past)) (row_may d h a args (row_after args past) own)
 
--- a file call or an end
+-- a plain file call or an end
 abbrev pub IsAct : Due → Type 0
-IsAct (Due.File c) = Unit {0}
+IsAct (Due.File c) = IsPlain c
 IsAct (Due.Ended status) = Unit {0}
 IsAct other = ⊥
 
@@ -264,7 +293,7 @@ row_act args (at.Failed status) = tt
 
 in_time_act : (late : Bool) (due : Due) → IsAct due → IsAct (in_time true late due)
 in_time_act true (Due.File c) act = tt
-in_time_act false (Due.File c) act = tt
+in_time_act false (Due.File c) act = act
 in_time_act late (Due.Ended status) act = tt
 in_time_act late (Due.Take port) act = absurd act
 in_time_act late (Due.Give port bytes) act = absurd act
@@ -272,6 +301,6 @@ in_time_act late (Due.Start child) act = absurd act
 in_time_act late (Due.Command bytes) act = absurd act
 in_time_act late Due.Wait act = absurd act
 
--- an injector whose input is ready never waits
+-- an injector whose input is ready never waits, and makes plain calls only
 pub next_act : (program : Program) (past : List Own) (now : ℕ) → IsAct (next_of program past now input_ready)
 next_act (Injector args) past now = in_time_act (is_late args now) (call_of args (row_after args past)) (row_act args (row_after args past))

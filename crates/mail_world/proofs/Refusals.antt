@@ -45,6 +45,7 @@ gone_exactly {T} places actors s events p a (why.Gone b here) crew none name at 
 gone_exactly {T} places actors s events p a (why.NotWaiting b) crew none name at = absurd none
 gone_exactly {T} places actors s events p a why.Unknown crew none name at = (λ e. absurd (cc), λ h. absurd ((crew.strangers a none).no_end at h.1))
 gone_exactly {T} places actors s events p a why.Taken crew none name at = absurd none
+gone_exactly {T} places actors s events p a (why.Past now) crew none name at = absurd none
 gone_exactly {T} places actors s events p a why.Memory crew none name at = absurd none
 
 -- want of memory is another refusal, and an Ok is none

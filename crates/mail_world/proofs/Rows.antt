@@ -1,13 +1,13 @@
 -- The rows of an injector's table at which a file is made or written.
-use Rattle.std.proofs.Common.{◌≡◌, ◌≢◌, ℕ, zero, suc, ◌+◌, ◌≤◌, List, take, drop, Some, None, refl, sym, ap, ◌∙◌, subst}
-use Rattle.call_fs.specs.Disk.{File}
+use Rattle.std.proofs.Common.{◌≡◌, ◌≢◌, ℕ, zero, suc, ◌+◌, ◌≤◌, List, length, take, drop, Some, None, refl, sym, ap, ◌∙◌, subst}
+use Rattle.call_fs.specs.Disk.{File, IsSynced}
 use Rattle.call_fs.specs.Apply.{empty_file, grown, grown_part, synced, IsNew}
 use Rattle.queue_inject.specs.declared.injection.Arguments.{Arguments}
 use Rattle.queue_inject.specs.declared.row.Row.{Row}
 use Rattle.queue_inject.specs.declared.row.Row.TheVariants as at
-use Rattle.queue_inject.specs.Names.{Name, path}
-use Rattle.queue_inject.specs.Names.Name.{Pid, Of}
-use Rattle.queue_inject.specs.Names.Part.{Mess, Intd, Todo}
+use Rattle.queue_paths.specs.Names.{Name, path}
+use Rattle.queue_paths.specs.Names.Name.{Pid, Of}
+use Rattle.queue_paths.specs.Names.Part.{Mess, Intd, Todo}
 use Rattle.queue_inject.specs.Texts.{message_text, intd_text}
 use Rattle.queue_inject.specs.Table.{piece_size, in_message, in_todo}
 use Rattle.mail_world.specs.Headline.{IsValid}
@@ -17,6 +17,10 @@ use Rattle.mail_world.proofs.Looks.{Entry, find_far, find_absent, find_near, fou
 use Rattle.mail_world.proofs.Invariant.{Queue, look, IsRecent, about, Phase, IsBegun, IsBare, IsWhole, HasIntd, Holds, AtMess, AtTodo, Basis, Sound}
 use Rattle.mail_world.proofs.Invariant.Role.{AsMessage, AsPart}
 use Rattle.mail_world.proofs.Deeds.{made, written, begun_phase, made_for, made_same, made_other, own_apart, Leads, made_outcome, written_outcome}
+
+-- a synced file holds what it held, on the disk
+synced_with : (f : File) (bytes : List ℕ) → f.bytes ≡ bytes → IsSynced (synced f) bytes
+synced_with f bytes holds = record { holds = holds; all = holds; none_given = refl; no_shorter = ap length holds; no_longer = ap length holds }
 
 -- what comes after so many bytes of a message, and of an envelope
 pub message_next : (q : Queue) (a : List ℕ) (args : Arguments) (n fd done : ℕ) → AtMess q a args n fd (take done (message_text args).bytes)
@@ -188,7 +192,7 @@ module _ (now : ℕ) (q : Queue) (a : List ℕ) (args : Arguments) (G : Sound q)
       mess_row n f _ h.holds.mine bare (old_moment n h.holds.mine bare.begins) (
         record {
           mine = h.holds.mine;
-          rest = record { bare = bare_written n f bare; message = record { holds = draft_bytes n fd _ h; all = refl } };
+          rest = record { bare = bare_written n f bare; message = synced_with (q.disk.files n) _ (draft_bytes n fd _ h) };
         },
         whole,
       )
@@ -255,7 +259,7 @@ module _ (now : ℕ) (q : Queue) (a : List ℕ) (args : Arguments) (G : Sound q)
           number = h.number;
           holds = record {
             mine = h.holds.mine;
-            rest = intd_written n h.number f _ _ h.holds.mine h.holds.rest (record { holds = todo_bytes n fd _ h; all = refl });
+            rest = intd_written n h.number f _ _ h.holds.mine h.holds.rest (synced_with (q.disk.files h.number) _ (todo_bytes n fd _ h));
           };
         },
         valid,

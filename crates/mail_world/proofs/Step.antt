@@ -13,14 +13,14 @@ use Rattle.call_fs.specs.declared.calls.FsError.TheVariants.{NotThere, Exists, F
 use Rattle.queue_inject.specs.declared.injection.Arguments.{Arguments}
 use Rattle.queue_inject.specs.declared.row.Row.{Row}
 use Rattle.queue_inject.specs.declared.row.Row.TheVariants as at
-use Rattle.queue_inject.specs.Names.{Name, path, parse}
-use Rattle.queue_inject.specs.Names.Name.{Pid, Of}
-use Rattle.queue_inject.specs.Names.Part.{Mess, Intd, Todo}
+use Rattle.queue_paths.specs.Names.{Name, path, parse}
+use Rattle.queue_paths.specs.Names.Name.{Pid, Of}
+use Rattle.queue_paths.specs.Names.Part.{Mess, Intd, Todo}
 use Rattle.queue_inject.specs.Texts.{Text, message_text, intd_text}
-use Rattle.queue_inject.specs.Table.{piece_size, failure, moved, call_of}
+use Rattle.queue_inject.specs.Table.{piece_size, failure, work_of, settled, moved, call_of}
 use Rattle.mail_world.specs.History.{linked, booked, held_by}
 use Rattle.mail_world.specs.Headline.{IsValid}
-use Rattle.queue_inject.proofs.Paths.{parse-path}
+use Rattle.queue_paths.proofs.Paths.{parse-path}
 use Rattle.mail_world.proofs.Tests.{same_text}
 use Rattle.mail_world.proofs.Texts.{fails, not_zero, if_either}
 use Rattle.mail_world.proofs.Looks.{Entry, find_none, found}
@@ -110,7 +110,7 @@ module _ (now : ℕ) (q : Queue) (a : List ℕ) (args : Arguments) (G : Sound q)
   at_create : (seq : ℕ) → Steps (at.Create seq) (CreateExcl (pid_path seq))
   at_create seq (Created fd i) fits = (_, create_row now q a args G seq fd.0 i read late fits)
   at_create seq (Refused Exists) fits =
-      if_either Stays (nat_lt seq 9) (at.Create (seq + 1)) (at.Failed 63) (same (at.Create (seq + 1)) (tt, tt)) (same (at.Failed 63) (tt, not_zero 62))
+      if_either (λ row. Stays (settled (work_of args) row)) (nat_lt seq 9) (at.Create (seq + 1)) (at.Failed 63) (same (at.Create (seq + 1)) (tt, tt)) (same (at.Failed 63) (tt, not_zero 62))
   at_create seq (Refused NotThere) fits = same (at.Failed 63) (tt, not_zero 62)
   at_create seq (Refused Fault) fits = same (at.Failed 63) (tt, not_zero 62)
   at_create seq (Refused Memory) fits = same (at.Failed 51) (tt, not_zero 50)

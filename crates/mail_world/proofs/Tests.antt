@@ -3,8 +3,8 @@ use Rattle.std.proofs.Common.{◌≡◌, ◌≢◌, ◌⊎◌, inl, inr, ℕ, Li
 use Rattle.std.proofs.lemmas.Bool.Decides.{eqb_tells}
 use Rattle.std.proofs.lemmas.Slice.Eq.{bytes_eq-Decides}
 use Rattle.std.specs.Prelude.{if◌then◌else◌}
-use Rattle.queue_inject.specs.Names.{Name, path}
-use Rattle.queue_inject.proofs.Paths.{path_injective}
+use Rattle.queue_paths.specs.Names.{Name, path}
+use Rattle.queue_paths.proofs.Paths.{path_injective}
 
 pub off : false ≡ true → ⊥
 off e = cc

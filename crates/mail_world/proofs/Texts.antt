@@ -4,15 +4,15 @@ use Rattle.std.specs.Prelude.{if◌then◌else◌}
 use Rattle.call_fs.specs.declared.calls.Answer.{Answer}
 use Rattle.call_fs.specs.declared.calls.Answer.TheVariants.{Refused}
 use Rattle.call_fs.specs.declared.calls.FsError.TheVariants.{Memory}
-use Rattle.queue_inject.specs.declared.envelope_records.EnvFault.{EnvFault}
-use Rattle.queue_inject.specs.declared.envelope_records.EnvFault.TheVariants.{Format, TooLong, EndEarly}
+use Rattle.envelope_records.specs.declared.envelope.EnvFault.{EnvFault}
+use Rattle.envelope_records.specs.declared.envelope.EnvFault.TheVariants.{Format, TooLong, EndEarly}
 use Rattle.queue_inject.specs.declared.injection.Arguments.{Arguments}
 use Rattle.queue_inject.specs.declared.injection.InputEnd.{InputEnd}
 use Rattle.queue_inject.specs.declared.injection.InputEnd.TheVariants as ends
 use Rattle.queue_inject.specs.declared.row.Row.{Row}
-use Rattle.queue_inject.specs.Envelope.{Stage, Step, step, Reading, read_envelope}
-use Rattle.queue_inject.specs.Envelope.Step.{Goes, Ends, Fails}
-use Rattle.queue_inject.specs.Envelope.Reading.{Whole, Open, Broken}
+use Rattle.envelope_records.specs.Envelope.{Stage, Step, step, Reading, read_envelope}
+use Rattle.envelope_records.specs.Envelope.Step.{Goes, Ends, Fails}
+use Rattle.envelope_records.specs.Envelope.Reading.{Whole, Open, Broken}
 use Rattle.queue_inject.specs.Texts.{limit, message_end, message_text, end_status, fault_status, past_limit, open_status, envelope_text, envelope_of, intd_text}
 use Rattle.queue_inject.specs.Table.{piece_size, failure, past_piece}
 

@@ -15,7 +15,11 @@ use Rattle.mail_world.specs.History.Event.{Call}
 pub wrote_nothing : (d : Disk) (c : CallData) (answer : Answer) (w : ℕ) → answer ≢ Refused Fault
     → (Fits d c answer w → Fits d c answer 0) × ((now : ℕ) → effect d now c answer w ≡ effect d now c answer 0)
 wrote_nothing d (call.CreateExcl name) (Refused Fault) w other = absurd (other refl)
+wrote_nothing d (call.Open name how) (Refused Fault) w other = absurd (other refl)
+wrote_nothing d (call.ReadAt fd at len) (Refused Fault) w other = absurd (other refl)
+wrote_nothing d (call.WriteAt fd at bytes) (Refused Fault) w other = absurd (other refl)
 wrote_nothing d (call.Append fd bytes) (Refused Fault) w other = absurd (other refl)
+wrote_nothing d (call.Truncate fd len) (Refused Fault) w other = absurd (other refl)
 wrote_nothing d (call.Sync fd) (Refused Fault) w other = absurd (other refl)
 wrote_nothing d (call.Close fd) (Refused Fault) w other = absurd (other refl)
 wrote_nothing d (call.Link old new) (Refused Fault) w other = absurd (other refl)

@@ -1,13 +1,12 @@
--- A world keeps what it keeps, as one actor makes a call, ends, or starts.
-use Rattle.std.proofs.Common.{◌≡◌, ℕ, ◌+◌, ◌-◌, ◌^◌, ◌<◌, min, List, [], ◌∷◌, ◌++◌, length, set, Option, Some, None, IsSomeAnd, is_some, refl, sym, ap, ◌∙◌, subst, arith, get_or}
+-- A world keeps what it keeps, as one actor makes a call, ends, is stopped, or starts, and as a moment comes.
+use Rattle.std.proofs.Common.{◌≡◌, ℕ, ◌+◌, ◌-◌, ◌^◌, ◌≤◌, ◌<◌, min, List, [], ◌∷◌, ◌++◌, length, set, Bool, false, Option, Some, None, IsSomeAnd, is_some, refl, sym, ap, ◌∙◌, subst, arith, get_or}
 use Rattle.std.proofs.lemmas.Option.{slice_get_within, get_or_from_slice_get}
 use Rattle.std.proofs.lemmas.List.Sums.{sum_by-append}
 use Rattle.std.specs.Prelude.{count_by, if◌then◌else◌}
 use Rattle.std.specs.List.{slice_get}
 use Rattle.call_fs.specs.declared.calls.CallData.{CallData}
-use Rattle.call_fs.specs.declared.calls.Answer.{Answer}
-use Rattle.call_fs.specs.Calls.{without_bytes}
-use Rattle.call_fs.specs.Disk.{Disk}
+use Rattle.call_fs.specs.declared.calls.Told.{Told}
+use Rattle.call_fs.specs.Disk.{Disk, IsMoment}
 use Rattle.call_fs.specs.Maps.{put_at}
 use Rattle.call_fs.specs.Apply.{Apply, IsReadBy}
 use Rattle.call_fs.specs.Told.{OnTold, Meets}
@@ -17,20 +16,20 @@ use Rattle.mail_world.specs.declared.actor.Actor.{Actor as Held}
 use Rattle.mail_world.specs.declared.event.Event.{Event as Kept}
 use Rattle.mail_world.specs.declared.event.Event.TheVariants as kept
 use Rattle.mail_world.specs.declared.event.Program.{Program}
-use Rattle.mail_world.specs.History.{Event, State, next_of, start_of, called, finished, happens, held_by, shut_by}
-use Rattle.mail_world.specs.History.Event.{Start}
-use Rattle.mail_world.specs.History.Life.{Over}
-use Rattle.mail_world.specs.World.{next_pid, is_start, input_ready, IsHistory, IsStep}
-use Rattle.mail_world.specs.Inside.{known, Follows, IsMember, AreActors, IsOpenTo, IsWorld}
-use Rattle.mail_world.specs.Acting.{MayAct, MayMake, AreOpen, HasActed, call_event, opened, shut}
+use Rattle.mail_world.specs.History.{Life, State, next_of, start_of, called, finished, happens, held_by, shut_by}
+use Rattle.mail_world.specs.History.Event.{Start, Moment}
+use Rattle.mail_world.specs.History.Life.{Over, Stopped}
+use Rattle.mail_world.specs.World.{next_pid, is_start, input_ready, IsStep}
+use Rattle.mail_world.specs.Inside.{known, Follows, IsMember, AreActors, IsOpenTo, IsLed, IsWorld}
+use Rattle.mail_world.specs.Acting.{MayAct, MayMake, AreOpen, HasActed, IsFinished, call_event, opened, shut}
 use Rattle.mail_world.proofs.Known.{known_push}
-use Rattle.mail_world.proofs.Histories.{IsActing, reads_none, call_told, end_told, start_told}
+use Rattle.mail_world.proofs.Histories.{IsActing, LeadsOn, call_told, end_told, stop_told, moment_told, start_told, led_on, led_still}
 use Rattle.mail_world.proofs.Descriptors.{shut_listed}
 use Rattle.mail_world.proofs.Opens.{Opens, MayDo, opens_by, next_may}
 use Rattle.mail_world.proofs.Lists.{some_at}
-use Rattle.mail_world.proofs.Crew.{crew_acts, crew_looks, crew_starts}
-use Rattle.mail_world.proofs.Acts.{call_alone, end_alone, start_alone, call_member, end_member, start_member, look_member}
-use Rattle.mail_world.proofs.Hands.{call_opens, end_opens, start_opens, look_opens, may_close}
+use Rattle.mail_world.proofs.Crew.{crew_acts, crew_looks, crew_waits, crew_starts}
+use Rattle.mail_world.proofs.Acts.{Finishes, call_alone, end_finishes, stop_finishes, finish_alone, start_alone, call_member, finish_member, start_member, look_member}
+use Rattle.mail_world.proofs.Hands.{call_opens, finish_opens, start_opens, moment_opens, look_opens, may_close}
 
 -- where the disk tells
 on_told : {X : Type 0} (t : Option X) (P Q : X → Type 0) → ((x : X) → P x → Q x) → OnTold t P → OnTold t Q
@@ -49,7 +48,7 @@ met_on None (Some y) P R S f h met = absurd met
 met_on (Some x) None P R S f h met = absurd met
 met_on (Some x) (Some y) P R S f h met = f x y h met
 
-met_by : {X : Type 0} (t u : Option X) (R S : X → X → Type 0) → ((x y : X) → R x y → S x y) → Meets t u R → Meets t u S
+pub met_by : {X : Type 0} (t u : Option X) (R S : X → X → Type 0) → ((x y : X) → R x y → S x y) → Meets t u R → Meets t u S
 met_by None None R S f met = tt
 met_by None (Some y) R S f met = absurd met
 met_by (Some x) None R S f met = absurd met
@@ -57,6 +56,9 @@ met_by (Some x) (Some y) R S f met = f x y met
 
 pid_push : (events : List Kept) (k : Kept) → next_pid (events ++ k ∷ []) ≡ min (77 + (count_by is_start events + (if is_start k then 1 else 0))) (2 ^ 32 - 1)
 pid_push events k = ap (λ (n : ℕ). min (77 + n) (2 ^ 32 - 1)) (sum_by-append (λ e. if is_start e then 1 else 0) events (k ∷ []) ∙ omega arith)
+
+still_pid : (events : List Kept) (k : Kept) → is_start k ≡ false → min (77 + (count_by is_start events + (if is_start k then 1 else 0))) (2 ^ 32 - 1) ≡ next_pid events
+still_pid events k none = ap (λ (b : Bool). min (77 + (count_by is_start events + (if b then 1 else 0))) (2 ^ 32 - 1)) none ∙ omega arith
 
 -- the actor at a place
 pub record StandsAt (places : List ℕ → Option ℕ) (actors : List Held) (s : State) (events : List Kept) (p i : ℕ) (x : Held) : Type 0 where
@@ -100,56 +102,56 @@ look_keeps told places actors s events p n i x y w at name ended list follows = 
   pid = w.pid;
   kept = crew_looks places actors s events p i x y w.kept at.is name (look_member s events p x y at.member name ended follows);
   opens = on_told told (λ d. IsOpenTo d actors s) (λ d. IsOpenTo d (set actors i y) s) (λ d o. look_opens actors s i x y d at.is name list o) w.opens;
+  led = w.led;
 }
 
 acting : (s : State) (p : ℕ) (x : Held) (events : List Kept) (m : IsMember s events p x) → x.ended ≡ None → IsActing s x.name p m.actor
 acting s p x events m lives = record { is = m.is; alive = m.alive lives; in_order = m.in_order }
 
 -- what is open after a call
-call_open : (d e : Disk) (places : List ℕ → Option ℕ) (actors : List Held) (s : State) (events : List Kept) (p i : ℕ) (x y : Held) (at : StandsAt places actors s events p i x) (c : CallData) (answer : Answer)
-    → AreActors places actors s events p → y.name ≡ x.name → y.descriptors.items ≡ x.descriptors.items ++ opened answer
-    → next_of at.member.actor.program at.member.actor.past p input_ready ≡ Due.File c → Apply d p c answer e
-    → IsOpenTo d actors s → IsOpenTo e (set actors i y) (called s x.name p input_ready c (without_bytes answer) 0 (Some at.member.actor))
-call_open d e places actors s events p i x y at c answer crew name list due applied o =
+call_open : (d e : Disk) (places : List ℕ → Option ℕ) (actors : List Held) (s : State) (events : List Kept) (p i : ℕ) (x y : Held) (at : StandsAt places actors s events p i x) (c : CallData) (got : Told)
+    → AreActors places actors s events p → y.name ≡ x.name → y.descriptors.items ≡ x.descriptors.items ++ opened got.answer
+    → next_of at.member.actor.program at.member.actor.past p input_ready ≡ Due.File c → Apply d p c got.answer e
+    → IsOpenTo d actors s → IsOpenTo e (set actors i y) (called s x.name p input_ready c got 0 (Some at.member.actor))
+call_open d e places actors s events p i x y at c got crew name list due applied o =
     let may : MayDo d (Due.File c) = subst (MayDo d) due (may_do d s actors events i x p at.member at.lives at.is o) in
-    let opens : Opens d e s.holder (held_by s.holder x.name c answer) x.name answer =
-    subst (λ (e : Disk). Opens d e s.holder (held_by s.holder x.name c answer) x.name answer) (sym applied.2) (opens_by d p c answer applied.0 s.holder x.name may.1 applied.1) in
-    call_opens places actors s events p i x y at.member d e input_ready c (without_bytes answer) crew at.is (at.member.alive at.lives) name list opens o
+    let opens : Opens d e s.holder (held_by s.holder x.name c got.answer) x.name got.answer =
+    subst (λ (e : Disk). Opens d e s.holder (held_by s.holder x.name c got.answer) x.name got.answer) (sym applied.2) (opens_by d p c got.answer applied.0 s.holder x.name may.1 applied.1) in
+    call_opens places actors s events p i x y at.member d e input_ready c got crew at.is (at.member.alive at.lives) name list opens o
+
+-- what led here goes on with an actor's call
+call_leads_on : (old new : Option Disk) (places : List ℕ → Option ℕ) (actors : List Held) (events : List Kept) (p i : ℕ) (x : Held) (c : CallData) (got : Told)
+    → (at : StandsAt places actors (known events) events p i x)
+    → next_of at.member.actor.program at.member.actor.past p input_ready ≡ Due.File c
+    → Meets old new (λ d e. Apply d p c got.answer e × IsReadBy d c got)
+    → LeadsOn old new events (events ++ call_event x.name p c got ∷ []) p p
+call_leads_on old new places actors events p i x c got at due made =
+    call_told old new events p x.name at.member.actor input_ready c got (acting (known events) p x events at.member at.lives) due made
 
 -- an actor made a call
-pub call_keeps : (old new : Option Disk) (places : List ℕ → Option ℕ) (actors : List Held) (events : List Kept) (p n i : ℕ) (x y : Held) (c : CallData) (answer : Answer)
+pub call_keeps : (old new : Option Disk) (places : List ℕ → Option ℕ) (actors : List Held) (events : List Kept) (p n i : ℕ) (x y : Held) (c : CallData) (got : Told)
     → IsWorld old places actors (known events) events p n → (at : StandsAt places actors (known events) events p i x)
-    → y.name ≡ x.name → y.ended ≡ x.ended → y.descriptors.items ≡ x.descriptors.items ++ opened answer
+    → y.name ≡ x.name → y.ended ≡ x.ended → y.descriptors.items ≡ x.descriptors.items ++ opened got.answer
     → next_of at.member.actor.program at.member.actor.past p input_ready ≡ Due.File c
-    → Follows y.machine at.member.actor.program ((record { read = p; ready = input_ready; did = Called c answer [] }) ∷ at.member.actor.past)
-    → Meets old new (λ d e. Apply d p c answer e)
-    → IsWorld new places (set actors i y) (known (events ++ call_event x.name p c answer ∷ [])) (events ++ call_event x.name p c answer ∷ []) p n
-call_keeps old new places actors events p n i x y c answer w at name ended list due follows made =
+    → Follows y.machine at.member.actor.program ((record { read = p; ready = input_ready; did = Called c got.answer got.bytes }) ∷ at.member.actor.past)
+    → Meets old new (λ d e. Apply d p c got.answer e × IsReadBy d c got)
+    → IsWorld new places (set actors i y) (known (events ++ call_event x.name p c got ∷ [])) (events ++ call_event x.name p c got ∷ []) p n
+call_keeps old new places actors events p n i x y c got w at name ended list due follows made =
     let s = known events in
     let m = at.member in
-    let k = call_event x.name p c answer in
-    let t = called s x.name p input_ready c (without_bytes answer) 0 (Some m.actor) in
-    let is : known (events ++ k ∷ []) ≡ t = known_push events k ∙ ap (called s x.name p input_ready c (without_bytes answer) 0) m.is in
+    let k = call_event x.name p c got in
+    let t = called s x.name p input_ready c got 0 (Some m.actor) in
+    let is : known (events ++ k ∷ []) ≡ t = known_push events k ∙ ap (called s x.name p input_ready c got 0) m.is in
     subst (λ (s : State). IsWorld new places (set actors i y) s (events ++ k ∷ []) p n) (sym is) (record {
       moment = w.moment;
       now = w.now;
       pid = w.pid ∙ sym (pid_push events k ∙ omega arith);
-      kept = crew_acts places actors s t events k p i x y w.kept at.is name (call_alone s x.name m.actor p input_ready c (without_bytes answer)) (λ a. refl)
-          (call_member s events p x y input_ready c (without_bytes answer) m at.lives name ended follows);
-      opens = on_both old new (λ d. IsOpenTo d actors s) (λ d. IsOpenTo d (set actors i y) t) (λ d e. Apply d p c answer e)
-          (λ d e applied o. call_open d e places actors s events p i x y at c answer w.kept name list due applied o) made w.opens;
+      kept = crew_acts places actors s t events k p i x y w.kept at.is name (call_alone s x.name m.actor p input_ready c got) (λ a. refl)
+          (call_member s events p x y input_ready c got m at.lives name ended follows);
+      opens = on_both old new (λ d. IsOpenTo d actors s) (λ d. IsOpenTo d (set actors i y) t) (λ d e. Apply d p c got.answer e × IsReadBy d c got)
+          (λ d e applied o. call_open d e places actors s events p i x y at c got w.kept name list due applied.0 o) made w.opens;
+      led = led_on old new (λ d e. Apply d p c got.answer e × IsReadBy d c got) events (events ++ k ∷ []) p p made (call_leads_on old new places actors events p i x c got at due made) w.led;
     })
-
--- and its history goes on
-pub call_goes_on : (o : Disk) (old new : Option Disk) (places : List ℕ → Option ℕ) (actors : List Held) (events : List Kept) (p : ℕ) (h : List Event) (n i : ℕ) (x : Held) (c : CallData) (answer : Answer)
-    → (at : StandsAt places actors (known events) events p i x)
-    → next_of at.member.actor.program at.member.actor.past p input_ready ≡ Due.File c
-    → Meets old new (λ d e. Apply d p c answer e)
-    → IsSomeAnd old (λ d. IsHistory o d events p h)
-    → (e : Event) × IsSomeAnd new (λ d. IsHistory o d (events ++ call_event x.name p c answer ∷ []) p (e ∷ h))
-call_goes_on o old new places actors events p h n i x c answer at due made begun =
-    call_told o old new events p h x.name at.member.actor input_ready c (without_bytes answer) (acting (known events) p x events at.member at.lives) due
-    (met_by old new (λ d e. Apply d p c answer e) (λ d e. Apply d p c answer e × IsReadBy d c (without_bytes answer)) (λ d e applied. (applied, reads_none d c answer)) made) begun
 
 -- what an actor has open can be closed
 pub may_end : (told : Option Disk) (places : List ℕ → Option ℕ) (actors : List Held) (s : State) (events : List Kept) (p n i : ℕ) (x : Held)
@@ -165,39 +167,50 @@ shut_is old new places actors s events p n i x w at met =
     met_on old new (λ d. IsOpenTo d actors s) (λ d e. e ≡ shut x.descriptors.items d) (λ d e. e ≡ shut_by x.name s.holder d)
     (λ d e o is. is ∙ shut_listed d x.name s.holder x.descriptors.items (o.each i x at.is).lists) w.opens met
 
--- an actor ended
-pub end_keeps : (old new : Option Disk) (places : List ℕ → Option ℕ) (actors : List Held) (events : List Kept) (p n i : ℕ) (x y : Held) (status : ℕ)
-    → IsWorld old places actors (known events) events p n → (at : StandsAt places actors (known events) events p i x)
-    → y.name ≡ x.name → y.ended ≡ Some (length events) → y.descriptors.items ≡ []
-    → Follows y.machine at.member.actor.program at.member.actor.past
-    → Meets old new (λ d e. e ≡ shut x.descriptors.items d)
-    → IsWorld new places (set actors i y) (known (events ++ kept.End x.name p input_ready status ∷ [])) (events ++ kept.End x.name p input_ready status ∷ []) p n
-end_keeps old new places actors events p n i x y status w at name ended list follows made =
-    let s = known events in
-    let m = at.member in
-    let k = kept.End x.name p input_ready status in
-    let t = finished s x.name (Over status) (Some m.actor) in
-    let is : known (events ++ k ∷ []) ≡ t = known_push events k ∙ ap (finished s x.name (Over status)) m.is in
-    subst (λ (s : State). IsWorld new places (set actors i y) s (events ++ k ∷ []) p n) (sym is) (record {
-      moment = w.moment;
-      now = w.now;
-      pid = w.pid ∙ sym (pid_push events k ∙ omega arith);
-      kept = crew_acts places actors s t events k p i x y w.kept at.is name (end_alone s x.name m.actor p input_ready status) (λ a. refl)
-          (end_member s events p x y input_ready status m at.lives name ended follows);
-      opens = on_both old new (λ d. IsOpenTo d actors s) (λ d. IsOpenTo d (set actors i y) t) (λ d e. e ≡ shut_by x.name s.holder d)
-          (λ d e is o. subst (λ (d : Disk). IsOpenTo d (set actors i y) t) (sym is) (end_opens places actors s events p i x y m d status w.kept at.is name list o))
-          (shut_is old new places actors s events p n i x w at made) w.opens;
-    })
-
-pub end_goes_on : (o : Disk) (old new : Option Disk) (places : List ℕ → Option ℕ) (actors : List Held) (events : List Kept) (p : ℕ) (h : List Event) (n i : ℕ) (x : Held) (status : ℕ)
+-- what led here goes on with an actor's end
+end_leads_on : (old new : Option Disk) (places : List ℕ → Option ℕ) (actors : List Held) (events : List Kept) (p n i : ℕ) (x : Held) (status : ℕ)
     → IsWorld old places actors (known events) events p n → (at : StandsAt places actors (known events) events p i x)
     → next_of at.member.actor.program at.member.actor.past p input_ready ≡ Due.Ended status
     → Meets old new (λ d e. e ≡ shut x.descriptors.items d)
-    → IsSomeAnd old (λ d. IsHistory o d events p h)
-    → (e : Event) × IsSomeAnd new (λ d. IsHistory o d (events ++ kept.End x.name p input_ready status ∷ []) p (e ∷ h))
-end_goes_on o old new places actors events p h n i x status w at due made begun =
-    end_told o old new events p h x.name at.member.actor input_ready status (acting (known events) p x events at.member at.lives) due
-    (shut_is old new places actors (known events) events p n i x w at made) begun
+    → LeadsOn old new events (events ++ kept.End x.name p input_ready status ∷ []) p p
+end_leads_on old new places actors events p n i x status w at due made =
+    end_told old new events p x.name at.member.actor input_ready status (acting (known events) p x events at.member at.lives) due
+    (shut_is old new places actors (known events) events p n i x w at made)
+
+-- and with its stop
+stop_leads_on : (old new : Option Disk) (places : List ℕ → Option ℕ) (actors : List Held) (events : List Kept) (p n i : ℕ) (x : Held)
+    → IsWorld old places actors (known events) events p n → StandsAt places actors (known events) events p i x
+    → Meets old new (λ d e. e ≡ shut x.descriptors.items d)
+    → LeadsOn old new events (events ++ kept.Stop x.name ∷ []) p p
+stop_leads_on old new places actors events p n i x w at made =
+    stop_told old new events p x.name at.member.actor (acting (known events) p x events at.member at.lives)
+    (shut_is old new places actors (known events) events p n i x w at made)
+
+-- an actor ended or was stopped
+pub finish_keeps : (old new : Option Disk) (places : List ℕ → Option ℕ) (actors : List Held) (events later : List Kept) (p n i : ℕ) (x y : Held) (k : Kept) (life : Life)
+    → IsWorld old places actors (known events) events p n → (at : StandsAt places actors (known events) events p i x)
+    → Finishes x.name k life → IsFinished k old new x y events later → LeadsOn old new events (events ++ k ∷ []) p p
+    → IsWorld new places (set actors i y) (known later) later p n
+finish_keeps old new places actors events later p n i x y k life w at f over on =
+    let s = known events in
+    let m = at.member in
+    let t = finished s x.name life (Some m.actor) in
+    let is : known (events ++ k ∷ []) ≡ t = known_push events k ∙ f.happens s ∙ ap (finished s x.name life) m.is in
+    let name = over.name in
+    let follows = over.follows m.actor.program m.actor.past m.follows in
+    let none_starts = f.none_starts in
+    subst (λ (l : List Kept). IsWorld new places (set actors i y) (known l) l p n) (sym over.event)
+    (subst (λ (s : State). IsWorld new places (set actors i y) s (events ++ k ∷ []) p n) (sym is) (record {
+      moment = w.moment;
+      now = w.now;
+      pid = w.pid ∙ sym (pid_push events k ∙ still_pid events k none_starts);
+      kept = crew_acts places actors s t events k p i x y w.kept at.is name (finish_alone s x.name m.actor k life f) f.nobody_starts
+          (finish_member s events p x y k life m f at.lives name over.ended follows);
+      opens = on_both old new (λ d. IsOpenTo d actors s) (λ d. IsOpenTo d (set actors i y) t) (λ d e. e ≡ shut_by x.name s.holder d)
+          (λ d e is o. subst (λ (d : Disk). IsOpenTo d (set actors i y) t) (sym is) (finish_opens places actors s events p i x y m d life f.dead w.kept at.is name over.descriptors o))
+          (shut_is old new places actors s events p n i x w at over.closed) w.opens;
+      led = led_on old new (λ d e. e ≡ shut x.descriptors.items d) events (events ++ k ∷ []) p p over.closed on w.led;
+    }))
 
 -- a step of an actor
 pub acted_keeps : (did : Option ℕ) (old new : Option Disk) (places : List ℕ → Option ℕ) (actors : List Held) (events later : List Kept) (p n i : ℕ) (x y : Held)
@@ -209,20 +222,48 @@ acted_keeps None old new places actors events later p n i x y w at acted =
     (acted.due at.member.actor.program at.member.actor.past at.member.follows)
     (acted.follows at.member.actor.program at.member.actor.past at.member.follows) acted.made)
 acted_keeps (Some status) old new places actors events later p n i x y w at acted =
-    subst (λ (l : List Kept). IsWorld new places (set actors i y) (known l) l p n) (sym acted.event)
-    (end_keeps old new places actors events p n i x y status w at acted.name acted.ended acted.descriptors
-    (acted.follows at.member.actor.program at.member.actor.past at.member.follows) acted.closed)
+    finish_keeps old new places actors events later p n i x y (kept.End x.name p input_ready status) (Over status) w at (end_finishes x.name p input_ready status) acted.over
+    (end_leads_on old new places actors events p n i x status w at (acted.due at.member.actor.program at.member.actor.past at.member.follows) acted.over.closed)
 
-pub acted_goes_on : (o : Disk) (did : Option ℕ) (old new : Option Disk) (places : List ℕ → Option ℕ) (actors : List Held) (events later : List Kept) (p : ℕ) (h : List Event) (n i : ℕ) (x y : Held)
+pub acted_leads_on : (did : Option ℕ) (old new : Option Disk) (places : List ℕ → Option ℕ) (actors : List Held) (events later : List Kept) (p n i : ℕ) (x y : Held)
     → IsWorld old places actors (known events) events p n → StandsAt places actors (known events) events p i x → HasActed did old new x y events later p
-    → IsSomeAnd old (λ d. IsHistory o d events p h)
-    → (e : Event) × IsSomeAnd new (λ d. IsHistory o d later p (e ∷ h))
-acted_goes_on o None old new places actors events later p h n i x y w at acted begun =
-    subst (λ (l : List Kept). (e : Event) × IsSomeAnd new (λ d. IsHistory o d l p (e ∷ h))) (sym acted.event)
-    (call_goes_on o old new places actors events p h n i x acted.call acted.told at (acted.due at.member.actor.program at.member.actor.past at.member.follows) acted.made begun)
-acted_goes_on o (Some status) old new places actors events later p h n i x y w at acted begun =
-    subst (λ (l : List Kept). (e : Event) × IsSomeAnd new (λ d. IsHistory o d l p (e ∷ h))) (sym acted.event)
-    (end_goes_on o old new places actors events p h n i x status w at (acted.due at.member.actor.program at.member.actor.past at.member.follows) acted.closed begun)
+    → LeadsOn old new events later p p
+acted_leads_on None old new places actors events later p n i x y w at acted =
+    subst (λ (l : List Kept). LeadsOn old new events l p p) (sym acted.event)
+    (call_leads_on old new places actors events p i x acted.call acted.told at (acted.due at.member.actor.program at.member.actor.past at.member.follows) acted.made)
+acted_leads_on (Some status) old new places actors events later p n i x y w at acted =
+    subst (λ (l : List Kept). LeadsOn old new events l p p) (sym acted.over.event)
+    (end_leads_on old new places actors events p n i x status w at (acted.due at.member.actor.program at.member.actor.past at.member.follows) acted.over.closed)
+
+-- an actor was stopped
+pub stopped_keeps : (old new : Option Disk) (places : List ℕ → Option ℕ) (actors : List Held) (events later : List Kept) (p n i : ℕ) (x y : Held)
+    → IsWorld old places actors (known events) events p n → StandsAt places actors (known events) events p i x → IsFinished (kept.Stop x.name) old new x y events later
+    → IsWorld new places (set actors i y) (known later) later p n
+stopped_keeps old new places actors events later p n i x y w at over = finish_keeps old new places actors events later p n i x y (kept.Stop x.name) Stopped w at (stop_finishes x.name) over
+    (stop_leads_on old new places actors events p n i x w at over.closed)
+
+pub stopped_leads_on : (old new : Option Disk) (places : List ℕ → Option ℕ) (actors : List Held) (events later : List Kept) (p n i : ℕ) (x y : Held)
+    → IsWorld old places actors (known events) events p n → StandsAt places actors (known events) events p i x → IsFinished (kept.Stop x.name) old new x y events later
+    → LeadsOn old new events later p p
+stopped_leads_on old new places actors events later p n i x y w at over =
+    subst (λ (l : List Kept). LeadsOn old new events l p p) (sym over.event) (stop_leads_on old new places actors events p n i x w at over.closed)
+
+-- a moment came
+pub moment_keeps : (told : Option Disk) (places : List ℕ → Option ℕ) (actors : List Held) (events : List Kept) (p m n : ℕ) → IsMoment m → p ≤ m
+    → IsWorld told places actors (known events) events p n
+    → IsWorld told places actors (known (events ++ kept.Moment m ∷ [])) (events ++ kept.Moment m ∷ []) m n
+moment_keeps told places actors events p m n moment later w =
+    let s = known events in
+    let k = kept.Moment m in
+    let t = happens s (Moment m) in
+    subst (λ (s : State). IsWorld told places actors s (events ++ k ∷ []) m n) (sym (known_push events k)) (record {
+      moment = moment;
+      now = refl;
+      pid = w.pid ∙ sym (pid_push events k ∙ still_pid events k refl);
+      kept = crew_waits places actors s t events k p m later w.kept refl refl (λ a h. h) (λ a. refl);
+      opens = on_told told (λ d. IsOpenTo d actors s) (λ d. IsOpenTo d actors t) (λ d o. moment_opens actors s m d o) w.opens;
+      led = led_still told events (events ++ k ∷ []) p m (moment_told told events p m moment later) w.led;
+    })
 
 -- the actor that a place has
 pub stands_at : (told : Option Disk) (places : List ℕ → Option ℕ) (actors : List Held) (s : State) (events : List Kept) (p n i : ℕ) (a : List ℕ) (x : Held)
@@ -242,6 +283,11 @@ in_range told places actors s events p n a w i place =
     let named = some_at (λ (x : Held). x.name ≡ a) (slice_get actors i) (w.kept.named a i place) in
     slice_get_within actors i named.0 named.1
 
+-- what led here goes on with a start
+pub start_leads_on : (told : Option Disk) (places : List ℕ → Option ℕ) (actors : List Held) (events : List Kept) (p n : ℕ) (a : List ℕ) (program : Program)
+    → IsWorld told places actors (known events) events p n → places a ≡ None → LeadsOn told told events (events ++ kept.Start a program ∷ []) p p
+start_leads_on told places actors events p n a program w new = start_told told events p a program (w.kept.strangers a new).unknown
+
 -- an actor started
 pub start_keeps : (told : Option Disk) (places next : List ℕ → Option ℕ) (actors : List Held) (events : List Kept) (p n q : ℕ) (y : Held) (a : List ℕ) (program : Program)
     → IsWorld told places actors (known events) events p n → places a ≡ None → ((b : List ℕ) → next b ≡ put_at places a (Some (length actors)) b)
@@ -260,13 +306,8 @@ start_keeps told places next actors events p n q y a program w new put name ende
           (start_member s events p y a program (w.kept.strangers a new) name ended follows start);
       opens = on_told told (λ d. IsOpenTo d actors s) (λ d. IsOpenTo d (actors ++ y ∷ []) t)
           (λ d o. start_opens places actors s events p y a program d w.kept new name list o) w.opens;
+      led = led_still told events (events ++ k ∷ []) p p (start_leads_on told places actors events p n a program w new) w.led;
     })
-
-pub start_goes_on : (o : Disk) (told : Option Disk) (places : List ℕ → Option ℕ) (actors : List Held) (events : List Kept) (p : ℕ) (h : List Event) (n : ℕ) (a : List ℕ) (program : Program)
-    → IsWorld told places actors (known events) events p n → places a ≡ None
-    → IsSomeAnd told (λ d. IsHistory o d events p h)
-    → (e : Event) × IsSomeAnd told (λ d. IsHistory o d (events ++ kept.Start a program ∷ []) p (e ∷ h))
-start_goes_on o told places actors events p h n a program w new begun = start_told o told events p h a program (w.kept.strangers a new).unknown begun
 
 -- a world without actors
 pub new_keeps : (told : Option Disk) (places : List ℕ → Option ℕ) → ((a : List ℕ) → places a ≡ None) → IsWorld told places [] (known []) [] 0 77
@@ -282,6 +323,7 @@ new_keeps told places none = record {
     started = λ a. sym (ap is_some (none a));
   };
   opens = every told (λ d. IsOpenTo d [] (known [])) (λ d. record { held = λ fd a is. absurd (cc); each = λ i x is. absurd (cc) });
+  led = every told (λ d. IsLed d [] 0) (λ d. (d, [], record { allowed = tt; told = tt; disk = refl; moment = refl }));
 } where
   every : {X : Type 0} (t : Option X) (P : X → Type 0) → ((x : X) → P x) → OnTold t P
   every None P f = tt
@@ -293,4 +335,4 @@ pub acted_step : {D : Type 0} (d e : D) (did : Option ℕ) (old new : Option Dis
 acted_step d e None old new events later p a x y name acted =
     (acted.call, acted.told, acted.event ∙ ap (λ (a : List ℕ). events ++ call_event a p acted.call acted.told ∷ []) name)
 acted_step d e (Some status) old new events later p a x y name acted =
-    acted.event ∙ ap (λ (a : List ℕ). events ++ kept.End a p input_ready status ∷ []) name
+    acted.over.event ∙ ap (λ (a : List ℕ). events ++ kept.End a p input_ready status ∷ []) name

@@ -4,12 +4,12 @@ use Rattle.std.specs.List.{slice_get}
 use Rattle.call_fs.specs.declared.calls.Fd.{Fd}
 use Rattle.call_fs.specs.declared.calls.CallData.{CallData}
 use Rattle.call_fs.specs.declared.calls.Answer.{Answer}
+use Rattle.call_fs.specs.declared.calls.Told.{Told}
 use Rattle.call_fs.specs.declared.calls.Answer.TheVariants as answer
-use Rattle.call_fs.specs.Calls.{without_bytes}
 use Rattle.call_fs.specs.Disk.{Disk}
 use Rattle.call_fs.specs.Steady.{IsSteadyAnswer}
 use Rattle.call_fs.specs.Told.{OnTold, Meets}
-use Rattle.call_fs.specs.Apply.{Apply, MayCall}
+use Rattle.call_fs.specs.Apply.{Apply, IsReadBy, MayCall}
 use Rattle.call_fs.specs.Program.{Due, Own}
 use Rattle.call_fs.specs.Program.Did.{Called}
 use Rattle.queue_inject.specs.Machine.{Machine}
@@ -72,30 +72,34 @@ abbrev pub with_call : Machine → List Own → CallData → Answer → List Own
 with_call machine past call answer = (record { read = machine.present; ready = machine.ready; did = Called call answer [] }) ∷ past
 
 -- a call that came, as it is kept
-abbrev pub call_event : List ℕ → ℕ → CallData → Answer → Kept
-call_event a now call answer = kept.Call a now input_ready call (without_bytes answer)
+abbrev pub call_event : List ℕ → ℕ → CallData → Told → Kept
+call_event a now call told = kept.Call a now input_ready call told
 
--- a step made a call, and the machine was told its answer
+-- a step made a call, and the machine was told what came of it
 pub record HasCalled (old new : Option Disk) (x y : Held) (before now_kept : List Kept) (now : ℕ) : Type 0 where
   pub call : CallData
-  pub told : Answer
+  pub told : Told
   pub event : now_kept ≡ before ++ call_event x.name now call told ∷ []
   pub due : (program : Program) (past : List Own) → Follows x.machine program past → next_of program past now input_ready ≡ Due.File call
-  pub follows : (program : Program) (past : List Own) → Follows x.machine program past → Follows y.machine program ((record { read = now; ready = input_ready; did = Called call told [] }) ∷ past)
-  pub made : Meets old new (λ d e. Apply d now call told e)
+  pub follows : (program : Program) (past : List Own) → Follows x.machine program past → Follows y.machine program ((record { read = now; ready = input_ready; did = Called call told.answer told.bytes }) ∷ past)
+  pub made : Meets old new (λ d e. Apply d now call told.answer e × IsReadBy d call told)
   pub name : y.name ≡ x.name
-  pub descriptors : y.descriptors.items ≡ x.descriptors.items ++ opened told
+  pub descriptors : y.descriptors.items ≡ x.descriptors.items ++ opened told.answer
   pub ended : y.ended ≡ x.ended
 
--- a step was the actor's end, and what it had open is closed
-pub record HasEnded (status : ℕ) (old new : Option Disk) (x y : Held) (before now_kept : List Kept) (now : ℕ) : Type 0 where
-  pub event : now_kept ≡ before ++ kept.End x.name now input_ready status ∷ []
-  pub due : (program : Program) (past : List Own) → Follows x.machine program past → next_of program past now input_ready ≡ Due.Ended status
+-- an actor is over with this event, and what it had open is closed
+pub record IsFinished (k : Kept) (old new : Option Disk) (x y : Held) (before now_kept : List Kept) : Type 0 where
+  pub event : now_kept ≡ before ++ k ∷ []
   pub follows : (program : Program) (past : List Own) → Follows x.machine program past → Follows y.machine program past
   pub closed : Meets old new (λ d e. e ≡ shut x.descriptors.items d)
   pub name : y.name ≡ x.name
   pub descriptors : y.descriptors.items ≡ []
   pub ended : y.ended ≡ Some (length before)
+
+-- a step was the actor's end
+pub record HasEnded (status : ℕ) (old new : Option Disk) (x y : Held) (before now_kept : List Kept) (now : ℕ) : Type 0 where
+  pub due : (program : Program) (past : List Own) → Follows x.machine program past → next_of program past now input_ready ≡ Due.Ended status
+  pub over : IsFinished (kept.End x.name now input_ready status) old new x y before now_kept
 
 abbrev pub HasActed : Option ℕ → Option Disk → Option Disk → Held → Held → List Kept → List Kept → ℕ → Type 0
 HasActed None old new x y before now_kept now = HasCalled old new x y before now_kept now

@@ -1,9 +1,9 @@
 -- What is claimed of each state, and the headline: no accepted message is lost.
 use Rattle.std.specs.Prelude.{◌≡◌, ◌≢◌, ◌⊎◌, ℕ, ◌<◌, List, ◌++◌, length, true, Some, None}
 use Rattle.call_fs.specs.Disk.{Disk, Among, IsSynced}
-use Rattle.queue_inject.specs.Names.{path}
-use Rattle.queue_inject.specs.Names.Part.{Mess, Todo}
-use Rattle.queue_inject.specs.Names.Name.{Of}
+use Rattle.queue_paths.specs.Names.{path}
+use Rattle.queue_paths.specs.Names.Part.{Mess, Todo}
+use Rattle.queue_paths.specs.Names.Name.{Of}
 use Rattle.queue_inject.specs.declared.injection.Arguments.{Arguments}
 use Rattle.queue_inject.specs.declared.row.Row.TheVariants as Row
 use Rattle.queue_inject.specs.Table.{row_after}

@@ -8,16 +8,16 @@ use Rattle.call_fs.specs.declared.calls.Answer.TheVariants.{Created, Opened, Don
 use Rattle.call_fs.specs.declared.calls.Told.{Told}
 use Rattle.call_fs.specs.declared.program.Ready.{Ready}
 use Rattle.call_fs.specs.Maps.{put, put_at}
-use Rattle.call_fs.specs.Disk.{Disk, IsMoment}
+use Rattle.call_fs.specs.Disk.{Disk, IsMoment, IsSynced}
 use Rattle.call_fs.specs.Apply.{effect, Fits, IsReadBy}
 use Rattle.call_fs.specs.Survival.{AllSurvive, halted}
 use Rattle.call_fs.specs.Program.{Due, Own}
 use Rattle.call_fs.specs.Program.Did.{Called}
-use Rattle.call_fs.specs.Decimal.{digits}
+use Rattle.mail_bytes.specs.Decimal.{digits}
 use Rattle.queue_inject.specs.declared.injection.Arguments.{Arguments}
-use Rattle.queue_inject.specs.Names.{Name, Part, path, parse}
-use Rattle.queue_inject.specs.Names.Name.{Of}
-use Rattle.queue_inject.specs.Names.Part.{Mess, Intd, Todo}
+use Rattle.queue_paths.specs.Names.{Name, Part, path, parse}
+use Rattle.queue_paths.specs.Names.Name.{Of}
+use Rattle.queue_paths.specs.Names.Part.{Mess, Intd, Todo}
 use Rattle.queue_inject.specs.Table.{Next}
 use Rattle.mail_world.specs.declared.event.Program.{Program}
 use Rattle.mail_world.specs.declared.event.Program.TheVariants.{Injector}
@@ -75,7 +75,7 @@ pub record Books : Type 0 where
   pub living : ℕ → Option Injection
   pub over : List Injection
 
--- The state after a history: the disk, whose each open descriptor is, the present moment, the actors and the books.
+-- The state after a history: the disk, who holds each open descriptor, the present moment, the actors and the books.
 pub record State : Type 0 where
   pub disk : Disk
   pub holder : ℕ → Option (List ℕ)
@@ -109,7 +109,7 @@ booked b a args call answer = b
 abbrev pub booked_by : Books → List ℕ → Program → CallData → Answer → Books
 booked_by b a (Injector args) call answer = booked b a args call answer
 
--- whose each descriptor is after a call
+-- who holds each descriptor after a call
 abbrev pub held_by : (ℕ → Option (List ℕ)) → List ℕ → CallData → Answer → ℕ → Option (List ℕ)
 held_by holder a call (Created fd n) = put holder fd.0 (Some a)
 held_by holder a call (Opened fd) = put holder fd.0 (Some a)
@@ -246,7 +246,7 @@ pub record Opening (d : Disk) : Type 0 where
   pub dirs : (dir : List ℕ) → Contains queue_dirs dir → Contains d.dirs dir
   pub empty : (part : Part) (n : ℕ) → d.names (path (Of part n)) ≡ None
   pub shut : (fd : ℕ) → d.opens fd ≡ None
-  pub settled : (name : List ℕ) (n : ℕ) → d.names name ≡ Some n → (d.files n).older ≡ []
+  pub settled : (name : List ℕ) (n : ℕ) → d.names name ≡ Some n → IsSynced (d.files n) (d.files n).bytes
 
 abbrev pub opening : Disk → State
 opening d = record { disk = d; holder = λ _. None; now = 0; actors = λ _. None; books = record { living = λ _. None; over = [] } }
@@ -255,6 +255,11 @@ opening d = record { disk = d; holder = λ _. None; now = 0; actors = λ _. None
 abbrev pub after : Disk → List Event → State
 after d [] = opening d
 after d (event ∷ before) = happens (after d before) event
+
+-- each event of a history that began with this disk might happen when it did
+abbrev pub EachAllowed : Disk → List Event → Type 0
+EachAllowed d [] = Unit {0}
+EachAllowed d (event ∷ before) = EachAllowed d before × Allowed (after d before) event
 
 -- A legal history: it began with an opening disk, and each event might happen when it did.
 abbrev pub Legal : Disk → List Event → Type 0

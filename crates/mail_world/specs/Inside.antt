@@ -1,8 +1,9 @@
 -- What the fields of a world mean, and what they keep.
-use Rattle.std.specs.Prelude.{◌≡◌, ◌↔◌, ℕ, ◌≤◌, ◌==◌, List, [], ◌∷◌, map, reverse, Bool, false, Option, Some, None, IsSome, IsSomeAnd, is_some, IsTrue, bytes_eq}
+use Rattle.std.specs.Prelude.{◌≡◌, ◌↔◌, ℕ, ◌≤◌, ◌==◌, List, [], ◌∷◌, map, reverse, count_by, Bool, false, Option, Some, None, IsSome, IsSomeAnd, is_some, is_none, IsTrue, bytes_eq}
 use Rattle.std.specs.List.{list_any, slice_get}
 use Rattle.call_fs.specs.declared.calls.Fd.{Fd}
 use Rattle.call_fs.specs.Disk.{Disk, Open, Mode, IsMoment}
+use Rattle.call_fs.specs.Apply.{empty_file}
 use Rattle.call_fs.specs.Told.{OnTold}
 use Rattle.call_fs.specs.Program.{Own}
 use Rattle.queue_inject.specs.declared.injection.Arguments.{Arguments}
@@ -17,21 +18,23 @@ use Rattle.mail_world.specs.declared.event.Program.{Program}
 use Rattle.mail_world.specs.declared.event.Program.TheVariants.{Injector}
 use Rattle.mail_world.specs.declared.actor.Actor.{Actor as Held}
 use Rattle.mail_world.specs.History.{Event, Actor, State, after, latest}
-use Rattle.mail_world.specs.History.Event.{Start, Call, End}
+use Rattle.mail_world.specs.History.Event.{Start, Call, End, Stop, Moment}
 use Rattle.mail_world.specs.History.Life.{Alive}
-use Rattle.mail_world.specs.World.{EndsAt, was_started, next_pid}
+use Rattle.mail_world.specs.World.{Leads, EndsAt, was_started, next_pid}
 
 -- a kept event, read as one whose failed write had written nothing
 abbrev pub event_of : Kept → Event
 event_of (kept.Start a program) = Start a program
 event_of (kept.Call a read ready call told) = Call a read ready call told 0
 event_of (kept.End a read ready status) = End a read ready status
+event_of (kept.Stop a) = Stop a
+event_of (kept.Moment m) = Moment m
 
 -- any disk
 abbrev pub nowhere : Disk
-nowhere = record { dirs = []; names = λ _. None; files = λ _. record { bytes = []; older = []; moment = 0 }; opens = λ _. None }
+nowhere = record { dirs = []; names = λ _. None; files = λ _. empty_file 0; opens = λ _. None }
 
--- What the kept events tell of the actors, of whose each descriptor is, and of the moment, whatever the disk is.
+-- What the kept events tell of the actors, of who holds each descriptor, and of the moment, whatever the disk is.
 abbrev pub known : List Kept → State
 known events = after nowhere (map event_of (reverse events))
 
@@ -113,6 +116,10 @@ pub record IsOpenTo (d : Disk) (actors : List Held) (s : State) : Type 0 where
   pub held : (fd : ℕ) (a : List ℕ) → s.holder fd ≡ Some a → IsSome (d.opens fd)
   pub each : (i : ℕ) (x : Held) → slice_get actors i ≡ Some x → HasOpen d s x
 
+-- from some disk a history led here
+abbrev pub IsLed : Disk → List Kept → ℕ → Type 0
+IsLed now events present = (opening : Disk) × (h : List Event) × Leads opening now events present h
+
 -- What the fields of a world keep together: the disk, the places, the actors, the events with what they tell, the moment
 -- and the next process number.
 pub record IsWorld (disk : Option Disk) (places : List ℕ → Option ℕ) (actors : List Held) (s : State) (events : List Kept) (present next : ℕ) : Type 0 where
@@ -121,3 +128,12 @@ pub record IsWorld (disk : Option Disk) (places : List ℕ → Option ℕ) (acto
   pub pid : next ≡ next_pid events
   pub kept : AreActors places actors s events present
   pub opens : OnTold disk (λ d. IsOpenTo d actors s)
+  pub led : OnTold disk (λ d. IsLed d events present)
+
+-- not ended
+abbrev pub lives : Held → Bool
+lives x = is_none x.ended
+
+-- how many actors haven't ended: as many events it keeps room for, so that each can be stopped without memory
+abbrev pub living : List Held → ℕ
+living actors = count_by lives actors

@@ -1,9 +1,9 @@
--- The states of a message number (INTERNALS, "The structure of a message in the queue").
+-- The states of a message number (INTERNALS, "Queue structure").
 use Rattle.std.specs.Prelude.{ℕ, Bool, true, false, List, [], ◌∷◌, is_some}
 use Rattle.call_fs.specs.Disk.{Disk}
-use Rattle.queue_inject.specs.Names.{Part, path}
-use Rattle.queue_inject.specs.Names.Part.{Mess, Intd, Todo, Info, Local, Remote, Bounce}
-use Rattle.queue_inject.specs.Names.Name.{Of}
+use Rattle.queue_paths.specs.Names.{Part, path}
+use Rattle.queue_paths.specs.Names.Part.{Mess, Intd, Todo, Info, Local, Remote, Bounce}
+use Rattle.queue_paths.specs.Names.Name.{Of}
 use Rattle.mail_world.specs.declared.queue_states.State.{State}
 use Rattle.mail_world.specs.declared.queue_states.State.TheVariants.{S1, S2, S3, S4, S5, Other}
 

@@ -2,9 +2,8 @@
 use Rattle.std.specs.Prelude.{◌≡◌, ℕ, ◌+◌, ◌-◌, ◌^◌, min, List, [], ◌∷◌, ◌++◌, reverse, count_by, Bool, true, false, bytes_eq, Option, Some, None, IsSomeAnd}
 use Rattle.std.specs.List.{AllZip, list_any, slice_get}
 use Rattle.call_fs.specs.declared.calls.CallData.{CallData}
-use Rattle.call_fs.specs.declared.calls.Answer.{Answer}
+use Rattle.call_fs.specs.declared.calls.Told.{Told}
 use Rattle.call_fs.specs.declared.program.Ready.{Ready}
-use Rattle.call_fs.specs.Calls.{without_bytes}
 use Rattle.call_fs.specs.Disk.{Disk}
 use Rattle.call_fs.specs.Steady.{IsSteadyAnswer}
 use Rattle.call_fs.specs.Told.{OnTold}
@@ -14,7 +13,7 @@ use Rattle.queue_inject.specs.declared.received_line.Invoked.TheVariants.{Uid}
 use Rattle.mail_world.specs.declared.event.Event.{Event as Kept}
 use Rattle.mail_world.specs.declared.event.Event.TheVariants as kept
 use Rattle.mail_world.specs.declared.event.Program.TheVariants.{Injector}
-use Rattle.mail_world.specs.History.{Event, after, Legal}
+use Rattle.mail_world.specs.History.{Event, after, EachAllowed, Legal}
 use Rattle.mail_world.specs.History.Event.{Start, Call, End, Stop, Moment, Halt}
 use Rattle.mail_world.specs.Headline.{Safe}
 
@@ -23,9 +22,17 @@ abbrev pub Tells : Kept → Event → Type 0
 Tells event (Start a program) = event ≡ kept.Start a program
 Tells event (Call a read ready call told wrote) = event ≡ kept.Call a read ready call told
 Tells event (End a read ready status) = event ≡ kept.End a read ready status
-Tells event (Stop a) = ⊥
-Tells event (Moment m) = ⊥
+Tells event (Stop a) = event ≡ kept.Stop a
+Tells event (Moment m) = event ≡ kept.Moment m
 Tells event (Halt contents) = ⊥
+
+-- What led from one disk to another one, at this moment: a history of which each event might happen when it did, and
+-- was kept by a world, the oldest first.
+pub record Leads (opening now : Disk) (events : List Kept) (present : ℕ) (h : List Event) : Type 0 where
+  pub allowed : EachAllowed opening h
+  pub told : AllZip Tells (reverse events) h
+  pub disk : (after opening h).disk ≡ now
+  pub moment : (after opening h).now ≡ present
 
 -- What happened in a world that began with one disk and now has another one, at this moment: a legal history, of which
 -- the world kept each event, the oldest first.
@@ -59,18 +66,22 @@ abbrev pub starts : List ℕ → Kept → Bool
 starts a (kept.Start b program) = bytes_eq b a
 starts a (kept.Call b read ready call told) = false
 starts a (kept.End b read ready status) = false
+starts a (kept.Stop b) = false
+starts a (kept.Moment m) = false
 
 -- an actor of that name was started
 abbrev pub was_started : List Kept → List ℕ → Bool
 was_started events a = list_any (starts a) events
 
--- an end of that actor
+-- an end or a stop of that actor
 abbrev pub IsEndOf : List ℕ → Kept → Type 0
 IsEndOf a (kept.Start b program) = ⊥
 IsEndOf a (kept.Call b read ready call told) = ⊥
 IsEndOf a (kept.End b read ready status) = b ≡ a
+IsEndOf a (kept.Stop b) = b ≡ a
+IsEndOf a (kept.Moment m) = ⊥
 
--- that actor ended with the event at this index
+-- that actor ended or was stopped with the event at this index
 abbrev pub EndsAt : List Kept → List ℕ → ℕ → Type 0
 EndsAt events a at = IsSomeAnd (slice_get events at) (IsEndOf a)
 
@@ -79,6 +90,8 @@ abbrev pub is_start : Kept → Bool
 is_start (kept.Start b program) = true
 is_start (kept.Call b read ready call told) = false
 is_start (kept.End b read ready status) = false
+is_start (kept.Stop b) = false
+is_start (kept.Moment m) = false
 
 -- the process number of the next actor after so many starts: 77 and on; it stands still at the last u32
 abbrev pub pid_after : ℕ → ℕ
@@ -113,17 +126,27 @@ started_world old name message envelope = record {
   present = old.present;
 }
 
--- A step of that actor appends one event: a file call with its answer, or the end that was told.
+-- A step of that actor appends one event: a file call with what it was told, or the end that was told.
 abbrev pub IsStep : {D : Type 0} → List ℕ → Option ℕ → Seen D → Seen D → Type 0
 IsStep a None old new =
-    (call : CallData) × (answer : Answer) × (new.events ≡ old.events ++ kept.Call a old.present input_ready call (without_bytes answer) ∷ [])
+    (call : CallData) × (told : Told) × (new.events ≡ old.events ++ kept.Call a old.present input_ready call told ∷ [])
 IsStep a (Some status) old new = new.events ≡ old.events ++ kept.End a old.present input_ready status ∷ []
+
+-- a stop of that actor appends one event, and the present moment stays
+abbrev pub IsStop : {D : Type 0} → List ℕ → Seen D → Seen D → Type 0
+IsStop a old new = (new.events ≡ old.events ++ kept.Stop a ∷ []) × (new.present ≡ old.present)
+
+-- the world after a moment came
+abbrev pub moment_world : {D : Type 0} → Seen D → ℕ → Seen D
+moment_world old m = record { disk = old.disk; events = old.events ++ kept.Moment m ∷ []; present = m }
 
 -- an event that a steady disk, which is this one before it, lets happen
 abbrev pub IsSteadyEvent : Disk → Kept → Type 0
 IsSteadyEvent d (kept.Start a program) = Unit {0}
 IsSteadyEvent d (kept.Call a read ready call told) = IsSteadyAnswer d told.answer
 IsSteadyEvent d (kept.End a read ready status) = Unit {0}
+IsSteadyEvent d (kept.Stop a) = Unit {0}
+IsSteadyEvent d (kept.Moment m) = Unit {0}
 
 -- A disk that was steady is so still, and the one event that was appended is a steady disk's.
 abbrev pub StaysSteady : {D : Type 0} → (D → Type 0) → (D → Option Disk) → D → D → List Kept → List Kept → Type 0

@@ -1,5 +1,5 @@
 // One actor: its machine, and what it has open.
-ghost use Rattle.std.specs.Prelude.{◌≡◌, ◌++◌, ◌∷◌, ◌<◌, [], List, ℕ, IfOk, IsTrue, OnOk, OnErr, Some, None, false, length, vec_len, vec_capacity};
+ghost use Rattle.std.specs.Prelude.{◌≡◌, ◌++◌, ◌∷◌, ◌+◌, ◌<◌, [], List, ℕ, IfOk, IsTrue, OnOk, OnErr, Some, None, false, length, vec_len, vec_capacity};
 ghost use Rattle.call_fs.specs.declared.calls.CallData.{CallData as Made};
 ghost use Rattle.call_fs.specs.Disk.{IsMoment};
 ghost use Rattle.call_fs.specs.Told.{OnTold, Meets};
@@ -10,12 +10,13 @@ ghost use Rattle.mail_world.specs.declared.event.Program.TheVariants.{Injector a
 ghost use Rattle.mail_world.specs.History.{next_of};
 ghost use Rattle.mail_world.specs.World.{mail, input_ready, StaysSteady};
 ghost use Rattle.mail_world.specs.Inside.{Follows};
-ghost use Rattle.mail_world.specs.Acting.{MayAct, AreOpen, due_by, IsMade, IsSteadyCame, HasActed, HasLooked, with_call, opened, shut};
-ghost use Rattle.mail_world.specs.Kept.{events_of};
+ghost use Rattle.mail_world.specs.Acting.{MayAct, AreOpen, due_by, IsMade, IsSteadyCame, HasActed, HasLooked, IsFinished, with_call, opened, shut};
+ghost use Rattle.mail_world.specs.declared.event.Event.TheVariants as kept;
+ghost use Rattle.mail_world.specs.Kept.{events_of, HasRoom};
 
 use crate::{ActorName, Did, Event, History};
-use call_fs::mail_bytes::{ByteText, Memory};
 use call_fs::{Answer, CallData, CallFs, Fd, Got, Need, Ready, Told, perform};
+use mail_bytes::{ByteText, Memory};
 use queue_inject::received_line::Invoked;
 use queue_inject::{Arguments, Injector, InputEnd};
 use std::alloc::{AllocError, Global};
@@ -38,7 +39,7 @@ pub struct Actor {
     pub machine: Injector,
     /// Its open descriptors.
     pub descriptors: Vec<Fd>,
-    /// The index of its end in the history, where it has ended.
+    /// The index of its end or stop in the history, where it has ended.
     pub ended: Option<u64>,
 }
 
@@ -107,8 +108,8 @@ impl Actor {
     }
 
     /// One step at this moment: its next file call, or its end, in which its descriptors are closed. The event is
-    /// appended before the answer is handed to the machine. The conditions: what is next may be made, and what it has
-    /// open is open.
+    /// appended before the answer is handed to the machine. The conditions: what is next may be made, what it has open
+    /// is open, and there is room for the event.
     pub fn act<D: CallFs>(
         &mut self,
         alloc: Global,
@@ -119,17 +120,18 @@ impl Actor {
         requires moment { IsMoment now }
         requires may { MayAct (D.disk disk.old) self.old.machine now }
         requires opens { OnTold (D.disk disk.old) (λ before. AreOpen before self.old.descriptors.items) }
+        requires room { HasRoom history.old 1 }
         ensures acted { IfOk result (λ did. HasActed did.ended (D.disk disk.old) (D.disk disk.new)
             self.old self.new (events_of history.old) (events_of history.new) now) }
         ensures steady { OnOk result (StaysSteady D.steady D.disk disk.old disk.new
             (events_of history.old) (events_of history.new)) }
         ensures at { IfOk result (λ did. did.at ≡ length (events_of history.old)) }
         ensures idle { IfOk result (λ did. did.idle ≡ false) }
+        ensures room { OnOk result ((more : ℕ) → HasRoom history.old (more + 1) → HasRoom history.new more) }
         ensures err { OnErr result (disk.new ≡ disk.old) }
         ensures looked { OnErr result (HasLooked self.old self.new) }
-        ensures same { OnErr result (events_of history.new ≡ events_of history.old) }
+        ensures same { OnErr result (history.new ≡ history.old) }
     {
-        history.reserve()?;
         let at = history.len() as u64;
         match self.ask(alloc, disk, now)? {
             Came::Called(call, answer) => {
@@ -172,7 +174,25 @@ impl Actor {
         self.machine.done(Got::File(answer, &[])).unwrap();
     }
 
-    /// It has ended, with the event of this index, and its descriptors are closed. The condition: they are open.
+    /// It is stopped from outside: the event is appended, and its descriptors are closed. Takes no memory. The
+    /// conditions: what it has open is open, and there is room for the event.
+    pub fn stop<D: CallFs>(&mut self, disk: &mut D, history: &mut History)
+        requires opens { OnTold (D.disk disk.old) (λ before. AreOpen before self.old.descriptors.items) }
+        requires room { HasRoom history.old 1 }
+        ensures stopped { IsFinished (kept.Stop self.old.name) (D.disk disk.old) (D.disk disk.new)
+            self.old self.new (events_of history.old) (events_of history.new) }
+        ensures steady { StaysSteady D.steady D.disk disk.old disk.new
+            (events_of history.old) (events_of history.new) }
+        ensures room { (more : ℕ) → HasRoom history.old (more + 1) → HasRoom history.new more }
+    {
+        let index = history.len() as u64;
+        history.put(Event::Stop {
+            actor: self.name.copy(),
+        });
+        self.end(disk, index);
+    }
+
+    /// It is over, with the event of this index, and its descriptors are closed. The condition: they are open.
     fn end<D: CallFs>(&mut self, disk: &mut D, at: u64)
         requires { OnTold (D.disk disk.old) (λ before. AreOpen before self.old.descriptors.items) }
         ensures closed { Meets (D.disk disk.old) (D.disk disk.new)
@@ -217,7 +237,7 @@ fn close_all<D: CallFs>(disk: &mut D, descriptors: &mut Vec<Fd>)
     ensures none { descriptors.new.items ≡ [] }
 {
     while let Some(fd) = descriptors.pop() {
-        disk.close(fd);
+        let _ = disk.close(fd);
     }
 }
 

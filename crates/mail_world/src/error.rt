@@ -7,7 +7,7 @@ use thiserror::Error;
 /// Why the world refuses; it is then as before.
 #[derive(Debug, Drop, Error)]
 pub enum WorldError {
-    /// The actor has ended; with the index of its end in the history, from 0.
+    /// The actor has ended or was stopped; with the index of that event in the history, from 0.
     #[error("the actor has ended")]
     Gone(ActorName, u64),
     /// The actor can't do anything yet.
@@ -19,6 +19,9 @@ pub enum WorldError {
     /// The name of a mail was used, or is no name of a mail.
     #[error("the name is taken")]
     Taken,
+    /// The moment lies before the present one, which is told.
+    #[error("the moment has passed")]
+    Past(u64),
     /// Want of memory.
     #[error("out of memory")]
     Memory,

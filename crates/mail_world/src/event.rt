@@ -1,9 +1,9 @@
 // What happened, and the list of it.
-ghost use Rattle.std.specs.Prelude.{◌≡◌, ◌∷◌, ◌++◌, [], List, length, vec_capacity, vec_len, ◌<◌, OnOk};
+ghost use Rattle.std.specs.Prelude.{◌≡◌, ◌∷◌, ◌++◌, ◌+◌, [], List, ℕ, length, OnOk};
 
 use crate::ActorName;
-use call_fs::mail_bytes::Memory;
 use call_fs::{CallData, Ready, Told};
+use mail_bytes::Memory;
 use queue_inject::Arguments;
 use std::alloc::Global;
 
@@ -48,6 +48,16 @@ pub enum Event {
         /// Its exit status.
         status: u8,
     },
+    /// An actor was stopped from outside, and its descriptors were closed.
+    Stop {
+        /// The actor.
+        actor: ActorName,
+    },
+    /// A moment came.
+    Moment {
+        /// The moment, the present one from then on.
+        moment: u64,
+    },
 }
 
 /// A history, the oldest event first.
@@ -57,7 +67,7 @@ pub struct History {
 }
 
 impl History {
-    ghost use Rattle.mail_world.specs.Kept.{events_of};
+    ghost use Rattle.mail_world.specs.Kept.{events_of, HasRoom};
 
     /// The empty history. Takes no memory.
     pub fn new(alloc: Global) -> History
@@ -82,18 +92,20 @@ impl History {
         self.events.as_slice()
     }
 
-    /// Makes room for one event.
-    pub(crate) fn reserve(&mut self) -> Result<(), Memory>
+    /// Makes room for this many events. The room that it has stays.
+    pub(crate) fn reserve(&mut self, events: usize) -> Result<(), Memory>
         ensures same { events_of self.new ≡ events_of self.old }
-        ensures room { OnOk result (vec_len self.new.events < vec_capacity self.new.events) }
+        ensures room { OnOk result (HasRoom self.new events) }
+        ensures stays { (more : ℕ) → HasRoom self.old more → HasRoom self.new more }
     {
-        self.events.reserve(1)
+        self.events.reserve(events)
     }
 
-    /// Appends an event. The condition: there is room for it.
+    /// Appends an event. Takes no memory. The condition: there is room for it.
     pub(crate) fn put(&mut self, event: Event)
-        requires { vec_len self.old.events < vec_capacity self.old.events }
-        ensures { events_of self.new ≡ events_of self.old ++ event ∷ [] }
+        requires { HasRoom self.old 1 }
+        ensures event { events_of self.new ≡ events_of self.old ++ event ∷ [] }
+        ensures room { (more : ℕ) → HasRoom self.old (more + 1) → HasRoom self.new more }
     {
         self.events.push(event).unwrap();
     }

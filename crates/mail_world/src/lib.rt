@@ -1,8 +1,9 @@
 //! The world of the queue's programs: one disk, the actors that use it, and the history of all that they did.
 //!
-//! Each step of the world is one file call, or one start or end, of one actor. It is appended to the history, which
-//! is legal by the definition in `specs/History.antt`; and the headline, `specs/Headline.antt`, says that every
-//! prefix of a legal history is safe: no accepted message is lost.
+//! Each event of the world is one file call, or one start, end or stop, of one actor, or a moment that comes. It is
+//! appended to the history. Where the disk tells and was one to begin with, that is legal by the definition in
+//! `specs/History.antt`; and the headline, `specs/Headline.antt`, says that every prefix of a legal history is safe: no
+//! accepted message is lost.
 #![tactic(auto)]
 
 mod actor;

@@ -2,7 +2,7 @@
 ghost use Rattle.std.specs.Prelude.{◌≡◌, ◌<◌, List, ℕ, Some, None, IfOk, OnOk, OnErr};
 ghost use Rattle.call_fs.specs.Maps.{put_at};
 
-use call_fs::mail_bytes::Memory;
+use mail_bytes::Memory;
 use std::alloc::Global;
 use std::collections::BTreeMap;
 

@@ -2,7 +2,7 @@
 ghost use Rattle.std.specs.Prelude.{◌≡◌};
 ghost use Rattle.mail_world.specs.States.{state_by_all};
 
-/// The state of a message number (INTERNALS, "The structure of a message in the queue").
+/// The state of a message number (INTERNALS, "Queue structure").
 #[derive(Clone, Copy, Debug, PartialEq, Eq)]
 pub enum State {
     /// Nothing of it is there.
@@ -15,7 +15,7 @@ pub enum State {
     S4,
     /// Preprocessed: the message and info.
     S5,
-    /// A combination that never comes.
+    /// A combination that no legal history leads to.
     Other,
 }
 

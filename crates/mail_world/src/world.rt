@@ -1,12 +1,12 @@
 // The world: the disk, the actors, the history.
 ghost use Rattle.std.specs.Prelude.{◌≡◌, ◌≢◌, ◌∷◌, ◌++◌, ◌⊎◌, ◌↔◌, ◌<◌, [], List, ℕ, Some, None, true, false, length, IsTrue, IsSomeAnd, IsOk, IfOk, IfErr, OnOk, OnErr};
 ghost use Rattle.std.specs.List.{slice_get};
-ghost use Rattle.call_fs.specs.Disk.{Disk};
+ghost use Rattle.call_fs.specs.Disk.{Disk, IsMoment};
 ghost use Rattle.call_fs.specs.Told.{OnTold};
-ghost use Rattle.mail_world.specs.History.{Opening, Event as Happening};
+ghost use Rattle.mail_world.specs.History.{Opening, Legal, Event as Happening};
 ghost use Rattle.mail_world.specs.Kept.{events_of};
 ghost use Rattle.mail_world.specs.MailNames.{IsMailName};
-ghost use Rattle.mail_world.specs.World.{Happened, GoesOn, EachSafe, was_started, EndsAt, started_world, IsStep, StaysSteady};
+ghost use Rattle.mail_world.specs.World.{Leads, Happened, GoesOn, EachSafe, was_started, EndsAt, started_world, moment_world, IsStep, IsStop, StaysSteady};
 ghost use Rattle.mail_world.specs.Acting.{IsNoLiving};
 ghost use Rattle.mail_world.specs.Places.{place_of};
 
@@ -16,7 +16,7 @@ use crate::mail_name::is_mail_name;
 use crate::places::Places;
 use crate::{ActorName, Event, History, Program, WorldError};
 use call_fs::CallFs;
-use call_fs::mail_bytes::Memory;
+use mail_bytes::Memory;
 use std::alloc::Global;
 use std::marker::Model;
 
@@ -47,7 +47,8 @@ impl Did {
     }
 }
 
-/// A disk, the actors that use it, and the history of what they did.
+/// A disk, the actors that use it, and the history of what they did. The history has room for the stop of each living
+/// actor.
 #[derive(Drop)]
 pub struct World<D: CallFs> {
     disk: D,
@@ -63,16 +64,18 @@ impl<D: CallFs> Model for World<D> {
 
     ghost Value = { Seen D };
 
-    ghost use Rattle.mail_world.specs.Inside.{IsWorld, known};
+    ghost use Rattle.mail_world.specs.Inside.{IsWorld, known, living};
+    ghost use Rattle.mail_world.specs.Kept.{HasRoom};
     ghost use Rattle.mail_world.specs.Places.{place_of};
 
     ghost view = { λ w. record { disk = w.disk; events = w.history.events.items; present = w.present } };
 
-    ghost invariant = { λ w. IsWorld (D.disk w.disk) (place_of w.places) w.actors.items (known w.history.events.items) w.history.events.items w.present w.next_pid };
+    ghost invariant = { λ w. IsWorld (D.disk w.disk) (place_of w.places) w.actors.items (known w.history.events.items) w.history.events.items w.present w.next_pid × HasRoom w.history (living w.actors.items) };
 }
 
 impl<D: CallFs> World<D> {
-    /// A world without actors over this disk, at moment 0, in which nothing has happened. It always succeeds.
+    /// A world over this disk, at moment 0, in which nothing has happened. It always succeeds. Where the disk tells and
+    /// is one to begin with, the world's history begins with it.
     pub fn new(alloc: Global, disk: D) -> Result<World<D>, Memory>
         ensures ok { IsOk result }
         ensures world { IfOk result (λ world. world ≡ record { disk = disk; events = []; present = 0 }) }
@@ -96,19 +99,23 @@ impl<D: CallFs> World<D> {
         &self.disk
     }
 
-    /// What happened so far. Where the disk tells and was one to begin with, it is a legal history, and the queue was
-    /// safe at each moment of it.
+    /// The events so far, the oldest first. In each world whose disk tells, they led to it from some disk, and each one
+    /// was allowed when it happened; where that disk was one to begin with, their history is legal, and the queue was
+    /// safe at each prefix of it. So it was in each history that `Happened` since a disk to begin with.
     pub fn history(&self) -> &History
         ensures events { events_of result.now ≡ self.now.events }
         ensures safe { (opening : Disk) (h : List Happening)
             → Happened D.disk opening self.now h → EachSafe opening h }
+        ensures happened { OnTold (D.disk self.now.disk) (λ now. (opening : Disk) × (h : List Happening)
+            × Leads opening now self.now.events self.now.present h
+            × (Opening opening → Legal opening h × EachSafe opening h)) }
     {
         headline();
         &self.history
     }
 
     /// Starts an injector of this message and envelope for user 1000, at the present moment. `Taken` exactly where the
-    /// name was used, or is none that a mail may have.
+    /// name was used, or is none that a mail may have. The room for its stop is taken too.
     pub fn start_mail(
         &mut self,
         alloc: Global,
@@ -153,8 +160,8 @@ impl<D: CallFs> World<D> {
     {
         let machine = injector_of(alloc, self.next_pid, self.present, message, envelope)?;
         let arguments = mail_of(alloc, self.next_pid, self.present, message, envelope)?;
-        self.history.reserve()?;
         self.actors.reserve(1)?;
+        self.history.reserve(self.actors.len() + 2)?;
         self.places.add(alloc, name.as_slice(), self.actors.len())?;
         let actor = Actor::new(alloc, name.copy(), machine);
         self.actors.push(actor).unwrap();
@@ -167,8 +174,8 @@ impl<D: CallFs> World<D> {
     }
 
     /// One step of an actor: its next file call, or its end, in which its descriptors are closed. `Unknown` exactly
-    /// where no actor of this name was started, `Gone` exactly where it has ended. `NotWaiting` would come where an
-    /// actor waits, and never does: each is an injector that has its whole input.
+    /// where no actor of this name was started, `Gone` exactly where it has ended or was stopped. `NotWaiting` would
+    /// come where an actor waits, and never does: each is an injector that has its whole input.
     pub fn step(&mut self, alloc: Global, actor: &ActorName) -> Result<Did, WorldError>
         ensures event { IfOk result (λ did. IsStep actor.now did.ended self.old self.new) }
         ensures present { self.new.present ≡ self.old.present }
@@ -183,11 +190,58 @@ impl<D: CallFs> World<D> {
             ↔ ((name ≡ actor.now) × EndsAt self.old.events actor.now at) }
         ensures waits { (name : List ℕ) → result ≢ Err (WorldError.NotWaiting name) }
         ensures taken { result ≢ Err WorldError.Taken }
+        ensures past { (now : ℕ) → result ≢ Err (WorldError.Past now) }
         ensures err { OnErr result (self.new ≡ self.old) }
     {
         let place = living(&self.places, &self.actors, actor)?;
+        self.history.reserve(self.actors.len() + 1)?;
         let acting = &mut self.actors[place];
         Ok(acting.act(alloc, &mut self.disk, &mut self.history, self.present)?)
+    }
+
+    /// Stops an actor from outside: its descriptors are closed, and it makes no step any more. It takes no memory: the
+    /// room for its event was taken when the actor was started. `Unknown` exactly where no actor of this name was
+    /// started, `Gone` exactly where it has ended or was stopped.
+    pub fn stop(&mut self, actor: &ActorName) -> Result<(), WorldError>
+        ensures event { OnOk result (IsStop actor.now self.old self.new) }
+        ensures goes_on { OnOk result (GoesOn D.disk self.old self.new) }
+        ensures steady { OnOk result (StaysSteady D.steady D.disk self.old.disk self.new.disk
+            self.old.events self.new.events) }
+
+        ensures unknown { (result ≡ Err WorldError.Unknown) ↔ (was_started self.old.events actor.now ≡ false) }
+        ensures gone { (name : List ℕ) (at : ℕ) → (result ≡ Err (WorldError.Gone name at))
+            ↔ ((name ≡ actor.now) × EndsAt self.old.events actor.now at) }
+        ensures others { IfErr result (λ why. (why ≡ WorldError.Unknown)
+            ⊎ ((name : List ℕ) × (at : ℕ) × (why ≡ WorldError.Gone name at))) }
+        ensures err { OnErr result (self.new ≡ self.old) }
+    {
+        let place = living(&self.places, &self.actors, actor)?;
+        let stopped = &mut self.actors[place];
+        stopped.stop(&mut self.disk, &mut self.history);
+        Ok(())
+    }
+
+    /// A moment comes, and is the present one from then on. `Past` exactly where it lies before the present one, which
+    /// it tells.
+    pub fn moment(&mut self, moment: u64) -> Result<(), WorldError>
+        requires { IsMoment moment }
+        ensures came { OnOk result (self.new ≡ moment_world self.old moment) }
+        ensures goes_on { OnOk result (GoesOn D.disk self.old self.new) }
+        ensures steady { OnOk result (StaysSteady D.steady D.disk self.old.disk self.new.disk
+            self.old.events self.new.events) }
+
+        ensures past { (now : ℕ) → (result ≡ Err (WorldError.Past now))
+            ↔ ((now ≡ self.old.present) × (moment < self.old.present)) }
+        ensures others { IfErr result (λ why. (why ≡ WorldError.Past self.old.present) ⊎ (why ≡ WorldError.Memory)) }
+        ensures err { OnErr result (self.new ≡ self.old) }
+    {
+        if moment < self.present {
+            return Err(WorldError::Past(self.present));
+        }
+        self.history.reserve(self.actors.len() + 1)?;
+        self.history.put(Event::Moment { moment });
+        self.present = moment;
+        Ok(())
     }
 }
 

@@ -1,13 +1,13 @@
 -- What a change of the lists does to the disk that they stand for, and that it keeps them sound.
-use Rattle.std.proofs.Common.{◌≡◌, ◌≢◌, ◌⊎◌, ⊎_elim, inl, inr, ℕ, ◌+◌, Bool, true, false, cond, List, Option, Some, None, unwrap_or, nat_eq, refl, sym, ap, ◌∙◌, arith}
+use Rattle.std.proofs.Common.{◌≡◌, ◌≢◌, ◌⊎◌, ⊎_elim, inl, inr, ℕ, ◌+◌, Bool, true, false, cond, List, Option, Some, unwrap_or, nat_eq, refl, sym, ap, ◌∙◌, arith}
 use Rattle.std.specs.Option.{option_map}
 use Rattle.std.proofs.lemmas.Bool.Decides.{Decides-eqb}
 use Rattle.mem_fs.specs.declared.file.Inode.{Inode}
 use Rattle.call_fs.specs.Maps.{put}
-use Rattle.call_fs.specs.Disk.{File}
+use Rattle.call_fs.specs.Disk.{File, Open}
 use Rattle.mem_fs.specs.MemFile.{no_file}
 use Rattle.mem_fs.specs.Tables.{at_number, AreNamesInOrder, AreNumbersInOrder}
-use Rattle.mem_fs.specs.MemDisk.{Held, file_at, open_at, opened, links_of, holds_of, count_of, IsSound}
+use Rattle.mem_fs.specs.MemDisk.{Held, file_at, links_of, holds_of, count_of, names_of, opens_of, IsSound}
 use Rattle.call_fs.proofs.Maps.{put_cases, put-there, after_put}
 
 abbrev pub file_of : Option Inode → File
@@ -22,12 +22,6 @@ file_at-put old new n i is = ap (λ (m : ℕ → Option Inode). λ q. file_of (m
 pub file_at-same : (old new : List (ℕ × Inode)) (n : ℕ) (i j : Inode) → at_number old n ≡ Some i → j.file ≡ i.file → at_number new ≡ put (at_number old) n (Some j) → file_at new ≡ file_at old
 file_at-same old new n i j there same is =
     file_at-put old new n j is ∙ put-there (file_at old) n j.file (ap file_of there ∙ sym same)
-
-pub open_at-put : (old new : List (ℕ × ℕ)) (fd n : ℕ) → at_number new ≡ put (at_number old) fd (Some n) → open_at new ≡ put (open_at old) fd (Some (opened n))
-open_at-put old new fd n is = ap (λ (m : ℕ → Option ℕ). λ q. option_map opened (m q)) is ∙ after_put (option_map opened) (at_number old) fd (Some n)
-
-pub open_at-closed : (old new : List (ℕ × ℕ)) (fd : ℕ) → at_number new ≡ put (at_number old) fd None → open_at new ≡ put (open_at old) fd None
-open_at-closed old new fd is = ap (λ (m : ℕ → Option ℕ). λ q. option_map opened (m q)) is ∙ after_put (option_map opened) (at_number old) fd None
 
 -- ---- soundness
 
@@ -47,15 +41,15 @@ holds_put old new n i is m =
 pub sound-put : {h : Held} → IsSound h → (k : Held) (n : ℕ) (i : Inode)
     → AreNamesInOrder k.names → AreNumbersInOrder k.files → AreNumbersInOrder k.opens
     → at_number k.files ≡ put (at_number h.files) n (Some i)
-    → i.links ≡ count_of k.names n → ((m : ℕ) → m ≢ n → count_of k.names m ≡ count_of h.names m)
-    → i.opens ≡ count_of k.opens n → ((m : ℕ) → m ≢ n → count_of k.opens m ≡ count_of h.opens m)
+    → i.links ≡ names_of k.names n → ((m : ℕ) → m ≢ n → names_of k.names m ≡ names_of h.names m)
+    → i.opens ≡ opens_of k.opens n → ((m : ℕ) → m ≢ n → opens_of k.opens m ≡ opens_of h.opens m)
     → IsSound k
 sound-put {h} sound k n i names files opens is links other_links holds other_holds = record {
   names = names;
   files = files;
   opens = opens;
-  links = λ m. ⊎_elim (λ s. s.1 ∙ links ∙ ap (count_of k.names) (sym s.0)) (λ s. s.1 ∙ sound.links m ∙ sym (other_links m s.0)) (links_put h.files k.files n i is m);
-  holds = λ m. ⊎_elim (λ s. s.1 ∙ holds ∙ ap (count_of k.opens) (sym s.0)) (λ s. s.1 ∙ sound.holds m ∙ sym (other_holds m s.0)) (holds_put h.files k.files n i is m);
+  links = λ m. ⊎_elim (λ s. s.1 ∙ links ∙ ap (names_of k.names) (sym s.0)) (λ s. s.1 ∙ sound.links m ∙ sym (other_links m s.0)) (links_put h.files k.files n i is m);
+  holds = λ m. ⊎_elim (λ s. s.1 ∙ holds ∙ ap (opens_of k.opens) (sym s.0)) (λ s. s.1 ∙ sound.holds m ∙ sym (other_holds m s.0)) (holds_put h.files k.files n i is m);
 }
 
 -- one more of a number, and none of another
@@ -66,11 +60,18 @@ none_there : (n m : ℕ) → m ≢ n → ◌≡◌ {A = ℕ} (cond (nat_eq n m) 
 none_there n m apart = elim (nat_eq n m) as (λ b. nat_eq n m ≡ b → ◌≡◌ {A = ℕ} (cond b 1 0) 0) [ true ↦ λ t. absurd (apart (sym ((Decides-eqb n m).0 t))) | false ↦ λ t. refl ] refl
 
 -- a list has one entry more of the number n
-abbrev pub Gains : {K : Type 0} → List (K × ℕ) → List (K × ℕ) → ℕ → Type 0
-Gains old new n = (m : ℕ) → count_of new m ≡ count_of old m + cond (nat_eq n m) 1 0
+abbrev pub Gains : {K V : Type 0} → (V → ℕ) → List (K × V) → List (K × V) → ℕ → Type 0
+Gains number old new n = (m : ℕ) → count_of number new m ≡ count_of number old m + cond (nat_eq n m) 1 0
 
-pub gain_here : {K : Type 0} (old new : List (K × ℕ)) (n : ℕ) → Gains old new n → count_of new n ≡ count_of old n + 1
-gain_here old new n gains = gains n ∙ ap (λ k. count_of old n + k) (one_here n)
+abbrev pub NamesGain : List (List ℕ × ℕ) → List (List ℕ × ℕ) → ℕ → Type 0
+NamesGain old new n = Gains (λ (k : ℕ). k) old new n
 
-pub gain_there : {K : Type 0} (old new : List (K × ℕ)) (n : ℕ) → Gains old new n → (m : ℕ) → m ≢ n → count_of new m ≡ count_of old m
-gain_there old new n gains m apart = gains m ∙ ap (λ k. count_of old m + k) (none_there n m apart) ∙ omega arith
+abbrev pub OpensGain : List (ℕ × Open) → List (ℕ × Open) → ℕ → Type 0
+OpensGain old new n = Gains (λ (o : Open). o.number) old new n
+
+module _ {K V : Type 0} (number : V → ℕ) (old new : List (K × V)) (n : ℕ) (gains : Gains number old new n) where
+  pub gain_here : count_of number new n ≡ count_of number old n + 1
+  gain_here = gains n ∙ ap (λ k. count_of number old n + k) (one_here n)
+
+  pub gain_there : (m : ℕ) → m ≢ n → count_of number new m ≡ count_of number old m
+  gain_there m apart = gains m ∙ ap (λ k. count_of number old m + k) (none_there n m apart) ∙ omega arith

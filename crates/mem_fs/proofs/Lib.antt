@@ -4,7 +4,7 @@ pub mod Counting
 pub mod NameTable
 pub mod Parts
 pub mod NextName
-pub mod Versions
+pub mod Places
 pub mod FileTable
 pub mod Idle
 pub mod Uses
@@ -12,3 +12,4 @@ pub mod Changes
 pub mod Steps
 pub mod InTurn
 pub mod TwoNames
+pub mod OpenInTurn

@@ -109,7 +109,13 @@ module _ (before d1 d2 d3 d4 after : Disk) (now n : ℕ) (fd : Fd) (first second
         ∙ ap (put_at d4.names second) (ap (λ (m : List ℕ → Option ℕ). m first) (names4 ∙ names1) ∙ put_at_same before.names first (Some n))
         ∙ ap (λ (m : List ℕ → Option ℕ). put_at m second (Some n)) (names4 ∙ names1);
     free = (a1.1.free, second_free);
-    is_synced = record { holds = ap (λ (f : File). f.bytes) file_is; all = ap (λ (f : File). f.older) file_is };
+    is_synced = record {
+      holds = ap (λ (f : File). f.bytes) file_is;
+      all = ap (λ (f : File). f.kept) file_is;
+      none_given = ap (λ (f : File). f.given) file_is;
+      no_shorter = ap (λ (f : File). f.least) file_is;
+      no_longer = ap (λ (f : File). f.greatest) file_is;
+    };
     others = other_is;
     opens = opens_after;
   }

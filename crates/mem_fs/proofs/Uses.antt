@@ -6,10 +6,10 @@ use Rattle.std.proofs.lemmas.Bool.{cases_eq}
 use Rattle.std.proofs.lemmas.List.{get_or_default}
 use Rattle.std.proofs.lemmas.List.Sums.{sum_by-remove, length-filter}
 use Rattle.mem_fs.specs.declared.file.Inode.{Inode}
-use Rattle.call_fs.specs.Disk.{Open, IsUnused}
+use Rattle.call_fs.specs.Disk.{Open, Mode, IsUnused}
 use Rattle.mem_fs.specs.Tables.{at_name, at_number}
 use Rattle.call_fs.specs.Steady.{IsFree, IsLeastFree}
-use Rattle.mem_fs.specs.MemDisk.{Held, disk_of, opened, links_of, holds_of, count_of, IsSound, IsIdle, IsGreatestFree, NoneFree}
+use Rattle.mem_fs.specs.MemDisk.{Held, disk_of, links_of, holds_of, count_of, names_of, opens_of, IsSound, IsIdle, IsGreatestFree, NoneFree}
 use Rattle.call_fs.proofs.Maps.{bytes_eq-decides}
 use Rattle.mem_fs.proofs.Tables.{place_of_found}
 use Rattle.mem_fs.proofs.NameTable.{name-at}
@@ -18,10 +18,10 @@ use Rattle.mem_fs.proofs.NumberTable.{number-at}
 -- ---- counts
 
 -- an entry of the number is counted
-count-there : {K : Type 0} (es : List (K × ℕ)) (n i : ℕ) (e : K × ℕ) → i < length es → get_or es i e ≡ e → e.1 ≡ n → 1 ≤ count_of es n
-count-there es n i e within read is =
-    let here : ◌≡◌ {A = ℕ} (cond (nat_eq (get_or es i e).1 n) 1 0) 1 = ap (λ (b : Bool). cond b 1 0) ((Decides-eqb (get_or es i e).1 n).1 (ap (λ (x : _ × ℕ). x.1) read ∙ is)) in
-    omega (arith, sum_by-remove (λ x. cond (nat_eq x.1 n) 1 0) es i e within, here)
+count-there : {K V : Type 0} (number : V → ℕ) (es : List (K × V)) (n i : ℕ) (e : K × V) → i < length es → get_or es i e ≡ e → number e.1 ≡ n → 1 ≤ count_of number es n
+count-there number es n i e within read is =
+    let here : ◌≡◌ {A = ℕ} (cond (nat_eq (number (get_or es i e).1) n) 1 0) 1 = ap (λ (b : Bool). cond b 1 0) ((Decides-eqb (number (get_or es i e).1) n).1 (ap (λ (x : _ × _). number x.1) read ∙ is)) in
+    omega (arith, sum_by-remove (λ x. cond (nat_eq (number x.1) n) 1 0) es i e within, here)
 
 -- what is counted has an entry
 passes : {X : Type 0} (p : X → Bool) (xs : List X) → 1 ≤ length (filter p xs) → (i : ℕ) × (i < length xs) × ((d : X) → p (get_or xs i d) ≡ true)
@@ -32,21 +32,21 @@ passes {X} p (x ∷ xs) h =
       | false ↦ λ t s. let deeper = passes p xs s in (suc deeper.0, omega (arith, deeper.1), deeper.2)
     ] refl h
 
-counted : {K : Type 0} (es : List (K × ℕ)) (n : ℕ) → 1 ≤ count_of es n → (i : ℕ) × (i < length es) × ((d : K × ℕ) → (get_or es i d).1 ≡ n)
-counted es n h =
-    let p : _ × ℕ → Bool = λ e. nat_eq e.1 n in
+counted : {K V : Type 0} (number : V → ℕ) (es : List (K × V)) (n : ℕ) → 1 ≤ count_of number es n → (i : ℕ) × (i < length es) × ((d : K × V) → number (get_or es i d).1 ≡ n)
+counted number es n h =
+    let p : _ × _ → Bool = λ e. nat_eq (number e.1) n in
     let found = passes p es (omega (arith, length-filter p es)) in
-    (found.0, found.1, λ d. (Decides-eqb (get_or es found.0 d).1 n).0 (found.2 d))
+    (found.0, found.1, λ d. (Decides-eqb (number (get_or es found.0 d).1) n).0 (found.2 d))
 
-pub name_counted : (names : List (List ℕ × ℕ)) (name : List ℕ) (n : ℕ) → at_name names name ≡ Some n → 1 ≤ count_of names n
+pub name_counted : (names : List (List ℕ × ℕ)) (name : List ℕ) (n : ℕ) → at_name names name ≡ Some n → 1 ≤ names_of names n
 name_counted names name n found =
     let place = place_of_found bytes_eq bytes_eq-decides names name n found in
-    count-there names n place.0 (name, n) place.1 (place.2 (name, n)) refl
+    count-there (λ (k : ℕ). k) names n place.0 (name, n) place.1 (place.2 (name, n)) refl
 
-pub open_counted : (opens : List (ℕ × ℕ)) (fd n : ℕ) → at_number opens fd ≡ Some n → 1 ≤ count_of opens n
-open_counted opens fd n found =
-    let place = place_of_found nat_eq Decides-eqb opens fd n found in
-    count-there opens n place.0 (fd, n) place.1 (place.2 (fd, n)) refl
+pub open_counted : (opens : List (ℕ × Open)) (fd : ℕ) (o : Open) → at_number opens fd ≡ Some o → 1 ≤ opens_of opens o.number
+open_counted opens fd o found =
+    let place = place_of_found nat_eq Decides-eqb opens fd o found in
+    count-there (λ (x : Open). x.number) opens o.number place.0 (fd, o) place.1 (place.2 (fd, o)) refl
 
 -- ---- entries
 
@@ -67,24 +67,24 @@ module _ (h : Held) (sound : IsSound h) where
   pub named_entry : (name : List ℕ) (n : ℕ) → at_name h.names name ≡ Some n → IsSome (at_number h.files n)
   named_entry name n found = entry_of_links h.files n (named_links name n found)
 
-  pub opened_holds : (fd n : ℕ) → at_number h.opens fd ≡ Some n → 1 ≤ holds_of h.files n
-  opened_holds fd n found = omega (arith, open_counted h.opens fd n found, sound.holds n)
+  pub opened_holds : (fd : ℕ) (o : Open) → at_number h.opens fd ≡ Some o → 1 ≤ holds_of h.files o.number
+  opened_holds fd o found = omega (arith, open_counted h.opens fd o found, sound.holds o.number)
 
-  pub opened_entry : (fd n : ℕ) → at_number h.opens fd ≡ Some n → IsSome (at_number h.files n)
-  opened_entry fd n found = entry_of_holds h.files n (opened_holds fd n found)
+  pub opened_entry : (fd : ℕ) (o : Open) → at_number h.opens fd ≡ Some o → IsSome (at_number h.files o.number)
+  opened_entry fd o found = entry_of_holds h.files o.number (opened_holds fd o found)
 
   -- a number that nothing uses is idle, and the other way round
   pub unused_idle : (n : ℕ) → IsUnused (disk_of h) n → IsIdle h.files n
   unused_idle n unused = (
     zero_of (links_of h.files n) (λ some.
-        let found = counted h.names n (omega (arith, sound.links n, some)) in
+        let found = counted (λ (k : ℕ). k) h.names n (omega (arith, sound.links n, some)) in
         let name = (get_or h.names found.0 ([], 0)).0 in
         unused.unnamed name (name-at h.names sound.names name found.0 (record { within = found.1; has_key = λ d. key_same found.0 found.1 d }) ([], 0) ∙ ap (λ (m : ℕ). Some m) (found.2 ([], 0)))),
     zero_of (holds_of h.files n) (λ some.
-        let found = counted h.opens n (omega (arith, sound.holds n, some)) in
-        let fd = (get_or h.opens found.0 (0, 0)).0 in
-        unused.unopened fd (opened n)
-        (ap (option_map opened) (number-at h.opens sound.opens fd found.0 (record { within = found.1; has_key = λ d. number_same found.0 found.1 d }) (0, 0) ∙ ap (λ (m : ℕ). Some m) (found.2 (0, 0)))) refl),
+        let found = counted (λ (o : Open). o.number) h.opens n (omega (arith, sound.holds n, some)) in
+        let fd = (get_or h.opens found.0 none).0 in
+        unused.unopened fd (get_or h.opens found.0 none).1
+        (number-at h.opens sound.opens fd found.0 (record { within = found.1; has_key = λ d. number_same found.0 found.1 d }) none) (found.2 none)),
   )
     where
       zero_of : (m : ℕ) → (1 ≤ m → ⊥) → m ≡ 0
@@ -93,20 +93,17 @@ module _ (h : Held) (sound : IsSound h) where
       key_same : (i : ℕ) → i < length h.names → (d : List ℕ × ℕ) → (get_or h.names i d).0 ≡ (get_or h.names i ([], 0)).0
       key_same i within d = ap (λ (e : List ℕ × ℕ). e.0) (get_or_default h.names i d ([], 0) within)
 
-      number_same : (i : ℕ) → i < length h.opens → (d : ℕ × ℕ) → (get_or h.opens i d).0 ≡ (get_or h.opens i (0, 0)).0
-      number_same i within d = ap (λ (e : ℕ × ℕ). e.0) (get_or_default h.opens i d (0, 0) within)
+      none : ℕ × Open
+      none = (0, record { number = 0; mode = Mode.Created })
+
+      number_same : (i : ℕ) → i < length h.opens → (d : ℕ × Open) → (get_or h.opens i d).0 ≡ (get_or h.opens i none).0
+      number_same i within d = ap (λ (e : ℕ × Open). e.0) (get_or_default h.opens i d none within)
 
   pub idle_unused : (n : ℕ) → IsIdle h.files n → IsUnused (disk_of h) n
   idle_unused n idle = record {
     unnamed = λ name found. omega (arith, named_links name n found, idle.0);
-    unopened = λ fd o found is.
-        let there = open_is (at_number h.opens fd) o found in
-        omega (arith, opened_holds fd there.0 there.1, idle.1, ap (λ m. holds_of h.files m) (ap (λ (x : Open). x.number) there.2 ∙ is));
+    unopened = λ fd o found is. omega (arith, opened_holds fd o found, idle.1, ap (λ m. holds_of h.files m) is);
   }
-    where
-      open_is : (a : Option ℕ) (o : Open) → option_map opened a ≡ Some o → (m : ℕ) × (a ≡ Some m) × (opened m ≡ o)
-      open_is None o e = absurd cc
-      open_is (Some m) o e = (m, refl, cc)
 
 -- ---- which numbers are free
 

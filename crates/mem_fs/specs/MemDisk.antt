@@ -4,33 +4,30 @@ use Rattle.std.specs.Option.{option_map}
 use Rattle.call_fs.specs.declared.calls.FsError.{FsError}
 use Rattle.call_fs.specs.declared.calls.FsError.TheVariants.{NotThere, Exists, Fault, Memory}
 use Rattle.mem_fs.specs.declared.file.Inode.{Inode}
-use Rattle.call_fs.specs.Disk.{File, Open, Mode, Disk}
+use Rattle.call_fs.specs.Disk.{File, Open, Disk}
 use Rattle.call_fs.specs.Steady.{IsFree, IsLeastFree}
 use Rattle.call_fs.specs.Maps.{put, put_at}
 use Rattle.mem_fs.specs.MemFile.{no_file, settled_file}
 use Rattle.mem_fs.specs.Tables.{at_name, at_number, AreNamesInOrder, AreNumbersInOrder}
 
--- The lists of a disk in memory: its directories, the number of each name, what each number has, and the number of each
--- open descriptor.
+-- The lists of a disk in memory: its directories, the number of each name, what each number has, and each open
+-- descriptor.
 pub record Held : Type 0 where
   pub dirs : List (List ℕ)
   pub names : List (List ℕ × ℕ)
   pub files : List (ℕ × Inode)
-  pub opens : List (ℕ × ℕ)
+  pub opens : List (ℕ × Open)
 
 abbrev pub file_at : List (ℕ × Inode) → ℕ → File
 file_at files n = unwrap_or (option_map (λ i. i.file) (at_number files n)) no_file
 
--- every descriptor came from the creation of its file
-abbrev pub opened : ℕ → Open
-opened n = record { number = n; mode = Mode.Created }
-
-abbrev pub open_at : List (ℕ × ℕ) → ℕ → Option Open
-open_at opens fd = option_map opened (at_number opens fd)
+-- the descriptor is open on the file of this number
+abbrev pub IsOpenOn : Disk → ℕ → ℕ → Type 0
+IsOpenOn d fd n = option_map (λ (o : Open). o.number) (d.opens fd) ≡ Some n
 
 -- The disk that the lists stand for. A file that nothing uses any more is kept until its number is taken again.
 abbrev pub disk_of : Held → Disk
-disk_of h = record { dirs = h.dirs; names = at_name h.names; files = file_at h.files; opens = open_at h.opens }
+disk_of h = record { dirs = h.dirs; names = at_name h.names; files = file_at h.files; opens = at_number h.opens }
 
 -- how many names a number has, and how many descriptors are open on it, as its file's entry counts them
 abbrev pub links_of : List (ℕ × Inode) → ℕ → ℕ
@@ -39,17 +36,23 @@ links_of files n = unwrap_or (option_map (λ i. i.links) (at_number files n)) 0
 abbrev pub holds_of : List (ℕ × Inode) → ℕ → ℕ
 holds_of files n = unwrap_or (option_map (λ i. i.opens) (at_number files n)) 0
 
--- the same, counted one by one
-abbrev pub count_of : {K : Type 0} → List (K × ℕ) → ℕ → ℕ
-count_of es n = count_by (λ e. e.1 == n) es
+-- the same, counted one by one: the entries of a number
+abbrev pub count_of : {K V : Type 0} → (V → ℕ) → List (K × V) → ℕ → ℕ
+count_of number es n = count_by (λ e. number e.1 == n) es
+
+abbrev pub names_of : List (List ℕ × ℕ) → ℕ → ℕ
+names_of names n = count_of (λ (k : ℕ). k) names n
+
+abbrev pub opens_of : List (ℕ × Open) → ℕ → ℕ
+opens_of opens n = count_of (λ (o : Open). o.number) opens n
 
 -- the lists are in order, and each entry of a file counts what uses it
 pub record IsSound (h : Held) : Type 0 where
   pub names : AreNamesInOrder h.names
   pub files : AreNumbersInOrder h.files
   pub opens : AreNumbersInOrder h.opens
-  pub links : (n : ℕ) → links_of h.files n ≡ count_of h.names n
-  pub holds : (n : ℕ) → holds_of h.files n ≡ count_of h.opens n
+  pub links : (n : ℕ) → links_of h.files n ≡ names_of h.names n
+  pub holds : (n : ℕ) → holds_of h.files n ≡ opens_of h.opens n
 
 -- no higher number may be taken, below the end of the numbers
 pub record IsGreatestFree (d : Disk) (n : ℕ) : Type 0 where
@@ -81,6 +84,9 @@ linked i = record { links = i.links + 1; opens = i.opens; file = i.file }
 
 abbrev pub unlinked : Inode → Inode
 unlinked i = record { links = i.links - 1; opens = i.opens; file = i.file }
+
+abbrev pub opened : Inode → Inode
+opened i = record { links = i.links; opens = i.opens + 1; file = i.file }
 
 abbrev pub closed : Inode → Inode
 closed i = record { links = i.links; opens = i.opens - 1; file = i.file }

@@ -1,11 +1,12 @@
 // The disk in memory.
-ghost use Rattle.std.specs.Prelude.{◌≡◌, ◌≤◌, IfOk, IfSome, IfNone, OnOk, OnErr, Some, None, Ok, [], length, drop};
+ghost use Rattle.std.specs.Prelude.{◌≡◌, ◌≤◌, IsOk, IfOk, IfSome, IfNone, OnOk, OnErr, Some, None, Ok, [], length, drop};
 ghost use Rattle.std.specs.Option.{option_copied};
 ghost use Rattle.call_fs.specs.declared.calls.CallData.TheVariants as call;
 ghost use Rattle.call_fs.specs.declared.calls.Answer.TheVariants as answer;
-ghost use Rattle.call_fs.specs.Disk.{IsMoment, MayUse, MayAppend};
-ghost use Rattle.call_fs.specs.Calls.{created, done, stated, next_found};
+ghost use Rattle.call_fs.specs.Disk.{IsMoment, MayUse, MayAppend, MayWrite, MayCut};
+ghost use Rattle.call_fs.specs.Calls.{created, opened, counted, done, stated, next_found};
 ghost use Rattle.call_fs.specs.Apply.{Apply, IsNextName, IsLastName};
+ghost use Rattle.call_fs.specs.Columns.{IsRead};
 ghost use Rattle.call_fs.specs.Told.{HasCause};
 ghost use Rattle.call_fs.specs.Steady.{IsFree, IsNextDescriptor};
 ghost use Rattle.mem_fs.specs.MemDisk.{disk_of, fresh, with_dir, with_held, bytes_at, Places, Counts, NoneFree, IsNextNumber};
@@ -13,8 +14,8 @@ ghost use Rattle.mem_fs.specs.MemDisk.{disk_of, fresh, with_dir, with_held, byte
 use crate::picks::Picks;
 use crate::plan::Plan;
 use crate::store::Store;
-use call_fs::mail_bytes::Memory;
-use call_fs::{CallFs, Fd, FsError, NameBuf, Stat};
+use call_fs::{CallFs, Fd, FsError, How, NameBuf, Stat};
+use mail_bytes::Memory;
 use std::alloc::Global;
 use std::marker::Model;
 
@@ -132,6 +133,7 @@ impl CallFs for MemFs {
     fn create_excl(&mut self, alloc: Global, now: u64, name: &[u8]) -> Result<(Fd, u64), FsError>
         requires { IsMoment now }
         ensures told { Apply (disk_of self.old.held) now (call.CreateExcl name.now) (created result) (disk_of self.new.held) }
+        ensures from_one { IfOk result (λ made. 1 ≤ made.1) }
         ensures cause { HasCause self.old.faults self.new.faults result }
         ensures counts { Counts self.old self.new result }
         ensures number { IfOk result (λ made. IsNextNumber (disk_of self.old.held) self.old.picks made.1 self.new.picks) }
@@ -156,6 +158,60 @@ impl CallFs for MemFs {
         Ok((fd, number))
     }
 
+    /// As the trait says. It takes the least free descriptor.
+    fn open(&mut self, _alloc: Global, name: &[u8], how: How) -> Result<Fd, FsError>
+        ensures told { Apply (disk_of self.old.held) 0 (call.Open name.now how) (opened result)
+            (disk_of self.new.held) }
+        ensures cause { HasCause self.old.faults self.new.faults result }
+        ensures counts { Counts self.old self.new result }
+        ensures descriptor { IfOk result (λ fd. IsNextDescriptor (disk_of self.old.held) fd.0) }
+        ensures picks { self.new.picks ≡ self.old.picks }
+    {
+        self.plan.begin()?;
+        if self.store.number_of(name).is_none() {
+            return Err(FsError::NotThere);
+        }
+        let Some(fd) = self.store.least_descriptor() else {
+            return Err(FsError::Memory);
+        };
+        self.store.open(name, how, fd)?;
+        Ok(fd)
+    }
+
+    fn read_at(&mut self, fd: Fd, at: u64, into: &mut [u8]) -> Result<u64, FsError>
+        requires { MayUse (disk_of self.old.held) fd.0 }
+        ensures told { Apply (disk_of self.old.held) 0 (call.ReadAt fd at (length into.old)) (counted result)
+            (disk_of self.new.held) }
+        ensures read { IfOk result (λ count. IsRead (disk_of self.old.held) fd.0 at (length into.old) count into.new) }
+        ensures cause { HasCause self.old.faults self.new.faults result }
+        ensures counts { Counts self.old self.new result }
+        ensures picks { self.new.picks ≡ self.old.picks }
+    {
+        self.plan.begin()?;
+        Ok(self.store.read_at(fd, at, into))
+    }
+
+    fn write_at(
+        &mut self,
+        _alloc: Global,
+        now: u64,
+        fd: Fd,
+        at: u64,
+        bytes: &[u8],
+    ) -> Result<(), FsError>
+        requires moment { IsMoment now }
+        requires fits { MayWrite (disk_of self.old.held) fd.0 }
+        ensures told { Apply (disk_of self.old.held) now (call.WriteAt fd at bytes.now) (done result)
+            (disk_of self.new.held) }
+        ensures cause { HasCause self.old.faults self.new.faults result }
+        ensures counts { Counts self.old self.new result }
+        ensures picks { self.new.picks ≡ self.old.picks }
+    {
+        self.plan.begin()?;
+        self.store.write_at(now, fd, at, bytes)?;
+        Ok(())
+    }
+
     fn append(&mut self, _alloc: Global, now: u64, fd: Fd, bytes: &[u8]) -> Result<(), FsError>
         requires moment { IsMoment now }
         requires fits { MayAppend (disk_of self.old.held) fd.0 }
@@ -166,6 +222,18 @@ impl CallFs for MemFs {
     {
         self.plan.begin()?;
         self.store.append(now, fd, bytes)?;
+        Ok(())
+    }
+
+    fn truncate(&mut self, fd: Fd, len: u64) -> Result<(), FsError>
+        requires { MayCut (disk_of self.old.held) fd.0 }
+        ensures told { Apply (disk_of self.old.held) 0 (call.Truncate fd len) (done result) (disk_of self.new.held) }
+        ensures cause { HasCause self.old.faults self.new.faults result }
+        ensures counts { Counts self.old self.new result }
+        ensures picks { self.new.picks ≡ self.old.picks }
+    {
+        self.plan.begin()?;
+        self.store.truncate(fd, len);
         Ok(())
     }
 
@@ -182,12 +250,14 @@ impl CallFs for MemFs {
     }
 
     /// As the trait says. It isn't counted as a call.
-    fn close(&mut self, fd: Fd)
+    fn close(&mut self, fd: Fd) -> Result<(), FsError>
         requires { MayUse (disk_of self.old.held) fd.0 }
-        ensures told { Apply (disk_of self.old.held) 0 (call.Close fd) answer.Done (disk_of self.new.held) }
+        ensures told { Apply (disk_of self.old.held) 0 (call.Close fd) (done result) (disk_of self.new.held) }
+        ensures always { IsOk result }
         ensures rest { self.new ≡ with_held self.old self.new.held }
     {
         self.store.close(fd);
+        Ok(())
     }
 
     fn link(&mut self, alloc: Global, old: &[u8], new: &[u8]) -> Result<(), FsError>

@@ -1,13 +1,23 @@
 // The files of a disk in memory, by number.
 ghost use Rattle.std.specs.Prelude.{◌≡◌, ◌≢◌, ◌≤◌, ◌<◌, ◌+◌, ◌-◌, ◌^◌, ℕ, IsSome, IfSome, IfNone, IsTrue, ◌↔◌, OnOk, OnErr, length};
 ghost use Rattle.call_fs.specs.Disk.{IsMoment};
-ghost use Rattle.call_fs.specs.Apply.{grown, synced};
+ghost use Rattle.call_fs.specs.Apply.{grown, overwritten, cut, synced};
 ghost use Rattle.mem_fs.specs.Tables.{at_number, AreNumbersInOrder};
-ghost use Rattle.mem_fs.specs.MemDisk.{links_of, holds_of, IsIdle, Changes, on_file, linked, unlinked, closed};
+ghost use Rattle.mem_fs.specs.MemDisk.{file_at, links_of, holds_of, IsIdle, Changes, on_file, linked, unlinked, opened, closed};
 
 use crate::file::{FileData, Inode};
 use crate::numbers;
-use call_fs::mail_bytes::Memory;
+use mail_bytes::Memory;
+
+/// The file of a number. The condition: the number is there.
+pub fn file_of(files: &[(u64, Inode)], number: u64) -> &FileData
+    requires in_order { AreNumbersInOrder files.now }
+    requires there { IsSome (at_number files.now number) }
+    ensures { result.now ≡ file_at files.now number }
+{
+    let inode = numbers::value_of(files, number).unwrap();
+    &inode.file
+}
 
 /// Writes bytes at the end of a file. After an `Err` all is as before. The conditions: the number is there, and `now` is
 /// a moment.
@@ -26,6 +36,38 @@ pub fn append(
     let at = numbers::index_of(files, number);
     let entry = &mut files[at];
     entry.1.file.append(now, bytes)
+}
+
+/// Overwrites what lies below the length of a file. After an `Err` all is as before. The conditions: the number is
+/// there, and `now` is a moment.
+pub fn overwrite(
+    files: &mut Vec<(u64, Inode)>,
+    number: u64,
+    now: u64,
+    place: usize,
+    bytes: &[u8],
+) -> Result<(), Memory>
+    requires in_order { AreNumbersInOrder files.old.items }
+    requires there { IsSome (at_number files.old.items number) }
+    requires moment { IsMoment now }
+    ensures ok { OnOk result (Changes files.old.items files.new.items number
+        (on_file (overwritten now place bytes.now))) }
+    ensures err { OnErr result (files.new.items ≡ files.old.items) }
+{
+    let at = numbers::index_of(files, number);
+    let entry = &mut files[at];
+    entry.1.file.overwrite(now, place, bytes)
+}
+
+/// Cuts a file. The condition: the number is there.
+pub fn cut(files: &mut Vec<(u64, Inode)>, number: u64, len: usize)
+    requires in_order { AreNumbersInOrder files.old.items }
+    requires there { IsSome (at_number files.old.items number) }
+    ensures { Changes files.old.items files.new.items number (on_file (cut len)) }
+{
+    let at = numbers::index_of(files, number);
+    let entry = &mut files[at];
+    entry.1.file.cut(len);
 }
 
 /// All bytes of a file are on the disk. The condition: the number is there.
@@ -72,6 +114,18 @@ pub fn drop_link(files: &mut Vec<(u64, Inode)>, number: u64)
     let at = numbers::index_of(files, number);
     let entry = &mut files[at];
     entry.1.links -= 1;
+}
+
+/// A number has one open descriptor more. The conditions: it is there, and its count of descriptors has room.
+pub fn add_open(files: &mut Vec<(u64, Inode)>, number: u64)
+    requires in_order { AreNumbersInOrder files.old.items }
+    requires there { IsSome (at_number files.old.items number) }
+    requires room { holds_of files.old.items number + 1 < 2 ^ 64 }
+    ensures { Changes files.old.items files.new.items number opened }
+{
+    let at = numbers::index_of(files, number);
+    let entry = &mut files[at];
+    entry.1.opens += 1;
 }
 
 /// A number has one open descriptor less. The conditions: it is there, and has one.

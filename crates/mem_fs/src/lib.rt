@@ -6,6 +6,7 @@ mod file;
 mod files;
 mod names;
 mod numbers;
+mod open_file;
 mod part;
 mod picks;
 mod plan;

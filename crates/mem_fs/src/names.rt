@@ -8,7 +8,7 @@ ghost use Rattle.call_fs.specs.Apply.{IsNextName, IsLastName};
 ghost use Rattle.mem_fs.specs.Tables.{at_name, AreNamesInOrder, IsPlace, IsEndOf};
 
 use crate::part;
-use call_fs::mail_bytes::ByteText;
+use mail_bytes::ByteText;
 
 /// Where the name is, or where it would go.
 fn place_of(names: &[(ByteText, u64)], name: &[u8]) -> Result<usize, usize>

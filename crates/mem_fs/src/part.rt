@@ -4,7 +4,7 @@ ghost use Rattle.std.specs.Ordering.{nat_cmp, ordering_then};
 ghost use Rattle.std.specs.Cmp.Lexicographic.{slice_cmp};
 ghost use Rattle.call_fs.specs.Disk.{dir_of};
 
-use call_fs::mail_bytes::ByteText;
+use mail_bytes::ByteText;
 use std::cmp::Ordering;
 
 /// Whether this is one of the directories.

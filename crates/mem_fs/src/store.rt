@@ -6,13 +6,15 @@ ghost use Rattle.call_fs.specs.declared.calls.Answer.TheVariants as answer;
 ghost use Rattle.call_fs.specs.Maps.{put, put_at};
 ghost use Rattle.call_fs.specs.Disk.{Disk, HasDir, IsMoment, IsUnused};
 ghost use Rattle.call_fs.specs.Apply.{effect, IsStat, IsNextName, IsLastName};
+ghost use Rattle.call_fs.specs.Columns.{IsRead};
 ghost use Rattle.call_fs.specs.Steady.{IsFree, IsLeastFree, IsNextDescriptor};
-ghost use Rattle.mem_fs.specs.MemDisk.{disk_of, nothing, opened, bytes_at, IsGreatestFree, NoneFree, AllOpen, with_dir, Places, PlacesNew};
+ghost use Rattle.mem_fs.specs.MemDisk.{disk_of, nothing, IsOpenOn, bytes_at, IsGreatestFree, NoneFree, AllOpen, with_dir, Places, PlacesNew};
 
 use crate::file::{FileData, Inode};
+use crate::open_file::OpenFile;
 use crate::{files, names, numbers, part};
-use call_fs::mail_bytes::{ByteText, Memory};
-use call_fs::{Fd, Stat};
+use call_fs::{Fd, How, Stat};
+use mail_bytes::{ByteText, Memory};
 use std::alloc::{AllocError, Global};
 use std::marker::Model;
 
@@ -23,7 +25,7 @@ pub struct Store {
     dirs: Vec<ByteText>,
     names: Vec<(ByteText, u64)>,
     files: Vec<(u64, Inode)>,
-    opens: Vec<(u64, u64)>,
+    opens: Vec<(u64, OpenFile)>,
 }
 
 impl Model for Store {
@@ -128,8 +130,46 @@ impl Store {
         };
         names::insert(&mut self.names, name, number);
         numbers::insert(&mut self.files, number, inode);
-        numbers::insert(&mut self.opens, fd.0, number);
+        numbers::insert(&mut self.opens, fd.0, OpenFile::created(number));
         Ok(())
+    }
+
+    /// Opens the file of a name. After an `Err` it is as before.
+    pub fn open(&mut self, name: &[u8], how: How, fd: Fd) -> Result<(), Memory>
+        requires there { IsSome ((disk_of self.old).names name.now) }
+        requires descriptor { IsNextDescriptor (disk_of self.old) fd.0 }
+        ensures ok { OnOk result (disk_of self.new
+            ≡ effect (disk_of self.old) 0 (call.Open name.now how) (answer.Opened fd) 0) }
+        ensures err { OnErr result (self.new ≡ self.old) }
+    {
+        let number = names::number_of(&self.names, name).unwrap();
+        self.opens.reserve(1)?;
+        prove!(self.opens.len() < self.opens.capacity());
+        files::add_open(&mut self.files, number);
+        numbers::insert(&mut self.opens, fd.0, OpenFile::opened(number, how));
+        Ok(())
+    }
+
+    /// Reads from a place of an open file on into the buffer, as many bytes as it has room for, or as there are.
+    pub fn read_at(&self, fd: Fd, at: u64, into: &mut [u8]) -> u64
+        requires { IsSome ((disk_of self.now).opens fd.0) }
+        ensures { IsRead (disk_of self.now) fd.0 at (length into.old) result into.new }
+    {
+        let number = self.opened(fd);
+        let file = files::file_of(&self.files, number);
+        file.read_at(at as usize, into) as u64
+    }
+
+    /// Overwrites what lies below the length of an open file. After an `Err` it is as before.
+    pub fn write_at(&mut self, now: u64, fd: Fd, at: u64, bytes: &[u8]) -> Result<(), Memory>
+        requires moment { IsMoment now }
+        requires open { IsSome ((disk_of self.old).opens fd.0) }
+        ensures ok { OnOk result (disk_of self.new
+            ≡ effect (disk_of self.old) now (call.WriteAt fd at bytes.now) answer.Done 0) }
+        ensures err { OnErr result (self.new ≡ self.old) }
+    {
+        let number = self.opened(fd);
+        files::overwrite(&mut self.files, number, now, at as usize, bytes)
     }
 
     /// Writes bytes at the end of an open file. After an `Err` it is as before.
@@ -141,6 +181,15 @@ impl Store {
     {
         let number = self.opened(fd);
         files::append(&mut self.files, number, now, bytes)
+    }
+
+    /// Cuts an open file to a length, where it is longer.
+    pub fn truncate(&mut self, fd: Fd, len: u64)
+        requires { IsSome ((disk_of self.old).opens fd.0) }
+        ensures { disk_of self.new ≡ effect (disk_of self.old) 0 (call.Truncate fd len) answer.Done 0 }
+    {
+        let number = self.opened(fd);
+        files::cut(&mut self.files, number, len as usize);
     }
 
     /// All bytes of an open file are on the disk.
@@ -191,9 +240,9 @@ impl Store {
     /// The number of an open descriptor.
     fn opened(&self, fd: Fd) -> u64
         requires { IsSome ((disk_of self.now).opens fd.0) }
-        ensures { (disk_of self.now).opens fd.0 ≡ Some (opened result) }
+        ensures { IsOpenOn (disk_of self.now) fd.0 result }
     {
-        *numbers::value_of(&self.opens, fd.0).unwrap()
+        numbers::value_of(&self.opens, fd.0).unwrap().number()
     }
 
     /// The file of a name.
@@ -251,7 +300,7 @@ impl Store {
         ensures ok { OnOk result (Places (disk_of self.old) name.now bytes.now (disk_of self.new)) }
         ensures err { OnErr result (self.new ≡ self.old) }
     {
-        let file = FileData::settled(alloc, ByteText::from_slice(alloc, bytes)?);
+        let file = FileData::settled(alloc, bytes)?;
         match names::number_of(&self.names, name) {
             Some(number) => {
                 files::replace(&mut self.files, number, file);

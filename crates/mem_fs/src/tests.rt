@@ -1,11 +1,11 @@
 // Tests of the disk in memory, and of code over any disk.
-ghost use Rattle.std.specs.Prelude.{◌≡◌, ◌≢◌, ℕ, Some, None, IfOk};
+ghost use Rattle.std.specs.Prelude.{◌≡◌, ◌≢◌, ◌≤◌, ℕ, length, Some, None, IfOk};
 ghost use Rattle.call_fs.specs.Maps.{put_at};
 ghost use Rattle.call_fs.specs.Disk.{IsMoment, IsSynced};
 ghost use Rattle.call_fs.specs.Told.{HasCause, Meets};
 
 use crate::MemFs;
-use call_fs::{CallFs, Fd, FsError, NameBuf, Stat};
+use call_fs::{CallFs, Fd, FsError, How, NameBuf, Stat};
 use std::alloc::{AllocError, Global};
 use std::test::Fail;
 
@@ -35,9 +35,46 @@ fn put_twice<D: CallFs>(
     let (fd, number) = disk.create_excl(alloc, now, first)?;
     disk.append(alloc, now, fd, bytes)?;
     disk.sync(fd)?;
-    disk.close(fd);
+    disk.close(fd)?;
     disk.link(alloc, first, second)?;
     Ok(number)
+}
+
+/// Overwrites what lies of a file from its second byte on, and cuts it. After an `Err` some of that may have been done.
+fn mend<D: CallFs>(
+    alloc: Global,
+    disk: &mut D,
+    now: u64,
+    name: &[u8],
+    bytes: &[u8],
+    len: u64,
+) -> Result<(), FsError>
+    requires { IsMoment now }
+    ensures { HasCause (D.faults disk.old) (D.faults disk.new) result }
+{
+    let fd = disk.open(alloc, name, How::Write)?;
+    disk.write_at(alloc, now, fd, 1, bytes)?;
+    disk.truncate(fd, len)?;
+    disk.sync(fd)?;
+    disk.close(fd)?;
+    Ok(())
+}
+
+/// Reads from a place of a file on. After an `Err` the file may be left open.
+fn read_from<D: CallFs>(
+    alloc: Global,
+    disk: &mut D,
+    name: &[u8],
+    at: u64,
+    into: &mut [u8],
+) -> Result<u64, FsError>
+    ensures count { IfOk result (λ count. count ≤ length into.old) }
+    ensures cause { HasCause (D.faults disk.old) (D.faults disk.new) result }
+{
+    let fd = disk.open(alloc, name, How::Read)?;
+    let count = disk.read_at(fd, at, into)?;
+    disk.close(fd)?;
+    Ok(count)
 }
 
 /// A disk with the directories of these tests.
@@ -102,6 +139,36 @@ fn a_file_has_two_names_until_one_is_taken_away(rt: HostRuntime) -> Result<(), F
         disk.bytes_of(b"mess/1/24").ok_or("no bytes")?,
         b"one".as_slice()
     );
+    Ok(())
+}
+
+#[test]
+fn files_are_read_overwritten_and_cut(rt: HostRuntime) -> Result<(), Fail> {
+    let alloc = rt.alloc();
+    let mut disk = disk_with(alloc, &[], &[13])?;
+    disk.place(alloc, b"pid/a", b"abcdef")?;
+    let mut into = [0; 4];
+    assert_eq!(rt; read_from(alloc, &mut disk, b"pid/a", 4, &mut into)?, 2);
+    assert_eq!(rt; into, [b'e', b'f', 0, 0]);
+    mend(alloc, &mut disk, 5, b"pid/a", b"xyz", 3)?;
+    assert_eq!(rt;
+        disk.bytes_of(b"pid/a").ok_or("no bytes")?,
+        b"axy".as_slice()
+    );
+    mend(alloc, &mut disk, 6, b"pid/a", b"1234", 9)?;
+    assert_eq!(rt;
+        disk.bytes_of(b"pid/a").ok_or("no bytes")?,
+        b"a12".as_slice()
+    );
+    assert_eq!(rt;
+        mend(alloc, &mut disk, 7, b"pid/b", b"", 0),
+        Err(FsError::NotThere)
+    );
+    assert_eq!(rt;
+        read_from(alloc, &mut disk, b"pid/a", 0, &mut into),
+        Err(FsError::Fault)
+    );
+    assert_eq!(rt; disk.stat(b"pid/a")?.moment, 6);
     Ok(())
 }
 

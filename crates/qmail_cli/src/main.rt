@@ -7,9 +7,9 @@
 mod reader_source;
 mod writer_sink;
 
-use call_fs::mail_bytes::Memory;
-use call_fs::outside::{MemClock, MemPosts, MemSource, MemSpawner, OpenGate};
+use mail_bytes::Memory;
 use mem_fs::MemFs;
+use outside::{MemClock, MemPosts, MemSource, MemSpawner, OpenGate};
 use qmail_top::{qmail, status};
 use reader_source::ReaderSource;
 use std::alloc::{AllocError, Global};

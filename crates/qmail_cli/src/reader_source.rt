@@ -1,7 +1,7 @@
 // A source over a reader, as standard input.
 ghost use Rattle.std.specs.Prelude.{◌≡◌, ◌≤◌, IfSome, length};
 
-use call_fs::outside::{Source, Took};
+use outside::{Source, Took};
 use std::io::{ErrorKind, Read};
 
 /// How often an interrupted read is tried again in one call.

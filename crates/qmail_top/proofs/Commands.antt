@@ -1,14 +1,16 @@
 -- What a command does with its input.
-use Rattle.std.proofs.Common.{◌≡◌, ◌≢◌, ◌⊎◌, ℕ, List, [], ◌++◌, Option, Some, None, Result, Err, inr, refl, sym, ◌∙◌, ap, subst, ⊎_elim, arith}
+use Rattle.std.proofs.Common.{◌≡◌, ◌≢◌, ◌⊎◌, ℕ, List, [], ◌++◌, length, Option, Some, None, Result, Err, inl, inr, refl, sym, ◌∙◌, ap, subst, ⊎_elim, arith, length-append, ◌<◌}
 use Rattle.std.proofs.lemmas.List.{append-nil}
 use Rattle.call_fs.specs.Told.{Rose, Meets, OnTold}
-use Rattle.qmail_top.specs.declared.scenario.line.Line.{Line}
+use Rattle.scenario.specs.declared.line.Line.{Line}
 use Rattle.qmail_top.specs.declared.top.Failure.{Failure}
 use Rattle.qmail_top.specs.declared.top.Failure.TheVariants.{Memory, Output, Input, Malformed}
-use Rattle.qmail_top.specs.Lines.{IsScript}
+use Rattle.scenario.specs.Lines.{IsScript, IsBadLine, IsRefused, most_bytes}
 use Rattle.mem_fs.proofs.InTurn.{told_weaker}
-use Rattle.qmail_top.specs.Command.{Counted, HasCause, status_of, IsReading, IsRefused, IsChecked}
-use Rattle.qmail_top.proofs.Scripts.{no_refusal}
+use Rattle.qmail_top.specs.Command.{Counted, HasCause, status_of, IsReading, IsChecked}
+use Rattle.scenario.specs.Text.{BeginsAtMost, IsFrontAtMost, script_line, IsTaken, PrintsBadLine}
+use Rattle.scenario.proofs.Scripts.{no_refusal}
+use Rattle.scenario.proofs.WholePlays.{front_at_most}
 
 -- a script that was read is all that its source had
 reading-script : (before after bytes : List ℕ) (lines : List Line) → IsReading before after bytes → IsScript bytes lines → ¬ (IsRefused before)
@@ -28,9 +30,41 @@ checked_script (Some before) (Some after) bytes lines result reading script othe
 checked_script (Some before) None bytes lines result reading script other = absurd reading
 checked_script None after bytes lines result reading script other = tt
 
+-- a script was refused
+abbrev pub IsMalformed : Result (Unit {0}) Failure → Type 0
+IsMalformed result = result ≡ Err Malformed
+
 -- nothing was written
-pub nothing_reached : {O : Type 0} (P : List ℕ → List ℕ → Type 0) (before after : Option (List ℕ)) (out : O) → Meets before after P → Meets before after (λ script rest. rest ≢ [] → out ≡ out)
-nothing_reached P before after out told = told_weaker before after (λ x y h some. refl) told
+pub nothing_reached : {O : Type 0} (P : List ℕ → List ℕ → Type 0) (result : Result (Unit {0}) Failure) (before after : Option (List ℕ)) (out : O) → Meets before after P → Meets before after (λ script rest. rest ≢ [] → (out ≡ out) ⊎ (IsMalformed result × (most_bytes < length script)))
+nothing_reached P result before after out told = told_weaker before after (λ x y h some. inl refl) told
+
+-- the status tells that a script was refused
+pub malformed_why : (why : Failure) → IsMalformed (Err why) → why ≡ Malformed
+malformed_why why e = cc
+
+pub status_reached : {O : Type 0} (old new : O) (result : Result (Unit {0}) Failure) (status : ℕ) (before after : Option (List ℕ)) → (IsMalformed result → status ≡ 91) → Meets before after (λ script rest. rest ≢ [] → (new ≡ old) ⊎ (IsMalformed result × (most_bytes < length script))) → Meets before after (λ script rest. rest ≢ [] → (new ≡ old) ⊎ ((status ≡ 91) × (most_bytes < length script)))
+status_reached old new result status before after is told = told_weaker before after
+    (λ x y h some. ⊎_elim (λ same. inl same) (λ r. inr (is r.0, r.1)) (h some))
+    told
+
+-- bytes that were read are refused as all of their source is
+longer : (before after bytes : List ℕ) → IsReading before after bytes → most_bytes < length bytes → most_bytes < length before
+longer before after bytes reading over = let e = ap length reading.taken ∙ length-append bytes after in omega arith
+
+still-bad : (before after bytes : List ℕ) (number : ℕ) → IsReading before after bytes → IsBadLine bytes number → IsBadLine before number
+still-bad before after bytes number reading (inl long) = inl (long.0, longer before after bytes reading long.1)
+still-bad before after bytes number reading (inr line) = ⊎_elim
+    (λ end. subst (λ (t : List ℕ). IsBadLine t number) (sym (reading.taken ∙ ap (λ t. bytes ++ t) end ∙ append-nil bytes)) (inr line))
+    (λ over. let most = line.0 in absurd (omega arith))
+    reading.enough
+
+pub bad_line_printed : (P : Type 0) (before after old new : Option (List ℕ)) (bytes : List ℕ) (number : ℕ) (Failed : Type 0) → Meets before after (λ script rest. IsReading script rest bytes) → IsBadLine bytes number → Meets old new (λ x y. (text : List ℕ) × IsTaken (script_line number) text Failed × (y ≡ x ++ text))
+    → OnTold before (λ script. P → Meets old new (λ x y. (text : List ℕ) × PrintsBadLine script text Failed × (y ≡ x ++ text)))
+bad_line_printed P (Some before) (Some after) old new bytes number Failed reading bad took = λ p. told_weaker old new
+    (λ x y h. (h.0, record { number = number; is_bad = still-bad before after bytes number reading bad; is_taken = h.1 }, h.2))
+    took
+bad_line_printed P (Some before) None old new bytes number Failed reading bad took = absurd reading
+bad_line_printed P None after old new bytes number Failed reading bad took = tt
 
 -- A script that was read, with no failure, is played or lacks memory.
 pub completes : (why : Failure) (left : Option (List ℕ)) (source sink : Counted) (P : Type 0) → HasCause why source sink → OnTold left (λ script. IsChecked script (Err why))
@@ -40,3 +74,11 @@ completes Output (Some script) source sink P cause checked = λ p lines is calm 
 completes Input (Some script) source sink P cause checked = λ p lines is calm quiet. absurd (calm cause)
 completes Malformed (Some script) source sink P cause checked = λ p lines is calm quiet. absurd (no_refusal script lines is (checked.refused refl))
 completes why None source sink P cause checked = tt
+
+-- what was taken of a script that wasn't played to its end is a front of its text
+pub front_taken : (why : Failure) (status : ℕ) (left old new : Option (List ℕ)) → status ≡ status_of why
+    → OnTold left (λ script. why ≢ Malformed → Meets old new (λ before after. (text : List ℕ) × BeginsAtMost script text × (after ≡ before ++ text)))
+    → OnTold left (λ script. status ≢ 0 → status ≢ 91 → Meets old new (λ before after. (text : List ℕ) × IsFrontAtMost script text × (after ≡ before ++ text)))
+front_taken why status None old new is begins = tt
+front_taken why status (Some script) old new is begins = λ done malformed.
+    told_weaker old new (λ before after taken. (taken.0, front_at_most script taken.0 taken.1, taken.2)) (begins (λ same. malformed (is ∙ ap status_of same)))

@@ -2,7 +2,7 @@
 use Rattle.std.specs.Prelude.{◌≡◌, ◌⊎◌, ℕ, ◌<◌, List, [], ◌∷◌, ◌++◌, length, map, codes, String, string_bytes, Result, Ok, Err}
 use Rattle.std.specs.declared.alloc.Global.{Global}
 use Rattle.call_fs.specs.Told.{Rose}
-use Rattle.qmail_top.specs.Lines.{IsBadLine, most_bytes}
+use Rattle.scenario.specs.Lines.{IsRefused, most_bytes}
 use Rattle.qmail_top.specs.declared.top.Failure.{Failure}
 use Rattle.qmail_top.specs.declared.top.Failure.TheVariants.{Memory, Output, Input, Malformed}
 
@@ -32,21 +32,17 @@ HasCause Output source sink = HasRisen sink
 HasCause Input source sink = HasRisen source
 HasCause Malformed source sink = Unit {0}
 
--- the output is written only after the input was read and checked
+-- nothing is written where the input failed
 abbrev pub IsBeforeOutput : Failure → Type 0
 IsBeforeOutput Memory = ⊥
 IsBeforeOutput Output = ⊥
 IsBeforeOutput Input = Unit {0}
-IsBeforeOutput Malformed = Unit {0}
+IsBeforeOutput Malformed = ⊥
 
 -- what was read of a source: all that it had, or more than a script may have
 pub record IsReading (before after bytes : List ℕ) : Type 0 where
   pub taken : before ≡ bytes ++ after
   pub enough : (after ≡ []) ⊎ (most_bytes < length bytes)
-
--- the bytes aren't a script
-abbrev pub IsRefused : List ℕ → Type 0
-IsRefused bytes = (k : ℕ) × IsBadLine bytes k
 
 -- a call that did its work, or began to write what came of it
 abbrev pub IsPast : Result (Unit {0}) Failure → Type 0

@@ -1,16 +1,2 @@
--- which bytes are a script
-pub mod Lines
--- the parts of a line, as they are read
-pub mod Reading
--- what `show` prints
-pub mod Shown
--- how the injectors of kept events fare
-pub mod Fates
--- the history that a script plays, and what each line prints
-pub mod Played
--- what a script prints
-pub mod Text
--- a world in which a script is played
-pub mod Playing
 -- the words of the top call, and the causes of its exit statuses
 pub mod Command

@@ -1,24 +1,24 @@
 // The one public call.
-ghost use Rattle.std.specs.Prelude.{◌≡◌, ◌≢◌, ◌⊎◌, ◌↔◌, ◌++◌, ◌∷◌, [], List, ℕ, IsTrue, IfOk, IfErr, OnOk, OnErr, Contains};
+ghost use Rattle.std.specs.Prelude.{◌≡◌, ◌≢◌, ◌⊎◌, ◌↔◌, ◌++◌, ◌∷◌, [], List, ℕ, IsTrue, IsOk, IfOk, IfErr, OnOk, Contains, Err, length, ◌<◌};
 ghost use Rattle.call_fs.specs.Told.{Rose, Meets, OnTold};
-ghost use Rattle.qmail_top.specs.declared.scenario.line.Line.{Line};
-ghost use Rattle.qmail_top.specs.Lines.{IsScript};
-ghost use Rattle.qmail_top.specs.Text.{Prints, BeginsAtMost};
-ghost use Rattle.qmail_top.specs.Command.{IsPlay, IsReading, IsRefused, IsChecked, HasCause, IsBeforeOutput, status_of};
+ghost use Rattle.scenario.specs.declared.line.Line.{Line};
+ghost use Rattle.scenario.specs.Lines.{IsScript, IsRefused, most_bytes};
+ghost use Rattle.scenario.specs.Text.{Prints, BeginsAtMost, IsFrontAtMost, PrintsBadLine};
+ghost use Rattle.qmail_top.specs.Command.{IsPlay, IsReading, IsChecked, HasCause, IsBeforeOutput, status_of};
 
-use crate::scenario::{MAX_SCRIPT, PlayError, ScriptError, play, read_script};
 use crate::status::{DONE, INPUT, MALFORMED, MEMORY, OUTPUT, USAGE};
 use call_fs::CallFs;
-use call_fs::outside::{Clock, Gate, Posts, Sink, Source, Spawner, Took};
+use outside::{Clock, Gate, Posts, Sink, Source, Spawner, Took};
+use scenario::{MAX_SCRIPT, PlayError, ScriptError, play, read_script, refuse};
 use std::alloc::{AllocError, Global};
 
-/// Does what the words after the program's name say, and answers the exit
+/// Does what the words after the program's name say, and answers the exit status.
 ///
 /// `play` reads a script whole from `message`, checks it whole and plays it over a disk in memory; `out` gets what it
 /// prints. Other words write the line `usage` to `log`. What a command doesn't use stays untouched.
 ///
 /// 0: done. 51: want of memory. 53: `out` failed. 54: `message` failed. 91: a line isn't in the grammar, or the script
-/// has over 16,777,216 bytes; `out` gets nothing. 100: the words are no command.
+/// has over 16,777,216 bytes; `out` gets `script K`, whether it takes it or not. 100: the words are no command.
 pub fn qmail<
     R,
     D: CallFs,
@@ -55,17 +55,25 @@ pub fn qmail<
         → ¬ (Rose (M.faults message.old) (M.faults message.new)) → ¬ (Rose (O.faults out.old) (O.faults out.new))
         → (result ≡ DONE) ⊎ (result ≡ MEMORY)) }
 
-    // What is printed: the text of the script, whose history is legal, and safe at each prefix; or a front of that text,
-    // and nothing before the script was read to its end.
+    // What is printed: the text of the script, whose history is legal, and safe at each prefix; or a front of that text;
+    // or the number of the first bad line; and nothing before the script was read to its end, or is too long.
     ensures prints { OnTold (M.left message.old) (λ script. result ≡ DONE → Meets (O.taken out.old) (O.taken out.new)
         (λ before after. (text : List ℕ) × Prints script text × (after ≡ before ++ text))) }
-    ensures begins { OnTold (M.left message.old) (λ script. result ≢ DONE → Meets (O.taken out.old) (O.taken out.new)
-        (λ before after. (text : List ℕ) × BeginsAtMost script text × (after ≡ before ++ text))) }
-    ensures reached { Meets (M.left message.old) (M.left message.new) (λ script rest. rest ≢ [] → out.new ≡ out.old) }
+    ensures begins { OnTold (M.left message.old) (λ script. result ≢ DONE → result ≢ MALFORMED
+        → Meets (O.taken out.old) (O.taken out.new)
+        (λ before after. (text : List ℕ) × IsFrontAtMost script text × (after ≡ before ++ text))) }
+    ensures refuses { OnTold (M.left message.old) (λ script. result ≡ MALFORMED → Meets (O.taken out.old) (O.taken out.new)
+        (λ before after. (text : List ℕ) × PrintsBadLine script text (Rose (O.faults out.old) (O.faults out.new))
+        × (after ≡ before ++ text))) }
+    ensures reached { Meets (M.left message.old) (M.left message.new) (λ script rest. rest ≢ []
+        → (out.new ≡ out.old) ⊎ ((result ≡ MALFORMED) × (most_bytes < length script))) }
+
+    // 0 says that the script was read to its end
+    ensures ended { Meets (M.left message.old) (M.left message.new) (λ script rest. result ≡ DONE → rest ≡ []) }
 
     // what stays untouched
     ensures unread { result ≡ USAGE → message.new ≡ message.old }
-    ensures unwritten { (result ≡ USAGE) ⊎ ((result ≡ INPUT) ⊎ (result ≡ MALFORMED)) → out.new ≡ out.old }
+    ensures unwritten { (result ≡ USAGE) ⊎ (result ≡ INPUT) → out.new ≡ out.old }
     ensures unlogged { IsPlay words.now → log.new ≡ log.old }
     ensures disk { disk.new ≡ disk.old }
     ensures envelope { envelope.new ≡ envelope.old }
@@ -137,9 +145,16 @@ fn play_message<M: Source, O: Sink>(
 ) -> Result<(), Failure>
     ensures prints { OnTold (M.left message.old) (λ script. OnOk result (Meets (O.taken out.old) (O.taken out.new)
         (λ before after. (text : List ℕ) × Prints script text × (after ≡ before ++ text)))) }
-    ensures begins { OnTold (M.left message.old) (λ script. OnErr result (Meets (O.taken out.old) (O.taken out.new)
+    ensures begins { OnTold (M.left message.old) (λ script. IfErr result (λ why. why ≢ Failure.Malformed
+        → Meets (O.taken out.old) (O.taken out.new)
         (λ before after. (text : List ℕ) × BeginsAtMost script text × (after ≡ before ++ text)))) }
-    ensures reached { Meets (M.left message.old) (M.left message.new) (λ script rest. rest ≢ [] → out.new ≡ out.old) }
+    ensures refuses { OnTold (M.left message.old) (λ script. result ≡ Err Failure.Malformed
+        → Meets (O.taken out.old) (O.taken out.new)
+        (λ before after. (text : List ℕ) × PrintsBadLine script text (Rose (O.faults out.old) (O.faults out.new))
+        × (after ≡ before ++ text))) }
+    ensures reached { Meets (M.left message.old) (M.left message.new) (λ script rest. rest ≢ []
+        → (out.new ≡ out.old) ⊎ ((result ≡ Err Failure.Malformed) × (most_bytes < length script))) }
+    ensures ended { Meets (M.left message.old) (M.left message.new) (λ script rest. IsOk result → rest ≡ []) }
     ensures cause { IfErr result (λ why. HasCause why (record { before = M.faults message.old; after = M.faults message.new })
         (record { before = O.faults out.old; after = O.faults out.new })) }
     ensures unwritten { IfErr result (λ why. IsBeforeOutput why → out.new ≡ out.old) }
@@ -148,7 +163,10 @@ fn play_message<M: Source, O: Sink>(
     let bytes = read_whole(alloc, message)?;
     let script = match read_script(alloc, &bytes) {
         Ok(script) => script,
-        Err(ScriptError::Line(_)) => return Err(Failure::Malformed),
+        Err(ScriptError::Line(number)) => {
+            refuse(out, number);
+            return Err(Failure::Malformed);
+        }
         Err(ScriptError::Memory) => return Err(Failure::Memory),
     };
     match play(alloc, script, out) {

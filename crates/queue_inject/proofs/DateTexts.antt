@@ -3,7 +3,7 @@ use Rattle.std.proofs.Common.{◌≡◌, ℕ, ◌+◌, ◌-◌, ◌/◌, ◌%◌
 use Rattle.std.specs.Prelude.{if◌then◌else◌, Result, Ok, Err, is_ok, OnOk}
 use Rattle.std.proofs.lemmas.Bool.{cond-true, lt-ltb}
 use Rattle.std.proofs.lemmas.List.{append_assoc}
-use Rattle.call_fs.specs.Decimal.{digits}
+use Rattle.mail_bytes.specs.Decimal.{digits}
 use Rattle.queue_inject.specs.declared.received_line.Invoked.{Invoked}
 use Rattle.queue_inject.specs.Received.{Day, day_of, month_name, two, four, date_text, received_text, invoked_text}
 

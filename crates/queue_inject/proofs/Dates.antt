@@ -51,17 +51,17 @@ same_day : (y m n : ℕ) (a b : ℕ) → m ≡ n → a ≡ b → ◌≡◌ {A = 
 same_day y m n a b e f = λ i. record { year = y; month = e i; day = f i }
 
 -- Counting from a month on leads to a later month of the year, where the days before both agree.
-in_months-at : (fuel y from days m rest : ℕ) → from ≤ m → m ≤ from + fuel → m < 12 → before_month y from + days ≡ before_month y m + rest → rest < days_in_month y m → in_months fuel y from days ≡ record { year = y; month = m; day = rest }
+in_months-at : (most y from days m rest : ℕ) → from ≤ m → m ≤ from + most → m < 12 → before_month y from + days ≡ before_month y m + rest → rest < days_in_month y m → in_months most y from days ≡ record { year = y; month = m; day = rest }
 unfolding in_months
 in_months-at zero y from days m rest low high last e short =
     let here : from ≡ m = omega arith in
     let e2 : before_month y m + days ≡ before_month y m + rest = subst (λ k. before_month y k + days ≡ before_month y m + rest) here e in
     same_day y from m days rest here (omega arith)
-in_months-at (suc fuel) y from days m rest low high last e short = ⊎_elim
+in_months-at (suc most) y from days m rest low high last e short = ⊎_elim
     (λ lt.
     let here : from ≡ m = ⊎_elim (λ before. let more = month_more y from (omega arith) in let mono = days_of_months_mono (pos y) (from + 1) m (omega arith) in absurd (omega arith)) (λ behind. omega arith) (cases_lt from m) in
     let e2 : before_month y m + days ≡ before_month y m + rest = subst (λ k. before_month y k + days ≡ before_month y m + rest) here e in
-    cond-true (ltb days (days_in_month y from)) (record { year = y; month = from; day = days }) (in_months fuel y (from + 1) (days - days_in_month y from)) (lt-ltb days (days_in_month y from) lt)
+    cond-true (ltb days (days_in_month y from)) (record { year = y; month = from; day = days }) (in_months most y (from + 1) (days - days_in_month y from)) (lt-ltb days (days_in_month y from) lt)
     ∙ same_day y from m days rest here (omega arith))
     (λ ge.
     let before : from < m = ⊎_elim (λ lt. lt) (λ behind.
@@ -70,12 +70,12 @@ in_months-at (suc fuel) y from days m rest low high last e short = ⊎_elim
     let short2 : rest < days_in_month y from = subst (λ k. rest < days_in_month y k) here short in
     absurd (omega arith)) (cases_lt from m) in
     let more = month_more y from (omega arith) in
-    cond-false (ltb days (days_in_month y from)) (record { year = y; month = from; day = days }) (in_months fuel y (from + 1) (days - days_in_month y from)) (le-ltb days (days_in_month y from) ge)
-    ∙ in_months-at fuel y (from + 1) (days - days_in_month y from) m rest (omega arith) (omega arith) last (omega arith) short)
+    cond-false (ltb days (days_in_month y from)) (record { year = y; month = from; day = days }) (in_months most y (from + 1) (days - days_in_month y from)) (le-ltb days (days_in_month y from) ge)
+    ∙ in_months-at most y (from + 1) (days - days_in_month y from) m rest (omega arith) (omega arith) last (omega arith) short)
     (cases_lt days (days_in_month y from))
 
 -- and from a year on to a later one
-in_years-at : (fuel from days y rest : ℕ) → from ≤ y → days ≤ fuel → before_year from + days ≡ before_year y + rest → rest < days_in_year y → in_years fuel from days ≡ in_months 11 y 0 rest
+in_years-at : (most from days y rest : ℕ) → from ≤ y → days ≤ most → before_year from + days ≡ before_year y + rest → rest < days_in_year y → in_years most from days ≡ in_months 11 y 0 rest
 unfolding in_years
 in_years-at zero from days y rest low enough e short =
     let least = (days_in_year_bounds (pos from)).1 in
@@ -83,14 +83,14 @@ in_years-at zero from days y rest low enough e short =
     let e2 : before_year y + days ≡ before_year y + rest = subst (λ k. before_year k + days ≡ before_year y + rest) here e in
     let days_are : days ≡ rest = omega arith in
     ap (λ k. in_months 11 k 0 days) here ∙ ap (in_months 11 y 0) days_are
-in_years-at (suc fuel) from days y rest low enough e short =
+in_years-at (suc most) from days y rest low enough e short =
     let least : 365 ≤ days_in_year from = (days_in_year_bounds (pos from)).1 in
     ⊎_elim
     (λ lt.
     let here : from ≡ y = ⊎_elim (λ before. let later = later_year from y before in absurd (omega arith)) (λ behind. omega arith) (cases_lt from y) in
     let e2 : before_year y + days ≡ before_year y + rest = subst (λ k. before_year k + days ≡ before_year y + rest) here e in
     let days_are : days ≡ rest = omega arith in
-    cond-true (ltb days (days_in_year from)) (in_months 11 from 0 days) (in_years fuel (from + 1) (days - days_in_year from)) (lt-ltb days (days_in_year from) lt)
+    cond-true (ltb days (days_in_year from)) (in_months 11 from 0 days) (in_years most (from + 1) (days - days_in_year from)) (lt-ltb days (days_in_year from) lt)
     ∙ ap (λ k. in_months 11 k 0 days) here ∙ ap (in_months 11 y 0) days_are)
     (λ ge.
     let before : from < y = ⊎_elim (λ lt. lt) (λ behind.
@@ -99,8 +99,8 @@ in_years-at (suc fuel) from days y rest low enough e short =
     let short2 : rest < days_in_year from = subst (λ k. rest < days_in_year k) here short in
     absurd (omega arith)) (cases_lt from y) in
     let more = year_more from in
-    cond-false (ltb days (days_in_year from)) (in_months 11 from 0 days) (in_years fuel (from + 1) (days - days_in_year from)) (le-ltb days (days_in_year from) ge)
-    ∙ in_years-at fuel (from + 1) (days - days_in_year from) y rest (omega arith) (omega arith) (omega arith) short)
+    cond-false (ltb days (days_in_year from)) (in_months 11 from 0 days) (in_years most (from + 1) (days - days_in_year from)) (le-ltb days (days_in_year from) ge)
+    ∙ in_years-at most (from + 1) (days - days_in_year from) y rest (omega arith) (omega arith) (omega arith) short)
     (cases_lt days (days_in_year from))
 
 -- the day of a date of jiff's that lies so many days after 1 January 1970

@@ -1,5 +1,5 @@
 -- A message that fails: its table never reads the todo text.
-use Rattle.std.proofs.Common.{◌≡◌, ℕ, ◌+◌, List, [], ◌∷◌, length, Some, Bool, true, false, refl, sym, subst}
+use Rattle.std.proofs.Common.{◌≡◌, ℕ, ◌+◌, List, [], ◌∷◌, length, Some, Bool, true, false, sym, subst}
 use Rattle.std.specs.Prelude.{if◌then◌else◌, nat_lt, nat_le}
 use Rattle.call_fs.specs.declared.calls.Answer.{Answer}
 use Rattle.call_fs.specs.declared.calls.Answer.TheVariants.{Created, Done, Refused}
@@ -11,7 +11,7 @@ use Rattle.queue_inject.specs.declared.injection.Arguments.{Arguments}
 use Rattle.queue_inject.specs.declared.row.Row.{Row}
 use Rattle.queue_inject.specs.declared.row.Row.TheVariants as at
 use Rattle.queue_inject.specs.Texts.{Text, message_text}
-use Rattle.queue_inject.specs.Table.{Work, work_of, piece_size, past_piece, in_message, answered, asked, row_after, after_own}
+use Rattle.queue_inject.specs.Table.{Work, work_of, piece_size, past_piece, in_message, settled, answered, row_after, after_own}
 
 -- the rows that a message that fails leads to
 abbrev pub IsUnread : Row → Type 0
@@ -23,9 +23,9 @@ IsUnread (at.CleanMess n status) = Unit {0}
 IsUnread (at.Failed status) = Unit {0}
 IsUnread other = ⊥
 
-next_name : (t : Bool) (seq status : ℕ) → IsUnread (if t then at.Create seq else at.Failed status)
-next_name true seq status = tt
-next_name false seq status = tt
+next_name : (work : Work) (t : Bool) (seq status : ℕ) → IsUnread (settled work (if t then at.Create seq else at.Failed status))
+next_name work true seq status = tt
+next_name work false seq status = tt
 
 next_piece : (t : Bool) (n done status : ℕ) (fd : Fd) → IsUnread (if t then at.AppendMess n fd done else at.CleanMess n status)
 next_piece true n done status fd = tt
@@ -38,7 +38,7 @@ of_message text status n fd done e =
 
 stays : (work : Work) (status : ℕ) (row : Row) (answer : Answer) → work.message.fault ≡ Some status → IsUnread row → IsUnread (answered work row answer)
 stays work status (at.Create seq) (Created fd n) e here = tt
-stays work status (at.Create seq) (Refused Exists) e here = next_name (nat_lt seq 9) (seq + 1) 63
+stays work status (at.Create seq) (Refused Exists) e here = next_name work (nat_lt seq 9) (seq + 1) 63
 stays work status (at.Create seq) _ e here = tt
 stays work status (at.LinkMess seq n fd) Done e here = tt
 stays work status (at.LinkMess seq n fd) _ e here = tt
@@ -55,23 +55,3 @@ row_unread args [] status e = tt
 row_unread args (event ∷ before) status e = after event.did (row_unread args before status e) where
   after : (did : Did) → IsUnread (row_after args before) → IsUnread (after_own args (row_after args before) did)
   after (Called call answer bytes) here = stays (work_of args) status (row_after args before) answer e here
-
--- at such a row any todo text is as good
-
-pub asked_unread : (work : Work) (todo : Text) (row : Row) → IsUnread row → asked (record work { todo = todo }) row ≡ asked work row
-asked_unread work todo (at.Create seq) here = refl
-asked_unread work todo (at.LinkMess seq n fd) here = refl
-asked_unread work todo (at.UnlinkPid seq n fd) here = refl
-asked_unread work todo (at.AppendMess n fd done) here = refl
-asked_unread work todo (at.CleanMess n status) here = refl
-asked_unread work todo (at.Failed status) here = refl
-asked_unread work todo _ here = absurd here
-
-pub answered_unread : (work : Work) (todo : Text) (row : Row) (answer : Answer) → IsUnread row → answered (record work { todo = todo }) row answer ≡ answered work row answer
-answered_unread work todo (at.Create seq) answer here = refl
-answered_unread work todo (at.LinkMess seq n fd) answer here = refl
-answered_unread work todo (at.UnlinkPid seq n fd) answer here = refl
-answered_unread work todo (at.AppendMess n fd done) answer here = refl
-answered_unread work todo (at.CleanMess n status) answer here = refl
-answered_unread work todo (at.Failed status) answer here = refl
-answered_unread work todo _ answer here = absurd here

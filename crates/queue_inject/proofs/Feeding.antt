@@ -2,23 +2,23 @@
 use Rattle.std.proofs.Common.{◌≡◌, ◌≢◌, ℕ, ◌+◌, ◌-◌, ◌<◌, ◌≤◌, List, [], ◌∷◌, ◌++◌, length, take, get_or, Option, Some, None, Bool, true, false, refl, sym, ap, ◌∙◌, subst, ⊎_elim, arith, eqb, ltb}
 use Rattle.std.specs.Prelude.{slice_get, if◌then◌else◌}
 use Rattle.std.proofs.lemmas.List.{take_all, take_more, take-append-le, get_or_append_left, append-nil, append_assoc, length_push}
-use Rattle.std.proofs.lemmas.Bool.{cases_lt, lt-ltb, le-ltb}
+use Rattle.std.proofs.lemmas.Bool.{cases_lt, cases_Bool, lt-ltb, le-ltb}
 use Rattle.std.proofs.lemmas.Option.{slice_get_past, slice_get-get_or}
 use Rattle.std.proofs.Math.Seq.{get_or-append_seam}
-use Rattle.queue_inject.specs.declared.envelope_records.EnvFault.TheVariants.{Format, TooLong, EndEarly}
-use Rattle.queue_inject.specs.declared.envelope_records.EnvStep.{EnvStep}
+use Rattle.envelope_records.specs.declared.envelope.EnvFault.TheVariants.{Format, TooLong, EndEarly}
+use Rattle.envelope_records.specs.declared.envelope.EnvStep.{EnvStep}
 use Rattle.queue_inject.specs.declared.injection.InputEnd.{InputEnd}
 use Rattle.queue_inject.specs.declared.intake.Verdict.{Verdict}
 use Rattle.queue_inject.specs.declared.intake.Verdict.TheVariants as verdict
-use Rattle.queue_inject.specs.Envelope.{Stage, Step, Reading, bytes_to, records_of, in_address, step, read_on, read_more, read_envelope, step_of, HasRead}
-use Rattle.queue_inject.specs.Envelope.Stage.{Begin, InSender, Between, InRecipient}
-use Rattle.queue_inject.specs.Envelope.Step.{Goes, Ends, Fails}
-use Rattle.queue_inject.specs.Envelope.Reading.{Whole, Open, Broken}
+use Rattle.envelope_records.specs.Envelope.{Stage, Step, Reading, bytes_to, records_of, in_address, step, read_on, read_more, read_envelope, step_of, HasRead}
+use Rattle.envelope_records.specs.Envelope.Stage.{Begin, InSender, Between, InRecipient}
+use Rattle.envelope_records.specs.Envelope.Step.{Goes, Ends, Fails}
+use Rattle.envelope_records.specs.Envelope.Reading.{Whole, Open, Broken}
 use Rattle.queue_inject.specs.Texts.{limit, past_limit}
 use Rattle.queue_inject.specs.Machine.{Progress, Heard, envelope_part}
 use Rattle.queue_inject.specs.Rows.{verdict_after, is_open}
 use Rattle.queue_inject.specs.Stands.{verdict_by, taken_by, verdict_of, Reads}
-use Rattle.queue_inject.proofs.Envelopes.{read_envelope-append, sound_as}
+use Rattle.envelope_records.proofs.Envelopes.{read_envelope-append, sound_as}
 
 -- The limit is any number here.
 
@@ -33,7 +33,7 @@ is_open_tells verdict.Open e = refl
 is_open_tells verdict.Whole e = absurd (cc)
 is_open_tells (verdict.Faulty status) e = absurd (cc)
 
-is_closed_tells : (v : Verdict) → is_open v ≡ false → v ≢ verdict.Open
+pub is_closed_tells : (v : Verdict) → is_open v ≡ false → v ≢ verdict.Open
 is_closed_tells verdict.Open e same = absurd (cc)
 is_closed_tells verdict.Whole e same = absurd (cc)
 is_closed_tells (verdict.Faulty status) e same = absurd (cc)
@@ -200,6 +200,46 @@ closed_within most read b within far =
 
 pub closed_byte : (most : ℕ) (read : List ℕ) (b : ℕ) → verdict_at most read ≢ verdict.Open → Same most read b
 closed_byte most read b far = ⊎_elim (λ past. closed_past most read b past) (λ within. closed_within most read b within far) (cases_lt most (length read))
+
+-- more bytes
+
+pub record SameMore (most : ℕ) (read more : List ℕ) : Type 0 where
+  pub verdict_is : verdict_at most (read ++ more) ≡ verdict_at most read
+  pub taken_is : taken_at most (read ++ more) ≡ taken_at most read
+
+-- where it is no longer open, nothing changes
+pub closed_more : (most : ℕ) (read more : List ℕ) → verdict_at most read ≢ verdict.Open → SameMore most read more
+closed_more most read [] far = record { verdict_is = ap (verdict_at most) (append-nil read); taken_is = ap (taken_at most) (append-nil read) }
+closed_more most read (b ∷ more) far =
+    let one = closed_byte most read b far in
+    let rest = closed_more most (read ++ b ∷ []) more (λ e. far (sym one.verdict_is ∙ e)) in
+    let split : read ++ b ∷ more ≡ (read ++ b ∷ []) ++ more = sym (append_assoc read (b ∷ []) more) in
+    record {
+      verdict_is = ap (verdict_at most) split ∙ rest.verdict_is ∙ one.verdict_is;
+      taken_is = ap (taken_at most) split ∙ rest.taken_is ∙ one.taken_is;
+    }
+
+-- what is taken comes first in what is taken of more
+abbrev IsFront : List ℕ → List ℕ → Type 0
+IsFront front whole = (rest : List ℕ) × (whole ≡ front ++ rest)
+
+front_push : (t : Bool) (read whole : List ℕ) (b : ℕ) → IsFront (if t then read ++ b ∷ [] else read) whole → IsFront read whole
+front_push true read whole b f = (b ∷ f.0, f.1 ∙ append_assoc read (b ∷ []) f.0)
+front_push false read whole b f = f
+
+pub taken_more : (most : ℕ) (read more : List ℕ) → IsFront (taken_at most read) (taken_at most (read ++ more))
+taken_more most read [] = ([], ap (taken_at most) (append-nil read) ∙ sym (append-nil (taken_at most read)))
+taken_more most read (b ∷ more) = ⊎_elim
+    (λ begun.
+    let o = open_at most read (is_open_tells (verdict_at most read) begun) in
+    let on = on_byte most read b o in
+    let rest = taken_more most (read ++ b ∷ []) more in
+    let split : read ++ b ∷ more ≡ (read ++ b ∷ []) ++ more = sym (append_assoc read (b ∷ []) more) in
+    subst (λ t. IsFront t (taken_at most (read ++ b ∷ more))) (sym (open_taken most read o))
+    (front_push (is_open (verdict_at most (read ++ b ∷ []))) read (taken_at most (read ++ b ∷ more)) b
+    (subst (λ t. IsFront t (taken_at most (read ++ b ∷ more))) on.taken_is (rest.0, ap (taken_at most) split ∙ rest.1))))
+    (λ closed. ([], (closed_more most read (b ∷ more) (is_closed_tells (verdict_at most read) closed)).taken_is ∙ sym (append-nil (taken_at most read))))
+    (cases_Bool (is_open (verdict_at most read)))
 
 -- what an intake holds
 

@@ -1,15 +1,14 @@
 pub mod DateTexts
 pub mod Dates
-pub mod Envelopes
 -- a message that fails
 pub mod Faults
 -- an envelope that is fed byte by byte
 pub mod Feeding
 -- which injector stands for which past
 pub mod Kept
--- names and their texts
-pub mod Paths
-pub mod Readers
-pub mod TodoTexts
+-- what of a text settles what follows its written bytes
+pub mod Known
+-- what an injector needs
+pub mod Settled
 -- an injector that is fed its whole input at once
 pub mod Whole

@@ -5,10 +5,10 @@ use Rattle.queue_inject.specs.declared.injector.Injector.TheInside as injector
 use Rattle.queue_inject.specs.declared.intake.Intake.TheInside as intake
 use Rattle.queue_inject.specs.declared.intake.Verdict.TheVariants as verdict
 use Rattle.queue_inject.specs.declared.named_row.NamedRow.TheInside as named
-use Rattle.queue_inject.specs.Envelope.{HasRead}
-use Rattle.queue_inject.specs.Names.{path}
-use Rattle.queue_inject.specs.Names.Name.{Pid, Of}
-use Rattle.queue_inject.specs.Names.Part.{Mess, Intd, Todo}
+use Rattle.envelope_records.specs.Envelope.{HasRead}
+use Rattle.queue_paths.specs.Names.{path}
+use Rattle.queue_paths.specs.Names.Name.{Pid, Of}
+use Rattle.queue_paths.specs.Names.Part.{Mess, Intd, Todo}
 use Rattle.queue_inject.specs.Machine.{Heard, Machine}
 use Rattle.queue_inject.specs.Rows.{seq_in, number_in}
 

@@ -1,9 +1,5 @@
--- the queue's names and their texts
-pub mod Names
 -- the calendar, and the first line of a message file
 pub mod Received
--- envelopes, and how their bytes are read
-pub mod Envelope
 -- what an injector makes of its input
 pub mod Texts
 -- what an injector does next, as a function of its own past

@@ -1,5 +1,5 @@
 -- An injector as contracts see it.
-use Rattle.std.specs.Prelude.{◌≡◌, ℕ, ◌+◌, ◌-◌, List, [], length, Option, Some, None, Bool, true, false, ◌&&◌, if◌then◌else◌, nat_lt, is_some, unwrap_or}
+use Rattle.std.specs.Prelude.{◌≡◌, ℕ, ◌+◌, ◌-◌, List, [], length, Option, Some, None, Bool, true, false, ◌&&◌, ◌||◌, not, if◌then◌else◌, nat_lt, nat_le, is_some, unwrap_or}
 use Rattle.call_fs.specs.declared.calls.Answer.{Answer}
 use Rattle.call_fs.specs.declared.program.Got.{Got}
 use Rattle.call_fs.specs.declared.program.Got.TheVariants as got
@@ -10,9 +10,11 @@ use Rattle.queue_inject.specs.declared.injection.InputEnd.TheVariants as ends
 use Rattle.queue_inject.specs.declared.intake.Verdict.{Verdict}
 use Rattle.queue_inject.specs.declared.intake.Verdict.TheVariants as verdict
 use Rattle.queue_inject.specs.declared.row.Row.{Row}
-use Rattle.queue_inject.specs.Envelope.{Reader}
+use Rattle.queue_inject.specs.declared.row.Row.TheVariants as at
+use Rattle.envelope_records.specs.Envelope.{Reader}
 use Rattle.queue_inject.specs.Texts.{Text, limit, message_end, end_status}
-use Rattle.queue_inject.specs.Table.{Work, asked, has_input, in_time}
+use Rattle.queue_inject.specs.Table.{Work, piece_size, settled, asked, has_input, in_time}
+use Rattle.queue_inject.specs.Rows.{is_open}
 
 -- How far the input has come: how many bytes of the message and of the envelope were fed, how each ended once that was
 -- told, and how many more bytes may be fed.
@@ -31,7 +33,8 @@ pub record Heard : Type 0 where
   pub verdict : Verdict
   pub reader : Reader
 
--- An injector: whose it is, what it was fed, the row that is due, and the moment and readiness that it was told last.
+-- An injector: whose it is, what it was fed, where the last answer led, and the moment and readiness that it was told
+-- last. What follows the written bytes of a text is decided only where it is asked for.
 pub record Machine : Type 0 where
   pub uid : ℕ
   pub pid : ℕ
@@ -95,7 +98,7 @@ fault_behind verdict.Open end = Some (end_status end)
 fault_behind verdict.Whole end = None
 fault_behind (verdict.Faulty status) end = Some status
 
--- The texts, where the input is over. Behind a fault of the message the table never reads the second.
+-- The texts as far as they are known, and their faults by what was told of their ends.
 abbrev pub message_known : Heard → Text
 message_known h = record {
   bytes = h.message;
@@ -108,9 +111,35 @@ todo_known h = record { bytes = h.todo; fault = fault_behind h.verdict (unwrap_o
 abbrev pub work_known : Machine → Work
 work_known m = record { pid = m.pid; start = m.start; message = message_known m.heard; todo = todo_known m.heard }
 
+-- What was fed settles what follows the written bytes of a text: a full piece of it was fed, or its end or its fault.
+-- Any other row reads no text.
+abbrev pub settles : Heard → Row → Bool
+settles h (at.AppendMess n fd done) =
+    is_some h.progress.message_end || (nat_lt limit h.progress.message_fed || nat_le (done + piece_size) (length h.message))
+settles h (at.AppendTodo n fd done) =
+    is_over h.progress.message_end h.progress.envelope_end
+    || (is_some h.progress.message_end && (not (is_open h.verdict) || nat_le (done + piece_size) (length h.todo)))
+settles h row = true
+
+abbrev pub is_settled : Machine → Bool
+is_settled m = settles m.heard m.row
+
+-- the row whose call is due, by what was fed
+abbrev pub row_now : Machine → Row
+row_now m = settled (work_known m) m.row
+
+-- it has run for more than a day
+abbrev pub late_now : Machine → Bool
+late_now m = nat_lt (m.start + 86400) m.present
+
+-- What it does at its row doesn't depend on the rest of its input: what it was fed settles that, or it makes no call
+-- any more.
+abbrev pub is_decided : Machine → Bool
+is_decided m = is_settled m || late_now m
+
 -- what the injector needs
 abbrev pub due_now : Machine → Due
-due_now m = in_time (is_told m && has_input m.ready) (nat_lt (m.start + 86400) m.present) (asked (work_known m) m.row)
+due_now m = in_time (is_decided m && has_input m.ready) (late_now m) (asked (work_known m) (row_now m))
 
 -- it needs a file call
 abbrev pub is_call : Due → Bool

@@ -1,6 +1,6 @@
 -- The first line of a message file, which tells who put it into the queue and when (RFC 822, section 4.3.2).
 use Rattle.std.specs.Prelude.{ℕ, zero, suc, ◌+◌, ◌-◌, ◌/◌, ◌%◌, List, [], ◌∷◌, ◌++◌, Bool, ◌&&◌, ◌||◌, not, if◌then◌else◌, ◌==◌, nat_lt, codes}
-use Rattle.call_fs.specs.Decimal.{digits}
+use Rattle.mail_bytes.specs.Decimal.{digits}
 use Rattle.queue_inject.specs.declared.received_line.Invoked.{Invoked}
 use Rattle.queue_inject.specs.declared.received_line.Invoked.TheVariants.{Uid, Bounce}
 
@@ -23,18 +23,18 @@ pub record Day : Type 0 where
   pub month : ℕ
   pub day : ℕ
 
--- the day that lies so many days after the first of a month; `fuel` bounds how many months are passed over
+-- The day that lies so many days after the first of a month, at most `most` months later; in a year that is 11.
 unfoldable pub in_months : ℕ → ℕ → ℕ → ℕ → Day
 in_months zero year month days = record { year = year; month = month; day = days }
-in_months (suc fuel) year month days =
+in_months (suc most) year month days =
     if nat_lt days (days_in_month year month) then record { year = year; month = month; day = days }
-    else in_months fuel year (month + 1) (days - days_in_month year month)
+    else in_months most year (month + 1) (days - days_in_month year month)
 
--- the day that lies so many days after 1 January of a year; `fuel` bounds how many years are passed over
+-- The day that lies so many days after 1 January of a year, at most `most` years later; no more years pass than days.
 unfoldable pub in_years : ℕ → ℕ → ℕ → Day
 in_years zero year days = in_months 11 year 0 days
-in_years (suc fuel) year days =
-    if nat_lt days (days_in_year year) then in_months 11 year 0 days else in_years fuel (year + 1) (days - days_in_year year)
+in_years (suc most) year days =
+    if nat_lt days (days_in_year year) then in_months 11 year 0 days else in_years most (year + 1) (days - days_in_year year)
 
 -- the day of a moment; 1 January 1970 was day 0
 abbrev pub day_of : ℕ → Day

@@ -1,8 +1,8 @@
 -- What the code of the table reads of rows and texts.
-use Rattle.std.specs.Prelude.{◌≡◌, ℕ, ◌+◌, List, length, Option, Some, None, Bool, true, false, if◌then◌else◌, nat_lt, nat_le}
-use Rattle.queue_inject.specs.declared.envelope_records.EnvFault.TheVariants.{Format, TooLong, EndEarly}
-use Rattle.queue_inject.specs.declared.envelope_records.EnvStep.{EnvStep}
-use Rattle.queue_inject.specs.declared.envelope_records.EnvStep.TheVariants.{More, Sender, Recipient, End, Fault}
+use Rattle.std.specs.Prelude.{◌≡◌, ℕ, ◌+◌, ◌<◌, ◌^◌, List, length, Option, Some, None, Bool, true, false, if◌then◌else◌, nat_lt, nat_le}
+use Rattle.envelope_records.specs.declared.envelope.EnvFault.TheVariants.{Format, TooLong, EndEarly}
+use Rattle.envelope_records.specs.declared.envelope.EnvStep.{EnvStep}
+use Rattle.envelope_records.specs.declared.envelope.EnvStep.TheVariants.{More, Sender, Recipient, End, Fault}
 use Rattle.queue_inject.specs.declared.intake.Verdict.{Verdict}
 use Rattle.queue_inject.specs.declared.intake.Verdict.TheVariants.{Open, Whole, Faulty}
 use Rattle.queue_inject.specs.declared.row.Row.{Row}
@@ -70,6 +70,12 @@ IsBehindMess (at.CleanIntd n status) = Unit {0}
 IsBehindMess (at.CleanMess n status) = Unit {0}
 IsBehindMess at.Queued = Unit {0}
 IsBehindMess (at.Failed status) = Unit {0}
+
+-- a piece more than was written can be counted
+abbrev pub CountsOn : Row → Type 0
+CountsOn (at.AppendMess n fd done) = done + piece_size < 2 ^ 64
+CountsOn (at.AppendTodo n fd done) = done + piece_size < 2 ^ 64
+CountsOn row = Unit {0}
 
 -- what the table reads of a text
 pub record IsOutlook (outlook : Outlook) (text : Text) : Type 0 where

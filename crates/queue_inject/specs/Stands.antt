@@ -7,10 +7,10 @@ use Rattle.queue_inject.specs.declared.intake.Verdict.{Verdict}
 use Rattle.queue_inject.specs.declared.intake.Verdict.TheVariants as verdict
 use Rattle.queue_inject.specs.declared.received_line.Invoked.{Invoked}
 use Rattle.queue_inject.specs.Received.{received_text}
-use Rattle.queue_inject.specs.Envelope.{step, bytes_to, records_of, Reading, read_envelope, todo_head, HasRead}
-use Rattle.queue_inject.specs.Envelope.Reading.{Whole, Open, Broken}
+use Rattle.envelope_records.specs.Envelope.{step, bytes_to, records_of, Reading, read_envelope, todo_head, HasRead}
+use Rattle.envelope_records.specs.Envelope.Reading.{Whole, Open, Broken}
 use Rattle.queue_inject.specs.Texts.{limit, fault_status, past_limit}
-use Rattle.queue_inject.specs.Table.{row_after}
+use Rattle.queue_inject.specs.Table.{work_of, settled, row_after}
 use Rattle.queue_inject.specs.Machine.{Progress, Heard, Machine, message_part, envelope_part}
 
 -- of an input so much was fed, and all of it, with that end, once its end was told
@@ -55,14 +55,14 @@ pub record HearsEnvelope (h : Heard) (args : Arguments) : Type 0 where
   pub read : Reads h (todo_head args.uid args.pid) (take h.progress.envelope_fed args.envelope)
 
 -- The injector stands for these arguments and this past, newest event first: it is theirs, it was fed the front of
--- their input, and the row that is due is the one after the past.
+-- their input, and where its last answer led their texts settle the row after the past.
 pub record Stands (m : Machine) (args : Arguments) (past : List Own) : Type 0 where
   pub uid : m.uid ≡ args.uid
   pub pid : m.pid ≡ args.pid
   pub start : m.start ≡ args.start
   pub message : HearsMessage m.heard args
   pub envelope : IsTrue (is_some m.heard.progress.message_end) → HearsEnvelope m.heard args
-  pub row : m.row ≡ row_after args past
+  pub row : row_after args past ≡ settled (work_of args) m.row
 
 -- the arguments of an injector that was started so
 pub record IsStartedBy (args : Arguments) (uid pid : ℕ) (invoked : Invoked) (start : ℕ) : Type 0 where

@@ -11,9 +11,9 @@ use Rattle.call_fs.specs.Program.Did.{Called}
 use Rattle.queue_inject.specs.declared.injection.Arguments.{Arguments}
 use Rattle.queue_inject.specs.declared.row.Row.{Row}
 use Rattle.queue_inject.specs.declared.row.Row.TheVariants as at
-use Rattle.queue_inject.specs.Names.{path}
-use Rattle.queue_inject.specs.Names.Name.{Pid, Of}
-use Rattle.queue_inject.specs.Names.Part.{Mess, Intd, Todo}
+use Rattle.queue_paths.specs.Names.{path}
+use Rattle.queue_paths.specs.Names.Name.{Pid, Of}
+use Rattle.queue_paths.specs.Names.Part.{Mess, Intd, Todo}
 use Rattle.queue_inject.specs.Texts.{Text, message_text, intd_text}
 
 -- what an injector's table reads of its arguments: its process number, its start and the two texts that it writes
@@ -49,33 +49,44 @@ abbrev pub in_todo : Text → ℕ → ℕ → ℕ → Row
 in_todo text n fd done =
     past_piece text.bytes text.fault done (at.AppendTodo n (record { 0 = fd }) done) (at.SyncTodo n (record { 0 = fd })) (at.CleanIntd n)
 
--- The row after an answer; of each row the answer that goes on, and what any other answer leads to.
+-- Where an answer leads; of each row the answer that goes on, and what any other answer leads to. What follows the
+-- written bytes of a text isn't decided yet: there its row asks for the next piece.
+abbrev pub goes_to : Row → Answer → Row
+goes_to (at.Create seq) (Created fd n) = at.LinkMess seq n fd
+goes_to (at.Create seq) (Refused Exists) = if nat_lt seq 9 then at.Create (seq + 1) else at.Failed 63
+goes_to (at.Create seq) answer = at.Failed (failure answer 63)
+goes_to (at.LinkMess seq n fd) Done = at.UnlinkPid seq n fd
+goes_to (at.LinkMess seq n fd) answer = at.Failed (failure answer 64)
+goes_to (at.UnlinkPid seq n fd) Done = at.AppendMess n fd 0
+goes_to (at.UnlinkPid seq n fd) answer = at.CleanMess n (failure answer 63)
+goes_to (at.AppendMess n fd done) Done = at.AppendMess n fd (done + piece_size)
+goes_to (at.AppendMess n fd done) answer = at.CleanMess n (failure answer 53)
+goes_to (at.SyncMess n fd) Done = at.CreateIntd n
+goes_to (at.SyncMess n fd) answer = at.CleanMess n (failure answer 53)
+goes_to (at.CreateIntd n) (Created fd i) = at.AppendTodo n fd 0
+goes_to (at.CreateIntd n) answer = at.CleanMess n (failure answer 65)
+goes_to (at.AppendTodo n fd done) Done = at.AppendTodo n fd (done + piece_size)
+goes_to (at.AppendTodo n fd done) answer = at.CleanIntd n (failure answer 53)
+goes_to (at.SyncTodo n fd) Done = at.LinkTodo n
+goes_to (at.SyncTodo n fd) answer = at.CleanIntd n (failure answer 53)
+goes_to (at.LinkTodo n) Done = at.Queued
+goes_to (at.LinkTodo n) answer = at.Failed (failure answer 66)
+goes_to (at.CleanIntd n status) Done = at.CleanMess n status
+goes_to (at.CleanIntd n status) (Refused NotThere) = at.CleanMess n status
+goes_to (at.CleanIntd n status) answer = at.Failed status
+goes_to (at.CleanMess n status) answer = at.Failed status
+goes_to at.Queued answer = at.Queued
+goes_to (at.Failed status) answer = at.Failed status
+
+-- what follows the written bytes of a text, by that text
+abbrev pub settled : Work → Row → Row
+settled work (at.AppendMess n fd done) = in_message work.message n fd.0 done
+settled work (at.AppendTodo n fd done) = in_todo work.todo n fd.0 done
+settled work row = row
+
+-- the row after an answer
 abbrev pub answered : Work → Row → Answer → Row
-answered work (at.Create seq) (Created fd n) = at.LinkMess seq n fd
-answered work (at.Create seq) (Refused Exists) = if nat_lt seq 9 then at.Create (seq + 1) else at.Failed 63
-answered work (at.Create seq) answer = at.Failed (failure answer 63)
-answered work (at.LinkMess seq n fd) Done = at.UnlinkPid seq n fd
-answered work (at.LinkMess seq n fd) answer = at.Failed (failure answer 64)
-answered work (at.UnlinkPid seq n fd) Done = in_message work.message n fd.0 0
-answered work (at.UnlinkPid seq n fd) answer = at.CleanMess n (failure answer 63)
-answered work (at.AppendMess n fd done) Done = in_message work.message n fd.0 (done + piece_size)
-answered work (at.AppendMess n fd done) answer = at.CleanMess n (failure answer 53)
-answered work (at.SyncMess n fd) Done = at.CreateIntd n
-answered work (at.SyncMess n fd) answer = at.CleanMess n (failure answer 53)
-answered work (at.CreateIntd n) (Created fd i) = in_todo work.todo n fd.0 0
-answered work (at.CreateIntd n) answer = at.CleanMess n (failure answer 65)
-answered work (at.AppendTodo n fd done) Done = in_todo work.todo n fd.0 (done + piece_size)
-answered work (at.AppendTodo n fd done) answer = at.CleanIntd n (failure answer 53)
-answered work (at.SyncTodo n fd) Done = at.LinkTodo n
-answered work (at.SyncTodo n fd) answer = at.CleanIntd n (failure answer 53)
-answered work (at.LinkTodo n) Done = at.Queued
-answered work (at.LinkTodo n) answer = at.Failed (failure answer 66)
-answered work (at.CleanIntd n status) Done = at.CleanMess n status
-answered work (at.CleanIntd n status) (Refused NotThere) = at.CleanMess n status
-answered work (at.CleanIntd n status) answer = at.Failed status
-answered work (at.CleanMess n status) answer = at.Failed status
-answered work at.Queued answer = at.Queued
-answered work (at.Failed status) answer = at.Failed status
+answered work row answer = settled work (goes_to row answer)
 
 abbrev pub moved : Arguments → Row → Answer → Row
 moved args row answer = answered (work_of args) row answer
@@ -108,11 +119,12 @@ asked work (at.Failed status) = Due.Ended status
 abbrev pub call_of : Arguments → Row → Due
 call_of args row = asked (work_of args) row
 
--- its input is ready
+-- the first of some links, false where there is none
 abbrev pub first_link : List Bool → Bool
 first_link [] = false
 first_link (link ∷ links) = link
 
+-- its input, the first link, is ready
 abbrev pub has_input : Ready → Bool
 has_input ready = first_link ready.links
 

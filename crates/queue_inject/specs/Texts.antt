@@ -1,14 +1,14 @@
 -- What an injector makes of its input: the two texts that it writes, and where the input fails.
 use Rattle.std.specs.Prelude.{ℕ, List, [], ◌++◌, length, take, Option, Some, None, if◌then◌else◌, nat_lt, slice_get}
-use Rattle.queue_inject.specs.declared.envelope_records.EnvFault.{EnvFault}
-use Rattle.queue_inject.specs.declared.envelope_records.EnvFault.TheVariants.{Format, TooLong, EndEarly}
+use Rattle.envelope_records.specs.declared.envelope.EnvFault.{EnvFault}
+use Rattle.envelope_records.specs.declared.envelope.EnvFault.TheVariants.{Format, TooLong, EndEarly}
 use Rattle.queue_inject.specs.declared.injection.Arguments.{Arguments}
 use Rattle.queue_inject.specs.declared.injection.InputEnd.{InputEnd}
 use Rattle.queue_inject.specs.declared.injection.InputEnd.TheVariants as ends
 use Rattle.queue_inject.specs.Received.{received_text}
-use Rattle.queue_inject.specs.Envelope.{Stage, Step, step, bytes_to, records_of, Reading, read_envelope, todo_head}
-use Rattle.queue_inject.specs.Envelope.Step.{Goes, Ends, Fails}
-use Rattle.queue_inject.specs.Envelope.Reading.{Whole, Open, Broken}
+use Rattle.envelope_records.specs.Envelope.{Stage, Step, step, bytes_to, records_of, Reading, read_envelope, todo_head}
+use Rattle.envelope_records.specs.Envelope.Step.{Goes, Ends, Fails}
+use Rattle.envelope_records.specs.Envelope.Reading.{Whole, Open, Broken}
 
 -- the most bytes that a message or an envelope may have
 abbrev pub limit : ℕ
@@ -19,7 +19,7 @@ pub record Text : Type 0 where
   pub bytes : List ℕ
   pub fault : Option ℕ
 
--- an input that ended before its end, or could not be read: 54; one in a malformed package: 91
+-- an input that ended before its end, or could not be read: 54; one in a netstring with a wrong head or comma: 91
 abbrev pub end_status : InputEnd → ℕ
 end_status ends.Whole = 54
 end_status ends.Unread = 54
@@ -53,7 +53,8 @@ past_limit (Fails EndEarly) = 31
 past_limit (Goes stage) = 31
 past_limit (Ends sender recipients) = 31
 
--- an envelope that is still open where `limit` bytes of it were read
+-- An envelope that is still open behind its last byte ended early; one that is still open at the byte past the limit
+-- went over its greatest length.
 abbrev pub open_status : Stage → InputEnd → Option ℕ → ℕ
 open_status stage end None = end_status end
 open_status stage end (Some b) = past_limit (step stage b)

@@ -1,7 +1,7 @@
 // What an injector is started with.
 
 use crate::received_line::Invoked;
-use call_fs::mail_bytes::ByteText;
+use mail_bytes::ByteText;
 
 /// How an input ended.
 #[derive(Clone, Copy, Debug, PartialEq, Eq)]
@@ -10,7 +10,7 @@ pub enum InputEnd {
     Whole,
     /// It could not be read on.
     Unread,
-    /// The package that it came in is malformed.
+    /// The netstring that it came in has a wrong head or comma.
     Malformed,
 }
 

@@ -1,22 +1,23 @@
 // The injector as a machine.
-ghost use Rattle.std.specs.Prelude.{◌≡◌, ◌≤◌, ◌<◌, ◌+◌, ◌-◌, ◌∷◌, [], List, ℕ, IfOk, IsOk, IsTrue, length, ◌&&◌, if◌then◌else◌, nat_lt};
+ghost use Rattle.std.specs.Prelude.{◌≡◌, ◌≤◌, ◌<◌, ◌-◌, ◌∷◌, [], List, ℕ, false, IfOk, IsOk, IsTrue, length, ◌&&◌, if◌then◌else◌};
 ghost use Rattle.call_fs.specs.declared.calls.CallData.{CallData};
 ghost use Rattle.call_fs.specs.Disk.{IsMoment};
 ghost use Rattle.call_fs.specs.Program.{due_of, Own};
 ghost use Rattle.call_fs.specs.Program.Due.{Ended, Wait};
 ghost use Rattle.call_fs.specs.Program.Did.{Called};
 ghost use Rattle.queue_inject.specs.declared.injection.Arguments.{Arguments};
-ghost use Rattle.queue_inject.specs.Table.{Next, answered, asked, has_input};
-ghost use Rattle.queue_inject.specs.Machine.{begun, fed_on, ended_on, is_told, work_known, due_now, is_call, is_answer, IsFileAnswer};
+ghost use Rattle.queue_inject.specs.Table.{Next, goes_to, asked, has_input};
+ghost use Rattle.queue_inject.specs.Rows.{CountsOn};
+ghost use Rattle.queue_inject.specs.Machine.{begun, fed_on, ended_on, work_known, row_now, late_now, is_decided, due_now, is_call, is_answer, IsFileAnswer};
 ghost use Rattle.queue_inject.specs.Stands.{Stands, IsStartedBy, Continues, Ends};
 
-use crate::InputEnd;
 use crate::intake::Intake;
 use crate::named_row::NamedRow;
 use crate::received_line::{Invoked, received};
-use crate::steps::after;
-use call_fs::mail_bytes::Memory;
+use crate::steps::{after, settled};
+use crate::{InputEnd, Row};
 use call_fs::{Answer, Got, Need, Ready};
+use mail_bytes::Memory;
 use std::alloc::Global;
 use std::marker::Model;
 
@@ -25,8 +26,10 @@ const DAY: u64 = 86400;
 
 /// The injector: the program that puts one message into the queue, as a machine.
 ///
-/// Its input is fed before its first call: the message's bytes and their end, then the envelope's. It takes all its
-/// memory when it is made.
+/// Its input is fed from left to right: the message's bytes and their end, then the envelope's. With its input ready it
+/// makes each call that what it was fed settles: a full piece goes out before the next byte is fed, and what follows a
+/// shorter one once the text's end or fault is known. More than a day after its start it ends in place of any call,
+/// whatever it was fed. It takes all its memory when it is made.
 #[derive(Debug, Drop)]
 pub struct Injector {
     uid: u32,
@@ -105,8 +108,8 @@ impl Injector {
         self.end(InputEnd::Whole);
     }
 
-    /// The message, or after it the envelope, could not be read on; where `bad`, since its package is malformed. After
-    /// a fault of the message its input is over.
+    /// The message, or after it the envelope, could not be read on; where `bad`, since the netstring that it came in
+    /// has a wrong head or comma. After a fault of the message its input is over.
     pub fn fail_input(&mut self, bad: bool)
         ensures stands { (args : Arguments) (past : List Own) → Stands self.old args past
             → Ends self.old.heard.progress args (if bad then InputEnd.Malformed else InputEnd.Unread) → Stands self.new args past }
@@ -138,7 +141,7 @@ impl Injector {
         ensures stands { (args : Arguments) (past : List Own) → Stands self.old args past → Stands self.new args past }
         ensures rest { self.new ≡ record self.old { present = now; ready = ready } }
         // One whose table is at its end has ended, and stays so whatever it is told.
-        ensures ended { (status : ℕ) → asked (work_known self.old) self.old.row ≡ Ended status
+        ensures ended { (status : ℕ) → asked (work_known self.old) (row_now self.old) ≡ Ended status
             → (due_now self.old ≡ Ended status) × (due_now self.new ≡ Ended status) }
         // Any other end is the timer's: it stays where moments don't fall and the input stays ready.
         ensures timed_out { (status : ℕ) → due_now self.old ≡ Ended status → self.old.present ≤ now
@@ -148,11 +151,13 @@ impl Injector {
         self.ready = ready;
     }
 
-    /// What it does next. It waits while its input isn't ready or isn't over.
+    /// What it does next. It waits while its input isn't ready, and within a day of its start also where what it was
+    /// fed doesn't settle its next call.
     pub fn need(&self) -> Need<'_>
         ensures stands { (args : Arguments) (past : List Own) → Stands self.now args past
-            → (IsTrue (has_input self.now.ready) → IsTrue (is_told self.now))
+            → (IsTrue (has_input self.now.ready) → IsTrue (is_decided self.now))
             → due_of result ≡ Next args past self.now.present self.now.ready }
+        ensures waits { is_decided self.now ≡ false → due_of result ≡ Wait }
         ensures due { due_of result ≡ due_now self.now }
     {
         self.due()
@@ -162,7 +167,7 @@ impl Injector {
         ensures { due_of result ≡ due_now self.now }
     {
         match self.asked() {
-            Need::File(_) if !self.has_input() => Need::Wait,
+            Need::File(_) if !self.may_go_on() => Need::Wait,
             Need::File(_) if self.is_late() => Need::Ended(52),
             need => need,
         }
@@ -170,19 +175,37 @@ impl Injector {
 
     // The call of its row, at whatever time.
     fn asked(&self) -> Need<'_>
-        ensures { due_of result ≡ asked (work_known self.now) self.now.row }
+        ensures { due_of result ≡ asked (work_known self.now) (row_now self.now) }
     {
-        self.place.need(self.intake.message(), self.intake.todo())
+        self.place
+            .need(self.row(), self.intake.message(), self.intake.todo())
     }
 
-    fn has_input(&self) -> bool
-        ensures { result ≡ is_told self.now && has_input self.now.ready }
+    // The row whose call is due, by what was fed: here what follows a written piece is decided, and nowhere else.
+    fn row(&self) -> Row
+        ensures row { result ≡ row_now self.now }
+        ensures counts { CountsOn result }
     {
-        self.intake.is_told() && self.ready.links[0]
+        let message = self.intake.message_outlook();
+        let todo = self.intake.todo_outlook();
+        settled(self.place.row(), message, todo)
+    }
+
+    fn may_go_on(&self) -> bool
+        ensures { result ≡ is_decided self.now && has_input self.now.ready }
+    {
+        self.is_decided() && self.ready.links[0]
+    }
+
+    // Whether what it does doesn't depend on the rest of its input: a late one makes no call, whatever that is.
+    fn is_decided(&self) -> bool
+        ensures { result ≡ is_decided self.now }
+    {
+        self.intake.settles(self.place.row()) || self.is_late()
     }
 
     fn is_late(&self) -> bool
-        ensures { result ≡ nat_lt (self.now.start + 86400) self.now.present }
+        ensures { result ≡ late_now self.now }
     {
         self.present.saturating_sub(self.place.start()) > DAY
     }
@@ -206,12 +229,10 @@ impl Injector {
     }
 
     fn go_on(&mut self, answer: &Answer)
-        ensures { self.new ≡ record self.old { row = answered (work_known self.old) self.old.row answer.now } }
+        ensures { self.new ≡ record self.old { row = goes_to (row_now self.old) answer.now } }
     {
-        let message = self.intake.message_outlook();
-        let todo = self.intake.todo_outlook();
-        self.place
-            .go(after(self.place.row(), answer, message, todo));
+        let row = after(self.row(), answer);
+        self.place.go(row);
     }
 }
 

@@ -1,17 +1,17 @@
 // What an injector was fed.
-ghost use Rattle.std.specs.Prelude.{◌≡◌, ◌≤◌, ◌<◌, ◌+◌, ◌-◌, ◌++◌, ◌∷◌, [], List, ℕ, IfOk, IsTrue, length, take, is_some, Option};
-ghost use Rattle.call_fs.specs.Decimal.{digits};
-ghost use Rattle.queue_inject.specs.Envelope.{todo_head};
+ghost use Rattle.std.specs.Prelude.{◌≡◌, ◌≤◌, ◌<◌, ◌+◌, ◌-◌, ◌^◌, ◌++◌, ◌∷◌, [], List, ℕ, IfOk, IsTrue, length, take, is_some, Option};
+ghost use Rattle.mail_bytes.specs.Decimal.{digits};
+ghost use Rattle.envelope_records.specs.Envelope.{todo_head};
 ghost use Rattle.queue_inject.specs.Texts.{limit, message_end};
-ghost use Rattle.queue_inject.specs.Machine.{Heard, message_part, envelope_part, begun, fed_on, ended_on, is_over, message_known, todo_known};
+ghost use Rattle.queue_inject.specs.Machine.{Heard, message_part, envelope_part, begun, fed_on, ended_on, is_over, settles, message_known, todo_known};
 ghost use Rattle.queue_inject.specs.Rows.{IsOutlook, verdict_after};
 ghost use Rattle.queue_inject.specs.Stands.{Reads};
 
-use crate::InputEnd;
-use crate::envelope_records::{EnvFault, EnvStep, EnvelopeReader};
-use crate::steps::Outlook;
+use crate::steps::{Outlook, has_full_piece};
 use crate::texts::Texts;
-use call_fs::mail_bytes::{Memory, dec};
+use crate::{InputEnd, Row};
+use envelope_records::{EnvFault, EnvStep, EnvelopeReader};
+use mail_bytes::{Memory, dec};
 use std::alloc::AllocError;
 use std::marker::Model;
 
@@ -94,8 +94,28 @@ impl Intake {
         self.room
     }
 
-    /// Whether the input is over: the message failed, or it ended and after it the envelope.
-    pub fn is_told(&self) -> bool
+    /// Whether what was fed settles what follows the written bytes of a text: a full piece of it was fed, or its end or
+    /// its fault. Any other row reads no text.
+    pub fn settles(&self, row: Row) -> bool
+        ensures { result ≡ settles self.now row }
+    {
+        match row {
+            Row::AppendMess { done, .. } => {
+                self.message_end.is_some()
+                    || self.message_fed > LIMIT
+                    || has_full_piece(self.message().len(), done)
+            }
+            Row::AppendTodo { done, .. } => {
+                self.is_told()
+                    || self.message_end.is_some()
+                        && (!self.verdict.is_open() || has_full_piece(self.todo().len(), done))
+            }
+            _ => true,
+        }
+    }
+
+    // Whether the input is over: the message failed, or it ended and after it the envelope.
+    fn is_told(&self) -> bool
         ensures { result ≡ is_over self.now.progress.message_end self.now.progress.envelope_end }
     {
         match self.message_end {
@@ -119,9 +139,10 @@ impl Intake {
         self.texts.second()
     }
 
-    /// What the table reads of the message file's text, once the input is over.
+    /// What the table reads of the message file's text, as far as it is known.
     pub fn message_outlook(&self) -> Outlook
-        ensures { IsOutlook result (message_known self.now) }
+        ensures text { IsOutlook result (message_known self.now) }
+        ensures len { result.len < 2 ^ 63 }
     {
         let fault = match self.message_end {
             _ if self.message_fed > LIMIT => Some(31),
@@ -133,10 +154,11 @@ impl Intake {
         Outlook { len, fault }
     }
 
-    /// What the table reads of the todo text, once the input is over. Behind a message that failed it reads nothing of
+    /// What the table reads of the todo text, as far as it is known. Behind a message that failed it reads nothing of
     /// it.
     pub fn todo_outlook(&self) -> Outlook
-        ensures { IsOutlook result (todo_known self.now) }
+        ensures text { IsOutlook result (todo_known self.now) }
+        ensures len { result.len < 2 ^ 63 }
     {
         let fault = match (self.verdict, self.envelope_end) {
             (Verdict::Whole, _) => None,

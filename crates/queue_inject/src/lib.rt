@@ -5,12 +5,10 @@
 //! which it doesn't store. The table is in `specs/Table.antt`.
 #![tactic(auto)]
 
-pub mod envelope_records;
 mod injection;
 mod injector;
 mod intake;
 mod named_row;
-pub mod queue_paths;
 pub mod received_line;
 mod row;
 mod steps;

@@ -2,13 +2,14 @@
 ghost use Rattle.std.specs.Prelude.{◌≡◌, take, drop};
 ghost use Rattle.call_fs.specs.Program.{due_of};
 ghost use Rattle.queue_inject.specs.Table.{Work, asked};
+ghost use Rattle.queue_inject.specs.Rows.{seq_in, number_in};
 
 use crate::Row;
-use crate::queue_paths::{Name, path};
 use call_fs::{Call, NameBuf, Need, PIECE};
+use queue_paths::{Name, path};
 use std::marker::Model;
 
-/// A row of an injector's table, with the names that its call has, held in place.
+/// A row of an injector's table, with the names that its call and those that follow its text have, held in place.
 #[derive(Debug, Drop)]
 pub struct NamedRow {
     pid: u32,
@@ -87,15 +88,18 @@ impl NamedRow {
         self.row = row;
     }
 
-    /// The call of the row, over these texts of the message file and of intd, or its end.
-    pub fn need<'a>(&'a self, message: &'a [u8], todo: &'a [u8]) -> Need<'a>
+    /// The call of a row, over these texts of the message file and of intd, or its end. The conditions: its call has
+    /// the names that are held.
+    pub fn need<'a>(&'a self, row: Row, message: &'a [u8], todo: &'a [u8]) -> Need<'a>
+        requires seq { seq_in row ≡ seq_in self.now.row }
+        requires number { number_in row ≡ number_in self.now.row }
         ensures { (work : Work) → work.pid ≡ self.now.pid → work.start ≡ self.now.start
-            → work.message.bytes ≡ message.now → work.todo.bytes ≡ todo.now → due_of result ≡ asked work self.now.row }
+            → work.message.bytes ≡ message.now → work.todo.bytes ≡ todo.now → due_of result ≡ asked work row }
     {
         let pid_name = self.pid_name.as_slice();
         let mess_name = self.mess_name.as_slice();
         let intd_name = self.intd_name.as_slice();
-        match self.row {
+        match row {
             Row::Create { .. } => Need::File(Call::CreateExcl(pid_name)),
             Row::LinkMess { .. } => Need::File(Call::Link(pid_name, mess_name)),
             Row::UnlinkPid { .. } => Need::File(Call::Unlink(pid_name)),

@@ -1,14 +1,14 @@
 //! The first line of a message file, and its date.
 ghost use Rattle.std.specs.Prelude.{◌≡◌, ◌+◌, ◌-◌, ◌/◌, ◌%◌, ◌<◌, ◌++◌, ◌∷◌, codes, unsigned_abs, IfOk, OnOk};
-ghost use Rattle.call_fs.specs.Decimal.{digits};
+ghost use Rattle.mail_bytes.specs.Decimal.{digits};
 ghost use Rattle.call_fs.specs.Disk.{IsMoment};
 ghost use Rattle.queue_inject.specs.Received.{day_of, month_name, two, four, date_text, invoked_text, received_text};
 
-use call_fs::mail_bytes::Memory;
 use itoa::Buffer;
 use jiff::Timestamp;
 use jiff::civil::DateTime;
 use jiff::tz::Offset;
+use mail_bytes::Memory;
 use std::alloc::Global;
 
 /// By whom an injector was invoked, or for what.

@@ -1,8 +1,8 @@
-// What an answer makes of a row: the injector's table.
-ghost use Rattle.std.specs.Prelude.{◌≡◌};
+// Where an answer leads, and what follows the written bytes of a text: the injector's table.
+ghost use Rattle.std.specs.Prelude.{◌≡◌, ◌+◌, ◌<◌, ◌^◌, nat_le};
 ghost use Rattle.queue_inject.specs.Texts.{Text};
-ghost use Rattle.queue_inject.specs.Table.{Work, answered, failure, in_message, in_todo};
-ghost use Rattle.queue_inject.specs.Rows.{IsOutlook, IsBehindMess, has_piece};
+ghost use Rattle.queue_inject.specs.Table.{Work, piece_size, goes_to, settled, failure, in_message, in_todo};
+ghost use Rattle.queue_inject.specs.Rows.{CountsOn, IsOutlook, IsBehindMess, has_piece};
 
 use crate::Row;
 use call_fs::{Answer, Fd, FsError, PIECE};
@@ -16,10 +16,11 @@ pub struct Outlook {
     pub fault: Option<u8>,
 }
 
-/// The row after an answer to the call of `row`.
-pub fn after(row: Row, answer: &Answer, message: Outlook, todo: Outlook) -> Row
-    ensures { (work : Work) → IsOutlook message work.message → IsOutlook todo work.todo
-        → result ≡ answered work row answer.now }
+/// Where an answer to the call of `row` leads. What follows the written bytes of a text isn't decided yet: there its
+/// row asks for the next piece. The condition: a piece more than was written can be counted.
+pub fn after(row: Row, answer: &Answer) -> Row
+    requires { CountsOn row }
+    ensures { result ≡ goes_to row answer.now }
 {
     match row {
         Row::Create { seq } => after_create(seq, answer),
@@ -30,33 +31,47 @@ pub fn after(row: Row, answer: &Answer, message: Outlook, todo: Outlook) -> Row
             },
         },
         Row::UnlinkPid { number, fd, .. } => match answer {
-            Answer::Done => in_message(message, number, fd, 0),
+            Answer::Done => Row::AppendMess {
+                number,
+                fd,
+                done: 0,
+            },
             _ => clean_mess(number, answer, 63),
         },
         Row::AppendMess { number, fd, done } => match answer {
-            Answer::Done => in_message(message, number, fd, done.saturating_add(PIECE)),
+            Answer::Done => {
+                let done = done + PIECE;
+                Row::AppendMess { number, fd, done }
+            }
             _ => clean_mess(number, answer, 53),
         },
         Row::SyncMess { number, .. } => match answer {
             Answer::Done => Row::CreateIntd { number },
             _ => clean_mess(number, answer, 53),
         },
-        _ => after_mess(row, answer, todo),
+        _ => after_mess(row, answer),
     }
 }
 
 // Of the rows behind the message's.
-fn after_mess(row: Row, answer: &Answer, todo: Outlook) -> Row
-    requires { IsBehindMess row }
-    ensures { (work : Work) → IsOutlook todo work.todo → result ≡ answered work row answer.now }
+fn after_mess(row: Row, answer: &Answer) -> Row
+    requires rows { IsBehindMess row }
+    requires counts { CountsOn row }
+    ensures { result ≡ goes_to row answer.now }
 {
     match row {
         Row::CreateIntd { number } => match answer {
-            Answer::Created(fd, _) => in_todo(todo, number, *fd, 0),
+            Answer::Created(fd, _) => {
+                let (fd, done) = (*fd, 0);
+                Row::AppendTodo { number, fd, done }
+            }
             _ => clean_mess(number, answer, 65),
         },
         Row::AppendTodo { number, fd, done } => match answer {
-            Answer::Done => in_todo(todo, number, fd, done.saturating_add(PIECE)),
+            Answer::Done => {
+                let done = done + PIECE;
+                Row::AppendTodo { number, fd, done }
+            }
             _ => clean_intd(number, answer, 53),
         },
         Row::SyncTodo { number, .. } => match answer {
@@ -80,7 +95,7 @@ fn after_mess(row: Row, answer: &Answer, todo: Outlook) -> Row
 
 // A pid name was tried: the next one comes where this one is taken, nine in all.
 fn after_create(seq: u8, answer: &Answer) -> Row
-    ensures { (work : Work) → result ≡ answered work (Row.Create seq) answer.now }
+    ensures { result ≡ goes_to (Row.Create seq) answer.now }
 {
     match answer {
         Answer::Created(fd, number) => Row::LinkMess {
@@ -95,9 +110,28 @@ fn after_create(seq: u8, answer: &Answer) -> Row
     }
 }
 
+/// What follows the written bytes of a text, by what is known of the texts: the next piece, or behind the text its
+/// sync, or the clean up where the input failed. A full piece comes before the next byte of the input is looked at.
+/// Any other row reads no text. The conditions: the texts have the length of a slice.
+pub fn settled(row: Row, message: Outlook, todo: Outlook) -> Row
+    requires message { message.len < 2 ^ 63 }
+    requires todo { todo.len < 2 ^ 63 }
+    ensures row { (work : Work) → IsOutlook message work.message → IsOutlook todo work.todo
+        → result ≡ settled work row }
+    ensures counts { CountsOn result }
+{
+    match row {
+        Row::AppendMess { number, fd, done } => in_message(message, number, fd, done),
+        Row::AppendTodo { number, fd, done } => in_todo(todo, number, fd, done),
+        _ => row,
+    }
+}
+
 // So many bytes of the message file's text were written.
 fn in_message(text: Outlook, number: u64, fd: Fd, done: usize) -> Row
-    ensures { (whole : Text) → IsOutlook text whole → result ≡ in_message whole number fd.0 done }
+    requires { text.len < 2 ^ 63 }
+    ensures row { (whole : Text) → IsOutlook text whole → result ≡ in_message whole number fd.0 done }
+    ensures counts { CountsOn result }
 {
     match text.fault {
         _ if has_piece(text, done) => Row::AppendMess { number, fd, done },
@@ -108,7 +142,9 @@ fn in_message(text: Outlook, number: u64, fd: Fd, done: usize) -> Row
 
 // So many bytes of the todo text were written.
 fn in_todo(text: Outlook, number: u64, fd: Fd, done: usize) -> Row
-    ensures { (whole : Text) → IsOutlook text whole → result ≡ in_todo whole number fd.0 done }
+    requires { text.len < 2 ^ 63 }
+    ensures row { (whole : Text) → IsOutlook text whole → result ≡ in_todo whole number fd.0 done }
+    ensures counts { CountsOn result }
 {
     match text.fault {
         _ if has_piece(text, done) => Row::AppendTodo { number, fd, done },
@@ -123,8 +159,15 @@ fn has_piece(text: Outlook, done: usize) -> bool
 {
     match text.fault {
         None => done < text.len,
-        Some(_) => text.len.saturating_sub(done) >= PIECE,
+        Some(_) => has_full_piece(text.len, done),
     }
+}
+
+/// Whether a text of this length has a full piece behind so many bytes.
+pub fn has_full_piece(len: usize, done: usize) -> bool
+    ensures { result ≡ nat_le (done + piece_size) len }
+{
+    len.saturating_sub(done) >= PIECE
 }
 
 fn clean_mess(number: u64, answer: &Answer, status: u8) -> Row

@@ -1,7 +1,7 @@
 // The two texts that an injector writes.
 ghost use Rattle.std.specs.Prelude.{◌≡◌, ◌≤◌, ◌+◌, ◌-◌, ◌++◌, [], IfOk, length};
 
-use call_fs::mail_bytes::Memory;
+use mail_bytes::Memory;
 use std::marker::Model;
 
 /// Two texts, one behind the other in one piece of memory, which is taken when they are made. Contracts see the two

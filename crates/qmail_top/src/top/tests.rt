@@ -1,7 +1,7 @@
 use crate::qmail;
-use call_fs::mail_bytes::ByteText;
-use call_fs::outside::{MemClock, MemPosts, MemSink, MemSource, MemSpawner, OpenGate};
+use mail_bytes::ByteText;
 use mem_fs::MemFs;
+use outside::{MemClock, MemPosts, MemSink, MemSource, MemSpawner, OpenGate};
 use std::test::Fail;
 
 /// What came of a call: the status, what the output took and what the log took.
@@ -77,11 +77,70 @@ fn scripts_print(rt: HostRuntime) -> Result<(), Fail> {
             0,
             "refused gone a\nrefused unknown q\n",
         ),
-        ("show\nstepp a\n", 91, ""),
+        ("show\nstepp a\n", 91, "script 2\n"),
+        ("# x\n\nstepp a\n", 91, "script 3\n"),
+        ("show\n\n#\n# x\nshow\n\n", 0, "pid 0\npid 0\n"),
         (
             "mail a - : hi\nmail b - %2d c@y :\nrun b\nrun l.1\nshow",
             0,
             "refused unknown l.1\npid 0\n1 S4\na alive\nb 0\nb.1 pending\nb.2 pending\n",
+        ),
+        // the NUL behind that of the sender ends the envelope
+        ("mail a a%00 b@y : hi\nrun a\nshow", 0, "pid 0\n1 S4\na 0\n"),
+        (
+            "mail a a@x b@y : \nrun a\nshow",
+            0,
+            "pid 0\n1 S4\na 0\na.1 pending\n",
+        ),
+        (
+            "raw a Fa@x%00Tb@y%00%00 : hi\nrun a\nshow",
+            0,
+            "pid 0\n1 S4\na 0\na.1 pending\n",
+        ),
+        ("raw a Fa@x%00Tb@y%00 : hi\nrun a\nshow", 0, "pid 0\na 54\n"),
+        ("raw a X : hi\nrun a\nshow", 0, "pid 0\na 91\n"),
+        ("raw a - : hi\nrun a\nshow", 0, "pid 0\na 54\n"),
+        (
+            "moment 5\nmoment 4\nstep q\n",
+            0,
+            "refused past 5\nrefused unknown q\n",
+        ),
+        (
+            "mail a a@x b@y : hi%0A\nrun a\nstep a\n",
+            0,
+            "refused gone a\n",
+        ),
+        (
+            "mail a a@x b@y : hi\nstep a\nmoment 86401\nrun a\nshow\n",
+            0,
+            "pid 1\na 52\n",
+        ),
+        (
+            "mail a a@x b@y : hi\nstep a\nmoment 86400\nrun a\nshow\n",
+            0,
+            "pid 0\n1 S4\na 0\na.1 pending\n",
+        ),
+        (
+            "mail a a@x b@y : hi\nstep a\nstep a\nstop a\nshow\nstep a\nstop a\nstop q\n",
+            0,
+            "pid 1\n1 S2\na stopped\nrefused gone a\nrefused gone a\nrefused unknown q\n",
+        ),
+        ("cat nothere\n", 0, "nothere none\n"),
+        // of an empty message the file has its first line alone
+        (
+            "trace\nmail a a@x b@y :\nstep a\nstep a\nstep a\nstep a\n",
+            0,
+            "a start\na create pid/77.0.1 = 1\na link pid/77.0.1 mess/1/1 = ok\na unlink pid/77.0.1 = ok\na append #1 68 = ok\n",
+        ),
+        (
+            "mail a a@x b@y : hi\nstep a\ncat pid/77.0.1\ntrace\nstep a\ncat a%20b\n",
+            0,
+            "pid/77.0.1 : \na link pid/77.0.1 mess/1/1 = ok\na%20b none\n",
+        ),
+        (
+            "trace\nmoment 7\nmail a a@x b@y : hi\nstop a\nstop a\nmoment 6\nshow\n",
+            0,
+            "world moment 7\na start\na stop\nrefused gone a\nrefused past 7\npid 0\na stopped\n",
         ),
     ];
     for (script, status, out) in &table {
@@ -108,9 +167,13 @@ fn malformed_lines_are_refused(rt: HostRuntime) -> Result<(), Fail> {
         "nosuch",
         "mail sender a@x b@y : hi",
         "mail A a@x b@y : hi",
-        "show\n\nshow",
-        "# x",
-        "mail a a%00 b@y : hi",
+        " # x",
+        "raw a : hi",
+        "raw a X",
+        "raw a X :hi",
+        "raw a X Y : hi",
+        "raw a %4 : hi",
+        "raw",
         "mail a",
         "mail a : hi",
         "step",
@@ -118,50 +181,76 @@ fn malformed_lines_are_refused(rt: HostRuntime) -> Result<(), Fail> {
         "run l.0",
         "run l.01",
         "run l.18446744073709551616",
+        "moment",
+        "moment 007",
+        "moment -1",
+        "moment 250000000001",
+        "moment 18446744073709551616",
+        "moment 5 ",
+        "moment  5",
+        "stop",
+        "stop A",
+        "stop a b",
+        "stop l.0",
+        "trace ",
+        "trace x",
+        "cat",
+        "cat a b",
+        "cat :",
+        "cat a%4",
         "show x",
         "show\r",
     ];
     for line in &table {
         let outcome = play(&rt, line)?;
         assert_eq!(rt; outcome.status, 91, "{line}");
-        assert!(rt; outcome.out.is_empty(), "{line}");
+        assert!(rt;
+            outcome.out.as_slice() == b"script 1\n".as_slice(),
+            "{line}"
+        );
     }
     Ok(())
 }
 
 /// Plays a mail with a recipient of so many bytes.
-fn play_address(rt: &HostRuntime, length: usize) -> Result<u8, Fail> {
+fn play_address(rt: &HostRuntime, length: usize) -> Result<Outcome, Fail> {
     let alloc = rt.alloc();
     let mut script = String::from_str(alloc, "mail a a@x ")?;
     for _ in 0..length {
         script.push('b')?;
     }
-    script.push_str(" : hi\nrun a\n")?;
-    Ok(play(rt, script.as_str())?.status)
+    script.push_str(" : hi\nrun a\nshow\n")?;
+    play(rt, script.as_str())
 }
 
 #[test]
-fn an_address_has_at_most_1002_bytes(rt: HostRuntime) -> Result<(), Fail> {
-    assert_eq!(rt; play_address(&rt, 1002)?, 0);
-    assert_eq!(rt; play_address(&rt, 1003)?, 91);
+fn an_injector_takes_addresses_of_1002_bytes(rt: HostRuntime) -> Result<(), Fail> {
+    let taken = play_address(&rt, 1002)?;
+    assert_eq!(rt; taken.status, 0);
+    assert!(rt; taken.out.as_slice() == b"pid 0\n1 S4\na 0\na.1 pending\n".as_slice());
+    let refused = play_address(&rt, 1003)?;
+    assert_eq!(rt; refused.status, 0);
+    assert!(rt; refused.out.as_slice() == b"pid 0\na 11\n".as_slice());
     Ok(())
 }
 
-/// Plays a mail whose line has so many bytes.
-fn play_line(rt: &HostRuntime, length: usize) -> Result<u8, Fail> {
+/// Plays a line that begins so and has so many bytes.
+fn play_line(rt: &HostRuntime, front: &str, length: usize) -> Result<u8, Fail> {
     let alloc = rt.alloc();
-    let mut script = String::from_str(alloc, "mail a a@x b@y : ")?;
-    for _ in 17..length {
+    let mut script = String::from_str(alloc, front)?;
+    for _ in front.len()..length {
         script.push('x')?;
     }
-    script.push_str("\nrun a\n")?;
+    script.push_str("\nshow\n")?;
     Ok(play(rt, script.as_str())?.status)
 }
 
 #[test]
 fn a_line_has_at_most_65535_bytes(rt: HostRuntime) -> Result<(), Fail> {
-    assert_eq!(rt; play_line(&rt, 65_535)?, 0);
-    assert_eq!(rt; play_line(&rt, 65_536)?, 91);
+    for front in &["mail a a@x b@y : ", "# "] {
+        assert_eq!(rt; play_line(&rt, front, 65_535)?, 0);
+        assert_eq!(rt; play_line(&rt, front, 65_536)?, 91);
+    }
     Ok(())
 }
 
@@ -174,6 +263,9 @@ fn failures_end_it(rt: HostRuntime) -> Result<(), Fail> {
     let unwritten = call(&rt, &["play"], &script, &[], &[2])?;
     assert_eq!(rt; unwritten.status, 53);
     assert!(rt; unwritten.out.as_slice() == b"pid 0\n".as_slice());
+    let malformed = call(&rt, &["play"], &[b"stepp a"], &[], &[1])?;
+    assert_eq!(rt; malformed.status, 91);
+    assert!(rt; malformed.out.is_empty());
     Ok(())
 }
 

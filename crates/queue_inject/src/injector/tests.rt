@@ -167,3 +167,66 @@ fn a_message_that_fails_needs_no_envelope(rt: HostRuntime) -> Result<(), Fail> {
     assert_eq!(rt; last.as_str(), "end 54");
     Ok(())
 }
+
+// Makes these calls, each with its answer, and then says what it needs; or what it needs in place of one of them.
+fn make(alloc: Global, injector: &mut Injector, rows: &[(&str, Answer)]) -> Result<String, Memory> {
+    for row in rows {
+        let now = words(alloc, injector.need())?;
+        if now.as_str() != row.0 {
+            return Ok(now);
+        }
+        answer(injector, row.1.copy())?;
+    }
+    words(alloc, injector.need())
+}
+
+#[test]
+fn a_full_piece_goes_out_before_the_next_byte(rt: HostRuntime) -> Result<(), Fail> {
+    let of_the_message = [
+        ("create pid/77.0.1", Answer::Created(Fd(1), 1)),
+        ("link pid/77.0.1 mess/1/1", Answer::Done),
+        ("unlink pid/77.0.1", Answer::Done),
+        ("append 1 8192", Answer::Done),
+    ];
+    let behind_it = [
+        ("sync 1", Answer::Done),
+        ("create intd/1", Answer::Created(Fd(2), 2)),
+    ];
+    let of_the_envelope = [
+        ("append 2 20", Answer::Done),
+        ("sync 2", Answer::Done),
+        ("link intd/1 todo/1", Answer::Done),
+    ];
+    let mut injector = Injector::new(rt.alloc(), 1000, 77, Invoked::Uid(1000), 0, 9000)?;
+    // The first line has 68 bytes.
+    injector.feed(&[b'x'; 8192 - 68]);
+    at(0, &mut injector);
+    let found = make(rt.alloc(), &mut injector, &of_the_message)?;
+    assert_eq!(rt; found.as_str(), "wait");
+    injector.end_input();
+    let found = make(rt.alloc(), &mut injector, &behind_it)?;
+    assert_eq!(rt; found.as_str(), "wait");
+    let envelope = b"Fa@x\0Tb@y\0\0".as_slice();
+    assert!(rt; envelope.len() <= injector.room());
+    injector.feed(envelope);
+    let found = make(rt.alloc(), &mut injector, &of_the_envelope)?;
+    assert_eq!(rt; found.as_str(), "end 0");
+    Ok(())
+}
+
+#[test]
+fn one_that_was_fed_nothing_makes_three_calls(rt: HostRuntime) -> Result<(), Fail> {
+    let rows = [
+        ("create pid/77.0.1", Answer::Created(Fd(1), 1)),
+        ("link pid/77.0.1 mess/1/1", Answer::Done),
+        ("unlink pid/77.0.1", Answer::Done),
+    ];
+    let mut injector = Injector::new(rt.alloc(), 1000, 77, Invoked::Uid(1000), 0, 100)?;
+    at(0, &mut injector);
+    let found = make(rt.alloc(), &mut injector, &rows)?;
+    assert_eq!(rt; found.as_str(), "wait");
+    at(86401, &mut injector);
+    let late = words(rt.alloc(), injector.need())?;
+    assert_eq!(rt; late.as_str(), "end 52");
+    Ok(())
+}

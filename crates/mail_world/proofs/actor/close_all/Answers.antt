@@ -1,6 +1,6 @@
 use Rattle.std.proofs.Common.{◌≡◌, [], ◌∷◌, List, length, refl, arith}
 use Rattle.call_fs.specs.declared.calls.Fd.{Fd}
-use Rattle.mail_world.proofs.Descriptors.{may_close_last, rest_stays, closed_more, closed_all}
+use Rattle.mail_world.proofs.Descriptors.{close_told, may_close_last, rest_stays, closed_more, closed_all}
 use Rattle.mail_world.proofs.actor.close_all.Goals as goal
 
 empty : (fds : List Fd) → length fds ≡ 0 → fds ≡ []
@@ -14,9 +14,10 @@ pub loop-fd-preserved : goal.loop-fd-preserved
 loop-fd-preserved g c =
     let l = c.loop-fd in
     let rest = c.pop.new.self.items in
+    let told = close_told (g.D.CallFs.disk l.disk) (g.D.CallFs.disk c.close.new.self) c.in-Some.fd c.close.result c.close.ensures.always c.close.ensures.told in
     record {
-      rest = rest_stays (g.D.CallFs.disk l.disk) (g.D.CallFs.disk c.close.new.self) l.descriptors.items rest c.in-Some.fd c.in-Some.ensures.items l.invariant.rest c.close.ensures.told;
-      closed = closed_more (g.D.CallFs.disk c.args.disk.now) (g.D.CallFs.disk l.disk) (g.D.CallFs.disk c.close.new.self) c.args.descriptors.now.items l.descriptors.items rest c.in-Some.fd c.in-Some.ensures.items l.invariant.closed c.close.ensures.told;
+      rest = rest_stays (g.D.CallFs.disk l.disk) (g.D.CallFs.disk c.close.new.self) l.descriptors.items rest c.in-Some.fd c.in-Some.ensures.items l.invariant.rest told;
+      closed = closed_more (g.D.CallFs.disk c.args.disk.now) (g.D.CallFs.disk l.disk) (g.D.CallFs.disk c.close.new.self) c.args.descriptors.now.items l.descriptors.items rest c.in-Some.fd c.in-Some.ensures.items l.invariant.closed told;
       steady = λ was. c.close.ensures.steady (l.invariant.steady was);
     }
 

@@ -3,7 +3,7 @@ use Rattle.std.specs.Prelude.{unsigned_abs}
 use Rattle.std.proofs.lemmas.Result.{on_ok_weaker}
 use Rattle.jiff_core.proofs.SignedLemmas.{signed_arith, one_part}
 use Rattle.jiff_core.proofs.CalendarLemmas.{days_in_month_bounds}
-use Rattle.call_fs.specs.Decimal.{digits}
+use Rattle.mail_bytes.specs.Decimal.{digits}
 use Rattle.queue_inject.specs.Received.{month_name, four}
 use Rattle.queue_inject.proofs.DateTexts.{day_written}
 use Rattle.queue_inject.proofs.received_line.put_day.Goals as goal

@@ -1,6 +1,6 @@
 use Rattle.std.proofs.Common.{◌≡◌, ◌++◌, List, ℕ, ◌∙◌, arith, subst}
 use Rattle.std.specs.Prelude.{OnOk}
-use Rattle.call_fs.proofs.Digits.{decimal-digits}
+use Rattle.mail_bytes.proofs.Digits.{decimal-digits}
 use Rattle.queue_inject.proofs.DateTexts.{on_ok_items}
 use Rattle.queue_inject.proofs.received_line.put_number.Goals as goal
 

@@ -1,4 +1,6 @@
 use Rattle.std.proofs.Common.{◌≡◌, List, [], ◌∷◌, ◌++◌, ap, ◌∙◌, subst}
+use Rattle.call_fs.specs.Apply.{Apply, IsReadBy}
+use Rattle.call_fs.specs.Calls.{without_bytes}
 use Rattle.call_fs.specs.Program.{Due, Own}
 use Rattle.call_fs.specs.Program.Did.{Called}
 use Rattle.mail_world.specs.declared.event.Program.{Program}
@@ -9,6 +11,9 @@ use Rattle.mail_world.specs.declared.event.Event.TheVariants as kept
 use Rattle.mail_world.specs.World.{input_ready}
 use Rattle.mail_world.specs.Inside.{Follows}
 use Rattle.mail_world.specs.Acting.{IsMade, due_by, call_event, with_call}
+use Rattle.mail_world.proofs.Histories.{reads_none}
+use Rattle.mail_world.proofs.Opens.{IsPlain, IsAct, next_act}
+use Rattle.mail_world.proofs.Worlds.{met_by}
 use Rattle.mail_world.proofs.actor.Actor.act.Goals as goal
 
 pub returns-in-Called-clause-acted : goal.returns-in-Called-clause-acted
@@ -25,16 +30,20 @@ returns-in-Called-clause-acted g c =
     let told = c.told-told.ensures in
     let copied = c.copy.ensures in
     let put : Kept = kept.Call c.copy.result now input_ready made.call c.told-told.result in
-    let event : put ≡ call_event c.args.self.now.name now made.call made.answer = cc in
+    let may = c.requires.may in
+    let plain : IsPlain made.call = subst IsAct (due may.program may.past may.follows) (next_act may.program may.past now) in
+    let event : put ≡ call_event c.args.self.now.name now made.call (without_bytes made.answer) = cc in
     rw c.new.ensures (record {
       call = made.call;
-      told = made.answer;
-      event = c.put.ensures ∙ ap (λ (l : List Kept). l ++ put ∷ []) c.in_ok-reserve.ensures.same ∙ ap (λ (k : Kept). c.args.history.now.events.items ++ k ∷ []) event;
+      told = without_bytes made.answer;
+      event = c.put.ensures.event ∙ ap (λ (k : Kept). c.args.history.now.events.items ++ k ∷ []) event;
       due = due;
       follows = λ program past f.
           let past_is : with_call machine past made.call made.answer ≡ (record { read = now; ready = input_ready; did = Called made.call made.answer [] }) ∷ past = cc in
           subst (Follows c.take.new.self.machine program) past_is (c.take.ensures.follows program past made.call (asked.follows program past f));
-      made = subst (λ (came : Came). IsMade came now (g.D.CallFs.disk c.args.disk.now) (g.D.CallFs.disk c.ask.new.disk)) made.is asked.made;
+      made = met_by (g.D.CallFs.disk c.args.disk.now) (g.D.CallFs.disk c.ask.new.disk) (λ d e. Apply d now made.call made.answer e)
+          (λ d e. Apply d now made.call made.answer e × IsReadBy d made.call (without_bytes made.answer)) (λ d e applied. (applied, reads_none d made.call made.answer plain))
+          (subst (λ (came : Came). IsMade came now (g.D.CallFs.disk c.args.disk.now) (g.D.CallFs.disk c.ask.new.disk)) made.is asked.made);
       name = c.take.ensures.name ∙ name;
       descriptors = cc;
       ended = cc;

@@ -2,6 +2,7 @@ use Rattle.std.proofs.Common.{ap, sym, ◌∙◌, subst}
 use Rattle.call_fs.specs.Program.{Due, due_of}
 use Rattle.call_fs.specs.Told.{OnTold}
 use Rattle.mail_world.specs.Acting.{MayMake}
+use Rattle.mail_world.proofs.Opens.{IsAct, plain_room, next_act}
 use Rattle.mail_world.proofs.Machines.{needs_next, calls_or_ends}
 use Rattle.mail_world.proofs.actor.Actor.ask.Goals as goal
 
@@ -11,6 +12,13 @@ perform-answer-requires-clause-fits g c =
     let is = needs_next c.args.self.now.machine c.look.new.self c.need.result c.args.now may.program may.past c.look.ensures.rest
     (λ args. c.look.ensures.stands args may.past) (λ args. c.need.ensures.stands args may.past) may.follows in
     subst (λ (due : Due). OnTold (g.D.CallFs.disk c.args.disk.now) (λ before. MayMake before due)) (sym is ∙ ap due_of c.in-File.is) may.may
+
+pub perform-answer-requires-clause-piece : goal.perform-answer-requires-clause-piece
+perform-answer-requires-clause-piece g c =
+    let may = c.requires.may in
+    let is = needs_next c.args.self.now.machine c.look.new.self c.need.result c.args.now may.program may.past c.look.ensures.rest
+    (λ args. c.look.ensures.stands args may.past) (λ args. c.need.ensures.stands args may.past) may.follows in
+    plain_room 8192 _ (subst IsAct (sym is ∙ ap due_of c.in-File.is) (next_act may.program may.past c.args.now))
 
 pub unreachable-requires : goal.unreachable-requires
 unreachable-requires g c =

@@ -1,4 +1,5 @@
-use Rattle.std.proofs.Common.{◌≡◌, ℕ, List, [], ◌∷◌, ◌++◌, length, false, is_some, Option, Some, None, refl, sym, ap, ◌∙◌, subst}
+use Rattle.std.proofs.Common.{◌≡◌, ℕ, ◌+◌, List, [], ◌∷◌, ◌++◌, length, false, is_some, Option, Some, None, refl, sym, ap, ◌∙◌, subst, arith}
+use Rattle.std.proofs.Math.Path.{fun_ext}
 use Rattle.call_fs.specs.Maps.{put_at}
 use Rattle.queue_inject.specs.Machine.{Machine}
 use Rattle.mail_world.specs.declared.event.Event.{Event as Kept}
@@ -6,8 +7,10 @@ use Rattle.mail_world.specs.declared.event.Event.TheVariants as kept
 use Rattle.mail_world.specs.declared.event.Program.TheVariants.{Injector}
 use Rattle.mail_world.specs.Places.{place_of}
 use Rattle.mail_world.specs.World.{mail, Seen, was_started}
-use Rattle.mail_world.specs.Inside.{Follows}
-use Rattle.mail_world.proofs.Worlds.{start_keeps, start_goes_on}
+use Rattle.mail_world.specs.Inside.{IsWorld, Follows, known, living}
+use Rattle.mail_world.proofs.Histories.{goes_on}
+use Rattle.mail_world.proofs.Living.{living_push, room_less}
+use Rattle.mail_world.proofs.Worlds.{start_keeps, start_leads_on}
 use Rattle.mail_world.proofs.world.World.begin.Goals as goal
 use Rattle.mail_world.proofs.world.World.begin.Goals.{After-saturating_add-self-inside}
 
@@ -19,7 +22,7 @@ none_is (Some i) h = absurd cc
 new_name : (g : _) (c : After-saturating_add-self-inside g) → place_of c.self.inside.places c.args.name.now ≡ None
 new_name g c =
     let i = c.self.inside in
-    none_is (place_of i.places c.args.name.now) (sym (c.self.invariant.kept.started c.args.name.now) ∙ ap (λ (w : Seen _). was_started w.events c.args.name.now) c.self.view_is ∙ c.requires)
+    none_is (place_of i.places c.args.name.now) (sym (c.self.invariant.0.kept.started c.args.name.now) ∙ ap (λ (w : Seen _). was_started w.events c.args.name.now) c.self.view_is ∙ c.requires)
 
 -- the event that was put
 started : (g : _) (c : After-saturating_add-self-inside g) →
@@ -29,7 +32,21 @@ started g c =
     let args = c.in_ok-arguments.ensures in
     let told : Kept = kept.Start c.copy-2.result (Injector c.in_ok-arguments.arguments) in
     let same : told ≡ kept.Start c.args.name.now (Injector (mail c.self.inside.next_pid c.self.inside.present c.args.message.now c.args.envelope.now)) = cc in
-    c.put.ensures ∙ ap (λ (l : List Kept). l ++ told ∷ []) c.in_ok-reserve.ensures.same ∙ ap (λ (k : Kept). c.self.inside.history.events.items ++ k ∷ []) same
+    c.put.ensures.event ∙ ap (λ (l : List Kept). l ++ told ∷ []) c.in_ok-reserve-2.ensures.same ∙ ap (λ (k : Kept). c.self.inside.history.events.items ++ k ∷ []) same
+
+pub invariant_of-self-in_err-reserve-2 : goal.invariant_of-self-in_err-reserve-2
+invariant_of-self-in_err-reserve-2 g c =
+    let items = c.in_ok-reserve.ensures.items in
+    (rw (items, c.in_err-reserve-2.ensures.same) c.self.invariant.0, rw (items) (c.in_err-reserve-2.ensures.stays (living c.self.inside.actors.items) c.self.invariant.1))
+
+pub invariant_of-self-in_err-add : goal.invariant_of-self-in_err-add
+invariant_of-self-in_err-add g c =
+    let i = c.self.inside in
+    let items = c.in_ok-reserve.ensures.items in
+    let places : ◌≡◌ {A = List ℕ → Option ℕ} (place_of i.places) (place_of c.add.new.self) = fun_ext (λ q. sym (c.in_err-add.ensures.err q)) in (
+      rw (items, c.in_ok-reserve-2.ensures.same) (subst (λ (f : List ℕ → Option ℕ). IsWorld (g.D.CallFs.disk i.disk) f i.actors.items (known i.history.events.items) i.history.events.items i.present i.next_pid) places c.self.invariant.0),
+      rw (items) (c.in_ok-reserve-2.ensures.stays (living i.actors.items) c.self.invariant.1),
+    )
 
 pub invariant_of-self-2 : goal.invariant_of-self-2
 invariant_of-self-2 g c =
@@ -38,21 +55,29 @@ invariant_of-self-2 g c =
     let args = mail i.next_pid i.present c.args.message.now c.args.envelope.now in
     let at = (goal.at.invariant_of-self-2 g c).After-saturating_add-self-inside in
     let new = new_name g at in
-    let held = c.in_ok-reserve-2.ensures.items in
+    let held = c.in_ok-reserve.ensures.items in
     let pushed = rw c.unwrap.ensures at c.push.ensures.items in
     let actors : c.push.new.self.items ≡ i.actors.items ++ c.new-actor.result ∷ [] = cc in
     let event = started g at in
     let name : c.new-actor.result.name ≡ a = c.new-actor.ensures.name ∙ c.copy.ensures in
-    let many : c.len.result ≡ length i.actors.items = c.len.ensures ∙ c.reserve-2.new.self.ok.0 ∙ ap length held in
+    let many : c.len-2.result ≡ length i.actors.items = c.len-2.ensures ∙ c.reserve.new.self.ok.0 ∙ ap length held in
     let put : (b : List ℕ) → place_of c.add.new.self b ≡ put_at (place_of i.places) a (Some (length i.actors.items)) b =
-    λ b. c.in_ok-add.ensures.ok b ∙ ap (λ (n : List ℕ). put_at (place_of i.places) n (Some c.len.result) b) c.as_slice.ensures ∙ ap (λ (n : ℕ). put_at (place_of i.places) a (Some n) b) many in
-    let machine = subst (λ (m : Machine). Follows m (Injector args) []) (sym c.new-actor.ensures.machine) c.in_ok-machine.ensures in
-    rw (actors, event) (start_keeps (g.D.CallFs.disk i.disk) (place_of i.places) (place_of c.add.new.self) i.actors.items i.history.events.items i.present i.next_pid c.saturating_add-self-inside.result
-    c.new-actor.result a (Injector args) c.self.invariant new put name c.new-actor.ensures.ended c.new-actor.ensures.descriptors machine refl c.saturating_add-self-inside.ensures)
+    λ b. c.in_ok-add.ensures.ok b ∙ ap (λ (n : List ℕ). put_at (place_of i.places) n (Some c.len-2.result) b) c.as_slice.ensures ∙ ap (λ (n : ℕ). put_at (place_of i.places) a (Some n) b) many in
+    let len : c.len.result ≡ length i.actors.items = c.len.ensures ∙ c.reserve.new.self.ok.0 ∙ ap length held in
+    let bound = living_push i.actors.items c.new-actor.result in
+    let machine = subst (λ (m : Machine). Follows m (Injector args) []) (sym c.new-actor.ensures.machine) c.in_ok-machine.ensures in (
+      rw (actors, event) (start_keeps (g.D.CallFs.disk i.disk) (place_of i.places) (place_of c.add.new.self) i.actors.items i.history.events.items i.present i.next_pid c.saturating_add-self-inside.result
+          c.new-actor.result a (Injector args) c.self.invariant.0 new put name c.new-actor.ensures.ended c.new-actor.ensures.descriptors machine refl c.saturating_add-self-inside.ensures),
+      rw (actors) (c.put.ensures.room (living (i.actors.items ++ c.new-actor.result ∷ [])) (room_less c.reserve-2.new.self (c.len.result + 2) (living (i.actors.items ++ c.new-actor.result ∷ []) + 1)
+          (omega (arith, len, bound)) c.in_ok-reserve-2.ensures.room)),
+    )
 
 pub returns-clause-goes_on : goal.returns-clause-goes_on
-returns-clause-goes_on g c = λ opening h.
+returns-clause-goes_on g c =
     let i = c.self.inside in
+    let told = g.D.CallFs.disk i.disk in
+    let events = i.history.events.items in
     let args = mail i.next_pid i.present c.args.message.now c.args.envelope.now in
     let at = (goal.at.returns-clause-goes_on g c).After-saturating_add-self-inside in
-    rw (← c.self.view_is, started g at) (start_goes_on opening (g.D.CallFs.disk i.disk) (place_of i.places) i.actors.items i.history.events.items i.present h i.next_pid c.args.name.now (Injector args) c.self.invariant (new_name g at))
+    rw (← c.self.view_is, started g at) (goes_on told told events (events ++ kept.Start c.args.name.now (Injector args) ∷ []) i.present i.present
+    (start_leads_on told (place_of i.places) i.actors.items events i.present i.next_pid c.args.name.now (Injector args) c.self.invariant.0 (new_name g at)))

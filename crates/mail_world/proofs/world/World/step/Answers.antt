@@ -1,21 +1,25 @@
-use Rattle.std.proofs.Common.{◌≡◌, ◌<◌, List, length, arith, None, IsSomeAnd, Ok, Err, sym, ap, ◌∙◌, subst}
+use Rattle.std.proofs.Common.{◌≡◌, ◌+◌, ◌<◌, List, length, set, arith, None, IsSomeAnd, Ok, Err, sym, ap, ◌∙◌, subst}
 use Rattle.std.proofs.lemmas.Result.{err_from_is_err_and}
 use Rattle.std.specs.List.{slice_get}
 use Rattle.mail_world.specs.declared.actor.Actor.{Actor as Held}
 use Rattle.mail_world.specs.declared.error.WorldError.{WorldError}
+use Rattle.mail_world.specs.declared.event.Event.{Event as Kept}
+use Rattle.mail_world.specs.declared.event.History.{History}
 use Rattle.mail_world.specs.Places.{place_of}
-use Rattle.mail_world.specs.Inside.{known}
-use Rattle.mail_world.specs.Acting.{IsNoLiving}
-use Rattle.mail_world.proofs.Worlds.{StandsAt, acted_keeps, acted_goes_on, acted_step, stands_at, in_range, look_keeps, may_act, may_end}
+use Rattle.mail_world.specs.Inside.{known, living}
+use Rattle.mail_world.specs.Acting.{IsNoLiving, HasActed}
+use Rattle.mail_world.proofs.Worlds.{StandsAt, acted_keeps, acted_leads_on, acted_step, stands_at, in_range, look_keeps, may_act, may_end}
+use Rattle.mail_world.proofs.Histories.{goes_on}
+use Rattle.mail_world.proofs.Living.{living_still, living_set, room_less}
 use Rattle.mail_world.proofs.Refusals.{no_end, not_gone, gone_exactly, memory_other, ok_other}
 use Rattle.mail_world.proofs.world.World.step.Goals as goal
-use Rattle.mail_world.proofs.world.World.step.Goals.{After-index_mut-acting}
+use Rattle.mail_world.proofs.world.World.step.Goals.{After-index_mut-acting, In_ok-act}
 
 pub living-requires : goal.living-requires
 living-requires g c =
     let i = c.self.inside in
     λ k place. subst (λ (l : List Held). k < length l) (sym c.deref.ensures.value)
-    (in_range (g.D.CallFs.disk i.disk) (place_of i.places) i.actors.items (known i.history.events.items) i.history.events.items i.present i.next_pid c.args.actor.now c.self.invariant k place)
+    (in_range (g.D.CallFs.disk i.disk) (place_of i.places) i.actors.items (known i.history.events.items) i.history.events.items i.present i.next_pid c.args.actor.now c.self.invariant.0 k place)
 
 pub returns-in_err-place-clause-gone : goal.returns-in_err-place-clause-gone
 returns-in_err-place-clause-gone g c =
@@ -24,12 +28,12 @@ returns-in_err-place-clause-gone g c =
     let why = c.in_err-place.field-0.0 in
     let none : IsNoLiving (place_of i.places) i.actors.items c.args.actor.now why =
     subst (λ (l : List Held). IsNoLiving (place_of i.places) l c.args.actor.now why) c.deref.ensures.value c.in_err-place.ensures.err in
-    rw (p.1, p.2, ← c.self.view_is) (gone_exactly (place_of i.places) i.actors.items (known i.history.events.items) i.history.events.items i.present c.args.actor.now why c.self.invariant.kept none)
+    rw (p.1, p.2, ← c.self.view_is) (gone_exactly (place_of i.places) i.actors.items (known i.history.events.items) i.history.events.items i.present c.args.actor.now why c.self.invariant.0.kept none)
 
 pub index_mut-acting-requires : goal.index_mut-acting-requires
 index_mut-acting-requires g c =
     let i = c.self.inside in
-    let within = in_range (g.D.CallFs.disk i.disk) (place_of i.places) i.actors.items (known i.history.events.items) i.history.events.items i.present i.next_pid c.args.actor.now c.self.invariant c.in_ok-place.place c.in_ok-place.ensures.ok.0 in
+    let within = in_range (g.D.CallFs.disk i.disk) (place_of i.places) i.actors.items (known i.history.events.items) i.history.events.items i.present i.next_pid c.args.actor.now c.self.invariant.0 c.in_ok-place.place c.in_ok-place.ensures.ok.0 in
     omega (arith, i.actors.ok.0)
 
 -- the actor that steps
@@ -41,31 +45,57 @@ acting g c =
     let place = c.in_ok-place.place in
     let ok = c.in_ok-place.ensures.ok in
     stands_at (g.D.CallFs.disk i.disk) (place_of i.places) i.actors.items (known i.history.events.items) i.history.events.items i.present i.next_pid place c.args.actor.now c.index_mut-acting.result.now
-    c.self.invariant ok.0 (subst (λ (l : List Held). IsSomeAnd (slice_get l place) (λ x. x.ended ≡ None)) c.deref.ensures.value ok.1) c.index_mut-acting.ensures.value
+    c.self.invariant.0 ok.0 (subst (λ (l : List Held). IsSomeAnd (slice_get l place) (λ x. x.ended ≡ None)) c.deref.ensures.value ok.1) c.index_mut-acting.ensures.value
 
 pub act-requires-clause-may : goal.act-requires-clause-may
 act-requires-clause-may g c =
     let i = c.self.inside in
     let at = acting g (goal.at.act-requires-clause-may g c).After-index_mut-acting in
-    may_act (g.D.CallFs.disk i.disk) (place_of i.places) i.actors.items (known i.history.events.items) i.history.events.items i.present i.next_pid c.in_ok-place.place c.index_mut-acting.result.now c.self.invariant at.0
+    may_act (g.D.CallFs.disk i.disk) (place_of i.places) i.actors.items (known i.history.events.items) i.history.events.items i.present i.next_pid c.in_ok-place.place c.index_mut-acting.result.now c.self.invariant.0 at.0
 
 pub act-requires-clause-opens : goal.act-requires-clause-opens
 act-requires-clause-opens g c =
     let i = c.self.inside in
     let at = acting g (goal.at.act-requires-clause-opens g c).After-index_mut-acting in
-    may_end (g.D.CallFs.disk i.disk) (place_of i.places) i.actors.items (known i.history.events.items) i.history.events.items i.present i.next_pid c.in_ok-place.place c.index_mut-acting.result.now c.self.invariant at.0
+    may_end (g.D.CallFs.disk i.disk) (place_of i.places) i.actors.items (known i.history.events.items) i.history.events.items i.present i.next_pid c.in_ok-place.place c.index_mut-acting.result.now c.self.invariant.0 at.0
 
 pub invariant_of-self : goal.invariant_of-self
 invariant_of-self g c =
+    (rw (c.in_err-reserve.ensures.same) c.self.invariant.0, c.in_err-reserve.ensures.stays (living c.self.inside.actors.items) c.self.invariant.1)
+
+pub act-requires-clause-room : goal.act-requires-clause-room
+act-requires-clause-room g c = let room = c.in_ok-reserve.ensures.room in omega arith
+
+pub invariant_of-self-in_err-act : goal.invariant_of-self-in_err-act
+invariant_of-self-in_err-act g c =
     let i = c.self.inside in
     let x = c.index_mut-acting.result.now in
     let place = c.in_ok-place.place in
-    let at = acting g (goal.at.invariant_of-self g c).After-index_mut-acting in
+    let at = acting g (goal.at.invariant_of-self-in_err-act g c).After-index_mut-acting in
     let looked = c.in_err-act.ensures.looked in
     let disk = c.in_err-act.ensures.err in
-    let same = c.in_err-act.ensures.same in
-    rw (same, disk) (look_keeps (g.D.CallFs.disk i.disk) (place_of i.places) i.actors.items (known i.history.events.items) i.history.events.items i.present i.next_pid place x c.act.new.self
-    c.self.invariant at.0 looked.name looked.ended looked.descriptors (looked.follows at.0.member.actor.program at.0.member.actor.past at.0.member.follows))
+    let same = ap (λ (h : History). h.events.items) c.in_err-act.ensures.same ∙ c.in_ok-reserve.ensures.same in
+    let room = c.in_ok-reserve.ensures.stays (living i.actors.items) c.self.invariant.1 in (
+      rw (same, disk) (look_keeps (g.D.CallFs.disk i.disk) (place_of i.places) i.actors.items (known i.history.events.items) i.history.events.items i.present i.next_pid place x c.act.new.self
+          c.self.invariant.0 at.0 looked.name looked.ended looked.descriptors (looked.follows at.0.member.actor.program at.0.member.actor.past at.0.member.follows)),
+      rw (living_still i.actors.items place x c.act.new.self at.0.is looked.ended, c.in_err-act.ensures.same) room,
+    )
+
+-- what a step left, of the events that there were before room was made
+acted_of : (g : _) (c : In_ok-act g) → HasActed c.in_ok-act.field-0.ended (g.D.CallFs.disk c.self.inside.disk) (g.D.CallFs.disk c.act.new.disk)
+    c.index_mut-acting.result.now c.act.new.self c.self.inside.history.events.items c.act.new.history.events.items c.self.inside.present
+acted_of g c =
+    subst (λ (l : List Kept). HasActed c.in_ok-act.field-0.ended (g.D.CallFs.disk c.self.inside.disk) (g.D.CallFs.disk c.act.new.disk)
+    c.index_mut-acting.result.now c.act.new.self l c.act.new.history.events.items c.self.inside.present) c.in_ok-reserve.ensures.same c.in_ok-act.ensures.acted
+
+pub returns-in_err-reserve-clause-gone : goal.returns-in_err-reserve-clause-gone
+returns-in_err-reserve-clause-gone g c =
+    let i = c.self.inside in
+    let p = err_from_is_err_and c.from_residual-in_err-reserve.result c.from_residual-in_err-reserve.ensures.1 in
+    let ok = c.in_ok-place.ensures.ok in
+    let lives = subst (λ (l : List Held). IsSomeAnd (slice_get l c.in_ok-place.place) (λ x. x.ended ≡ None)) c.deref.ensures.value ok.1 in
+    rw (← c.self.view_is) (not_gone c.from_residual-in_err-reserve.result i.history.events.items c.args.actor.now (memory_other c.from_residual-in_err-reserve.result (p.1 ∙ ap (λ (why : WorldError). Err why) p.2))
+    (no_end (place_of i.places) i.actors.items (known i.history.events.items) i.history.events.items i.present c.args.actor.now c.in_ok-place.place c.self.invariant.0.kept ok.0 lives))
 
 pub returns-in_err-act-clause-gone : goal.returns-in_err-act-clause-gone
 returns-in_err-act-clause-gone g c =
@@ -74,28 +104,41 @@ returns-in_err-act-clause-gone g c =
     let ok = c.in_ok-place.ensures.ok in
     let lives = subst (λ (l : List Held). IsSomeAnd (slice_get l c.in_ok-place.place) (λ x. x.ended ≡ None)) c.deref.ensures.value ok.1 in
     rw (← c.self.view_is) (not_gone c.from_residual-in_err-act.result i.history.events.items c.args.actor.now (memory_other c.from_residual-in_err-act.result (p.1 ∙ ap (λ (why : WorldError). Err why) p.2))
-    (no_end (place_of i.places) i.actors.items (known i.history.events.items) i.history.events.items i.present c.args.actor.now c.in_ok-place.place c.self.invariant.kept ok.0 lives))
+    (no_end (place_of i.places) i.actors.items (known i.history.events.items) i.history.events.items i.present c.args.actor.now c.in_ok-place.place c.self.invariant.0.kept ok.0 lives))
 
 pub invariant_of-self-2 : goal.invariant_of-self-2
 invariant_of-self-2 g c =
     let i = c.self.inside in
     let at = acting g (goal.at.invariant_of-self-2 g c).After-index_mut-acting in
-    acted_keeps c.in_ok-act.field-0.ended (g.D.CallFs.disk i.disk) (g.D.CallFs.disk c.act.new.disk) (place_of i.places) i.actors.items i.history.events.items c.act.new.history.events.items i.present i.next_pid
-    c.in_ok-place.place c.index_mut-acting.result.now c.act.new.self c.self.invariant at.0 c.in_ok-act.ensures.acted
+    let acted = acted_of g (goal.at.invariant_of-self-2 g c).In_ok-act in
+    let len : c.len.result ≡ length i.actors.items = c.len.ensures ∙ i.actors.ok.0 in
+    let bound = living_set i.actors.items c.in_ok-place.place c.act.new.self in (
+      acted_keeps c.in_ok-act.field-0.ended (g.D.CallFs.disk i.disk) (g.D.CallFs.disk c.act.new.disk) (place_of i.places) i.actors.items i.history.events.items c.act.new.history.events.items i.present i.next_pid
+          c.in_ok-place.place c.index_mut-acting.result.now c.act.new.self c.self.invariant.0 at.0 acted,
+      c.in_ok-act.ensures.room (living (set i.actors.items c.in_ok-place.place c.act.new.self)) (room_less c.reserve.new.self (c.len.result + 1) (living (set i.actors.items c.in_ok-place.place c.act.new.self) + 1)
+          (omega (arith, len, bound)) c.in_ok-reserve.ensures.room),
+    )
 
 pub returns-clause-event : goal.returns-clause-event
 returns-clause-event g c =
     let i = c.self.inside in
     let at = acting g (goal.at.returns-clause-event g c).After-index_mut-acting in
+    let acted = acted_of g (goal.at.returns-clause-event g c).In_ok-act in
     rw (← c.self.view_is) (acted_step i.disk c.act.new.disk c.in_ok-act.field-0.ended (g.D.CallFs.disk i.disk) (g.D.CallFs.disk c.act.new.disk) i.history.events.items c.act.new.history.events.items i.present c.args.actor.now
-    c.index_mut-acting.result.now c.act.new.self at.1 c.in_ok-act.ensures.acted)
+    c.index_mut-acting.result.now c.act.new.self at.1 acted)
 
 pub returns-clause-goes_on : goal.returns-clause-goes_on
-returns-clause-goes_on g c = λ opening h.
+returns-clause-goes_on g c =
     let i = c.self.inside in
     let at = acting g (goal.at.returns-clause-goes_on g c).After-index_mut-acting in
-    rw (← c.self.view_is) (acted_goes_on opening c.in_ok-act.field-0.ended (g.D.CallFs.disk i.disk) (g.D.CallFs.disk c.act.new.disk) (place_of i.places) i.actors.items i.history.events.items c.act.new.history.events.items i.present h i.next_pid
-    c.in_ok-place.place c.index_mut-acting.result.now c.act.new.self c.self.invariant at.0 c.in_ok-act.ensures.acted)
+    let acted = acted_of g (goal.at.returns-clause-goes_on g c).In_ok-act in
+    let old = g.D.CallFs.disk i.disk in
+    let new = g.D.CallFs.disk c.act.new.disk in
+    let before = i.history.events.items in
+    let now_kept = c.act.new.history.events.items in
+    rw (← c.self.view_is) (goes_on old new before now_kept i.present i.present
+    (acted_leads_on c.in_ok-act.field-0.ended old new (place_of i.places) i.actors.items before now_kept i.present i.next_pid
+    c.in_ok-place.place c.index_mut-acting.result.now c.act.new.self c.self.invariant.0 at.0 acted))
 
 pub returns-clause-gone : goal.returns-clause-gone
 returns-clause-gone g c =
@@ -103,4 +146,4 @@ returns-clause-gone g c =
     let ok = c.in_ok-place.ensures.ok in
     let lives = subst (λ (l : List Held). IsSomeAnd (slice_get l c.in_ok-place.place) (λ x. x.ended ≡ None)) c.deref.ensures.value ok.1 in
     rw (← c.self.view_is) (not_gone (Ok c.in_ok-act.field-0) i.history.events.items c.args.actor.now (ok_other c.in_ok-act.field-0)
-    (no_end (place_of i.places) i.actors.items (known i.history.events.items) i.history.events.items i.present c.args.actor.now c.in_ok-place.place c.self.invariant.kept ok.0 lives))
+    (no_end (place_of i.places) i.actors.items (known i.history.events.items) i.history.events.items i.present c.args.actor.now c.in_ok-place.place c.self.invariant.0.kept ok.0 lives))

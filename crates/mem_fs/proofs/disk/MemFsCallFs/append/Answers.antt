@@ -1,6 +1,7 @@
 use Rattle.std.proofs.Common.{sym, ap, ◌∙◌, arith}
 use Rattle.std.proofs.lemmas.Result.{err_from_is_err_and}
-use Rattle.mem_fs.specs.MemDisk.{Planned, disk_of, open_at}
+use Rattle.mem_fs.specs.Tables.{at_number}
+use Rattle.mem_fs.specs.MemDisk.{Planned, disk_of}
 use Rattle.mem_fs.proofs.Steps.{changed-nothing}
 use Rattle.mem_fs.proofs.disk.MemFsCallFs.append.Goals as goal
 
@@ -10,4 +11,4 @@ returns-in_err-begin-clause-told c =
     let p = err_from_is_err_and c.from_residual.result c.from_residual.ensures.1 in
     let why = c.in_err-begin.ensures.fault in
     rw (p.1, p.2, why)
-    (0, (c.requires.fits, omega arith), ap (λ (m : Planned). disk_of m.held) c.self.view_is ∙ sym (changed-nothing (disk_of c.args.self.now.held) (open_at c.args.self.now.held.opens c.args.fd.0)))
+    (0, (c.requires.fits, omega arith), ap (λ (m : Planned). disk_of m.held) c.self.view_is ∙ sym (changed-nothing (disk_of c.args.self.now.held) (at_number c.args.self.now.held.opens c.args.fd.0)))

@@ -1,7 +1,8 @@
 use Rattle.std.proofs.Common.{ap, ◌∙◌}
 use Rattle.std.proofs.lemmas.Result.{on_ok_weaker}
 use Rattle.call_fs.specs.Apply.{changed, grown}
-use Rattle.mem_fs.specs.MemDisk.{Held, disk_of, open_at}
+use Rattle.mem_fs.specs.Tables.{at_number}
+use Rattle.mem_fs.specs.MemDisk.{Held, disk_of}
 use Rattle.mem_fs.proofs.Steps.{open_entry, sound-file_or, disk-changed}
 use Rattle.mem_fs.proofs.store.Store.append.Goals as goal
 
@@ -19,5 +20,5 @@ returns-clause-ok c =
     let f = grown c.args.now c.args.bytes.now in
     on_ok_weaker c.append.result
     (λ changes. disk-changed c.self.invariant c.append.new.files.items c.args.fd.0 c.opened-number.result f (rw (← c.self.view_is) at c.opened-number.ensures) changes
-    ∙ ap (λ (h : Held). changed (disk_of h) (open_at h.opens c.args.fd.0) f) c.self.view_is)
+    ∙ ap (λ (h : Held). changed (disk_of h) (at_number h.opens c.args.fd.0) f) c.self.view_is)
     c.append.ensures.ok

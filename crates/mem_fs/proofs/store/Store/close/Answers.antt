@@ -1,24 +1,25 @@
-use Rattle.std.proofs.Common.{nat_eq, ap, refl, ◌∙◌}
+use Rattle.std.proofs.Common.{ℕ, nat_eq, ap, refl, subst, ◌∙◌}
 use Rattle.call_fs.specs.declared.calls.CallData.TheVariants.{Close}
 use Rattle.call_fs.specs.declared.calls.Answer.TheVariants.{Done}
 use Rattle.call_fs.specs.Apply.{effect}
+use Rattle.mem_fs.specs.Tables.{at_number}
 use Rattle.mem_fs.specs.MemDisk.{Held, disk_of, closed}
-use Rattle.mem_fs.proofs.Uses.{opened_holds}
-use Rattle.mem_fs.proofs.Steps.{open_entry, number_of_open, sound-closed, files-same, disk-closed}
+use Rattle.mem_fs.proofs.Changes.{OpensGain}
+use Rattle.mem_fs.proofs.Steps.{open_entry, open_holds, open_on, sound-closed, files-same, disk-closed}
 use Rattle.mem_fs.proofs.store.Store.close.Goals as goal
 
 pub drop_open-requires-clause-there : goal.drop_open-requires-clause-there
 drop_open-requires-clause-there c = open_entry c.self.invariant c.args.fd.0 c.opened-number.result (rw (← c.self.view_is) at c.opened-number.ensures)
 
 pub drop_open-requires-clause-open : goal.drop_open-requires-clause-open
-drop_open-requires-clause-open c = opened_holds _ c.self.invariant c.args.fd.0 c.opened-number.result (number_of_open _ c.args.fd.0 c.opened-number.result (rw (← c.self.view_is) at c.opened-number.ensures))
+drop_open-requires-clause-open c = open_holds c.self.invariant c.args.fd.0 c.opened-number.result (rw (← c.self.view_is) at c.opened-number.ensures)
 
 pub invariant_of-self : goal.invariant_of-self
 invariant_of-self c =
-    let at_fd = number_of_open c.self.inside.opens.items c.args.fd.0 c.opened-number.result (rw (← c.self.view_is) at c.opened-number.ensures) in
+    let at = open_on (at_number c.self.inside.opens.items c.args.fd.0) c.opened-number.result (rw (← c.self.view_is) at c.opened-number.ensures) in
     sound-closed c.self.invariant c.drop_open.new.files.items c.remove.new.entries.items c.opened-number.result
     (open_entry c.self.invariant c.args.fd.0 c.opened-number.result (rw (← c.self.view_is) at c.opened-number.ensures))
-    c.remove.ensures.in_order (λ m. c.remove.ensures.count (λ e. nat_eq e.1 m) c.opened-number.result at_fd) c.drop_open.ensures
+    c.remove.ensures.in_order (subst (λ (n : ℕ). OpensGain c.remove.new.entries.items c.self.inside.opens.items n) at.2 (λ m. c.remove.ensures.count (λ e. nat_eq e.1.number m) at.0 at.1)) c.drop_open.ensures
 
 pub returns : goal.returns
 returns c =

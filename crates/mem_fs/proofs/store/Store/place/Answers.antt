@@ -1,6 +1,5 @@
 use Rattle.std.proofs.Common.{◌≡◌, ℕ, List, Some, ap, ◌∙◌, sym, subst}
 use Rattle.call_fs.specs.Disk.{File}
-use Rattle.mem_fs.specs.MemFile.{settled_file}
 use Rattle.mem_fs.specs.Tables.{at_name}
 use Rattle.mem_fs.specs.MemDisk.{Held, disk_of, Places, Changes, on_file}
 use Rattle.mem_fs.proofs.Uses.{named_entry}
@@ -15,12 +14,11 @@ replace-requires-clause-there c =
 pub invariant_of-self : goal.invariant_of-self
 invariant_of-self c =
     let found : at_name c.self.inside.names.items c.args.name.now ≡ Some c.in-Some.number = ap (λ (es : List (List ℕ × ℕ)). at_name es c.args.name.now) (sym c.deref.ensures.value) ∙ sym c.in-Some.ensures in
-    sound-file c.self.invariant c.replace.new.files.items c.in-Some.number (λ _. c.settled-file.result) (named_entry _ c.self.invariant c.args.name.now c.in-Some.number found) c.replace.ensures
+    sound-file c.self.invariant c.replace.new.files.items c.in-Some.number (λ _. c.in_ok-file.file) (named_entry _ c.self.invariant c.args.name.now c.in-Some.number found) c.replace.ensures
 
 pub returns-in-Some-clause-ok : goal.returns-in-Some-clause-ok
 returns-in-Some-clause-ok c =
     let found : at_name c.self.inside.names.items c.args.name.now ≡ Some c.in-Some.number = ap (λ (es : List (List ℕ × ℕ)). at_name es c.args.name.now) (sym c.deref.ensures.value) ∙ sym c.in-Some.ensures in
-    let file : c.settled-file.result ≡ settled_file c.args.bytes.now = c.settled-file.ensures ∙ ap settled_file c.in_ok-from_slice.ensures in
-    let changes = subst (λ (f : File). Changes c.self.inside.files.items c.replace.new.files.items c.in-Some.number (on_file (λ _. f))) file c.replace.ensures in
+    let changes = subst (λ (f : File). Changes c.self.inside.files.items c.replace.new.files.items c.in-Some.number (on_file (λ _. f))) c.in_ok-file.ensures c.replace.ensures in
     subst (λ (h : Held). Places (disk_of h) c.args.name.now c.args.bytes.now (disk_of (record { dirs = c.self.inside.dirs.items; names = c.self.inside.names.items; files = c.replace.new.files.items; opens = c.self.inside.opens.items }))) c.self.view_is
     (disk-replaced _ c.replace.new.files.items c.args.name.now c.args.bytes.now c.in-Some.number found (named_entry _ c.self.invariant c.args.name.now c.in-Some.number found) changes)

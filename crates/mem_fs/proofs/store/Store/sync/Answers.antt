@@ -1,6 +1,7 @@
 use Rattle.std.proofs.Common.{ap, ◌∙◌}
 use Rattle.call_fs.specs.Apply.{changed, synced}
-use Rattle.mem_fs.specs.MemDisk.{Held, disk_of, open_at}
+use Rattle.mem_fs.specs.Tables.{at_number}
+use Rattle.mem_fs.specs.MemDisk.{Held, disk_of}
 use Rattle.mem_fs.proofs.Steps.{open_entry, sound-file, disk-changed}
 use Rattle.mem_fs.proofs.store.Store.sync.Goals as goal
 
@@ -15,4 +16,4 @@ invariant_of-self c =
 pub returns : goal.returns
 returns c =
     disk-changed c.self.invariant c.sync.new.files.items c.args.fd.0 c.opened-number.result synced (rw (← c.self.view_is) at c.opened-number.ensures) c.sync.ensures
-    ∙ ap (λ (h : Held). changed (disk_of h) (open_at h.opens c.args.fd.0) synced) c.self.view_is
+    ∙ ap (λ (h : Held). changed (disk_of h) (at_number h.opens c.args.fd.0) synced) c.self.view_is

@@ -1,6 +1,6 @@
 use Rattle.std.proofs.Common.{◌≡◌, [], None, refl, sym, subst}
 use Rattle.queue_inject.specs.Inside.{machine_of}
-use Rattle.queue_inject.specs.Envelope.{todo_head}
+use Rattle.envelope_records.specs.Envelope.{todo_head}
 use Rattle.queue_inject.specs.Stands.{Stands, Reads, Ends}
 use Rattle.queue_inject.proofs.Kept.{stands_ended}
 use Rattle.queue_inject.proofs.injector.Injector.end.Goals as goal

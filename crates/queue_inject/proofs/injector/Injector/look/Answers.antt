@@ -1,15 +1,15 @@
 use Rattle.std.proofs.Common.{◌∙◌, ap, subst, sym, arith}
 use Rattle.std.specs.Prelude.{IsTrue}
 use Rattle.queue_inject.specs.Table.{asked, has_input}
-use Rattle.queue_inject.specs.Machine.{Machine, due_now, work_known}
+use Rattle.queue_inject.specs.Machine.{Machine, row_now, due_now, work_known}
 use Rattle.queue_inject.specs.Inside.{machine_of}
-use Rattle.queue_inject.proofs.Kept.{ended_by_row, ended_stays}
+use Rattle.queue_inject.proofs.Settled.{ended_by_row, ended_stays}
 use Rattle.queue_inject.proofs.injector.Injector.look.Goals as goal
 
 pub returns-clause-ended : goal.returns-clause-ended
 returns-clause-ended c = λ status e.
     let m : Machine = machine_of c.self.inside in
-    let at_end = ap (λ n. asked (work_known n) n.row) c.self.view_is ∙ e in (
+    let at_end = ap (λ n. asked (work_known n) (row_now n)) c.self.view_is ∙ e in (
       ap due_now (sym c.self.view_is) ∙ ended_by_row m status at_end,
       ended_by_row (record m { present = c.args.now; ready = c.args.ready }) status at_end,
     )

@@ -1,6 +1,6 @@
 use Rattle.std.proofs.Common.{◌≡◌, [], ◌∷◌, ◌++◌, None, sym, ap, ◌∙◌}
 use Rattle.std.proofs.lemmas.List.{append_assoc}
-use Rattle.call_fs.specs.Decimal.{digits}
+use Rattle.mail_bytes.specs.Decimal.{digits}
 use Rattle.queue_inject.proofs.Feeding.{reads_begun}
 use Rattle.queue_inject.proofs.intake.Intake.end.Goals as goal
 

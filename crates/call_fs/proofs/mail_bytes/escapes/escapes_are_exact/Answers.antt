@@ -1,8 +1,0 @@
-use Rattle.call_fs.proofs.Escaped.{unescaped-escaped, no_bad}
-use Rattle.call_fs.proofs.mail_bytes.escapes.escapes_are_exact.Goals as goal
-
-pub returns-clause-back : goal.returns-clause-back
-returns-clause-back c = unescaped-escaped
-
-pub returns-clause-good : goal.returns-clause-good
-returns-clause-good c = no_bad

@@ -1,0 +1,8 @@
+use Rattle.mail_world.proofs.Histories.{led_safe}
+use Rattle.mail_world.proofs.world.World.history.Goals as goal
+
+pub returns-clause-happened : goal.returns-clause-happened
+returns-clause-happened g c =
+    let w = c.args.self.now in
+    led_safe c.headline.ensures (g.D.CallFs.disk w.disk) w.events w.present
+    (rw (← c.self.view_is) c.self.invariant.0.led)

@@ -1,0 +1,24 @@
+use Rattle.std.proofs.Common.{ap, ◌∙◌}
+use Rattle.std.proofs.lemmas.Result.{on_ok_weaker}
+use Rattle.call_fs.specs.Apply.{changed, overwritten}
+use Rattle.mem_fs.specs.Tables.{at_number}
+use Rattle.mem_fs.specs.MemDisk.{Held, disk_of}
+use Rattle.mem_fs.proofs.Steps.{open_entry, sound-file_or, disk-changed}
+use Rattle.mem_fs.proofs.store.Store.write_at.Goals as goal
+
+pub overwrite-requires-clause-there : goal.overwrite-requires-clause-there
+overwrite-requires-clause-there c = open_entry c.self.invariant c.args.fd.0 c.opened-number.result (rw (← c.self.view_is) at c.opened-number.ensures)
+
+pub invariant_of-self : goal.invariant_of-self
+invariant_of-self c =
+    sound-file_or c.self.invariant c.overwrite.new.files.items c.opened-number.result (overwritten c.args.now c.args.at c.args.bytes.now) c.overwrite.result
+    (open_entry c.self.invariant c.args.fd.0 c.opened-number.result (rw (← c.self.view_is) at c.opened-number.ensures))
+    c.overwrite.ensures.ok c.overwrite.ensures.err
+
+pub returns-clause-ok : goal.returns-clause-ok
+returns-clause-ok c =
+    let f = overwritten c.args.now c.args.at c.args.bytes.now in
+    on_ok_weaker c.overwrite.result
+    (λ changes. disk-changed c.self.invariant c.overwrite.new.files.items c.args.fd.0 c.opened-number.result f (rw (← c.self.view_is) at c.opened-number.ensures) changes
+    ∙ ap (λ (h : Held). changed (disk_of h) (at_number h.opens c.args.fd.0) f) c.self.view_is)
+    c.overwrite.ensures.ok

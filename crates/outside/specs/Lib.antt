@@ -1,0 +1,6 @@
+-- bytes that come in and go out
+pub mod Streams
+-- children and their posts
+pub mod Children
+-- forms in memory of what lies outside
+pub mod Forms

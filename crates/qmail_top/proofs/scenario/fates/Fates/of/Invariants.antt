@@ -1,6 +1,0 @@
-use Rattle.std.proofs.Common.{◌≡◌, List, ℕ, take, reverse}
-use Rattle.qmail_top.specs.Fates.{fate_of, fate_in}
-use Rattle.qmail_top.proofs.scenario.fates.Fates.of.Given as goal
-
-abbrev pub invariant-loop-event : goal.invariant-loop-event
-invariant-loop-event l = (name : List ℕ) → fate_of l.fates name ≡ fate_in (reverse (take l.event-index l.events)) name

@@ -1,6 +1,0 @@
-use Rattle.mem_fs.specs.MemDisk.{disk_of}
-use Rattle.qmail_top.proofs.Gathered.{Splitting}
-use Rattle.qmail_top.proofs.scenario.numbers.gather_splits.Given as goal
-
-abbrev pub invariant-loop-split : goal.invariant-loop-split
-invariant-loop-split l = Splitting (disk_of l.disk.held) l.dir l.split l.fn.numbers.items l.numbers.items

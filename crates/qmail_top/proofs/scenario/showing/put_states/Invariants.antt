@@ -1,8 +1,0 @@
-use Rattle.std.proofs.Common.{◌≡◌, ◌++◌, take}
-use Rattle.std.specs.Prelude.{flat_map}
-use Rattle.mem_fs.specs.MemDisk.{disk_of}
-use Rattle.qmail_top.specs.Shown.{number_line}
-use Rattle.qmail_top.proofs.scenario.showing.put_states.Given as goal
-
-abbrev pub invariant-loop-number : goal.invariant-loop-number
-invariant-loop-number l = l.text.items ≡ l.initial.text.items ++ flat_map (number_line (disk_of l.disk.held)) (take l.number-index l.numbers)

@@ -1,0 +1,274 @@
+-- What a script's history keeps beside being legal: finitely many names, and what each living actor needs open.
+use Rattle.std.proofs.Common.{◌≡◌, ◌≢◌, ◌⊎◌, inl, inr, ⊎_elim, ℕ, ◌≤◌, List, [], ◌∷◌, Bool, if◌then◌else◌, Option, Some, None, refl, sym, ap, ◌∙◌, subst, arith}
+use Rattle.call_fs.specs.declared.calls.CallData.{CallData}
+use Rattle.call_fs.specs.declared.calls.Told.{Told}
+use Rattle.call_fs.specs.declared.program.Ready.{Ready}
+use Rattle.call_fs.specs.Disk.{Disk, IsMoment}
+use Rattle.call_fs.specs.Apply.{Fits}
+use Rattle.call_fs.specs.Program.{Due, Own}
+use Rattle.call_fs.specs.Program.Did.{Called}
+use Rattle.call_fs.specs.Maps.{put_at}
+use Rattle.call_fs.proofs.Maps.{put_at_cases}
+use Rattle.queue_inject.specs.declared.row.Row.{Row}
+use Rattle.queue_inject.specs.declared.row.Row.TheVariants as at
+use Rattle.queue_inject.specs.Table.{row_after}
+use Rattle.mail_world.specs.declared.event.Program.{Program}
+use Rattle.mail_world.specs.declared.event.Program.TheVariants.{Injector}
+use Rattle.mail_world.specs.History.{Event, Actor, Life, State, Legal, MayRead, next_of, latest, start_of, after, happens, called, finished, unless_by, shut_by}
+use Rattle.mail_world.specs.History.Event.{Start, Call, End, Stop, Moment}
+use Rattle.mail_world.specs.History.Life.{Alive, Over, Stopped}
+use Rattle.mail_world.specs.Inside.{IsOwn, HasRow, HasNeeds}
+use Rattle.mail_world.specs.World.{input_ready}
+use Rattle.mail_world.proofs.Opens.{IsPlain, MayDo, opens_by, has_made, needs_stay, needs_move, needs_none, next_may}
+use Rattle.mail_world.proofs.Tests.{other_text}
+use Rattle.scenario.specs.Played.{Answers, DoesNext, DoesAlive, DoesStep, StepsTo}
+use Rattle.scenario.specs.Played.Outcome.{Happens}
+use Rattle.scenario.proofs.FiniteDisks.{IsFinite, finite_after, finite_shut}
+
+pub record Carries (s : State) : Type 0 where
+  pub finite : IsFinite s.disk
+  pub needs : (a : List ℕ) (x : Actor) → s.actors a ≡ Some x → x.life ≡ Alive
+      → HasNeeds s.disk s.holder a x.program x.past
+  pub in_order : (a : List ℕ) (x : Actor) → s.actors a ≡ Some x → latest x.program x.past ≤ s.now
+
+-- A step of a living actor: a call with an answer, or its end.
+abbrev pub HasCalled : State → List ℕ → Actor → Event → Type 0
+HasCalled s a x e =
+    (c : CallData) × (got : Told) × (next_of x.program x.past s.now input_ready ≡ Due.File c)
+    × Answers s.disk c got × (e ≡ Call a s.now input_ready c got 0)
+
+abbrev pub HasEnded : State → List ℕ → Actor → Event → Type 0
+HasEnded s a x e =
+    (status : ℕ) × (next_of x.program x.past s.now input_ready ≡ Due.Ended status)
+    × (e ≡ End a s.now input_ready status)
+
+pub record HasStepped (s : State) (a : List ℕ) (e : Event) : Type 0 where
+  pub actor : Actor
+  pub is : s.actors a ≡ Some actor
+  pub alive : actor.life ≡ Alive
+  pub did : HasCalled s a actor e ⊎ HasEnded s a actor e
+
+same_event : (e f : Event) → Happens e ≡ Happens f → e ≡ f
+same_event e f h = cc
+
+stepped_due : (s : State) (a : List ℕ) (x : Actor) (due : Due) (e : Event)
+    → next_of x.program x.past s.now input_ready ≡ due → DoesNext s a due (Happens e)
+    → HasCalled s a x e ⊎ HasEnded s a x e
+stepped_due s a x (Due.File c) e next h = inl (c, h.0, next, h.1, same_event e _ h.2)
+stepped_due s a x (Due.Ended status) e next h = inr (status, next, same_event e _ h)
+stepped_due s a x (Due.Take port) e next h = absurd (cc)
+stepped_due s a x (Due.Give port bytes) e next h = absurd (cc)
+stepped_due s a x (Due.Start child) e next h = absurd (cc)
+stepped_due s a x (Due.Command bytes) e next h = absurd (cc)
+stepped_due s a x Due.Wait e next h = absurd (cc)
+
+stepped_life : (s : State) (a : List ℕ) (x : Actor) (life : Life) (e : Event) → s.actors a ≡ Some x → x.life ≡ life
+    → DoesAlive s a x life (Happens e) → HasStepped s a e
+stepped_life s a x Alive e is alive h = record {
+  actor = x;
+  is = is;
+  alive = alive;
+  did = stepped_due s a x (next_of x.program x.past s.now input_ready) e refl h;
+}
+stepped_life s a x (Over status) e is over h = absurd (cc)
+stepped_life s a x Stopped e is over h = absurd (cc)
+
+stepped_by : (s : State) (a : List ℕ) (o : Option Actor) (e : Event) → s.actors a ≡ o → DoesStep s a o (Happens e)
+    → HasStepped s a e
+stepped_by s a None e is h = absurd (cc)
+stepped_by s a (Some x) e is h = stepped_life s a x x.life e is refl h
+
+pub has_stepped : (s : State) (a : List ℕ) (e : Event) → StepsTo s a (Happens e) → HasStepped s a e
+has_stepped s a e h = stepped_by s a (s.actors a) e refl h
+
+-- An actor that was put at a name, or another one.
+put_actor : (actors : List ℕ → Option Actor) (a b : List ℕ) (x y : Actor) → put_at actors a (Some x) b ≡ Some y
+    → ((b ≡ a) × (x ≡ y)) ⊎ ((b ≢ a) × (actors b ≡ Some y))
+put_actor actors a b x y is = ⊎_elim
+    (λ h. inl (h.0, let both : ◌≡◌ {A = Option Actor} (Some x) (Some y) = sym h.1 ∙ is in cc))
+    (λ h. inr (h.0, sym h.1 ∙ is))
+    (put_at_cases actors a (Some x) b)
+
+module _ (s : State) (a : List ℕ) (x : Actor) (carries : Carries s) (is : s.actors a ≡ Some x) where
+  called_carries : (ready : Ready) (c : CallData) (got : Told) → x.life ≡ Alive → IsPlain c
+      → Fits s.disk c got.answer 0 → Carries (called s a s.now ready c got 0 (Some x))
+  called_carries ready c got alive none fits =
+      let t = called s a s.now ready c got 0 (Some x) in
+      let own : Own = record { read = s.now; ready = ready; did = Called c got.answer got.bytes } in
+      let opens = opens_by s.disk s.now c got.answer 0 s.holder a none fits in
+      let stay = λ (b : List ℕ) (y : Actor) (h : HasNeeds s.disk s.holder b y.program y.past).
+      needs_stay s.disk t.disk s.holder t.holder a b got.answer y.program y.past opens h in
+      record {
+        finite = finite_after s.disk s.now c got.answer 0 carries.finite;
+        needs = λ b y here lives. ⊎_elim
+            (λ h.
+            subst (λ (q : List ℕ). HasNeeds t.disk t.holder q y.program y.past) (sym h.0)
+            (subst (λ (z : Actor). HasNeeds t.disk t.holder a z.program z.past) h.1
+            (needs_move t.disk t.holder a x.program x.past s.now ready c got (stay a x (carries.needs a x is alive))
+            (has_made s.disk t.disk s.holder t.holder a got.answer opens))))
+            (λ h. stay b y (carries.needs b y h.1 lives))
+            (put_actor s.actors a b (record { program = x.program; past = own ∷ x.past; life = x.life }) y here);
+        in_order = λ b y here. ⊎_elim
+            (λ h. subst (λ (z : Actor). latest z.program z.past ≤ s.now) h.1 (omega arith))
+            (λ h. carries.in_order b y h.1)
+            (put_actor s.actors a b (record { program = x.program; past = own ∷ x.past; life = x.life }) y here);
+      }
+
+-- what another actor has open stays so at an end
+others_open : {X : Type 0} (a b : List ℕ) (o : Option (List ℕ)) (file : Option X) → b ≢ a → o ≡ Some b
+    → unless_by a o file ≡ file
+others_open a b o file apart is =
+    subst (λ (o : Option (List ℕ)). unless_by a o file ≡ file) (sym is)
+    (ap (λ (t : Bool). if t then None else file) (other_text b a apart))
+
+own_after : (d : Disk) (h : ℕ → Option (List ℕ)) (a b : List ℕ) (fd : ℕ) → b ≢ a → IsOwn d h b fd
+    → IsOwn (shut_by a h d) (λ fd. unless_by a (h fd) (h fd)) b fd
+own_after d h a b fd apart own = record {
+  held = others_open a b (h fd) (h fd) apart own.held ∙ own.held;
+  file = own.file;
+  is = others_open a b (h fd) (d.opens fd) apart own.held ∙ own.is;
+  created = own.created;
+}
+
+row_after_end : (d : Disk) (h : ℕ → Option (List ℕ)) (a b : List ℕ) (row : Row) → b ≢ a → HasRow d h b row
+    → HasRow (shut_by a h d) (λ fd. unless_by a (h fd) (h fd)) b row
+row_after_end d h a b (at.LinkMess seq n fd) apart own = own_after d h a b fd.0 apart own
+row_after_end d h a b (at.UnlinkPid seq n fd) apart own = own_after d h a b fd.0 apart own
+row_after_end d h a b (at.AppendMess n fd done) apart own = own_after d h a b fd.0 apart own
+row_after_end d h a b (at.SyncMess n fd) apart own = own_after d h a b fd.0 apart own
+row_after_end d h a b (at.AppendTodo n fd done) apart own = own_after d h a b fd.0 apart own
+row_after_end d h a b (at.SyncTodo n fd) apart own = own_after d h a b fd.0 apart own
+row_after_end d h a b (at.Create seq) apart own = tt
+row_after_end d h a b (at.CreateIntd n) apart own = tt
+row_after_end d h a b (at.LinkTodo n) apart own = tt
+row_after_end d h a b (at.CleanIntd n status) apart own = tt
+row_after_end d h a b (at.CleanMess n status) apart own = tt
+row_after_end d h a b at.Queued apart own = tt
+row_after_end d h a b (at.Failed status) apart own = tt
+
+needs_after_end : (d : Disk) (h : ℕ → Option (List ℕ)) (a b : List ℕ) (program : Program) (past : List Own) → b ≢ a
+    → HasNeeds d h b program past → HasNeeds (shut_by a h d) (λ fd. unless_by a (h fd) (h fd)) b program past
+needs_after_end d h a b (Injector args) past apart own = row_after_end d h a b (row_after args past) apart own
+
+finished_carries : (s : State) (a : List ℕ) (x : Actor) (life : Life) → life ≢ Alive → Carries s → s.actors a ≡ Some x
+    → Carries (finished s a life (Some x))
+finished_carries s a x life over carries is =
+    let gone : Actor = record { program = x.program; past = x.past; life = life } in
+    record {
+      finite = finite_shut a s.holder s.disk carries.finite;
+      needs = λ b y here lives. ⊎_elim
+          (λ h. absurd (over (ap (λ (z : Actor). z.life) h.1 ∙ lives)))
+          (λ h. needs_after_end s.disk s.holder a b y.program y.past h.0 (carries.needs b y h.1 lives))
+          (put_actor s.actors a b gone y here);
+      in_order = λ b y here. ⊎_elim
+          (λ h. subst (λ (z : Actor). latest z.program z.past ≤ s.now) h.1 (carries.in_order a x is))
+          (λ h. carries.in_order b y h.1)
+          (put_actor s.actors a b gone y here);
+    }
+
+started_carries : (s : State) (a : List ℕ) (program : Program) → start_of program ≤ s.now → Carries s
+    → Carries (happens s (Start a program))
+started_carries s a program begun carries =
+    let new : Actor = record { program = program; past = []; life = Alive } in
+    record {
+      finite = carries.finite;
+      needs = λ b y here lives. ⊎_elim
+          (λ h.
+          subst (λ (z : Actor). HasNeeds s.disk s.holder b z.program z.past) h.1
+          (needs_none s.disk s.holder b program))
+          (λ h. carries.needs b y h.1 lives)
+          (put_actor s.actors a b new y here);
+      in_order = λ b y here. ⊎_elim
+          (λ h. subst (λ (z : Actor). latest z.program z.past ≤ s.now) h.1 begun)
+          (λ h. carries.in_order b y h.1)
+          (put_actor s.actors a b new y here);
+    }
+
+-- A legal history that keeps this.
+pub record Goes (d : Disk) (h : List Event) : Type 0 where
+  pub legal : Legal d h
+  pub carries : Carries (after d h)
+
+may_read : (s : State) (a : List ℕ) (x : Actor) → Carries s → s.actors a ≡ Some x → x.life ≡ Alive → MayRead s a x s.now
+may_read s a x carries is alive = record {
+  is = is;
+  alive = alive;
+  no_earlier = carries.in_order a x is;
+  no_later = omega arith;
+  no_stall = omega arith;
+}
+
+goes_step : (d : Disk) (h : List Event) (a : List ℕ) (e : Event) (x : Actor) → Goes d h
+    → (after d h).actors a ≡ Some x → x.life ≡ Alive
+    → HasCalled (after d h) a x e ⊎ HasEnded (after d h) a x e → Goes d (e ∷ h)
+goes_step d h a e x so is alive (inl (c, got, due, given, same)) =
+    let s = after d h in
+    let carries = so.carries in
+    let f : Event = Call a s.now input_ready c got 0 in
+    let may : MayDo s.disk (Due.File c) =
+    subst (MayDo s.disk) due
+    (next_may s.disk s.holder a x.program x.past s.now input_ready (carries.needs a x is alive)) in
+    subst (λ (e : Event). Goes d (e ∷ h)) (sym same) (record {
+      legal = (
+        so.legal,
+        record {
+          actor = x;
+          reads = may_read s a x carries is alive;
+          due = due;
+          fits = given.fits;
+          bytes = given.bytes;
+        },
+      );
+      carries =
+          subst (λ (o : Option Actor). Carries (called s a s.now input_ready c got 0 o)) (sym is)
+          (called_carries s a x carries is input_ready c got alive may.1 given.fits);
+    })
+goes_step d h a e x so is alive (inr (status, due, same)) =
+    let s = after d h in
+    let carries = so.carries in
+    subst (λ (e : Event). Goes d (e ∷ h)) (sym same) (record {
+      legal = (so.legal, record { actor = x; reads = may_read s a x carries is alive; due = due });
+      carries =
+          subst (λ (o : Option Actor). Carries (finished s a (Over status) o)) (sym is)
+          (finished_carries s a x (Over status) (λ e. absurd (cc)) carries is);
+    })
+
+-- each step keeps it
+pub goes_on : (d : Disk) (h : List Event) (a : List ℕ) (e : Event) → Goes d h → StepsTo (after d h) a (Happens e)
+    → Goes d (e ∷ h)
+goes_on d h a e so steps =
+    let one = has_stepped (after d h) a e steps in
+    goes_step d h a e one.actor so one.is one.alive one.did
+
+-- and each start
+pub goes_started : (d : Disk) (h : List Event) (a : List ℕ) (program : Program) → Goes d h
+    → (after d h).actors a ≡ None → start_of program ≤ (after d h).now → Goes d (Start a program ∷ h)
+goes_started d h a program so new begun = record {
+  legal = (so.legal, record { new = new });
+  carries = started_carries (after d h) a program begun so.carries;
+}
+
+-- and each stop
+pub goes_stopped : (d : Disk) (h : List Event) (a : List ℕ) (x : Actor) → Goes d h → (after d h).actors a ≡ Some x
+    → x.life ≡ Alive → Goes d (Stop a ∷ h)
+goes_stopped d h a x so is alive =
+    let s = after d h in
+    record {
+      legal = (so.legal, record { actor = x; is = is; alive = alive });
+      carries = subst (λ (o : Option Actor). Carries (finished s a Stopped o)) (sym is)
+          (finished_carries s a x Stopped (λ e. absurd (cc)) so.carries is);
+    }
+
+-- and each moment
+pub goes_moment : (d : Disk) (h : List Event) (m : ℕ) → Goes d h → IsMoment m → (after d h).now ≤ m
+    → Goes d (Moment m ∷ h)
+goes_moment d h m so moment later =
+    let carries = so.carries in
+    record {
+      legal = (so.legal, record { moment = moment; no_earlier = later });
+      carries = record {
+        finite = carries.finite;
+        needs = carries.needs;
+        in_order = λ a x is. let before = carries.in_order a x is in omega arith;
+      };
+    }

@@ -1,0 +1,66 @@
+-- What holds or doesn't: tests of numbers, of options and of lists.
+use Rattle.std.proofs.Common.{◌≡◌, ◌⊎◌, inl, inr, ⊎_elim, ℕ, ◌≤◌, List, [], ◌∷◌, All, Contains, Bool, true, false, Option, Some, None, IsSome, refl, arith}
+use Rattle.std.proofs.lemmas.Bool.{cases_lt}
+use Rattle.std.proofs.lemmas.List.Elements.{All-nil, All-cons, All-head, All-tail}
+use Rattle.mail_world.proofs.Tests.{text_cases}
+use Rattle.scenario.proofs.InOrder.{contains_among, among_contains}
+
+-- it holds, or it doesn't
+abbrev pub Decided : Type 0 → Type 0
+Decided P = P ⊎ (¬ P)
+
+pub both : {P Q : Type 0} → Decided P → Decided Q → Decided (P × Q)
+both p q =
+    ⊎_elim
+    (λ holds. ⊎_elim (λ too. inl (holds, too)) (λ fails. inr (λ h. fails h.1)) q)
+    (λ fails. inr (λ h. fails h.0))
+    p
+
+pub neither : {P : Type 0} → Decided P → Decided (¬ P)
+neither p = ⊎_elim (λ holds. inr (λ fails. fails holds)) (λ fails. inl fails) p
+
+pub either : {P Q : Type 0} → Decided P → Decided Q → Decided (P ⊎ Q)
+either p q =
+    ⊎_elim
+    (λ holds. inl (inl holds))
+    (λ fails. ⊎_elim (λ holds. inl (inr holds)) (λ too. inr (λ h. ⊎_elim fails too h)) q)
+    p
+
+pub is_true : (b : Bool) → Decided (b ≡ true)
+is_true true = inl refl
+is_true false = inr (λ e. absurd (cc))
+
+pub up_to : (low high : ℕ) → Decided (low ≤ high)
+up_to low high = ⊎_elim (λ above. inr (λ h. omega arith)) (λ h. inl h) (cases_lt high low)
+
+pub same_text : (x y : List ℕ) → Decided (x ≡ y)
+same_text x y = ⊎_elim (λ h. inl h.0) (λ h. inr h.0) (text_cases x y)
+
+pub some_or_none : {X : Type 0} (o : Option X) → (o ≡ None) ⊎ IsSome o
+some_or_none None = inl refl
+some_or_none (Some x) = inr refl
+
+pub is_none : {X : Type 0} (o : Option X) → Decided (o ≡ None)
+is_none None = inl refl
+is_none (Some x) = inr (λ e. absurd (cc))
+
+pub is_some : {X : Type 0} (o : Option X) → Decided (IsSome o)
+is_some None = inr (λ e. absurd (cc))
+is_some (Some x) = inl refl
+
+pub each : {X : Type 0} (P : X → Type 0) → ((x : X) → Decided (P x)) → (xs : List X) → Decided (All P xs)
+each P tells [] = inl (All-nil P)
+each P tells (x ∷ xs) = ⊎_elim
+    (λ h. inl (All-cons P x xs h.0 h.1))
+    (λ fails. inr (λ all. fails (All-head P x xs all, All-tail P x xs all)))
+    (both (tells x) (each P tells xs))
+
+pub listed : {X : Type 0} → ((x y : X) → Decided (x ≡ y)) → (xs : List X) (x : X) → Decided (Contains xs x)
+listed same [] x = inr (λ here. contains_among [] x here)
+listed same (y ∷ xs) x = ⊎_elim
+    (λ e. inl (among_contains (y ∷ xs) x (inl e)))
+    (λ differs. ⊎_elim
+    (λ here. inl (among_contains (y ∷ xs) x (inr (contains_among xs x here))))
+    (λ none. inr (λ here. ⊎_elim differs (λ later. none (among_contains xs x later)) (contains_among (y ∷ xs) x here)))
+    (listed same xs x))
+    (same x y)

@@ -1,0 +1,69 @@
+-- The fates of the events that a world kept, one event after the other.
+use Rattle.std.proofs.Common.{◌≡◌, ◌≢◌, ℕ, ◌+◌, ◌<◌, List, [], ◌∷◌, ◌++◌, length, get_or, take, reverse, Bool, true, false, Some, sym, ap, ◌∙◌, ⊎_elim, bytes_eq, nat_cmp}
+use Rattle.std.specs.Prelude.{if◌then◌else◌}
+use Rattle.std.specs.Option.{unwrap_or}
+use Rattle.std.proofs.lemmas.List.{take_more, reverse-append}
+use Rattle.std.proofs.lemmas.Map.Text.{is_eq-slice_cmp}
+use Rattle.std.specs.BTreeMap.{BTreeMap, UpdatesBy, get_by, is_at}
+use Rattle.std.specs.Map.{KeepsOthers, IsKeyTest, AreApart}
+use Rattle.std.specs.Ordering.{eq_by_cmp}
+use Rattle.std.specs.Cmp.Lexicographic.{slice_cmp}
+use Rattle.call_fs.specs.Maps.{put_at}
+use Rattle.mail_world.specs.declared.event.Event.{Event as Kept}
+use Rattle.mail_world.specs.declared.event.Event.TheVariants as kept
+use Rattle.call_fs.proofs.Maps.{put_at_cases, put_at_same, put_at_other}
+use Rattle.mail_world.proofs.Tests.{text_cases, other_text}
+use Rattle.scenario.specs.declared.fates.Fate.{Fate}
+use Rattle.scenario.specs.declared.fates.Life.TheVariants as told
+use Rattle.scenario.specs.Fates.{no_fate, queues, accepted, left_as, fate_by, fate_in}
+
+-- what a map holds of a text
+abbrev found : {K : Type 0} → (K → List ℕ) → BTreeMap K Fate → List ℕ → Fate
+found text m q = unwrap_or (get_by (λ k. slice_cmp nat_cmp q (text k)) m) no_fate
+
+-- two equal texts
+same_texts : (q k : List ℕ) → bytes_eq q k ≡ true → q ≡ k
+same_texts q k h = ⊎_elim (λ f. f.0) (λ f. absurd (cc (sym h ∙ f.1))) (text_cases q k)
+
+pub fate_put : {K : Type 0} (text : K → List ℕ) (m n : BTreeMap K Fate) (key : K) (name : List ℕ) (fate : Fate)
+    → UpdatesBy (λ x y. slice_cmp nat_cmp (text x) (text y)) (λ k. slice_cmp nat_cmp (text key) (text k)) m n (Some fate)
+    → text key ≡ name → (q : List ℕ) → found text n q ≡ put_at (found text m) name fate q
+unfolding KeepsOthers
+fate_put {K} text m n key name fate updates is q = ⊎_elim
+    (λ f. ap (found text n) (f.0 ∙ sym is) ∙ ap (λ o. unwrap_or o no_fate) updates.1 ∙ sym (ap (put_at (found text m) name fate) f.0 ∙ put_at_same (found text m) name fate))
+    (λ f. ap (λ o. unwrap_or o no_fate) (updates.3 (is_at (λ k. slice_cmp nat_cmp q (text k))) tests (apart f.0)) ∙ sym (put_at_other (found text m) name fate q f.0))
+    (text_cases q name) where
+      tests : IsKeyTest (eq_by_cmp (λ x y. slice_cmp nat_cmp (text x) (text y))) (is_at (λ k. slice_cmp nat_cmp q (text k)))
+      tests x y h = ap (λ (a : List ℕ). is_at (λ k. slice_cmp nat_cmp a (text k)) y) (same_texts q (text x) (sym (is_eq-slice_cmp q (text x)) ∙ h))
+
+      apart : q ≢ name → AreApart (is_at (λ k. slice_cmp nat_cmp (text key) (text k))) (is_at (λ k. slice_cmp nat_cmp q (text k)))
+      apart other k h = is_eq-slice_cmp q (text k) ∙ other_text q (text k) (λ e. other (e ∙ sym (same_texts (text key) (text k) (sym (is_eq-slice_cmp (text key) (text k)) ∙ h)) ∙ is))
+
+-- an event does the same to the same fates
+put_alike : (f g : List ℕ → Fate) (a : List ℕ) (change : Fate → Fate) → ((q : List ℕ) → f q ≡ g q) → (q : List ℕ)
+    → put_at f a (change (f a)) q ≡ put_at g a (change (g a)) q
+put_alike f g a change h q = ⊎_elim
+    (λ w. w.1 ∙ ap change (h a) ∙ sym (ap (put_at g a (change (g a))) w.0 ∙ put_at_same g a (change (g a))))
+    (λ w. w.1 ∙ h q ∙ sym (put_at_other g a (change (g a)) q w.0))
+    (put_at_cases f a (change (f a)) q)
+
+queued_alike : (t : Bool) (f g : List ℕ → Fate) (a : List ℕ) → ((q : List ℕ) → f q ≡ g q) → (q : List ℕ)
+    → (if t then put_at f a (accepted (f a)) else f) q ≡ (if t then put_at g a (accepted (g a)) else g) q
+queued_alike true f g a h q = put_alike f g a accepted h q
+queued_alike false f g a h q = h q
+
+by_alike : (event : Kept) (f g : List ℕ → Fate) → ((q : List ℕ) → f q ≡ g q) → (q : List ℕ) → fate_by event f q ≡ fate_by event g q
+by_alike (kept.Start a program) f g h q = h q
+by_alike (kept.Call a read ready call told) f g h q = queued_alike (queues call told.answer) f g a h q
+by_alike (kept.End a read ready status) f g h q = put_alike f g a (left_as (told.Ended status)) h q
+by_alike (kept.Stop a) f g h q = put_alike f g a (left_as told.Stopped) h q
+by_alike (kept.Moment m) f g h q = h q
+
+-- the fates after one event more
+pub fates_more : (events : List Kept) (i : ℕ) (event : Kept) (old new : List ℕ → Fate) → i < length events → event ≡ get_or events i event
+    → ((q : List ℕ) → old q ≡ fate_in (reverse (take i events)) q) → ((q : List ℕ) → new q ≡ fate_by event old q)
+    → (q : List ℕ) → new q ≡ fate_in (reverse (take (i + 1) events)) q
+fates_more events i event old new inside is before by q =
+    let grown : reverse (take (i + 1) events) ≡ event ∷ reverse (take i events) =
+    ap reverse (take_more events i event inside ∙ ap (λ e. take i events ++ e ∷ []) (sym is)) ∙ reverse-append (take i events) (event ∷ []) in
+    by q ∙ by_alike event old (fate_in (reverse (take i events))) before q ∙ ap (λ l. fate_in l q) (sym grown)

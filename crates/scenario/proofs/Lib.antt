@@ -1,0 +1,70 @@
+-- texts cut at a byte
+pub mod Cuts
+-- words, and the parts of a mail's line
+pub mod Words
+-- names of actors
+pub mod ActorNames
+-- lines that start a mail
+pub mod MailLines
+-- how lines begin
+pub mod LineHeads
+-- the lines of a script
+pub mod Scripts
+-- the names of a directory, one after the other
+pub mod NamesAfter
+-- what is printed
+pub mod Printed
+-- the directories of a disk
+pub mod Dirs
+-- a step of a world, as a step of a script
+pub mod ScriptSteps
+-- the steps of a run
+pub mod ScriptRuns
+-- the lines of a script as they are played
+pub mod ScriptLines
+-- `stop` and `moment`
+pub mod StopsAndMoments
+-- the events that a line adds
+pub mod Tracings
+-- the message numbers of the files in directories
+pub mod Gathered
+-- the message numbers that aren't in S1
+pub mod NumbersInUse
+-- the fates of kept events
+pub mod KeptFates
+-- the recipients of an envelope, counted
+pub mod Recipients
+-- the fates of kept events are those of the history
+pub mod MailFates
+-- what was printed is what a history shows
+pub mod Showings
+-- lists in one strict order with the same members are one
+pub mod OneOrder
+-- a call has one answer
+pub mod OneAnswer
+-- a step comes to one outcome, and a run is one list of steps
+pub mod OneStep
+-- what is shown is one text
+pub mod OneShown
+-- a text is one line, and bytes are one script
+pub mod OneLine
+-- a script prints one text
+pub mod OneText
+-- lists in order, each item once
+pub mod InOrder
+-- what holds or doesn't
+pub mod Decided
+-- disks with finitely many names and open descriptors
+pub mod FiniteDisks
+-- the least free number and descriptor
+pub mod LeastFree
+-- the answers of a disk that doesn't fail
+pub mod GivenAnswers
+-- the names of a directory and the numbers in use, listed
+pub mod Listings
+-- what a script's history keeps beside being legal
+pub mod Carried
+-- each script has a text
+pub mod WholePlays
+-- what a sink took of a line
+pub mod TakenLines

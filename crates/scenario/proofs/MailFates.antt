@@ -1,0 +1,322 @@
+-- The fates of kept events are those of the mails of each history that they tell.
+use Rattle.std.proofs.Common.{◌≡◌, ◌⊎◌, inl, inr, ℕ, List, [], ◌∷◌, ◌++◌, length, reverse, Bool, true, false, ◌&&◌, ◌||◌, is_some, Option, Some, None, refl, sym, ap, ◌∙◌, subst, ⊎_elim, bytes_eq}
+use Rattle.std.specs.Prelude.{if◌then◌else◌, IsSome, flat_map}
+use Rattle.std.specs.List.{AllZip}
+use Rattle.std.proofs.lemmas.List.{reverse-append, reverse-reverse, append-nil}
+use Rattle.std.proofs.lemmas.Grind.{flat_map-append}
+use Rattle.call_fs.specs.declared.calls.CallData.{CallData}
+use Rattle.call_fs.specs.declared.calls.CallData.TheVariants.{Link}
+use Rattle.call_fs.specs.declared.calls.Answer.{Answer}
+use Rattle.call_fs.specs.declared.calls.Answer.TheVariants.{Created, Opened, Count, Done, Stat as Stated, Name as Named, NoName, Refused}
+use Rattle.call_fs.specs.declared.calls.Told.{Told}
+use Rattle.call_fs.specs.declared.program.Ready.{Ready}
+use Rattle.call_fs.specs.Disk.{Disk}
+use Rattle.call_fs.specs.Maps.{put_at}
+use Rattle.call_fs.specs.Program.{Due, Own}
+use Rattle.queue_inject.specs.declared.injection.Arguments.{Arguments}
+use Rattle.queue_inject.specs.declared.row.Row.{Row}
+use Rattle.queue_inject.specs.declared.row.Row.TheVariants as at
+use Rattle.queue_paths.specs.Names.{path, parse}
+use Rattle.queue_paths.specs.Names.Name.{Pid, Of}
+use Rattle.queue_paths.specs.Names.Part.{Mess, Intd, Todo}
+use Rattle.queue_inject.specs.Table.{call_of, in_time}
+use Rattle.queue_inject.specs.Texts.{recipients_of}
+use Rattle.queue_paths.proofs.Paths.{exact}
+use Rattle.mail_world.specs.declared.event.Event.{Event as Kept}
+use Rattle.mail_world.specs.declared.event.Event.TheVariants as kept
+use Rattle.mail_world.specs.declared.event.Program.{Program}
+use Rattle.mail_world.specs.declared.event.Program.TheVariants.{Injector}
+use Rattle.mail_world.specs.History.{Event, Actor, Life, State, next_of, MayCall, called, finished, happens, after, Legal}
+use Rattle.mail_world.specs.History.Event.{Start, Call, End, Stop, Moment, Halt}
+use Rattle.mail_world.specs.History.Life.{Alive, Over, Stopped}
+use Rattle.mail_world.specs.World.{Tells}
+use Rattle.call_fs.proofs.Maps.{put_at_cases, put_at_same, put_at_other}
+use Rattle.mail_world.proofs.Tests.{text_cases, same_text}
+use Rattle.scenario.specs.declared.fates.Fate.{Fate}
+use Rattle.scenario.specs.declared.fates.Life.{Life as ToldLife}
+use Rattle.scenario.specs.declared.fates.Life.TheVariants as left
+use Rattle.scenario.specs.Fates.{queues, accepted, life_of, left_as, fate_by, fate_in, fate_lines, start_lines}
+use Rattle.scenario.specs.Shown.{line_of, life_word, recipient_lines, is_to_todo, is_accepting, is_accepted, mail_lines, mails_of, all_mail_lines}
+
+-- Which calls accept a mail: an injector's link to todo is one of its intd.
+
+abbrev Agrees : CallData → Type 0
+Agrees call = (answer : Answer) → is_accepting call answer ≡ queues call answer
+
+link_agrees : (old new : List ℕ) → is_to_todo old (parse new) ≡ queues (Link old new) Done → Agrees (Link old new)
+link_agrees old new h Done = h
+link_agrees old new h (Created fd n) = refl
+link_agrees old new h (Opened fd) = refl
+link_agrees old new h (Count n) = refl
+link_agrees old new h (Stated stat) = refl
+link_agrees old new h (Named name) = refl
+link_agrees old new h NoName = refl
+link_agrees old new h (Refused why) = refl
+
+to_mess : (old : List ℕ) (n : ℕ) → is_to_todo old (parse (path (Of Mess n))) ≡ queues (Link old (path (Of Mess n))) Done
+unfolding path
+to_mess old n = ap (is_to_todo old) (exact.parse_path (Of Mess n))
+
+begins_todo : (n : ℕ) → queues (Link (path (Of Intd n)) (path (Of Todo n))) Done ≡ true
+unfolding path
+begins_todo n = refl
+
+to_todo : (n : ℕ) → is_to_todo (path (Of Intd n)) (parse (path (Of Todo n))) ≡ queues (Link (path (Of Intd n)) (path (Of Todo n))) Done
+to_todo n = ap (is_to_todo (path (Of Intd n))) (exact.parse_path (Of Todo n)) ∙ same_text (path (Of Intd n)) ∙ sym (begins_todo n)
+
+due_agrees : (own call : CallData) → ◌≡◌ {A = Due} (Due.File own) (Due.File call) → Agrees own → Agrees call
+due_agrees own call due h = let same : own ≡ call = cc in subst Agrees same h
+
+row_agrees : (args : Arguments) (row : Row) (call : CallData) → call_of args row ≡ Due.File call → Agrees call
+row_agrees args (at.Create seq) call due = due_agrees _ call due (λ answer. refl)
+row_agrees args (at.LinkMess seq n fd) call due = due_agrees _ call due (link_agrees (path (Pid args.pid args.start seq)) (path (Of Mess n)) (to_mess (path (Pid args.pid args.start seq)) n))
+row_agrees args (at.UnlinkPid seq n fd) call due = due_agrees _ call due (λ answer. refl)
+row_agrees args (at.AppendMess n fd done) call due = due_agrees _ call due (λ answer. refl)
+row_agrees args (at.SyncMess n fd) call due = due_agrees _ call due (λ answer. refl)
+row_agrees args (at.CreateIntd n) call due = due_agrees _ call due (λ answer. refl)
+row_agrees args (at.AppendTodo n fd done) call due = due_agrees _ call due (λ answer. refl)
+row_agrees args (at.SyncTodo n fd) call due = due_agrees _ call due (λ answer. refl)
+row_agrees args (at.LinkTodo n) call due = due_agrees _ call due (link_agrees (path (Of Intd n)) (path (Of Todo n)) (to_todo n))
+row_agrees args (at.CleanIntd n status) call due = due_agrees _ call due (λ answer. refl)
+row_agrees args (at.CleanMess n status) call due = due_agrees _ call due (λ answer. refl)
+row_agrees args at.Queued call due = absurd (cc)
+row_agrees args (at.Failed status) call due = absurd (cc)
+
+timely : (input late : Bool) (due : Due) (call : CallData) → in_time input late due ≡ Due.File call → due ≡ Due.File call
+timely true true (Due.File own) call h = absurd (cc)
+timely true false (Due.File own) call h = h
+timely false late (Due.File own) call h = absurd (cc)
+timely input late due call h = absurd (cc)
+
+next_agrees : (program : Program) (past : List Own) (read : ℕ) (ready : Ready) (call : CallData) → next_of program past read ready ≡ Due.File call → Agrees call
+next_agrees (Injector args) past read ready call due = row_agrees args _ call (timely _ _ _ call due)
+
+call_agrees : (s : State) (a : List ℕ) (read : ℕ) (ready : Ready) (call : CallData) (got : Told) (wrote : ℕ)
+    → MayCall s a read ready call got wrote → is_accepting call got.answer ≡ queues call got.answer
+call_agrees s a read ready call got wrote may = next_agrees may.actor.program may.actor.past read ready call may.due got.answer
+
+-- An actor's life, as its fate tells it.
+
+abbrev Fares : Option Actor → Fate → Type 0
+Fares None fate = life_of fate.life ≡ Alive
+Fares (Some x) fate = x.life ≡ life_of fate.life
+
+fares_as : (o p : Option Actor) (fate other : Fate) → p ≡ o → other.life ≡ fate.life → Fares o fate → Fares p other
+fares_as None p fate other same keeps h = subst (λ p. Fares p other) (sym same) (ap life_of keeps ∙ h)
+fares_as (Some x) p fate other same keeps h = subst (λ p. Fares p other) (sym same) (h ∙ ap life_of (sym keeps))
+
+none_fares : (o : Option Actor) (fate : Fate) → o ≡ None → Fares o fate → life_of fate.life ≡ Alive
+none_fares o fate none h = subst (λ o. Fares o fate) none h
+
+start_fares : (actors : List ℕ → Option Actor) (fates : List ℕ → Fate) (b : List ℕ) (x : Actor) → x.life ≡ Alive → actors b ≡ None
+    → ((a : List ℕ) → Fares (actors a) (fates a)) → (a : List ℕ) → Fares (put_at actors b (Some x) a) (fates a)
+start_fares actors fates b x alive new h a = ⊎_elim
+    (λ w. fares_as (Some x) (put_at actors b (Some x) a) (fates b) (fates a) w.1 (ap (λ a. (fates a).life) w.0)
+    (alive ∙ sym (none_fares (actors b) (fates b) new (h b))))
+    (λ w. fares_as (actors a) (put_at actors b (Some x) a) (fates a) (fates a) w.1 refl (h a))
+    (put_at_cases actors b (Some x) a)
+
+-- a call leaves each fate but for whether the mail was accepted
+call_keeps : (t : Bool) (fates : List ℕ → Fate) (b a : List ℕ) → ((if t then put_at fates b (accepted (fates b)) else fates) a).life ≡ (fates a).life
+call_keeps false fates b a = refl
+call_keeps true fates b a = ⊎_elim
+    (λ w. ap (λ (f : Fate). f.life) w.1 ∙ ap (λ a. (fates a).life) (sym w.0))
+    (λ w. ap (λ (f : Fate). f.life) w.1)
+    (put_at_cases fates b (accepted (fates b)) a)
+
+call_fares : (actors : List ℕ → Option Actor) (fates : List ℕ → Fate) (t : Bool) (b : List ℕ) (x y : Actor) → y.life ≡ x.life → actors b ≡ Some x
+    → ((a : List ℕ) → Fares (actors a) (fates a)) → (a : List ℕ)
+    → Fares (put_at actors b (Some y) a) ((if t then put_at fates b (accepted (fates b)) else fates) a)
+call_fares actors fates t b x y same is h a =
+    let to : Fate = (if t then put_at fates b (accepted (fates b)) else fates) a in
+    let old : Fares (Some x) (fates b) = subst (λ o. Fares o (fates b)) is (h b) in
+    ⊎_elim
+    (λ w. fares_as (Some y) (put_at actors b (Some y) a) (fates b) to w.1 (call_keeps t fates b a ∙ ap (λ a. (fates a).life) w.0) (same ∙ old))
+    (λ w. fares_as (actors a) (put_at actors b (Some y) a) (fates a) to w.1 (call_keeps t fates b a) (h a))
+    (put_at_cases actors b (Some y) a)
+
+over_fares : (actors : List ℕ → Option Actor) (fates : List ℕ → Fate) (b : List ℕ) (y : Actor) (life : ToldLife) → y.life ≡ life_of life
+    → ((a : List ℕ) → Fares (actors a) (fates a)) → (a : List ℕ)
+    → Fares (put_at actors b (Some y) a) (put_at fates b (left_as life (fates b)) a)
+over_fares actors fates b y life over h a =
+    let last : Fate = left_as life (fates b) in
+    ⊎_elim
+    (λ w. fares_as (Some y) (put_at actors b (Some y) a) last (put_at fates b last a) w.1 (ap (λ (f : Fate). f.life) (ap (put_at fates b last) w.0 ∙ put_at_same fates b last)) over)
+    (λ w. fares_as (actors a) (put_at actors b (Some y) a) (fates a) (put_at fates b last a) w.1 (ap (λ (f : Fate). f.life) (put_at_other fates b last a w.0)) (h a))
+    (put_at_cases actors b (Some y) a)
+
+fares_told : (d : Disk) (events : List Kept) (h : List Event) → Legal d h → AllZip Tells events h → (a : List ℕ)
+    → Fares ((after d h).actors a) (fate_in events a)
+fares_told d [] [] legal told a = refl
+fares_told d [] (e ∷ h) legal told a = absurd told
+fares_told d (k ∷ events) [] legal told a = absurd told
+fares_told d (k ∷ events) ((Start b program) ∷ h) legal told a =
+    let s = after d h in
+    let before = fares_told d events h legal.0 told.1 in
+    subst (λ (k : Kept). Fares ((happens s (Start b program)).actors a) (fate_by k (fate_in events) a)) (sym told.0)
+    (start_fares s.actors (fate_in events) b _ refl legal.1.new before a)
+fares_told d (k ∷ events) ((Call b read ready call got wrote) ∷ h) legal told a =
+    let s = after d h in
+    let before = fares_told d events h legal.0 told.1 in
+    let x = legal.1.actor in
+    subst (λ (k : Kept). Fares ((happens s (Call b read ready call got wrote)).actors a) (fate_by k (fate_in events) a)) (sym told.0)
+    (subst (λ (o : Option Actor). Fares ((called s b read ready call got wrote o).actors a) (fate_by (kept.Call b read ready call got) (fate_in events) a)) (sym legal.1.reads.is)
+    (call_fares s.actors (fate_in events) (queues call got.answer) b x _ refl legal.1.reads.is before a))
+fares_told d (k ∷ events) ((End b read ready status) ∷ h) legal told a =
+    let s = after d h in
+    let before = fares_told d events h legal.0 told.1 in
+    subst (λ (k : Kept). Fares ((happens s (End b read ready status)).actors a) (fate_by k (fate_in events) a)) (sym told.0)
+    (subst (λ (o : Option Actor). Fares ((finished s b (Over status) o).actors a) (fate_by (kept.End b read ready status) (fate_in events) a)) (sym legal.1.reads.is)
+    (over_fares s.actors (fate_in events) b _ (left.Ended status) refl before a))
+fares_told d (k ∷ events) ((Stop b) ∷ h) legal told a =
+    let s = after d h in
+    let before = fares_told d events h legal.0 told.1 in
+    subst (λ (k : Kept). Fares ((happens s (Stop b)).actors a) (fate_by k (fate_in events) a)) (sym told.0)
+    (subst (λ (o : Option Actor). Fares ((finished s b Stopped o).actors a) (fate_by (kept.Stop b) (fate_in events) a)) (sym legal.1.is)
+    (over_fares s.actors (fate_in events) b _ left.Stopped refl before a))
+fares_told d (k ∷ events) ((Moment m) ∷ h) legal told a =
+    subst (λ (k : Kept). Fares ((after d h).actors a) (fate_by k (fate_in events) a)) (sym told.0) (fares_told d events h legal.0 told.1 a)
+fares_told d (k ∷ events) ((Halt contents) ∷ h) legal told a = absurd told.0
+
+-- whether its mail was accepted
+
+and_false : (t : Bool) (p : Bool) → ((t && false) || p) ≡ p
+and_false true p = refl
+and_false false p = refl
+
+accept_step : (fates : List ℕ → Fate) (t p : Bool) (b a : List ℕ) → p ≡ (fates a).accepted
+    → ((bytes_eq b a && t) || p) ≡ ((if t then put_at fates b (accepted (fates b)) else fates) a).accepted
+accept_step fates false p b a h = and_false (bytes_eq b a) p ∙ h
+accept_step fates true p b a h =
+    let new : Fate = accepted (fates b) in
+    ⊎_elim
+    (λ w. ap (λ t. (t && true) || p) w.1 ∙ sym (ap (λ (f : Fate). f.accepted) (ap (put_at fates b new) (sym w.0) ∙ put_at_same fates b new)))
+    (λ w. ap (λ t. (t && true) || p) w.1 ∙ h ∙ sym (ap (λ (f : Fate). f.accepted) (put_at_other fates b new a (λ e. w.0 (sym e)))))
+    (text_cases b a)
+
+over_accepted : (fates : List ℕ → Fate) (life : ToldLife) (b a : List ℕ) → (fates a).accepted ≡ (put_at fates b (left_as life (fates b)) a).accepted
+over_accepted fates life b a =
+    let last : Fate = left_as life (fates b) in
+    ⊎_elim
+    (λ w. ap (λ a. (fates a).accepted) w.0 ∙ sym (ap (λ (f : Fate). f.accepted) w.1))
+    (λ w. sym (ap (λ (f : Fate). f.accepted) w.1))
+    (put_at_cases fates b last a)
+
+accepted_told : (d : Disk) (events : List Kept) (h : List Event) → Legal d h → AllZip Tells events h → (a : List ℕ)
+    → is_accepted a h ≡ (fate_in events a).accepted
+accepted_told d [] [] legal told a = refl
+accepted_told d [] (e ∷ h) legal told a = absurd told
+accepted_told d (k ∷ events) [] legal told a = absurd told
+accepted_told d (k ∷ events) ((Start b program) ∷ h) legal told a =
+    accepted_told d events h legal.0 told.1 a ∙ sym (ap (λ (k : Kept). (fate_by k (fate_in events) a).accepted) told.0)
+accepted_told d (k ∷ events) ((Call b read ready call got wrote) ∷ h) legal told a =
+    ap (λ t. (bytes_eq b a && t) || is_accepted a h) (call_agrees (after d h) b read ready call got wrote legal.1)
+    ∙ accept_step (fate_in events) (queues call got.answer) (is_accepted a h) b a (accepted_told d events h legal.0 told.1 a)
+    ∙ sym (ap (λ (k : Kept). (fate_by k (fate_in events) a).accepted) told.0)
+accepted_told d (k ∷ events) ((End b read ready status) ∷ h) legal told a =
+    accepted_told d events h legal.0 told.1 a
+    ∙ over_accepted (fate_in events) (left.Ended status) b a
+    ∙ sym (ap (λ (k : Kept). (fate_by k (fate_in events) a).accepted) told.0)
+accepted_told d (k ∷ events) ((Stop b) ∷ h) legal told a =
+    accepted_told d events h legal.0 told.1 a
+    ∙ over_accepted (fate_in events) left.Stopped b a
+    ∙ sym (ap (λ (k : Kept). (fate_by k (fate_in events) a).accepted) told.0)
+accepted_told d (k ∷ events) ((Moment m) ∷ h) legal told a =
+    accepted_told d events h legal.0 told.1 a ∙ sym (ap (λ (k : Kept). (fate_by k (fate_in events) a).accepted) told.0)
+accepted_told d (k ∷ events) ((Halt contents) ∷ h) legal told a = absurd told.0
+
+-- Each actor that was started is there.
+
+abbrev IsStarted : List ℕ → List Event → Type 0
+IsStarted a [] = ⊥
+IsStarted a ((Start b program) ∷ h) = (b ≡ a) ⊎ IsStarted a h
+IsStarted a ((Call b read ready call got wrote) ∷ h) = IsStarted a h
+IsStarted a ((End b read ready status) ∷ h) = IsStarted a h
+IsStarted a ((Stop b) ∷ h) = IsStarted a h
+IsStarted a ((Moment m) ∷ h) = IsStarted a h
+IsStarted a ((Halt contents) ∷ h) = IsStarted a h
+
+some_put : (actors : List ℕ → Option Actor) (b : List ℕ) (x : Actor) (a : List ℕ) → (b ≡ a) ⊎ IsSome (actors a) → IsSome (put_at actors b (Some x) a)
+some_put actors b x a h = ⊎_elim
+    (λ w. ap is_some w.1)
+    (λ w. ap is_some w.1 ∙ ⊎_elim (λ e. absurd (w.0 (sym e))) (λ s. s) h)
+    (put_at_cases actors b (Some x) a)
+
+some_called : (s : State) (b : List ℕ) (read : ℕ) (ready : Ready) (call : CallData) (got : Told) (wrote : ℕ) (o : Option Actor) (a : List ℕ)
+    → IsSome (s.actors a) → IsSome ((called s b read ready call got wrote o).actors a)
+some_called s b read ready call got wrote None a h = h
+some_called s b read ready call got wrote (Some x) a h = some_put s.actors b _ a (inr h)
+
+some_finished : (s : State) (b : List ℕ) (life : Life) (o : Option Actor) (a : List ℕ) → IsSome (s.actors a) → IsSome ((finished s b life o).actors a)
+some_finished s b life None a h = h
+some_finished s b life (Some x) a h = some_put s.actors b _ a (inr h)
+
+started_some : (d : Disk) (events : List Kept) (h : List Event) → AllZip Tells events h → (a : List ℕ) → IsStarted a h → IsSome ((after d h).actors a)
+started_some d [] [] told a was = absurd was
+started_some d [] (e ∷ h) told a was = absurd told
+started_some d (k ∷ events) [] told a was = absurd told
+started_some d (k ∷ events) ((Start b program) ∷ h) told a was =
+    some_put (after d h).actors b _ a (⊎_elim (λ e. inl e) (λ w. inr (started_some d events h told.1 a w)) was)
+started_some d (k ∷ events) ((Call b read ready call got wrote) ∷ h) told a was =
+    some_called (after d h) b read ready call got wrote ((after d h).actors b) a (started_some d events h told.1 a was)
+started_some d (k ∷ events) ((End b read ready status) ∷ h) told a was =
+    some_finished (after d h) b (Over status) ((after d h).actors b) a (started_some d events h told.1 a was)
+started_some d (k ∷ events) ((Stop b) ∷ h) told a was =
+    some_finished (after d h) b Stopped ((after d h).actors b) a (started_some d events h told.1 a was)
+started_some d (k ∷ events) ((Moment m) ∷ h) told a was = started_some d events h told.1 a was
+started_some d (k ∷ events) ((Halt contents) ∷ h) told a was = absurd told.0
+
+-- The lines of the mails.
+
+one_mail : (s : State) (h : List Event) (a : List ℕ) (args : Arguments) (fate : Fate) (o : Option Actor) → IsSome o → Fares o fate
+    → is_accepted a h ≡ fate.accepted → fate_lines a fate args ≡ mail_lines s h a args o
+one_mail s h a args fate None some fares accepts = absurd (cc)
+one_mail s h a args fate (Some x) some fares accepts =
+    let pending : List ℕ = recipient_lines a 1 (length (recipients_of args)) in
+    ap (λ life. line_of a (life_word life) ++ (if fate.accepted then pending else [])) (sym fares)
+    ∙ ap (λ t. line_of a (life_word x.life) ++ (if t then pending else [])) (sym accepts)
+
+lines_push : (f : Kept → List ℕ) (events : List Kept) (k : Kept) → flat_map f (reverse (k ∷ events)) ≡ flat_map f (reverse events) ++ f k
+lines_push f events k =
+    ap (flat_map f) (reverse-append (k ∷ []) events)
+    ∙ flat_map-append f (reverse events) (k ∷ [])
+    ∙ ap (λ l. flat_map f (reverse events) ++ l) (append-nil (f k))
+
+-- an event that starts no mail has no lines
+no_lines : (fates : List ℕ → Fate) (events : List Kept) (k own : Kept) → k ≡ own → start_lines fates own ≡ [] → flat_map (start_lines fates) (reverse (k ∷ events)) ≡ flat_map (start_lines fates) (reverse events)
+no_lines fates events k own is none =
+    lines_push (start_lines fates) events k
+    ∙ ap (λ l. flat_map (start_lines fates) (reverse events) ++ l) (ap (start_lines fates) is ∙ none)
+    ∙ append-nil (flat_map (start_lines fates) (reverse events))
+
+lines_told : (fates : List ℕ → Fate) (g : List ℕ × Arguments → List ℕ) (events : List Kept) (h : List Event) → AllZip Tells events h
+    → ((a : List ℕ) (args : Arguments) → IsStarted a h → fate_lines a (fates a) args ≡ g (a, args))
+    → flat_map (start_lines fates) (reverse events) ≡ flat_map g (mails_of h)
+lines_told fates g [] [] told each = refl
+lines_told fates g [] (e ∷ h) told each = absurd told
+lines_told fates g (k ∷ events) [] told each = absurd told
+lines_told fates g (k ∷ events) ((Start b (Injector args)) ∷ h) told each =
+    lines_push (start_lines fates) events k
+    ∙ ap (λ l. flat_map (start_lines fates) (reverse events) ++ l) (ap (start_lines fates) told.0 ∙ each b args (inl refl))
+    ∙ ap (λ l. l ++ g (b, args)) (lines_told fates g events h told.1 (λ a args w. each a args (inr w)))
+    ∙ ap (λ l. flat_map g (mails_of h) ++ l) (sym (append-nil (g (b, args))))
+    ∙ sym (flat_map-append g (mails_of h) ((b, args) ∷ []))
+lines_told fates g (k ∷ events) ((Call b read ready call got wrote) ∷ h) told each =
+    no_lines fates events k _ told.0 refl ∙ lines_told fates g events h told.1 each
+lines_told fates g (k ∷ events) ((End b read ready status) ∷ h) told each =
+    no_lines fates events k _ told.0 refl ∙ lines_told fates g events h told.1 each
+lines_told fates g (k ∷ events) ((Stop b) ∷ h) told each =
+    no_lines fates events k _ told.0 refl ∙ lines_told fates g events h told.1 each
+lines_told fates g (k ∷ events) ((Moment m) ∷ h) told each =
+    no_lines fates events k _ told.0 refl ∙ lines_told fates g events h told.1 each
+lines_told fates g (k ∷ events) ((Halt contents) ∷ h) told each = absurd told.0
+
+pub mails_told : (d : Disk) (events : List Kept) (h : List Event) (fates : List ℕ → Fate) → Legal d h → AllZip Tells (reverse events) h
+    → ((a : List ℕ) → fates a ≡ fate_in (reverse events) a) → flat_map (start_lines fates) events ≡ all_mail_lines (after d h) h
+mails_told d events h fates legal told are =
+    let s = after d h in
+    let each = λ (a : List ℕ) (args : Arguments) (was : IsStarted a h).
+    ap (λ fate. fate_lines a fate args) (are a)
+    ∙ one_mail s h a args (fate_in (reverse events) a) (s.actors a) (started_some d (reverse events) h told a was) (fares_told d (reverse events) h legal told a) (accepted_told d (reverse events) h legal told a) in
+    ap (flat_map (start_lines fates)) (sym (reverse-reverse events))
+    ∙ lines_told fates (λ mail. mail_lines s h mail.0 mail.1 (s.actors mail.0)) (reverse events) h told each

@@ -1,0 +1,147 @@
+-- The names of a directory, one after the other.
+use Rattle.std.proofs.Common.{◌≡◌, ◌⊎◌, ℕ, ◌+◌, ◌<◌, ◌≤◌, List, [], ◌∷◌, ◌++◌, get_or, All, Contains, Some, IsSome, Bool, true, false, cond, bytes_eq, nat_cmp, Ordering, Less, Equal, Greater, refl, sym, ◌∙◌, ap, subst, inl, inr, ⊎_elim, arith}
+use Rattle.std.specs.Cmp.Lexicographic.{slice_cmp}
+use Rattle.std.specs.List.{AllPairs}
+use Rattle.std.specs.Ordering.{is_lt, is_gt, is_eq}
+use Rattle.std.proofs.lemmas.Map.Text.{is_eq-slice_cmp}
+use Rattle.std.proofs.lemmas.Cmp.{nat_list_cmp_total, tied_itself}
+use Rattle.std.proofs.lemmas.List.Elements.{All-nil, All-push, All-weaker, All-contains, Contains-push, Contains-append_left}
+use Rattle.std.proofs.lemmas.List.Quantifiers.{all_pairs_push}
+use Rattle.call_fs.specs.Disk.{Disk}
+use Rattle.call_fs.specs.Apply.{StandsAfter, IsNextName, IsLastName}
+use Rattle.scenario.specs.Shown.{AreNamesIn}
+use Rattle.std.proofs.lemmas.Bool.{false≢true}
+use Rattle.std.proofs.lemmas.Slice.Eq.{bytes_eq-Decides}
+use Rattle.mem_fs.specs.Tables.{at_name}
+use Rattle.mem_fs.proofs.Parts.{slice_cmp-prefix}
+
+-- an entry stands after this name
+abbrev pub is_after : List ℕ → List ℕ × ℕ → Bool
+is_after limit entry = is_lt (slice_cmp nat_cmp limit entry.0)
+
+-- how many do
+abbrev pub count_after : List ℕ → List (List ℕ × ℕ) → ℕ
+count_after limit [] = 0
+count_after limit (entry ∷ names) = cond (is_after limit entry) 1 0 + count_after limit names
+
+-- no text stands after itself
+not-after-itself : (text : List ℕ) → is_lt (slice_cmp nat_cmp text text) ≡ false
+not-after-itself text = ap is_lt (tied_itself nat_list_cmp_total text)
+
+less-from : (o : Ordering) → is_lt o ≡ true → o ≡ Less
+less-from Less h = refl
+less-from Equal h = absurd (false≢true h)
+less-from Greater h = absurd (false≢true h)
+
+-- what stands after a name stands after each one before it
+after-both : (low high text : List ℕ) → slice_cmp nat_cmp low high ≡ Less → is_lt (slice_cmp nat_cmp high text) ≡ true → is_lt (slice_cmp nat_cmp low text) ≡ true
+after-both low high text less h = ap is_lt (nat_list_cmp_total.trans low high text less (less-from (slice_cmp nat_cmp high text) h))
+
+at-most : (a b : Bool) (m n : ℕ) → (a ≡ true → b ≡ true) → m ≤ n → cond a 1 0 + m ≤ cond b 1 0 + n
+at-most true true m n h le = omega arith
+at-most true false m n h le = absurd (false≢true (h refl))
+at-most false true m n h le = omega arith
+at-most false false m n h le = omega arith
+
+fewer-by : (a b : Bool) (m n : ℕ) → (a ≡ true → b ≡ true) → m < n → cond a 1 0 + m < cond b 1 0 + n
+fewer-by true true m n h le = omega arith
+fewer-by true false m n h le = absurd (false≢true (h refl))
+fewer-by false true m n h le = omega arith
+fewer-by false false m n h le = omega arith
+
+no-more : (low high : List ℕ) (names : List (List ℕ × ℕ)) → slice_cmp nat_cmp low high ≡ Less → count_after high names ≤ count_after low names
+no-more low high [] less = omega arith
+no-more low high (e ∷ names) less =
+    at-most (is_after high e) (is_after low e) (count_after high names) (count_after low names) (after-both low high e.0 less) (no-more low high names less)
+
+-- after a name that is there fewer stand than after one before it
+fewer-here : (low high : List ℕ) (e : List ℕ × ℕ) (names : List (List ℕ × ℕ)) → slice_cmp nat_cmp low high ≡ Less → high ≡ e.0 → count_after high (e ∷ names) < count_after low (e ∷ names)
+fewer-here low high e names less here =
+    let not_after : is_after high e ≡ false = ap (λ t. is_lt (slice_cmp nat_cmp t e.0)) here ∙ not-after-itself e.0 in
+    let after : is_after low e ≡ true = ap (λ t. is_lt (slice_cmp nat_cmp low t)) (sym here) ∙ ap is_lt less in
+    let rest = no-more low high names less in
+    rw (not_after, after) (omega arith)
+
+fewer-by-case : (b : Bool) (low high : List ℕ) (e : List ℕ × ℕ) (names : List (List ℕ × ℕ)) → bytes_eq high e.0 ≡ b → slice_cmp nat_cmp low high ≡ Less → IsSome (cond b (Some e.1) (at_name names high)) → (IsSome (at_name names high) → count_after high names < count_after low names) → count_after high (e ∷ names) < count_after low (e ∷ names)
+fewer-by-case true low high e names same less there more = fewer-here low high e names less ((bytes_eq-Decides high e.0).0 same)
+fewer-by-case false low high e names same less there more =
+    fewer-by (is_after high e) (is_after low e) (count_after high names) (count_after low names) (after-both low high e.0 less) (more there)
+
+fewer : (low high : List ℕ) (names : List (List ℕ × ℕ)) → slice_cmp nat_cmp low high ≡ Less → IsSome (at_name names high) → count_after high names < count_after low names
+fewer low high [] less there = absurd (false≢true there)
+fewer low high (e ∷ names) less there = fewer-by-case (bytes_eq high e.0) low high e names refl less there (λ rest. fewer low high names less rest)
+
+-- so the names of a directory come to an end
+pub fewer_names : (dir last name : List ℕ) (names : List (List ℕ × ℕ)) → slice_cmp nat_cmp last name ≡ Less → IsSome (at_name names (dir ++ 47 ∷ name)) → count_after (dir ++ 47 ∷ name) names < count_after (dir ++ 47 ∷ last) names
+fewer_names dir last name names less there = fewer (dir ++ 47 ∷ last) (dir ++ 47 ∷ name) names (slice_cmp-prefix dir (47 ∷ last) (47 ∷ name) ∙ slice_cmp-prefix (47 ∷ []) last name ∙ less) there
+
+abbrev pub Below : List ℕ → List ℕ → Type 0
+Below low high = slice_cmp nat_cmp low high ≡ Less
+
+-- not above
+abbrev pub UpTo : List ℕ → List ℕ → Type 0
+UpTo low high = is_gt (slice_cmp nat_cmp low high) ≡ false
+
+-- The names up to this one were found.
+pub record Found (d : Disk) (dir : List ℕ) (names : List (List ℕ)) (last : List ℕ) : Type 0 where
+  pub each : All (StandsAfter d dir []) names
+  pub rising : AllPairs Below names
+  pub up_to : All (λ name. UpTo name last) names
+  pub others : (name : List ℕ) → StandsAfter d dir [] name → Contains names name ⊎ StandsAfter d dir last name
+
+abbrev pub found_none : (d : Disk) (dir : List ℕ) → Found d dir [] []
+found_none d dir = record {
+  each = All-nil (StandsAfter d dir []);
+  rising = λ i j e low high. absurd (omega arith);
+  up_to = All-nil (λ name. UpTo name []);
+  others = λ name stands. inr stands;
+}
+
+-- a later name isn't empty
+not-first : (low text : List ℕ) → Below low text → Below [] text
+not-first low [] less = absurd (nothing-below low less)
+  where
+    nothing-below : (t : List ℕ) → Below t [] → ⊥
+    nothing-below [] h = cc
+    nothing-below (b ∷ t) h = cc
+not-first low (b ∷ text) less = refl
+
+-- below what is below or the same
+below-by : (o : Ordering) (a b c : List ℕ) → slice_cmp nat_cmp a b ≡ o → is_gt o ≡ false → Below b c → Below a c
+below-by Less a b c e upto less = nat_list_cmp_total.trans a b c e less
+below-by Equal a b c e upto less = nat_list_cmp_total.congr a b c e ∙ less
+below-by Greater a b c e upto less = absurd (false≢true (sym upto))
+
+below-from : (a b c : List ℕ) → UpTo a b → Below b c → Below a c
+below-from a b c upto less = below-by (slice_cmp nat_cmp a b) a b c refl upto less
+
+-- texts that compare as equal are one
+pub same-text : (a b : List ℕ) → slice_cmp nat_cmp a b ≡ Equal → a ≡ b
+same-text a b e = (bytes_eq-Decides a b).0 (sym (is_eq-slice_cmp a b) ∙ ap is_eq e)
+
+-- a text that stands after the last one stands after the next, or is it
+next-or-later : (o : Ordering) (d : Disk) (dir : List ℕ) (names : List (List ℕ)) (name other : List ℕ) → slice_cmp nat_cmp name other ≡ o → is_gt o ≡ false → StandsAfter d dir [] other → Contains (names ++ name ∷ []) other ⊎ StandsAfter d dir name other
+next-or-later Less d dir names name other e upto stands = inr (stands.0, record { whole = stands.1.whole; short = stands.1.short; later = e })
+next-or-later Equal d dir names name other e upto stands = inl (subst (Contains (names ++ name ∷ [])) (same-text name other e) (Contains-push names name))
+next-or-later Greater d dir names name other e upto stands = absurd (false≢true (sym upto))
+
+pub found_more : (d : Disk) (dir : List ℕ) (names : List (List ℕ)) (last name : List ℕ) → Found d dir names last → IsNextName d dir last name → Found d dir (names ++ name ∷ []) name
+found_more d dir names last name found next =
+    let less = next.stands.1.later in
+    record {
+      each = All-push (StandsAfter d dir []) names name found.each (next.stands.0, record { whole = next.stands.1.whole; short = next.stands.1.short; later = not-first last name less });
+      rising = all_pairs_push Below names name found.rising (λ k e within. below-from (get_or names k e) last name (found.up_to k e within) less);
+      up_to = All-push (λ n. UpTo n name) names name
+          (All-weaker (λ n. UpTo n last) (λ n. UpTo n name) (λ n upto. ap is_gt (below-from n last name upto less)) names found.up_to)
+          (ap is_gt (tied_itself nat_list_cmp_total name));
+      others = λ other stands. ⊎_elim
+          (λ here. inl (Contains-append_left names (name ∷ []) other here))
+          (λ later. next-or-later (slice_cmp nat_cmp name other) d dir names name other refl (next.least other later) stands)
+          (found.others other stands);
+    }
+
+pub found_all : (d : Disk) (dir : List ℕ) (names : List (List ℕ)) (last : List ℕ) → Found d dir names last → IsLastName d dir last → AreNamesIn d dir names
+found_all d dir names last found end = record {
+  each = λ name. ((λ here. All-contains (StandsAfter d dir []) names name found.each here), (λ stands. ⊎_elim (λ here. here) (λ later. absurd (end name later)) (found.others name stands)));
+  rising = found.rising;
+}

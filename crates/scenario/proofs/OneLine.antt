@@ -1,0 +1,187 @@
+-- A text is one line, and bytes are one script.
+use Rattle.std.proofs.Common.{◌≡◌, ℕ, List, [], ◌∷◌, ◌++◌, All, Contains, Ok, inl, inr, refl, sym, ap, ◌∙◌, subst, arith, append_assoc}
+use Rattle.std.specs.Prelude.{codes, cond, ◌==◌, bytes_eq, true, false}
+use Rattle.std.specs.List.{AllZip}
+use Rattle.std.proofs.lemmas.List.{append_cancel_left}
+use Rattle.std.proofs.lemmas.List.Elements.{All-head, All-tail}
+use Rattle.mail_bytes.specs.Decimal.{digits}
+use Rattle.mail_bytes.specs.Escape.{unescaped}
+use Rattle.mail_bytes.proofs.Digits.{digits_injective}
+use Rattle.mail_world.proofs.Tests.{same_text}
+use Rattle.scenario.specs.declared.line.Line.{Line}
+use Rattle.scenario.specs.declared.line.Line.TheVariants.{Mail, Step, Run, Stop, Moment, Trace, Cat, Show}
+use Rattle.scenario.specs.Lines.{joined, StandsFor, StandsForText, HasBody, IsMailLine, IsRawLine, envelope_of, IsLine, kept, IsScript, IsUnbroken, ended}
+use Rattle.scenario.proofs.Cuts.{same-cut, not-cut}
+use Rattle.scenario.proofs.Words.{front, joined-front, colon-alone, Ends}
+use Rattle.scenario.proofs.MailLines.{name_lacks, text_lacks, joined-more, body-ends}
+
+-- What words and a rest stand for
+
+read-one : (word a b : List ℕ) → unescaped word ≡ Ok a → unescaped word ≡ Ok b → a ≡ b
+read-one word a b p q = let same = sym p ∙ q in cc
+
+one_sender : (word a b : List ℕ) → StandsForText word a → StandsForText word b → a ≡ b
+one_sender word a b (inl p) (inl q) = p.1 ∙ sym q.1
+one_sender word a b (inl p) (inr q) = absurd (q.0 p.0)
+one_sender word a b (inr p) (inl q) = absurd (p.0 q.0)
+one_sender word a b (inr p) (inr q) = read-one word a b p.1.bytes q.1.bytes
+
+one_message : (rest a b : List ℕ) → HasBody rest a → HasBody rest b → a ≡ b
+one_message [] a b p q = p ∙ sym q
+one_message (first ∷ text) a b p q = read-one text a b p.1 q.1
+
+-- words before `:` are one list, and stand for one list
+one_list : (to xs to' ys : List (List ℕ)) (tail tail' body body' : List ℕ) → AllZip StandsFor to xs → AllZip StandsFor to' ys → Ends tail body → Ends tail' body'
+    → front to ++ (codes ":" ++ tail) ≡ front to' ++ (codes ":" ++ tail') → (xs ≡ ys) × (tail ≡ tail')
+one_list [] [] [] [] tail tail' body body' p q ends ends' e = (refl, append_cancel_left (codes ":") tail tail' e)
+one_list [] [] (v ∷ to') (y ∷ ys) tail tail' body body' p q ends ends' e =
+    absurd (colon-alone v (front to' ++ (codes ":" ++ tail')) tail body q.0.no_end q.0.is_word.whole ends
+    (sym (append_assoc v (32 ∷ front to') (codes ":" ++ tail')) ∙ sym e))
+one_list (w ∷ to) (x ∷ xs) [] [] tail tail' body body' p q ends ends' e =
+    absurd (colon-alone w (front to ++ (codes ":" ++ tail)) tail' body' p.0.no_end p.0.is_word.whole ends'
+    (sym (append_assoc w (32 ∷ front to) (codes ":" ++ tail)) ∙ e))
+one_list (w ∷ to) (x ∷ xs) (v ∷ to') (y ∷ ys) tail tail' body body' p q ends ends' e =
+    let same = same-cut w (front to ++ (codes ":" ++ tail)) v (front to' ++ (codes ":" ++ tail')) 32 p.0.is_word.whole q.0.is_word.whole
+    (sym (append_assoc w (32 ∷ front to) (codes ":" ++ tail)) ∙ e ∙ append_assoc v (32 ∷ front to') (codes ":" ++ tail')) in
+    let first : x ≡ y = read-one w x y p.0.bytes (subst (λ (word : List ℕ). unescaped word ≡ Ok y) (sym same.0) q.0.bytes) in
+    let rest = one_list to xs to' ys tail tail' body body' p.1 q.1 ends ends' same.1 in
+    (ap (λ (b : List ℕ). b ∷ xs) first ∙ ap (λ (l : List (List ℕ)). y ∷ l) rest.0, rest.1)
+one_list [] (x ∷ xs) to' ys tail tail' body body' p q ends ends' e = absurd p
+one_list (w ∷ to) [] to' ys tail tail' body body' p q ends ends' e = absurd p
+one_list [] [] [] (y ∷ ys) tail tail' body body' p q ends ends' e = absurd q
+one_list [] [] (v ∷ to') [] tail tail' body body' p q ends ends' e = absurd q
+one_list (w ∷ to) (x ∷ xs) [] (y ∷ ys) tail tail' body body' p q ends ends' e = absurd q
+one_list (w ∷ to) (x ∷ xs) (v ∷ to') [] tail tail' body body' p q ends ends' e = absurd q
+
+-- Lines that start a mail
+
+-- a name, a word, more words and a rest
+spaced : (name from rest : List ℕ) (to : List (List ℕ)) → (name ++ 32 ∷ joined (from ∷ (to ++ codes ":" ∷ []))) ++ rest ≡ name ++ 32 ∷ (from ++ 32 ∷ (front to ++ (codes ":" ++ rest)))
+spaced name from rest to =
+    append_assoc name (32 ∷ joined (from ∷ (to ++ codes ":" ∷ []))) rest
+    ∙ ap (λ t. name ++ 32 ∷ t) (joined-more from to (codes ":") rest)
+    ∙ ap (λ t. name ++ 32 ∷ (from ++ 32 ∷ t)) (ap (λ t. t ++ rest) (joined-front to (codes ":")) ∙ append_assoc (front to) (codes ":") rest)
+
+-- their parts are the same
+record Alike (name name' from from' rest rest' : List ℕ) (xs ys : List (List ℕ)) : Type 0 where
+  pub names : name ≡ name'
+  pub words : from ≡ from'
+  pub lists : xs ≡ ys
+  pub rests : rest ≡ rest'
+
+alike : (key name name' from from' rest rest' a b body body' : List ℕ) (to to' xs ys : List (List ℕ))
+    → ¬ (Contains name 32) → ¬ (Contains name' 32) → StandsForText from a → StandsForText from' b → AllZip StandsFor to xs → AllZip StandsFor to' ys → HasBody rest body → HasBody rest' body'
+    → key ++ ((name ++ 32 ∷ joined (from ∷ (to ++ codes ":" ∷ []))) ++ rest) ≡ key ++ ((name' ++ 32 ∷ joined (from' ∷ (to' ++ codes ":" ∷ []))) ++ rest')
+    → Alike name name' from from' rest rest' xs ys
+alike key name name' from from' rest rest' a b body body' to to' xs ys plain plain' stands stands' p q has has' e =
+    let behind = sym (spaced name from rest to) ∙ append_cancel_left key _ _ e ∙ spaced name' from' rest' to' in
+    let named = same-cut name (from ++ 32 ∷ (front to ++ (codes ":" ++ rest))) name' (from' ++ 32 ∷ (front to' ++ (codes ":" ++ rest'))) 32 plain plain' behind in
+    let worded = same-cut from (front to ++ (codes ":" ++ rest)) from' (front to' ++ (codes ":" ++ rest')) 32 (text_lacks from a stands) (text_lacks from' b stands') named.1 in
+    let ends = body-ends rest body has in
+    let ends' = body-ends rest' body' has' in
+    let listed = one_list to xs to' ys rest rest' ends.0 ends'.0 p q ends.1 ends'.1 worded.1 in
+    record { names = named.0; words = worded.0; lists = listed.0; rests = listed.1 }
+
+one_mail : (text name name' s s' m m' : List ℕ) (rs rs' : List (List ℕ)) → IsMailLine text name s rs m → IsMailLine text name' s' rs' m' → Mail name m (envelope_of s rs) ≡ Mail name' m' (envelope_of s' rs')
+one_mail text name name' s s' m m' rs rs' p q =
+    let same = alike (codes "mail ") name name' p.from q.from p.rest q.rest s s' m m' p.to q.to rs rs' (name_lacks name p.is_name) (name_lacks name' q.is_name)
+    p.is_sender q.is_sender p.are_recipients q.are_recipients p.has_body q.has_body (sym p.words ∙ q.words) in
+    let sender = one_sender q.from s s' (subst (λ (w : List ℕ). StandsForText w s) same.words p.is_sender) q.is_sender in
+    let body = one_message q.rest m m' (subst (λ (w : List ℕ). HasBody w m) same.rests p.has_body) q.has_body in
+    ap (λ (n : List ℕ). Mail n m (envelope_of s rs)) same.names
+    ∙ ap (λ (b : List ℕ). Mail name' b (envelope_of s rs)) body
+    ∙ ap (λ (x : List ℕ). Mail name' m' (envelope_of x rs)) sender
+    ∙ ap (λ (l : List (List ℕ)). Mail name' m' (envelope_of s' l)) same.lists
+
+one_raw : (text name name' v v' m m' : List ℕ) → IsRawLine text name v m → IsRawLine text name' v' m' → Mail name m v ≡ Mail name' m' v'
+one_raw text name name' v v' m m' p q =
+    let same = alike (codes "raw ") name name' p.word q.word p.rest q.rest v v' m m' [] [] [] [] (name_lacks name p.is_name) (name_lacks name' q.is_name)
+    p.is_envelope q.is_envelope tt tt p.has_body q.has_body (sym p.words ∙ q.words) in
+    let envelope = one_sender q.word v v' (subst (λ (w : List ℕ). StandsForText w v) same.words p.is_envelope) q.is_envelope in
+    let body = one_message q.rest m m' (subst (λ (w : List ℕ). HasBody w m) same.rests p.has_body) q.has_body in
+    ap (λ (n : List ℕ). Mail n m v) same.names ∙ ap (λ (b : List ℕ). Mail name' b v) body ∙ ap (λ (x : List ℕ). Mail name' m' x) envelope
+
+-- Lines differ where their first words do
+
+-- the bytes before the first space
+abbrev first_word : List ℕ → List ℕ
+first_word [] = []
+first_word (b ∷ text) = cond (b == 32) [] (b ∷ first_word text)
+
+-- those of a line
+abbrev word_of : (text : List ℕ) (line : Line) → IsLine text line → List ℕ
+word_of text (Mail name message envelope) (inl h) = codes "mail"
+word_of text (Mail name message envelope) (inr h) = codes "raw"
+word_of text (Step actor) h = codes "step"
+word_of text (Run actor) h = codes "run"
+word_of text (Stop actor) h = codes "stop"
+word_of text (Moment m) h = codes "moment"
+word_of text Trace h = codes "trace"
+word_of text (Cat path) h = codes "cat"
+word_of text Show h = codes "show"
+
+begins_so : (text : List ℕ) (line : Line) (h : IsLine text line) → first_word text ≡ word_of text line h
+begins_so text (Mail name message envelope) (inl h) = ap first_word h.2.words
+begins_so text (Mail name message envelope) (inr h) = ap first_word h.words
+begins_so text (Step actor) h = ap first_word h.0
+begins_so text (Run actor) h = ap first_word h.0
+begins_so text (Stop actor) h = ap first_word h.0
+begins_so text (Moment m) h = ap first_word h.0
+begins_so text Trace h = ap first_word h
+begins_so text (Cat path) h = ap first_word h.1
+begins_so text Show h = ap first_word h
+
+same_word : (text : List ℕ) (l m : Line) (h : IsLine text l) (k : IsLine text m) → word_of text l h ≡ word_of text m k
+same_word text l m h k = sym (begins_so text l h) ∙ begins_so text m k
+
+other_word : (text : List ℕ) (l m : Line) (h : IsLine text l) (k : IsLine text m) → bytes_eq (word_of text l h) (word_of text m k) ≡ false → ⊥
+other_word text l m h k apart =
+    let both : true ≡ false = sym (same_text (word_of text l h)) ∙ ap (bytes_eq (word_of text l h)) (same_word text l m h k) ∙ apart in absurd (cc)
+
+pub one_line : (text : List ℕ) (l m : Line) → IsLine text l → IsLine text m → l ≡ m
+one_line text (Mail name message envelope) (Mail name' message' envelope') (inl h) (inl k) =
+    ap (Mail name message) h.3 ∙ one_mail text name name' h.0 k.0 message message' h.1 k.1 h.2 k.2 ∙ ap (Mail name' message') (sym k.3)
+one_line text (Mail name message envelope) (Mail name' message' envelope') (inr h) (inr k) = one_raw text name name' envelope envelope' message message' h k
+one_line text (Step actor) (Step actor') h k = ap Step (append_cancel_left (codes "step ") actor actor' (sym h.0 ∙ k.0))
+one_line text (Run actor) (Run actor') h k = ap Run (append_cancel_left (codes "run ") actor actor' (sym h.0 ∙ k.0))
+one_line text (Stop actor) (Stop actor') h k = ap Stop (append_cancel_left (codes "stop ") actor actor' (sym h.0 ∙ k.0))
+one_line text (Moment m) (Moment m') h k = ap Moment (digits_injective m m' (append_cancel_left (codes "moment ") (digits m) (digits m') (sym h.0 ∙ k.0)))
+one_line text Trace Trace h k = refl
+one_line text (Cat path) (Cat path') h k =
+    let same : h.0 ≡ k.0 = append_cancel_left (codes "cat ") h.0 k.0 (sym h.1 ∙ k.1) in
+    ap Cat (read-one k.0 path path' (subst (λ (w : List ℕ). unescaped w ≡ Ok path) same h.2.bytes) k.2.bytes)
+one_line text Show Show h k = refl
+one_line text (Mail name message envelope) m (inl h) k = absurd (other_word text (Mail name message envelope) m (inl h) k refl)
+one_line text (Mail name message envelope) m (inr h) k = absurd (other_word text (Mail name message envelope) m (inr h) k refl)
+one_line text l (Mail name message envelope) h (inl k) = absurd (other_word text l (Mail name message envelope) h (inl k) refl)
+one_line text l (Mail name message envelope) h (inr k) = absurd (other_word text l (Mail name message envelope) h (inr k) refl)
+one_line text l m h k = absurd (other_word text l m h k refl)
+
+-- The lines of a script
+
+one_zip : (texts : List (List ℕ)) (ls ms : List Line) → AllZip IsLine texts ls → AllZip IsLine texts ms → ls ≡ ms
+one_zip [] [] [] p q = refl
+one_zip [] (l ∷ ls) ms p q = absurd p
+one_zip [] [] (m ∷ ms) p q = absurd q
+one_zip (t ∷ texts) [] ms p q = absurd p
+one_zip (t ∷ texts) (l ∷ ls) [] p q = absurd q
+one_zip (t ∷ texts) (l ∷ ls) (m ∷ ms) p q =
+    ap (λ (x : Line). x ∷ ls) (one_line t l m p.0 q.0) ∙ ap (λ (xs : List Line). m ∷ xs) (one_zip texts ls ms p.1 q.1)
+
+-- a text with its newline is some bytes
+no-end : (t texts : List ℕ) → t ++ 10 ∷ texts ≡ [] → ⊥
+no-end t texts e = not-cut t texts [] 10 (λ here. let within = here.1 in omega arith) e
+
+one_ended : (ts us : List (List ℕ)) → All IsUnbroken ts → All IsUnbroken us → ended ts ≡ ended us → ts ≡ us
+one_ended [] [] p q e = refl
+one_ended [] (u ∷ us) p q e = absurd (no-end u (ended us) (sym (append_assoc u (10 ∷ []) (ended us)) ∙ sym e))
+one_ended (t ∷ ts) [] p q e = absurd (no-end t (ended ts) (sym (append_assoc t (10 ∷ []) (ended ts)) ∙ e))
+one_ended (t ∷ ts) (u ∷ us) p q e =
+    let same = same-cut t (ended ts) u (ended us) 10 (All-head IsUnbroken t ts p) (All-head IsUnbroken u us q)
+    (sym (append_assoc t (10 ∷ []) (ended ts)) ∙ e ∙ append_assoc u (10 ∷ []) (ended us)) in
+    ap (λ (x : List ℕ). x ∷ ts) same.0 ∙ ap (λ (l : List (List ℕ)). u ∷ l) (one_ended ts us (All-tail IsUnbroken t ts p) (All-tail IsUnbroken u us q) same.1)
+
+pub one_script : (bytes : List ℕ) (ls ms : List Line) → IsScript bytes ls → IsScript bytes ms → ls ≡ ms
+one_script bytes ls ms p q =
+    let same = one_ended p.texts q.texts p.each q.each (sym p.whole ∙ q.whole) in
+    one_zip (kept q.texts) ls ms (subst (λ (l : List (List ℕ)). AllZip IsLine (kept l) ls) same p.are_lines) q.are_lines

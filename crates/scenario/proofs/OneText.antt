@@ -1,0 +1,112 @@
+-- A script prints one text.
+use Rattle.std.proofs.Common.{◌≡◌, ℕ, List, [], ◌∷◌, ◌++◌, Bool, false, Option, Some, None, sym, ap, ◌∙◌, subst, inl, inr, arith, append_assoc}
+use mathlib.Core.Path.{fun_ext}
+use Rattle.call_fs.specs.Disk.{Disk, File, Open}
+use Rattle.mail_bytes.specs.Decimal.{digits}
+use Rattle.mail_world.specs.History.{Event, Actor, Life, after}
+use Rattle.mail_world.specs.History.Life.{Alive, Over, Stopped}
+use Rattle.mail_world.specs.World.{mail}
+use Rattle.scenario.specs.declared.line.Line.{Line}
+use Rattle.scenario.specs.declared.line.Line.TheVariants as line
+use Rattle.scenario.specs.Played.{IsFirstDisk, Outcome, StopsAlive, StopComesTo, MomentComesTo, added, printed, next_pid, Plays, PlaysAll}
+use Rattle.scenario.specs.Traced.{traced_after, traced_text}
+use Rattle.scenario.specs.Text.{IsPlayed, Prints, IsBegun, BeginsToPrint, IsFront}
+use Rattle.scenario.proofs.OneStep.{one_step, one_start, one_run}
+use Rattle.scenario.proofs.OneShown.{one_shown}
+use Rattle.scenario.proofs.OneLine.{one_script}
+
+one_disk : (d e : Disk) → IsFirstDisk d → IsFirstDisk e → d ≡ e
+one_disk d e p q =
+    ap (λ (dirs : List (List ℕ)). let x : Disk = record { dirs = dirs; names = d.names; files = d.files; opens = d.opens } in x) (p.dirs ∙ sym q.dirs)
+    ∙ ap (λ (names : List ℕ → Option ℕ). let x : Disk = record { dirs = e.dirs; names = names; files = d.files; opens = d.opens } in x) (fun_ext (λ name. p.empty name ∙ sym (q.empty name)))
+    ∙ ap (λ (files : ℕ → File). let x : Disk = record { dirs = e.dirs; names = e.names; files = files; opens = d.opens } in x) (fun_ext (λ n. p.fresh n ∙ sym (q.fresh n)))
+    ∙ ap (λ (opens : ℕ → Option Open). let x : Disk = record { dirs = e.dirs; names = e.names; files = e.files; opens = opens } in x) (fun_ext (λ fd. p.shut fd ∙ sym (q.shut fd)))
+
+-- Lines
+
+-- by what an outcome adds and prints
+by_outcome : (name : List ℕ) (o p : Outcome) (e f : List Event) (t u : List ℕ) → o ≡ p → e ≡ added o → f ≡ added p → t ≡ printed name o → u ≡ printed name p → (e ≡ f) × (t ≡ u)
+by_outcome name o p e f t u same add add' print print' = (add ∙ ap added same ∙ sym add', print ∙ ap (printed name) same ∙ sym print')
+
+one_life : (a : List ℕ) (life : Life) (o p : Outcome) → StopsAlive a life o → StopsAlive a life p → o ≡ p
+one_life a Alive o p h k = h ∙ sym k
+one_life a (Over status) o p h k = h ∙ sym k
+one_life a Stopped o p h k = h ∙ sym k
+
+one_stop : (a : List ℕ) (x : Option Actor) (o p : Outcome) → StopComesTo a x o → StopComesTo a x p → o ≡ p
+one_stop a None o p h k = h ∙ sym k
+one_stop a (Some x) o p h k = one_life a x.life o p h k
+
+one_moment : (now m : ℕ) (o p : Outcome) → MomentComesTo now m o → MomentComesTo now m p → o ≡ p
+one_moment now m o p (inl h) (inl k) = h.1 ∙ sym k.1
+one_moment now m o p (inl h) (inr k) = let later = h.0 in let early = k.0 in absurd (omega arith)
+one_moment now m o p (inr h) (inl k) = let later = k.0 in let early = h.0 in absurd (omega arith)
+one_moment now m o p (inr h) (inr k) = h.1 ∙ sym k.1
+
+one_play : (d : Disk) (h : List Event) (l : Line) (e f : List Event) (t u : List ℕ) → Plays d h l e t → Plays d h l f u → (e ≡ f) × (t ≡ u)
+one_play d h (line.Mail name message envelope) e f t u p q =
+    by_outcome name p.0 q.0 e f t u (one_start (after d h) name (mail (next_pid h) (after d h).now message envelope) p.0 q.0 p.1 q.1) p.2 q.2 p.3 q.3
+one_play d h (line.Step actor) e f t u p q = by_outcome actor p.0 q.0 e f t u (one_step (after d h) actor p.0 q.0 p.1 q.1) p.2 q.2 p.3 q.3
+one_play d h (line.Run actor) e f t u p q = one_run d h actor e f t u p q
+one_play d h (line.Stop actor) e f t u p q =
+    by_outcome actor p.0 q.0 e f t u (one_stop actor ((after d h).actors actor) p.0 q.0 p.1 q.1) p.2 q.2 p.3 q.3
+one_play d h (line.Moment m) e f t u p q =
+    by_outcome (digits (after d h).now) p.0 q.0 e f t u (one_moment (after d h).now m p.0 q.0 p.1 q.1) p.2 q.2 p.3 q.3
+one_play d h line.Trace e f t u p q = (p.0 ∙ sym q.0, p.1 ∙ sym q.1)
+one_play d h (line.Cat path) e f t u p q = (p.0 ∙ sym q.0, p.1 ∙ sym q.1)
+one_play d h line.Show e f t u p q = (p.0 ∙ sym q.0, one_shown d h t u p.1 q.1)
+
+-- what a line prints, of the events that it adds and of itself
+same_print : (traced : Bool) (e f : List Event) (t u : List ℕ) → (e ≡ f) × (t ≡ u) → traced_text traced e ++ t ≡ traced_text traced f ++ u
+same_print traced e f t u same = ap (λ (l : List Event). traced_text traced l ++ t) same.0 ∙ ap (λ w. traced_text traced f ++ w) same.1
+
+-- What the first of some lines print is a front of what all of them print.
+play_front : (d : Disk) (h : List Event) (traced : Bool) (first later : List Line) (mid end : List Event) (text whole : List ℕ)
+    → PlaysAll d h traced first mid text → PlaysAll d h traced (first ++ later) end whole → IsFront text whole
+play_front d h traced [] later mid end text whole p q = (whole, ap (λ t. t ++ whole) (sym p.1))
+play_front d h traced (l ∷ first) later mid end text whole p q =
+    let one = one_play d h l p.0 q.0 p.1 q.1 p.3 q.3 in
+    let own = traced_text traced p.0 ++ p.1 in
+    let rest = play_front d (q.0 ++ h) (traced_after traced l) first later mid end p.2 q.2
+    (subst (λ (e : List Event). PlaysAll d (e ++ h) (traced_after traced l) first mid p.2) one.0 p.4) q.4 in (
+      rest.0,
+      q.5
+          ∙ ap (λ t. (traced_text traced q.0 ++ q.1) ++ t) rest.1
+          ∙ ap (λ t. t ++ (p.2 ++ rest.0)) (sym (same_print traced p.0 q.0 p.1 q.1 one))
+          ∙ sym (append_assoc own p.2 rest.0)
+          ∙ ap (λ t. t ++ rest.0) (sym p.5),
+    )
+
+one_play_all : (d : Disk) (h : List Event) (traced : Bool) (lines : List Line) (mid end : List Event) (t u : List ℕ)
+    → PlaysAll d h traced lines mid t → PlaysAll d h traced lines end u → t ≡ u
+one_play_all d h traced [] mid end t u p q = p.1 ∙ sym q.1
+one_play_all d h traced (l ∷ lines) mid end t u p q =
+    let one = one_play d h l p.0 q.0 p.1 q.1 p.3 q.3 in
+    let rest = one_play_all d (q.0 ++ h) (traced_after traced l) lines mid end p.2 q.2
+    (subst (λ (e : List Event). PlaysAll d (e ++ h) (traced_after traced l) lines mid p.2) one.0 p.4) q.4 in
+    p.5 ∙ ap (λ t. t ++ p.2) (same_print traced p.0 q.0 p.1 q.1 one) ∙ ap (λ t. (traced_text traced q.0 ++ q.1) ++ t) rest ∙ sym q.5
+
+-- from one disk
+all_from : (d e : Disk) (lines : List Line) (end : List Event) (t : List ℕ) → IsFirstDisk d → IsFirstDisk e → PlaysAll d [] false lines end t → PlaysAll e [] false lines end t
+all_from d e lines end t p q plays = subst (λ (x : Disk). PlaysAll x [] false lines end t) (one_disk d e p q) plays
+
+one_played : (lines : List Line) (t u : List ℕ) → IsPlayed lines t → IsPlayed lines u → t ≡ u
+one_played lines t u p q =
+    one_play_all q.disk [] false lines p.history q.history t u (all_from p.disk q.disk lines p.history t p.is_first q.is_first p.plays) q.plays
+
+-- Scripts
+
+pub one_text : (script a b : List ℕ) → Prints script a → Prints script b → a ≡ b
+one_text script a b p q =
+    one_played q.lines a b (subst (λ (l : List Line). IsPlayed l a) (one_script script p.lines q.lines p.is_script q.is_script) p.played) q.played
+
+begun_front : (lines : List Line) (begun whole : List ℕ) → IsBegun lines begun → IsPlayed lines whole → IsFront begun whole
+begun_front lines begun whole p q =
+    let front = play_front q.disk [] false p.first p.later p.played.history q.history p.printed whole
+    (all_from p.played.disk q.disk p.first p.played.history p.printed p.played.is_first q.is_first p.played.plays)
+    (subst (λ (l : List Line). PlaysAll q.disk [] false l q.history whole) p.lines_are q.plays) in
+    (p.rest ++ front.0, front.1 ∙ ap (λ t. t ++ front.0) p.text_is ∙ append_assoc begun p.rest front.0)
+
+pub begins_front : (script begun whole : List ℕ) → BeginsToPrint script begun → Prints script whole → IsFront begun whole
+begins_front script begun whole p q =
+    begun_front q.lines begun whole (subst (λ (l : List Line). IsBegun l begun) (one_script script p.lines q.lines p.is_script q.is_script) p.played) q.played

@@ -1,0 +1,268 @@
+-- The lines of a script as they are played, one after the other.
+use Rattle.std.proofs.Common.{◌≡◌, ◌⊎◌, inl, inr, ℕ, ◌+◌, ◌<◌, List, [], ◌∷◌, ◌++◌, length, take, get_or, Bool, true, false, Option, Some, None, refl, sym, ap, ◌∙◌, subst, ⊎_elim, append_assoc}
+use Rattle.std.specs.Prelude.{codes, Contains}
+use Rattle.std.proofs.lemmas.List.{append-nil, take_more}
+use Rattle.std.proofs.lemmas.List.Elements.{Contains-append_right}
+use Rattle.queue_paths.specs.Names.{path}
+use Rattle.queue_paths.specs.Names.Name.{Of}
+use Rattle.call_fs.specs.Apply.{empty_file}
+use Rattle.call_fs.specs.Disk.{Disk}
+use Rattle.call_fs.specs.Told.{Meets}
+use Rattle.mem_fs.specs.MemDisk.{Planned, disk_of, bytes_at}
+use Rattle.mail_world.specs.declared.error.WorldError.{WorldError}
+use Rattle.mail_world.specs.declared.error.WorldError.TheVariants as error
+use Rattle.mail_world.specs.declared.event.Event.{Event as Kept}
+use Rattle.mail_world.specs.declared.event.Event.TheVariants as kept
+use Rattle.mail_world.specs.declared.event.Program.TheVariants.{Injector}
+use Rattle.mail_world.specs.History.{Event, Legal, Opening, after, queue_dirs}
+use Rattle.mail_world.specs.History.Event.{Start}
+use Rattle.mail_world.specs.Headline.{Headline}
+use Rattle.mail_world.specs.MailNames.{IsMailName}
+use Rattle.mail_world.specs.World.{Seen, IsHistory, GoesOn, was_started, started_world, mail, next_pid as kept_pid, pid_after}
+use Rattle.mail_world.proofs.Lives.{started_is, starts_is}
+use Rattle.scenario.specs.declared.line.Line.{Line}
+use Rattle.scenario.specs.declared.line.Line.TheVariants as line
+use Rattle.scenario.specs.Played.{IsFirstDisk, Refusal, IsRefusalOf, Plays, PlaysAll, cat_line, refused, next_pid}
+use Rattle.scenario.specs.Played.Outcome.{Happens, Is}
+use Rattle.scenario.specs.Playing.{IsPlaying, HasStepped, HasPlayed, HasPrinted, IsRefusedAs}
+use Rattle.scenario.specs.Shown.{IsShown}
+use Rattle.scenario.specs.Text.{IsPlayed, IsBegun}
+use Rattle.scenario.specs.Traced.{traced_after, traced_text}
+use Rattle.scenario.proofs.ScriptSteps.{last_told, start_told, moved, tells}
+use Rattle.scenario.proofs.ScriptRuns.{refused_with}
+
+-- `step`
+
+abbrev pub step_played : (d : Disk) (new : Seen Planned) (a : List ℕ) (ended : Option ℕ) (text : List ℕ) (h : List Event) → HasStepped d new a ended h
+    → HasPlayed d new (line.Step a) text text h
+step_played d new a ended text h step = record {
+  events = step.event ∷ [];
+  own = [];
+  plays = (Happens step.event, step.steps, refl, refl);
+  playing = step.playing;
+  text = sym (append-nil text);
+}
+
+abbrev pub step_refused : (d : Disk) (w : Seen Planned) (a : List ℕ) (text : List ℕ) (why : WorldError) (r : Refusal) (h : List Event) → IsPlaying d w h
+    → IsRefusedAs why d a h → IsRefusalOf why r → HasPlayed d w (line.Step a) text (text ++ refused r a) h
+step_refused d w a text why r h playing seen is = record {
+  events = [];
+  own = refused r a;
+  plays = (Is r, refused_with why r d a h seen is, refl, refl);
+  playing = playing;
+  text = refl;
+}
+
+-- `show`
+
+abbrev pub show_played : (d : Disk) (w : Seen Planned) (text own after_text : List ℕ) (h : List Event) → IsPlaying d w h → IsShown d h own → after_text ≡ text ++ own
+    → HasPlayed d w line.Show text after_text h
+show_played d w text own after_text h playing shown is = record { events = []; own = own; plays = (refl, shown); playing = playing; text = is }
+
+-- `mail`
+
+-- a start is refused for its name
+pub only_taken : (why : WorldError) (r : Refusal) → (why ≡ error.Taken) ⊎ (why ≡ error.Memory) → IsRefusalOf why r → (why ≡ error.Taken) × (r ≡ Refusal.Taken)
+only_taken (error.Gone name at) r one is = ⊎_elim (λ e. absurd (cc)) (λ e. absurd (cc)) one
+only_taken (error.NotWaiting name) r one is = ⊎_elim (λ e. absurd (cc)) (λ e. absurd (cc)) one
+only_taken error.Unknown r one is = ⊎_elim (λ e. absurd (cc)) (λ e. absurd (cc)) one
+only_taken error.Taken r one is = (refl, is)
+only_taken (error.Past now) r one is = ⊎_elim (λ e. absurd (cc)) (λ e. absurd (cc)) one
+only_taken error.Memory r one is = absurd is
+
+abbrev pub mail_refused : (d : Disk) (w : Seen Planned) (name message envelope text : List ℕ) (h : List Event) → IsPlaying d w h
+    → (was_started w.events name ≡ true) ⊎ (¬ (IsMailName name)) → HasPlayed d w (line.Mail name message envelope) text (text ++ refused Refusal.Taken name) h
+mail_refused d w name message envelope text h playing why = record {
+  events = [];
+  own = refused Refusal.Taken name;
+  plays = (
+    Is Refusal.Taken,
+    inr (⊎_elim (λ used. inl (sym (started_is d h w.events name playing.is.told) ∙ used)) (λ bad. inr bad) why, refl),
+    refl,
+    refl,
+  );
+  playing = playing;
+  text = refl;
+}
+
+abbrev pub mail_started : (d : Disk) (old new : Seen Planned) (name message envelope text : List ℕ) (h : List Event) → IsPlaying d old h → IsMailName name
+    → new ≡ started_world old name message envelope → GoesOn tells old new → HasPlayed d new (line.Mail name message envelope) text text h
+mail_started d old new name message envelope text h playing good started goes =
+    let args = mail (kept_pid old.events) old.present message envelope in
+    let k : Kept = kept.Start name (Injector args) in
+    let events : new.events ≡ old.events ++ k ∷ [] = ap (λ (w : Seen Planned). w.events) started in
+    let present : new.present ≡ old.present = ap (λ (w : Seen Planned). w.present) started in
+    let disk : new.disk ≡ old.disk = ap (λ (w : Seen Planned). w.disk) started in
+    let next = goes d h playing.is in
+    let is : IsHistory d (disk_of new.disk.held) (old.events ++ k ∷ []) old.present (next.0 ∷ h) = moved d (disk_of new.disk.held) new.events (old.events ++ k ∷ []) new.present old.present (next.0 ∷ h) events present next.1 in
+    let told : next.0 ≡ Start name (Injector args) = start_told name (Injector args) next.0 (last_told old.events k next.0 h is.told) in
+    let now : IsHistory d (disk_of new.disk.held) new.events new.present (Start name (Injector args) ∷ h) = subst (λ (e : Event). IsHistory d (disk_of new.disk.held) new.events new.present (e ∷ h)) told next.1 in
+    let same : args ≡ mail (next_pid h) (after d h).now message envelope =
+    ap (λ n. mail (pid_after n) old.present message envelope) (starts_is h old.events playing.is.told)
+    ∙ ap (λ p. mail (next_pid h) p message envelope) (sym playing.is.moment) in
+    record {
+      events = Start name (Injector args) ∷ [];
+      own = [];
+      plays = (Happens (Start name (Injector args)), inl (good, now.legal.1.new, ap (λ args. Happens (Start name (Injector args))) same), refl, refl);
+      playing = record {
+        is = now;
+        picks = ap (λ (m : Planned). m.picks) disk ∙ playing.picks;
+        plan = ap (λ (m : Planned). m.plan) disk ∙ playing.plan;
+      };
+      text = sym (append-nil text);
+    }
+
+-- `trace` and `cat`
+
+abbrev pub trace_played : (d : Disk) (w : Seen Planned) (text : List ℕ) (h : List Event) → IsPlaying d w h → HasPlayed d w line.Trace text text h
+trace_played d w text h playing = record { events = []; own = []; plays = (refl, refl); playing = playing; text = sym (append-nil text) }
+
+abbrev pub cat_played : (d : Disk) (w : Seen Planned) (path text after_text : List ℕ) (h : List Event) → IsPlaying d w h
+    → after_text ≡ text ++ cat_line path (bytes_at (disk_of w.disk.held) path) → HasPlayed d w (line.Cat path) text after_text h
+cat_played d w path text after_text h playing is = record {
+  events = [];
+  own = cat_line path (bytes_at (disk_of w.disk.held) path);
+  plays = (refl, ap (λ (now : Disk). cat_line path (bytes_at now path)) (sym playing.is.disk));
+  playing = playing;
+  text = is;
+}
+
+-- Lines one after the other
+
+-- whether events are traced behind these lines
+abbrev pub traced_through : Bool → List Line → Bool
+traced_through traced [] = traced
+traced_through traced (first ∷ lines) = traced_through (traced_after traced first) lines
+
+pub traced_push : (traced : Bool) (lines : List Line) (one : Line) → traced_through traced (lines ++ one ∷ []) ≡ traced_after (traced_through traced lines) one
+traced_push traced [] one = refl
+traced_push traced (first ∷ lines) one = traced_push (traced_after traced first) lines one
+
+pub plays_push : (d : Disk) (h mid : List Event) (traced : Bool) (lines : List Line) (one : Line) (text own : List ℕ) (events : List Event)
+    → PlaysAll d h traced lines mid text → Plays d mid one events own
+    → PlaysAll d h traced (lines ++ one ∷ []) (events ++ mid) (text ++ (traced_text (traced_through traced lines) events ++ own))
+plays_push d h mid traced [] one text own events all plays =
+    let more = traced_text traced events ++ own in (
+      events,
+      own,
+      [],
+      subst (λ (h : List Event). Plays d h one events own) all.0 plays,
+      (ap (λ (h : List Event). events ++ h) all.0, refl),
+      ap (λ t. t ++ more) all.1 ∙ sym (append-nil more),
+    )
+plays_push d h mid traced (first ∷ lines) one text own events all plays =
+    let more = traced_text (traced_through traced (first ∷ lines)) events ++ own in (
+      all.0,
+      all.1,
+      all.2 ++ more,
+      all.3,
+      plays_push d (all.0 ++ h) mid (traced_after traced first) lines one all.2 own events all.4 plays,
+      ap (λ t. t ++ more) all.5 ∙ append_assoc (traced_text traced all.0 ++ all.1) all.2 more,
+    )
+
+-- These lines were played, and print this.
+pub record HavePlayed (lines : List Line) (w : Seen Planned) (traced : Bool) : Type 0 where
+  pub disk : Disk
+  pub is_first : IsFirstDisk disk
+  pub history : List Event
+  pub text : List ℕ
+  pub plays : PlaysAll disk [] false lines history text
+  pub playing : IsPlaying disk w history
+  pub tracing : traced ≡ traced_through false lines
+
+-- what is printed of a line, as `PlaysAll` says it
+pub printed_text : (d : Disk) (v : Seen Planned) (traced through : Bool) (one : Line) (text : List ℕ) (h : List Event) (printed : HasPrinted d v traced one text h)
+    → traced ≡ through → traced_text through printed.played.events ++ printed.played.own ≡ text
+printed_text d v traced through one text h printed same =
+    ap (λ t. traced_text t printed.played.events ++ printed.played.own) (sym same)
+    ∙ ap (λ own. traced_text traced printed.played.events ++ own) (sym printed.played.text)
+    ∙ sym printed.text_is
+
+abbrev pub play_goes_on : (lines all : List Line) (one : Line) (w v : Seen Planned) (traced after : Bool) (text : List ℕ) (so : HavePlayed lines w traced)
+    → HasPrinted so.disk v traced one text so.history → all ≡ lines ++ one ∷ [] → after ≡ traced_after traced one → HavePlayed all v after
+play_goes_on lines all one w v traced after text so printed is behind = record {
+  disk = so.disk;
+  is_first = so.is_first;
+  history = printed.played.events ++ so.history;
+  text = so.text ++ text;
+  plays = subst (λ (l : List Line). PlaysAll so.disk [] false l (printed.played.events ++ so.history) (so.text ++ text)) (sym is)
+      (subst (λ t. PlaysAll so.disk [] false (lines ++ one ∷ []) (printed.played.events ++ so.history) (so.text ++ t))
+      (printed_text so.disk v traced (traced_through false lines) one text so.history printed so.tracing)
+      (plays_push so.disk [] so.history false lines one so.text printed.played.own printed.played.events so.plays printed.played.plays));
+  playing = printed.played.playing;
+  tracing = behind ∙ ap (λ t. traced_after t one) so.tracing ∙ sym (traced_push false lines one) ∙ ap (traced_through false) (sym is);
+}
+
+-- the history of a play is legal and safe
+abbrev pub is_played : Headline → (lines : List Line) (w : Seen Planned) (traced : Bool) (so : HavePlayed lines w traced) → IsPlayed lines so.text
+is_played law lines w traced so = record {
+  disk = so.disk;
+  history = so.history;
+  is_first = so.is_first;
+  plays = so.plays;
+  legal = so.playing.is.legal;
+  safe = λ later before is. law so.disk later before (subst (λ (h : List Event). Legal so.disk h) (sym is) so.playing.is.legal);
+}
+
+abbrev pub is_begun : (lines first later : List Line) (text rest printed : List ℕ) → lines ≡ first ++ later → IsPlayed first printed → printed ≡ text ++ rest → IsBegun lines text
+is_begun lines first later text rest printed is played cut = record { first = first; later = later; lines_are = is; printed = printed; rest = rest; played = played; text_is = cut }
+
+-- The disk that a script begins with
+
+pub first_opens : (d : Disk) → IsFirstDisk d → Opening d
+first_opens d first = record {
+  dirs = λ dir there. subst (λ (l : List (List ℕ)). Contains l dir) (sym first.dirs) (Contains-append_right (codes "control" ∷ codes "users" ∷ codes "home" ∷ []) queue_dirs dir there);
+  empty = λ part n. first.empty (path (Of part n));
+  shut = first.shut;
+  settled = λ name n is. let none = sym (first.empty name) ∙ is in absurd (cc);
+}
+
+abbrev pub first_disk : Disk
+first_disk = record {
+  dirs = (codes "control" ∷ codes "users" ∷ codes "home" ∷ []) ++ queue_dirs;
+  names = λ name. None;
+  files = λ n. empty_file 0;
+  opens = λ fd. None;
+}
+
+-- nothing was played yet
+abbrev pub nothing_begun : Headline → (lines : List Line) → IsBegun lines []
+nothing_begun law lines =
+    let first : IsFirstDisk first_disk = record { dirs = refl; empty = λ name. refl; fresh = λ n. refl; shut = λ fd. refl } in
+    record {
+      first = [];
+      later = lines;
+      lines_are = refl;
+      printed = [];
+      rest = [];
+      played = record {
+        disk = first_disk;
+        history = [];
+        is_first = first;
+        plays = (refl, refl);
+        legal = first_opens first_disk first;
+        safe = λ later before is. law first_disk later before (subst (λ (h : List Event). Legal first_disk h) (sym is) (first_opens first_disk first));
+      };
+      text_is = refl;
+    }
+
+abbrev pub nothing_played : (d : Disk) (w : Seen Planned) → IsFirstDisk d → IsPlaying d w [] → HavePlayed [] w false
+nothing_played d w first playing = record { disk = d; is_first = first; history = []; text = []; plays = (refl, refl); playing = playing; tracing = refl }
+
+-- what an output took so far, and more
+pub took_more : (a b c : Option (List ℕ)) (text : List ℕ) {Q : List ℕ → List ℕ → Type 0} (R : List ℕ → List ℕ → Type 0)
+    → ((x y z : List ℕ) → y ≡ x ++ text → Q y z → R x z) → Meets a b (λ before after. after ≡ before ++ text) → Meets b c Q → Meets a c R
+took_more (Some x) (Some y) (Some z) text R then one more = then x y z one more
+took_more (Some x) (Some y) None text R then one more = absurd more
+took_more (Some x) None c text R then one more = absurd one
+took_more None (Some y) c text R then one more = absurd one
+took_more None None (Some z) text R then one more = absurd more
+took_more None None None text R then one more = tt
+
+pub took_none : (a : Option (List ℕ)) (P : List ℕ → List ℕ → Type 0) → ((x : List ℕ) → P x x) → Meets a a P
+took_none (Some x) P each = each x
+took_none None P each = tt
+
+-- the lines from one on
+pub with_next : (lines : List Line) (i : ℕ) (one : Line) → i < length lines → one ≡ get_or lines i one → take (i + 1) lines ≡ take i lines ++ one ∷ []
+with_next lines i one there is = take_more lines i one there ∙ ap (λ l. take i lines ++ l ∷ []) (sym is)

@@ -1,0 +1,268 @@
+-- A step of a world is a step of the script's history.
+use Rattle.std.proofs.Common.{◌≡◌, ◌≢◌, ℕ, List, [], ◌∷◌, ◌++◌, true, false, is_some, Option, Some, None, refl, sym, ap, ◌∙◌, subst, reverse, Result, Err}
+use Rattle.std.specs.List.{AllZip}
+use Rattle.std.proofs.lemmas.List.{reverse-append}
+use Rattle.call_fs.specs.declared.calls.CallData.{CallData}
+use Rattle.call_fs.specs.declared.calls.Answer.{Answer}
+use Rattle.call_fs.specs.declared.calls.Answer.TheVariants.{Refused}
+use Rattle.call_fs.specs.declared.calls.FsError.TheVariants.{Memory}
+use Rattle.call_fs.specs.declared.calls.Told.{Told}
+use Rattle.call_fs.specs.declared.program.Ready.{Ready}
+use Rattle.call_fs.specs.Disk.{Disk}
+use Rattle.call_fs.specs.Program.{Due}
+use Rattle.call_fs.specs.Steady.{IsSteadyAnswer}
+use Rattle.mem_fs.specs.MemDisk.{Planned, disk_of}
+use Rattle.call_fs.proofs.Maps.{put_at_same}
+use Rattle.mail_world.specs.declared.event.Event.{Event as Kept}
+use Rattle.mail_world.specs.declared.event.Event.TheVariants as kept
+use Rattle.mail_world.specs.declared.event.Program.{Program}
+use Rattle.mail_world.specs.History.{Event, Actor, Life, State, next_of, IsLiving, called, finished, after}
+use Rattle.mail_world.specs.History.Event.{Start, Call, End, Stop, Moment, Halt}
+use Rattle.mail_world.specs.History.Life.{Alive, Over, Stopped}
+use Rattle.mail_world.specs.World.{Seen, Tells, IsHistory, GoesOn, IsStep, EndsAt, was_started, input_ready, StaysSteady}
+use Rattle.mail_world.proofs.Lives.{started_is, ended_is}
+use Rattle.mail_world.proofs.Unwritten.{call_wrote_nothing}
+use Rattle.scenario.specs.Played.{Outcome, Refusal, DoesNext, DoesAlive, DoesStep, StepsTo}
+use Rattle.scenario.specs.Played.Outcome.{Happens, Is}
+use Rattle.scenario.specs.Played.Refusal.{Gone, Unknown}
+use Rattle.scenario.specs.Playing.{IsPlaying, HasStepped, IsRefusedAs, lacked_memory, is_memory}
+use Rattle.mail_world.specs.declared.error.WorldError.{WorldError}
+use Rattle.mail_world.specs.declared.error.WorldError.TheVariants as error
+
+-- the newest event is told by the last one that was kept
+pub last_told : (events : List Kept) (k : Kept) (e : Event) (h : List Event) → AllZip Tells (reverse (events ++ k ∷ [])) (e ∷ h) → Tells k e
+last_told events k e h told = (subst (λ (l : List Kept). AllZip Tells l (e ∷ h)) (reverse-append events (k ∷ [])) told).0
+
+told_by : (events : List Kept) (k : Kept) (e f : Event) (h : List Event) → Tells k f → AllZip Tells (reverse (events ++ k ∷ [])) (e ∷ h) → AllZip Tells (reverse (events ++ k ∷ [])) (f ∷ h)
+told_by events k e f h one told =
+    subst (λ (l : List Kept). AllZip Tells l (f ∷ h)) (sym (reverse-append events (k ∷ [])))
+    (one, (subst (λ (l : List Kept). AllZip Tells l (e ∷ h)) (reverse-append events (k ∷ [])) told).1)
+
+-- which event a kept one tells
+call_told : (a : List ℕ) (p : ℕ) (ready : Ready) (call : CallData) (got : Told) (e : Event)
+    → Tells (kept.Call a p ready call got) e → (w : ℕ) × (e ≡ Call a p ready call got w)
+call_told a p ready call got (Start b program) told = absurd (cc)
+call_told a p ready call got (Call b q r c n w) told = (w, cc)
+call_told a p ready call got (End b q r status) told = absurd (cc)
+call_told a p ready call got (Stop b) told = absurd (cc)
+call_told a p ready call got (Moment m) told = absurd (cc)
+call_told a p ready call got (Halt contents) told = absurd told
+
+end_told : (a : List ℕ) (p : ℕ) (ready : Ready) (status : ℕ) (e : Event) → Tells (kept.End a p ready status) e → e ≡ End a p ready status
+end_told a p ready status (Start b program) told = absurd (cc)
+end_told a p ready status (Call b q r c n w) told = absurd (cc)
+end_told a p ready status (End b q r other) told = cc
+end_told a p ready status (Stop b) told = absurd (cc)
+end_told a p ready status (Moment m) told = absurd (cc)
+end_told a p ready status (Halt contents) told = absurd told
+
+pub start_told : (a : List ℕ) (program : Program) (e : Event) → Tells (kept.Start a program) e → e ≡ Start a program
+start_told a program (Start b other) told = cc
+start_told a program (Call b q r c n w) told = absurd (cc)
+start_told a program (End b q r status) told = absurd (cc)
+start_told a program (Stop b) told = absurd (cc)
+start_told a program (Moment m) told = absurd (cc)
+start_told a program (Halt contents) told = absurd told
+
+pub stop_told : (a : List ℕ) (e : Event) → Tells (kept.Stop a) e → e ≡ Stop a
+stop_told a (Start b program) told = absurd (cc)
+stop_told a (Call b q r c n w) told = absurd (cc)
+stop_told a (End b q r status) told = absurd (cc)
+stop_told a (Stop b) told = cc
+stop_told a (Moment m) told = absurd (cc)
+stop_told a (Halt contents) told = absurd told
+
+pub moment_told : (m : ℕ) (e : Event) → Tells (kept.Moment m) e → e ≡ Moment m
+moment_told m (Start b program) told = absurd (cc)
+moment_told m (Call b q r c n w) told = absurd (cc)
+moment_told m (End b q r status) told = absurd (cc)
+moment_told m (Stop b) told = absurd (cc)
+moment_told m (Moment n) told = cc
+moment_told m (Halt contents) told = absurd told
+
+-- What a living actor does next
+
+does : (s : State) (a : List ℕ) (p : ℕ) (x : Actor) (due : Due) (outcome : Outcome) → s.actors a ≡ Some x → x.life ≡ Alive → s.now ≡ p
+    → next_of x.program x.past p input_ready ≡ due → DoesNext s a due outcome → StepsTo s a outcome
+does s a p x due outcome is alive now next h =
+    subst (λ (o : Option Actor). DoesStep s a o outcome) (sym is)
+    (subst (λ (life : Life). DoesAlive s a x life outcome) (sym alive)
+    (subst (λ (due : Due). DoesNext s a due outcome) (sym (ap (λ q. next_of x.program x.past q input_ready) now ∙ next)) h))
+
+-- a living one isn't refused as gone, or as unknown
+next_not : (s : State) (a : List ℕ) (due : Due) (why : Refusal) → DoesNext s a due (Is why) → why ≡ Refusal.NotWaiting
+next_not s a (Due.File call) why h = let e = h.2 in absurd (cc)
+next_not s a (Due.Take port) why h = cc
+next_not s a (Due.Give port bytes) why h = cc
+next_not s a (Due.Start child) why h = cc
+next_not s a (Due.Command bytes) why h = cc
+next_not s a Due.Wait why h = cc
+next_not s a (Due.Ended status) why h = absurd (cc)
+
+pub alive_waits : (s : State) (a : List ℕ) (x : Actor) (why : Refusal) → s.actors a ≡ Some x → x.life ≡ Alive → StepsTo s a (Is why) → why ≡ Refusal.NotWaiting
+alive_waits s a x why is alive h =
+    next_not s a (next_of x.program x.past s.now input_ready) why
+    (subst (λ (life : Life). DoesAlive s a x life (Is why)) alive (subst (λ (o : Option Actor). DoesStep s a o (Is why)) is h))
+
+-- Calls
+
+call_actor : (s : State) (a : List ℕ) (read : ℕ) (ready : Ready) (call : CallData) (got : Told) (w : ℕ) (x : Actor) → s.actors a ≡ Some x
+    → (y : Actor) × ((called s a read ready call got w (s.actors a)).actors a ≡ Some y) × (y.life ≡ x.life)
+call_actor s a read ready call got w x is =
+    subst (λ (o : Option Actor). (y : Actor) × ((called s a read ready call got w o).actors a ≡ Some y) × (y.life ≡ x.life)) (sym is)
+    (_, put_at_same s.actors a _, refl)
+
+-- one event more, by a step of that actor
+record Stepped (o d : Disk) (events : List Kept) (p : ℕ) (a : List ℕ) (h : List Event) : Type 0 where
+  pub event : Event
+  pub steps : StepsTo (after o h) a (Happens event)
+  pub is : IsHistory o d events p (event ∷ h)
+
+call_steps : (o d d' : Disk) (events : List Kept) (p : ℕ) (h : List Event) (a : List ℕ) (call : CallData) (got : Told) (e : Event)
+    → IsHistory o d events p h → got.answer ≢ Refused Memory → IsSteadyAnswer d got.answer
+    → IsHistory o d' (events ++ kept.Call a p input_ready call got ∷ []) p (e ∷ h)
+    → (done : Stepped o d' (events ++ kept.Call a p input_ready call got ∷ []) p a h) × IsLiving (after o (done.event ∷ h)) a
+call_steps o d d' events p h a call got e was memory steady is =
+    let s = after o h in
+    let k : Kept = kept.Call a p input_ready call got in
+    let told = call_told a p input_ready call got e (last_told events k e h is.told) in
+    let w = told.0 in
+    let at_w : IsHistory o d' (events ++ k ∷ []) p (Call a p input_ready call got w ∷ h) = subst (λ (e : Event). IsHistory o d' (events ++ k ∷ []) p (e ∷ h)) told.1 is in
+    let zero = call_wrote_nothing s a p input_ready call got w steady.no_fault at_w.legal.1 in
+    let may = zero.0 in
+    let f : Event = Call a p input_ready call got 0 in
+    let living = call_actor s a p input_ready call got 0 may.actor may.reads.is in (
+      record {
+        event = f;
+        steps = does s a p may.actor (Due.File call) (Happens f) may.reads.is may.reads.alive was.moment may.due
+            (got, record { fits = may.fits; bytes = may.bytes; steady = subst (λ (d : Disk). IsSteadyAnswer d got.answer) (sym was.disk) steady; no_memory = memory }, ap (λ q. Happens (Call a q input_ready call got 0)) (sym was.moment));
+        is = record {
+          legal = (was.legal, may);
+          told = told_by events k (Call a p input_ready call got w) f h refl at_w.told;
+          disk = ap (λ (t : State). t.disk) (sym zero.1) ∙ at_w.disk;
+          moment = ap (λ (t : State). t.now) (sym zero.1) ∙ at_w.moment;
+        };
+      },
+      record { actor = living.0; is = living.1; alive = living.2 ∙ may.reads.alive },
+    )
+
+-- Ends
+
+end_actor : (s : State) (a : List ℕ) (life : Life) (x : Actor) → s.actors a ≡ Some x
+    → (y : Actor) × ((finished s a life (s.actors a)).actors a ≡ Some y) × (y.life ≡ life)
+end_actor s a life x is =
+    subst (λ (o : Option Actor). (y : Actor) × ((finished s a life o).actors a ≡ Some y) × (y.life ≡ life)) (sym is)
+    (_, put_at_same s.actors a _, refl)
+
+-- one that lives no more is gone
+over_gone : (s : State) (a : List ℕ) (x : Actor) → s.actors a ≡ Some x → x.life ≢ Alive → StepsTo s a (Is Gone)
+over_gone s a x is over = subst (λ (o : Option Actor). DoesStep s a o (Is Gone)) (sym is) (by_life x.life over) where
+  by_life : (life : Life) → life ≢ Alive → DoesAlive s a x life (Is Gone)
+  by_life Alive over = absurd (over refl)
+  by_life (Over status) over = refl
+  by_life Stopped over = refl
+
+end_steps : (o d d' : Disk) (events : List Kept) (p : ℕ) (h : List Event) (a : List ℕ) (status : ℕ) (e : Event)
+    → IsHistory o d events p h → IsHistory o d' (events ++ kept.End a p input_ready status ∷ []) p (e ∷ h)
+    → (done : Stepped o d' (events ++ kept.End a p input_ready status ∷ []) p a h) × StepsTo (after o (done.event ∷ h)) a (Is Gone)
+end_steps o d d' events p h a status e was is =
+    let s = after o h in
+    let k : Kept = kept.End a p input_ready status in
+    let same = end_told a p input_ready status e (last_told events k e h is.told) in
+    let f : Event = End a p input_ready status in
+    let now : IsHistory o d' (events ++ k ∷ []) p (f ∷ h) = subst (λ (e : Event). IsHistory o d' (events ++ k ∷ []) p (e ∷ h)) same is in
+    let may = now.legal.1 in
+    let over = end_actor s a (Over status) may.actor may.reads.is in (
+      record {
+        event = f;
+        steps = does s a p may.actor (Due.Ended status) (Happens f) may.reads.is may.reads.alive was.moment may.due (ap (λ q. Happens (End a q input_ready status)) (sym was.moment));
+        is = now;
+      },
+      over_gone (after o (f ∷ h)) a over.0 over.1 (λ e. let both = sym over.2 ∙ e in absurd (cc)),
+    )
+
+-- Refusals
+
+none_of : (m : Option Actor) → is_some m ≡ false → m ≡ None
+none_of None e = refl
+none_of (Some x) e = let h = e in absurd (cc)
+
+pub never_started : (o d : Disk) (events : List Kept) (p : ℕ) (h : List Event) (a : List ℕ) → IsHistory o d events p h → was_started events a ≡ false → (after o h).actors a ≡ None
+never_started o d events p h a was new = none_of ((after o h).actors a) (sym (started_is o h events a was.told) ∙ new)
+
+unknown_steps : (o d : Disk) (events : List Kept) (p : ℕ) (h : List Event) (a : List ℕ) → IsHistory o d events p h → was_started events a ≡ false → StepsTo (after o h) a (Is Unknown)
+unknown_steps o d events p h a was new = subst (λ (m : Option Actor). DoesStep (after o h) a m (Is Unknown)) (sym (never_started o d events p h a was new)) refl
+
+gone_steps : (o d : Disk) (events : List Kept) (p : ℕ) (h : List Event) (a : List ℕ) (at : ℕ) → IsHistory o d events p h → EndsAt events a at → StepsTo (after o h) a (Is Gone)
+gone_steps o d events p h a at was ends =
+    let x = ended_is o h events a at was.legal was.told ends in
+    over_gone (after o h) a x.0 x.1 x.2
+
+pub refused_as : {T : Type 0} (r : Result T WorldError) (why : WorldError) (o : Disk) (old : Seen Planned) (a : List ℕ) (h : List Event)
+    → IsPlaying o old h → r ≡ Err why → (r ≡ Err error.Unknown → was_started old.events a ≡ false)
+    → ((name : List ℕ) (at : ℕ) → r ≡ Err (error.Gone name at) → (name ≡ a) × EndsAt old.events a at)
+    → ((name : List ℕ) → r ≢ Err (error.NotWaiting name)) → r ≢ Err error.Taken → ((now : ℕ) → r ≢ Err (error.Past now))
+    → IsRefusedAs why o a h
+refused_as r (error.Gone name at) o old a h playing is unknown gone waits taken past =
+    (Gone, refl, gone_steps o (disk_of old.disk.held) old.events old.present h a at playing.is (gone name at is).1)
+refused_as r (error.NotWaiting name) o old a h playing is unknown gone waits taken past = absurd (waits name is)
+refused_as r error.Unknown o old a h playing is unknown gone waits taken past =
+    (Unknown, refl, unknown_steps o (disk_of old.disk.held) old.events old.present h a playing.is (unknown is))
+refused_as r error.Taken o old a h playing is unknown gone waits taken past = absurd (taken is)
+refused_as r (error.Past now) o old a h playing is unknown gone waits taken past = absurd (past now is)
+refused_as r error.Memory o old a h playing is unknown gone waits taken past = tt
+
+-- What a step of the world comes to
+
+pub moved : (o d : Disk) (events kept_now : List Kept) (p q : ℕ) (h : List Event) → events ≡ kept_now → p ≡ q → IsHistory o d events p h → IsHistory o d kept_now q h
+moved o d events kept_now p q h same now is = subst (λ (q : ℕ). IsHistory o d kept_now q h) now (subst (λ (l : List Kept). IsHistory o d l p h) same is)
+
+not_memory : (answer : Answer) → is_memory answer ≡ false → answer ≢ Refused Memory
+not_memory answer is e = let both : true ≡ false = sym (ap is_memory e) ∙ is in absurd (cc)
+
+abbrev pub tells : Planned → Option Disk
+tells m = Some (disk_of m.held)
+
+abbrev pub is_steady : Planned → Type 0
+is_steady m = (m.picks ≡ []) × (m.plan ≡ [])
+
+pub stepped : (o : Disk) (old new : Seen Planned) (a : List ℕ) (ended : Option ℕ) (h : List Event) → IsPlaying o old h
+    → IsStep a ended old new → new.present ≡ old.present → GoesOn tells old new
+    → StaysSteady is_steady tells old.disk new.disk old.events new.events
+    → ((before : List Kept) (newest : Kept) → new.events ≡ before ++ newest ∷ [] → false ≡ lacked_memory newest)
+    → HasStepped o new a ended h
+stepped o old new a None h playing step same goes steady memory =
+    let call = step.0 in
+    let got = step.1 in
+    let k : Kept = kept.Call a old.present input_ready call got in
+    let next = goes o h playing.is in
+    let stays = steady (playing.picks, playing.plan) in
+    let done = call_steps o (disk_of old.disk.held) (disk_of new.disk.held) old.events old.present h a call got next.0 playing.is
+    (not_memory got.answer (sym (memory old.events k step.2))) (stays.1 k step.2)
+    (moved o (disk_of new.disk.held) new.events (old.events ++ k ∷ []) new.present old.present (next.0 ∷ h) step.2 same next.1) in
+    record {
+      event = done.0.event;
+      steps = done.0.steps;
+      playing = record {
+        is = moved o (disk_of new.disk.held) (old.events ++ k ∷ []) new.events old.present new.present (done.0.event ∷ h) (sym step.2) (sym same) done.0.is;
+        picks = stays.0.0;
+        plan = stays.0.1;
+      };
+      over = done.1;
+    }
+stepped o old new a (Some status) h playing step same goes steady memory =
+    let k : Kept = kept.End a old.present input_ready status in
+    let next = goes o h playing.is in
+    let stays = steady (playing.picks, playing.plan) in
+    let done = end_steps o (disk_of old.disk.held) (disk_of new.disk.held) old.events old.present h a status next.0 playing.is
+    (moved o (disk_of new.disk.held) new.events (old.events ++ k ∷ []) new.present old.present (next.0 ∷ h) step same next.1) in
+    record {
+      event = done.0.event;
+      steps = done.0.steps;
+      playing = record {
+        is = moved o (disk_of new.disk.held) (old.events ++ k ∷ []) new.events old.present new.present (done.0.event ∷ h) (sym step) (sym same) done.0.is;
+        picks = stays.0.0;
+        plan = stays.0.1;
+      };
+      over = done.1;
+    }

@@ -1,0 +1,101 @@
+-- The events that a line adds, as the world kept them.
+use Rattle.std.proofs.Common.{◌≡◌, ◌≤◌, ◌<◌, ◌+◌, ℕ, suc, List, [], ◌∷◌, ◌++◌, length, get_or, take, drop, reverse, true, refl, sym, ap, ◌∙◌, subst, arith, append_assoc, length-append}
+use Rattle.std.specs.Prelude.{flat_map}
+use Rattle.std.specs.List.{AllZip}
+use Rattle.std.proofs.lemmas.List.{length-reverse, reverse-append, reverse-reverse, append-nil, take_more}
+use Rattle.std.proofs.lemmas.Grind.{flat_map-append}
+use Rattle.call_fs.specs.Disk.{Disk}
+use Rattle.mem_fs.specs.MemDisk.{Planned}
+use Rattle.mail_world.specs.declared.event.Event.{Event as Kept}
+use Rattle.mail_world.specs.History.{Event}
+use Rattle.mail_world.specs.World.{Seen, Tells}
+use Rattle.scenario.specs.declared.line.Line.{Line}
+use Rattle.scenario.specs.Playing.{IsPlaying, HasPlayed, HasPrinted}
+use Rattle.scenario.specs.Traced.{event_line}
+
+zip_append : {A B : Type 0} (R : A → B → Type 0) (xs us : List A) (ys vs : List B) → AllZip R xs ys → AllZip R us vs → AllZip R (xs ++ us) (ys ++ vs)
+zip_append R [] us [] vs a b = b
+zip_append R [] us (y ∷ ys) vs a b = absurd a
+zip_append R (x ∷ xs) us [] vs a b = absurd a
+zip_append R (x ∷ xs) us (y ∷ ys) vs a b = (a.0, zip_append R xs us ys vs a.1 b)
+
+zip_reverse : {A B : Type 0} (R : A → B → Type 0) (xs : List A) (ys : List B) → AllZip R xs ys → AllZip R (reverse xs) (reverse ys)
+zip_reverse R [] [] a = tt
+zip_reverse R [] (y ∷ ys) a = absurd a
+zip_reverse R (x ∷ xs) [] a = absurd a
+zip_reverse R (x ∷ xs) (y ∷ ys) a =
+    subst (λ (l : List _). AllZip R l (reverse (y ∷ ys))) (sym (reverse-append (x ∷ []) xs))
+    (subst (λ (l : List _). AllZip R (reverse xs ++ x ∷ []) l) (sym (reverse-append (y ∷ []) ys))
+    (zip_append R (reverse xs) (x ∷ []) (reverse ys) (y ∷ []) (zip_reverse R xs ys a.1) (a.0, tt)))
+
+zip_drop : {A B : Type 0} (R : A → B → Type 0) (xs : List A) (us vs : List B) → AllZip R xs (us ++ vs) → AllZip R (drop (length us) xs) vs
+zip_drop R xs [] vs a = a
+zip_drop R [] (u ∷ us) vs a = absurd a
+zip_drop R (x ∷ xs) (u ∷ us) vs a = zip_drop R xs us vs a.1
+
+zip_length : {A B : Type 0} (R : A → B → Type 0) (xs : List A) (ys : List B) → AllZip R xs ys → length xs ≡ length ys
+zip_length R [] [] a = refl
+zip_length R [] (y ∷ ys) a = absurd a
+zip_length R (x ∷ xs) [] a = absurd a
+zip_length R (x ∷ xs) (y ∷ ys) a = ap (λ n. suc n) (zip_length R xs ys a.1)
+
+-- a list is as long as what it tells, the one from the oldest on and the other from the newest
+told_length : (events : List Kept) (h : List Event) → AllZip Tells (reverse events) h → length events ≡ length h
+told_length events h told = sym (length-reverse events) ∙ zip_length Tells (reverse events) h told
+
+-- the kept events behind those from before tell what was added
+pub added_told : (old new : List Kept) (h added : List Event) → AllZip Tells (reverse old) h → AllZip Tells (reverse new) (added ++ h)
+    → AllZip Tells (drop (length old) new) (reverse added)
+added_told old new h added before now =
+    let turned : AllZip Tells (reverse (reverse new)) (reverse (added ++ h)) = zip_reverse Tells (reverse new) (added ++ h) now in
+    let split : AllZip Tells new (reverse h ++ reverse added) =
+    subst (λ (l : List Kept). AllZip Tells l (reverse h ++ reverse added)) (reverse-reverse new)
+    (subst (λ (l : List Event). AllZip Tells (reverse (reverse new)) l) (reverse-append added h) turned) in
+    let count : length (reverse h) ≡ length old = length-reverse h ∙ sym (told_length old h before) in
+    subst (λ n. AllZip Tells (drop n new) (reverse added)) count (zip_drop Tells new (reverse h) (reverse added) split)
+
+-- none of those from before is gone
+pub none_gone : (old new : List Kept) (h added : List Event) → AllZip Tells (reverse old) h → AllZip Tells (reverse new) (added ++ h) → length old ≤ length new
+none_gone old new h added before now =
+    let a = told_length old h before in
+    let b = told_length new (added ++ h) now in
+    let c = length-append added h in
+    omega arith
+
+-- what a list tells that is one longer
+zip_last : {A B : Type 0} (R : A → B → Type 0) (xs : List A) (x : A) (ys : List B) → AllZip R (xs ++ x ∷ []) ys
+    → (front : List B) × (last : B) × (ys ≡ front ++ last ∷ []) × AllZip R xs front × R x last
+zip_last R [] x [] a = absurd a
+zip_last R [] x (y ∷ []) a = ([], y, refl, tt, a.0)
+zip_last R [] x (y ∷ z ∷ ys) a = absurd a.1
+zip_last R (w ∷ xs) x [] a = absurd a
+zip_last R (w ∷ xs) x (y ∷ ys) a = let h = zip_last R xs x ys a.1 in (y ∷ h.0, h.1, ap (λ l. y ∷ l) h.2, (a.0, h.3), h.4)
+
+-- the line of one event more
+pub lines_more : (events : List Kept) (i : ℕ) (event : Kept) (start old new : List ℕ) → i < length events → event ≡ get_or events i event
+    → ((happened : List Event) → AllZip Tells (take i events) happened → old ≡ start ++ flat_map event_line happened)
+    → ((e : Event) → Tells event e → new ≡ old ++ event_line e)
+    → (happened : List Event) → AllZip Tells (take (i + 1) events) happened → new ≡ start ++ flat_map event_line happened
+lines_more events i event start old new inside is before one happened told =
+    let grown : take (i + 1) events ≡ take i events ++ event ∷ [] = take_more events i event inside ∙ ap (λ e. take i events ++ e ∷ []) (sym is) in
+    let more = zip_last Tells (take i events) event happened (subst (λ (l : List Kept). AllZip Tells l happened) grown told) in
+    let front : List Event = more.0 in
+    let last : Event = more.1 in
+    let lines : flat_map event_line happened ≡ flat_map event_line front ++ event_line last =
+    ap (flat_map event_line) more.2 ∙ flat_map-append event_line front (last ∷ []) ∙ ap (λ t. flat_map event_line front ++ t) (append-nil (event_line last)) in
+    one last more.4
+    ∙ ap (λ t. t ++ event_line last) (before front more.3)
+    ∙ append_assoc start (flat_map event_line front) (event_line last)
+    ∙ ap (λ t. start ++ t) (sym lines)
+
+-- what is printed of a line where events are traced
+abbrev pub traced_lines : (d : Disk) (old new : Seen Planned) (line : Line) (own text : List ℕ) (h : List Event) → IsPlaying d old h → HasPlayed d new line [] own h
+    → ((added : List Event) → length old.events ≤ length new.events → AllZip Tells (drop (length old.events) new.events) added → text ≡ flat_map event_line added ++ own)
+    → HasPrinted d new true line text h
+traced_lines d old new line own text h playing played lines = record {
+  own = own;
+  played = played;
+  text_is = lines (reverse played.events)
+      (none_gone old.events new.events h played.events playing.is.told played.playing.is.told)
+      (added_told old.events new.events h played.events playing.is.told played.playing.is.told);
+}

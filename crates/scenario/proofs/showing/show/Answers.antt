@@ -1,0 +1,42 @@
+use Rattle.std.proofs.Common.{◌≡◌, List, ℕ, ◌++◌, map, reverse, length, arith, Bor, ap, ◌∙◌, subst}
+use Rattle.std.specs.Prelude.{flat_map, codes}
+use Rattle.std.proofs.lemmas.List.{length-map}
+use Rattle.std.proofs.lemmas.Result.{on_ok_weaker}
+use Rattle.mail_bytes.specs.Decimal.{digits}
+use Rattle.call_fs.specs.Disk.{Disk}
+use Rattle.mem_fs.specs.MemDisk.{disk_of}
+use Rattle.mail_world.specs.declared.event.Event.{Event as Kept}
+use Rattle.scenario.specs.Fates.{fate_of, fate_in, start_lines}
+use Rattle.scenario.specs.Shown.{AreNamesIn, AreNumbersIn, line_of, pid_line, number_line}
+use Rattle.scenario.proofs.Showings.{joined, is_shown}
+use Rattle.scenario.proofs.showing.show.Goals as goal
+
+pub returns : goal.returns
+returns c =
+    let w = c.args.world.now in
+    let text : List ℕ = c.args.text.now.items in
+    let now : Disk = disk_of w.disk.held in
+    let bytes : Bor (List ℕ) → List ℕ = λ b. b.now in
+    let pids : List (List ℕ) = map bytes c.in_ok-pids.pids.items in
+    let numbers : List ℕ = c.in_ok-numbers.numbers.items in
+    let fates = fate_of c.in_ok-fates.fates in
+    let kept : c.events-events.result.now ≡ w.events = c.events-events.ensures ∙ c.history.ensures.events in
+    let all : length pids ≡ length c.in_ok-pids.pids.items = length-map c.in_ok-pids.pids.items bytes in
+    let count : c.len.result ≡ length pids = omega (arith, c.len.ensures, all, c.in_ok-pids.pids.ok.0) in
+    let first : c.put_pids.new.text.items ≡ text ++ pid_line pids =
+    c.in_ok-put_pids.ensures ∙ ap (λ n. text ++ line_of (codes "pid") (digits n)) count in
+    let second : c.put_states.new.text.items ≡ c.put_pids.new.text.items ++ flat_map (number_line now) numbers =
+    c.in_ok-put_states.ensures
+    ∙ ap (λ m. c.put_pids.new.text.items ++ flat_map (number_line (disk_of m.held)) c.deref.result.now) c.disk-3.ensures
+    ∙ ap (λ (ns : List ℕ). c.put_pids.new.text.items ++ flat_map (number_line now) ns) c.deref.ensures.value in
+    let are_pids : AreNamesIn now (codes "pid") pids = subst (λ m. AreNamesIn (disk_of m.held) (codes "pid") pids) c.disk.ensures c.in_ok-pids.ensures in
+    let are_numbers : AreNumbersIn now numbers = subst (λ m. AreNumbersIn (disk_of m.held) numbers) c.disk-2.ensures c.in_ok-numbers.ensures in
+    on_ok_weaker c.put_mails.result
+    (λ third. (
+      pid_line pids ++ (flat_map (number_line now) numbers ++ flat_map (start_lines fates) w.events),
+      joined text c.put_pids.new.text.items c.put_states.new.text.items c.put_mails.new.text.items (pid_line pids) (flat_map (number_line now) numbers) (flat_map (start_lines fates) w.events)
+          first second (third ∙ ap (λ (events : List Kept). c.put_states.new.text.items ++ flat_map (start_lines fates) events) kept),
+      λ d h history. is_shown d h now w.present w.events pids numbers fates history (c.history.ensures.safe d h history) are_pids are_numbers
+          (λ a. c.in_ok-fates.ensures a ∙ ap (λ (events : List Kept). fate_in (reverse events) a) kept),
+    ))
+    c.put_mails.ensures

@@ -1,0 +1,16 @@
+-- which bytes are a script
+pub mod Lines
+-- the parts of a line, as they are read
+pub mod Reading
+-- what `show` prints
+pub mod Shown
+-- how the injectors of kept events fare
+pub mod Fates
+-- the lines of events
+pub mod Traced
+-- the history that a script plays, and what each line prints
+pub mod Played
+-- what a script prints
+pub mod Text
+-- a world in which a script is played
+pub mod Playing

@@ -1,0 +1,68 @@
+-- A world in which a script is played.
+use Rattle.std.specs.Prelude.{◌≡◌, ℕ, List, [], ◌∷◌, ◌++◌, Bool, true, false, Option, Some, None}
+use Rattle.call_fs.specs.declared.calls.Answer.{Answer}
+use Rattle.call_fs.specs.declared.calls.Answer.TheVariants.{Refused}
+use Rattle.call_fs.specs.declared.calls.FsError.TheVariants.{Memory}
+use Rattle.call_fs.specs.Disk.{Disk}
+use Rattle.mem_fs.specs.MemDisk.{Planned, disk_of}
+use Rattle.mail_world.specs.declared.error.WorldError.{WorldError}
+use Rattle.mail_world.specs.declared.error.WorldError.TheVariants as error
+use Rattle.mail_world.specs.declared.event.Event.{Event as Kept}
+use Rattle.mail_world.specs.declared.event.Event.TheVariants as kept
+use Rattle.mail_world.specs.History.{Event, IsLiving, after}
+use Rattle.mail_world.specs.World.{Seen, IsHistory}
+use Rattle.scenario.specs.declared.line.Line.{Line}
+use Rattle.scenario.specs.Played.{Refusal, IsRefusalOf, StepsTo, Plays}
+use Rattle.scenario.specs.Played.Outcome.{Happens, Is}
+use Rattle.scenario.specs.Played.Refusal.{Gone}
+use Rattle.scenario.specs.Traced.{traced_text}
+
+-- an answer that there was no memory for the call
+abbrev pub is_memory : Answer → Bool
+is_memory (Refused Memory) = true
+is_memory other = false
+
+-- an event is a call that found no memory
+abbrev pub lacked_memory : Kept → Bool
+lacked_memory (kept.Start a program) = false
+lacked_memory (kept.Call a read ready call told) = is_memory told.answer
+lacked_memory (kept.End a read ready status) = false
+lacked_memory (kept.Stop a) = false
+lacked_memory (kept.Moment m) = false
+
+-- The world began with this disk, this happened in it, and its disk doesn't fail.
+pub record IsPlaying (d : Disk) (w : Seen Planned) (h : List Event) : Type 0 where
+  pub is : IsHistory d (disk_of w.disk.held) w.events w.present h
+  pub picks : w.disk.picks ≡ []
+  pub plan : w.disk.plan ≡ []
+
+-- whether an actor is over after a step that answered so
+abbrev pub IsOverBy : Option ℕ → Disk → List ℕ → List Event → Type 0
+IsOverBy (Some status) d a h = StepsTo (after d h) a (Is Gone)
+IsOverBy None d a h = IsLiving (after d h) a
+
+-- whatever happened before, a step of that actor happened then
+pub record HasStepped (d : Disk) (new : Seen Planned) (a : List ℕ) (ended : Option ℕ) (h : List Event) : Type 0 where
+  pub event : Event
+  pub steps : StepsTo (after d h) a (Happens event)
+  pub playing : IsPlaying d new (event ∷ h)
+  pub over : IsOverBy ended d a (event ∷ h)
+
+-- a step was refused
+abbrev pub IsRefusedAs : WorldError → Disk → List ℕ → List Event → Type 0
+IsRefusedAs error.Memory d a h = Unit {0}
+IsRefusedAs why d a h = (refusal : Refusal) × IsRefusalOf why refusal × StepsTo (after d h) a (Is refusal)
+
+-- what a line added to the history, and to the text
+pub record HasPlayed (d : Disk) (new : Seen Planned) (line : Line) (before after : List ℕ) (h : List Event) : Type 0 where
+  pub events : List Event
+  pub own : List ℕ
+  pub plays : Plays d h line events own
+  pub playing : IsPlaying d new (events ++ h)
+  pub text : after ≡ before ++ own
+
+-- what is printed of a line that was played: where events are traced, first those that it added
+pub record HasPrinted (d : Disk) (new : Seen Planned) (traced : Bool) (line : Line) (text : List ℕ) (h : List Event) : Type 0 where
+  pub own : List ℕ
+  pub played : HasPlayed d new line [] own h
+  pub text_is : text ≡ traced_text traced played.events ++ own

@@ -1,0 +1,123 @@
+-- What `show` prints: how many names `pid/` has, the state of each number that isn't in S1, and how each mail fares.
+use Rattle.std.specs.Prelude.{◌≡◌, ◌≢◌, ◌↔◌, ℕ, zero, suc, ◌+◌, ◌^◌, ◌<◌, ◌≤◌, List, [], ◌∷◌, ◌++◌, length, Bool, true, false, ◌||◌, ◌&&◌, Option, Some, None, All, Contains, codes, flat_map, bytes_eq, if◌then◌else◌}
+use Rattle.std.specs.List.{AllPairs}
+use Rattle.std.specs.List.Sorted.{IsStrictlyIncreasing}
+use Rattle.std.specs.Ordering.{nat_cmp}
+use Rattle.std.specs.Cmp.Lexicographic.{slice_cmp}
+use Rattle.std.specs.declared.cmp.Ordering.TheVariants.{Less}
+use Rattle.call_fs.specs.declared.calls.CallData.{CallData}
+use Rattle.call_fs.specs.declared.calls.CallData.TheVariants.{Link}
+use Rattle.call_fs.specs.declared.calls.Answer.{Answer}
+use Rattle.call_fs.specs.declared.calls.Answer.TheVariants.{Done}
+use Rattle.call_fs.specs.Apply.{StandsAfter}
+use Rattle.mail_bytes.specs.Decimal.{digits}
+use Rattle.call_fs.specs.Disk.{Disk}
+use Rattle.queue_inject.specs.declared.injection.Arguments.{Arguments}
+use Rattle.queue_paths.specs.Names.{Name, path, parse}
+use Rattle.queue_paths.specs.Names.Name.{Of}
+use Rattle.queue_paths.specs.Names.Part.{Intd, Todo}
+use Rattle.queue_inject.specs.Texts.{recipients_of}
+use Rattle.mail_world.specs.declared.event.Program.TheVariants.{Injector}
+use Rattle.mail_world.specs.declared.queue_states.State.{State as StateOf}
+use Rattle.mail_world.specs.declared.queue_states.State.TheVariants.{S1, S2, S3, S4, S5, Other}
+use Rattle.mail_world.specs.States.{state_of, is_there}
+use Rattle.mail_world.specs.History.{Event, Life, State, Actor, Injection, after}
+use Rattle.mail_world.specs.History.Event.{Start, Call, End, Stop, Moment, Halt}
+use Rattle.mail_world.specs.History.Life.{Alive, Over, Stopped}
+use Rattle.mail_world.specs.Headline.{IsInjected}
+
+-- the names of a directory, in byte order
+pub record AreNamesIn (d : Disk) (dir : List ℕ) (names : List (List ℕ)) : Type 0 where
+  pub each : (name : List ℕ) → Contains names name ↔ StandsAfter d dir [] name
+  pub rising : AllPairs (λ low high. slice_cmp nat_cmp low high ≡ Less) names
+
+-- the numbers that aren't in S1, in order; a message number is a u64 from 1
+pub record AreNumbersIn (d : Disk) (numbers : List ℕ) : Type 0 where
+  pub each : (n : ℕ) → 1 ≤ n → n < 2 ^ 64 → Contains numbers n ↔ (state_of d n ≢ S1)
+  pub only : All (λ n. (1 ≤ n) × (n < 2 ^ 64)) numbers
+  pub rising : IsStrictlyIncreasing numbers
+
+abbrev pub state_word : StateOf → List ℕ
+state_word S1 = codes "S1"
+state_word S2 = codes "S2"
+state_word S3 = codes "S3"
+state_word S4 = codes "S4"
+state_word S5 = codes "S5"
+state_word Other = codes "other"
+
+-- a line of words, parted by spaces
+abbrev pub line_of : List ℕ → List ℕ → List ℕ
+line_of word more = word ++ 32 ∷ (more ++ 10 ∷ [])
+
+-- `pid COUNT`
+abbrev pub pid_line : List (List ℕ) → List ℕ
+pid_line names = line_of (codes "pid") (digits (length names))
+
+-- `N Sk`, or `N other`
+abbrev pub number_line : Disk → ℕ → List ℕ
+number_line d n = line_of (digits n) (state_word (state_of d n))
+
+-- an exit status, or whether it lives or was stopped
+abbrev pub life_word : Life → List ℕ
+life_word Alive = codes "alive"
+life_word (Over status) = digits status
+life_word Stopped = codes "stopped"
+
+-- a link of intd to todo, answered Ok, accepts a mail
+abbrev pub is_to_todo : List ℕ → Option Name → Bool
+is_to_todo old (Some (Of Todo n)) = bytes_eq old (path (Of Intd n))
+is_to_todo old name = false
+
+abbrev pub is_accepting : CallData → Answer → Bool
+is_accepting (Link old new) Done = is_to_todo old (parse new)
+is_accepting call answer = false
+
+-- that injector made such a link
+abbrev pub is_accepted : List ℕ → List Event → Bool
+is_accepted name [] = false
+is_accepted name ((Call a read ready call told wrote) ∷ before) = (bytes_eq a name && is_accepting call told.answer) || is_accepted name before
+is_accepted name ((Start a program) ∷ before) = is_accepted name before
+is_accepted name ((End a read ready status) ∷ before) = is_accepted name before
+is_accepted name ((Stop a) ∷ before) = is_accepted name before
+is_accepted name ((Moment m) ∷ before) = is_accepted name before
+is_accepted name ((Halt contents) ∷ before) = is_accepted name before
+
+-- `NAME.k pending` for so many recipients, counted from k
+abbrev pub recipient_lines : List ℕ → ℕ → ℕ → List ℕ
+recipient_lines name k zero = []
+recipient_lines name k (suc more) = line_of (name ++ 46 ∷ digits k) (codes "pending") ++ recipient_lines name (k + 1) more
+
+-- `NAME STATUS`, and a line for each recipient where the mail was accepted
+abbrev pub mail_lines : State → List Event → List ℕ → Arguments → Option Actor → List ℕ
+mail_lines s h name args None = []
+mail_lines s h name args (Some x) =
+    line_of name (life_word x.life) ++ (if is_accepted name h then recipient_lines name 1 (length (recipients_of args)) else [])
+
+-- the mails that were started, in order
+abbrev pub mails_of : List Event → List (List ℕ × Arguments)
+mails_of [] = []
+mails_of ((Start a (Injector args)) ∷ before) = mails_of before ++ (a, args) ∷ []
+mails_of ((Call a read ready call told wrote) ∷ before) = mails_of before
+mails_of ((End a read ready status) ∷ before) = mails_of before
+mails_of ((Stop a) ∷ before) = mails_of before
+mails_of ((Moment m) ∷ before) = mails_of before
+mails_of ((Halt contents) ∷ before) = mails_of before
+
+abbrev pub all_mail_lines : State → List Event → List ℕ
+all_mail_lines s h = flat_map (λ mail. mail_lines s h mail.0 mail.1 (s.actors mail.0)) (mails_of h)
+
+-- A recipient is pending while todo has its mail. Nothing takes a mail out of todo yet, so each recipient of each
+-- accepted mail is.
+abbrev pub AllPending : State → Type 0
+AllPending s =
+    (q : Injection) (recipient : ℕ) → IsInjected s.books q → q.accepted ≡ true → recipient < length (recipients_of q.args)
+    → is_there s.disk Todo q.number ≡ true
+
+-- what `show` prints after this history, which began with this disk
+pub record IsShown (d : Disk) (h : List Event) (text : List ℕ) : Type 0 where
+  pub pids : List (List ℕ)
+  pub numbers : List ℕ
+  pub are_pids : AreNamesIn (after d h).disk (codes "pid") pids
+  pub are_numbers : AreNumbersIn (after d h).disk numbers
+  pub pending : AllPending (after d h)
+  pub text_is : text ≡ pid_line pids ++ (flat_map (number_line (after d h).disk) numbers ++ all_mail_lines (after d h) h)

@@ -1,0 +1,70 @@
+-- What a script prints.
+use Rattle.std.specs.Prelude.{◌≡◌, ◌⊎◌, ℕ, List, [], ◌++◌, false, codes}
+use Rattle.mail_bytes.specs.Decimal.{digits}
+use Rattle.call_fs.specs.Disk.{Disk}
+use Rattle.mail_world.specs.History.{Event, Legal}
+use Rattle.mail_world.specs.World.{EachSafe}
+use Rattle.scenario.specs.declared.line.Line.{Line}
+use Rattle.scenario.specs.Lines.{IsScript, IsBadLine}
+use Rattle.scenario.specs.Played.{IsFirstDisk, PlaysAll}
+use Rattle.scenario.specs.Shown.{line_of}
+
+-- These lines are played from a disk with no file, and print this. The history that they make is legal, and the queue
+-- is safe at each prefix of it.
+pub record IsPlayed (lines : List Line) (text : List ℕ) : Type 0 where
+  pub disk : Disk
+  pub history : List Event
+  pub is_first : IsFirstDisk disk
+  pub plays : PlaysAll disk [] false lines history text
+  pub legal : Legal disk history
+  pub safe : EachSafe disk history
+
+-- the script with these bytes prints this
+pub record Prints (script text : List ℕ) : Type 0 where
+  pub lines : List Line
+  pub is_script : IsScript script lines
+  pub played : IsPlayed lines text
+
+-- a text begins with this front
+abbrev pub IsFront : List ℕ → List ℕ → Type 0
+IsFront text whole = (rest : List ℕ) × (whole ≡ text ++ rest)
+
+-- Lines are played as far as they go: this is a front of what the first of them print.
+pub record IsBegun (lines : List Line) (text : List ℕ) : Type 0 where
+  pub first : List Line
+  pub later : List Line
+  pub lines_are : lines ≡ first ++ later
+  pub printed : List ℕ
+  pub rest : List ℕ
+  pub played : IsPlayed first printed
+  pub text_is : printed ≡ text ++ rest
+
+-- the script with these bytes begins to print this
+pub record BeginsToPrint (script text : List ℕ) : Type 0 where
+  pub lines : List Line
+  pub is_script : IsScript script lines
+  pub played : IsBegun lines text
+
+-- nothing, or that
+abbrev pub BeginsAtMost : List ℕ → List ℕ → Type 0
+BeginsAtMost script text = (text ≡ []) ⊎ BeginsToPrint script text
+
+-- nothing, or a front of the text of the script with these bytes
+abbrev pub IsFrontAtMost : List ℕ → List ℕ → Type 0
+IsFrontAtMost script text = (text ≡ []) ⊎ ((whole : List ℕ) × Prints script whole × IsFront text whole)
+
+-- `script K` and a newline
+abbrev pub script_line : ℕ → List ℕ
+script_line number = line_of (codes "script") (digits number)
+
+-- all of some bytes; or a front of them, where the output failed
+pub record IsTaken (whole text : List ℕ) (Failed : Type 0) : Type 0 where
+  pub rest : List ℕ
+  pub split : whole ≡ text ++ rest
+  pub all : (rest ≡ []) ⊎ Failed
+
+-- What is printed of bytes that aren't a script: the number that they are refused with.
+pub record PrintsBadLine (script text : List ℕ) (Failed : Type 0) : Type 0 where
+  pub number : ℕ
+  pub is_bad : IsBadLine script number
+  pub is_taken : IsTaken (script_line number) text Failed

@@ -1,0 +1,59 @@
+// Why a script can't be read or played.
+
+use std::alloc::{AllocError, AllocFailed};
+use thiserror::Error;
+
+/// Why bytes are no script.
+#[derive(Debug, Drop, Error)]
+pub enum ScriptError {
+    /// The line with this number isn't in the grammar, counted from 1; 0 where the script is too long.
+    #[error("line {0}: not in the grammar of scripts")]
+    Line(u64),
+    /// Want of memory.
+    #[error("out of memory")]
+    Memory,
+}
+
+impl From<AllocError> for ScriptError {
+    ghost use Rattle.std.specs.Prelude.{◌≡◌};
+    ghost use Rattle.scenario.specs.declared.error.ScriptError.TheVariants.{Memory};
+
+    ghost from_gives = { λ _ why. why ≡ Memory };
+
+    fn from(_: AllocError) -> Self {
+        ScriptError::Memory
+    }
+}
+
+impl<T: Drop> From<AllocFailed<T>> for ScriptError {
+    ghost use Rattle.std.specs.Prelude.{◌≡◌};
+    ghost use Rattle.scenario.specs.declared.error.ScriptError.TheVariants.{Memory};
+
+    ghost from_gives = { λ _ why. why ≡ Memory };
+
+    fn from(_: AllocFailed<T>) -> Self {
+        ScriptError::Memory
+    }
+}
+
+/// Why a script wasn't played to its end.
+#[derive(Clone, Copy, Debug, PartialEq, Eq, Error)]
+pub enum PlayError {
+    /// What it prints wasn't taken; the sink has counted it.
+    #[error("the output failed")]
+    Failed,
+    /// Want of memory.
+    #[error("out of memory")]
+    Memory,
+}
+
+impl From<AllocError> for PlayError {
+    ghost use Rattle.std.specs.Prelude.{◌≡◌};
+    ghost use Rattle.scenario.specs.declared.error.PlayError.TheVariants.{Memory};
+
+    ghost from_gives = { λ _ why. why ≡ Memory };
+
+    fn from(_: AllocError) -> Self {
+        PlayError::Memory
+    }
+}

@@ -1,0 +1,28 @@
+//! Scripts: reading one, playing it over a disk in memory, and showing what came of it.
+//!
+//! Which bytes are a script stands in `specs/Lines.antt`, the history that it plays in `specs/Played.antt`, and what it
+//! prints in `specs/Shown.antt`, `specs/Traced.antt` and `specs/Text.antt`: one text, by the laws in `laws`.
+#![tactic(auto)]
+
+mod error;
+mod fates;
+pub mod laws;
+mod line;
+mod moment;
+mod numbers;
+mod playing;
+mod printing;
+mod queue_dirs;
+mod reading;
+mod refusing;
+mod script;
+mod showing;
+mod tracing;
+
+pub use error::{PlayError, ScriptError};
+pub use line::Line;
+pub use moment::Moment;
+pub use playing::play;
+pub use reading::{MAX_SCRIPT, read_script};
+pub use refusing::refuse;
+pub use script::Script;

@@ -1,0 +1,234 @@
+// Playing a script.
+ghost use Rattle.std.specs.Prelude.{◌≡◌, ◌≢◌, ◌≤◌, ◌++◌, ◌∷◌, [], List, ℕ, take, IfOk, IfErr, OnOk, OnErr, Err, codes};
+ghost use Rattle.mail_bytes.specs.Decimal.{digits};
+ghost use Rattle.call_fs.specs.Disk.{Disk};
+ghost use Rattle.call_fs.specs.Told.{Rose, Meets};
+ghost use Rattle.mail_world.specs.declared.event.Event.{Event as Kept};
+ghost use Rattle.mail_world.specs.History.{Event as Happening};
+ghost use Rattle.mail_world.specs.Kept.{events_of};
+ghost use Rattle.scenario.specs.declared.line.Line.TheVariants as LineOf;
+ghost use Rattle.scenario.specs.Played.{Refusal, IsRefusalOf, refused};
+ghost use Rattle.scenario.specs.Playing.{IsPlaying, HasStepped, HasPlayed, HasPrinted, IsRefusedAs, lacked_memory};
+ghost use Rattle.scenario.specs.Text.{IsPlayed, IsBegun};
+ghost use Rattle.scenario.specs.Shown.{line_of};
+
+use crate::printing::{put_line, put_number};
+use crate::queue_dirs::first_disk;
+use crate::showing::{cat, show};
+use crate::tracing::{put_events_behind, traced_after};
+use crate::{Line, Moment, PlayError, Script};
+use call_fs::{Answer, FsError};
+use mail_bytes::Memory;
+use mail_world::laws::headline;
+use mail_world::{ActorName, Event, History, World, WorldError};
+use mem_fs::MemFs;
+use outside::{Gave, Sink};
+use std::alloc::{AllocError, Global};
+
+/// The most steps that `run` makes.
+const MOST_STEPS: u32 = 1_000_000;
+
+/// Plays a script over a new disk in memory, and gives the sink what its lines print, one line of the script after the
+/// other. `Failed` only where the sink's count of failures rose; it has then taken a prefix of the text. After `Memory`
+/// it has taken a front of the text of the first lines.
+pub fn play<O: Sink>(alloc: Global, script: Script, out: &mut O) -> Result<(), PlayError>
+    ensures cause { IfErr result (λ why. why ≡ PlayError.Failed → Rose (O.faults out.old) (O.faults out.new)) }
+    ensures played { OnOk result (Meets (O.taken out.old) (O.taken out.new)
+        (λ before after. (text : List ℕ) × IsPlayed script text × (after ≡ before ++ text))) }
+    ensures begun { OnErr result (Meets (O.taken out.old) (O.taken out.new)
+        (λ before after. (text : List ℕ) × IsBegun script text × (after ≡ before ++ text))) }
+{
+    // the history that is played is safe
+    headline();
+    let mut world = World::new(alloc, first_disk(alloc)?)?;
+    let mut traced = false;
+    for line in script.lines() {
+        let text = printed(alloc, &mut world, traced, line)?;
+        give(out, &text)?;
+        traced = traced_after(traced, line);
+    }
+    Ok(())
+}
+
+/// Gives the sink what a line prints, where it prints anything.
+fn give<O: Sink>(out: &mut O, text: &[u8]) -> Result<(), PlayError>
+    ensures ok { OnOk result (Meets (O.taken out.old) (O.taken out.new) (λ before after. after ≡ before ++ text.now)) }
+    ensures err { OnErr result (Meets (O.taken out.old) (O.taken out.new)
+        (λ before after. (k : ℕ) × (after ≡ before ++ take k text.now))) }
+    ensures cause { IfErr result (λ why. why ≡ PlayError.Failed → Rose (O.faults out.old) (O.faults out.new)) }
+    ensures later { O.faults out.old ≤ O.faults out.new }
+{
+    if !text.is_empty() && out.give(text) == Gave::Failed {
+        return Err(PlayError::Failed);
+    }
+    Ok(())
+}
+
+/// Plays one line, and gives what is printed of it: where events are traced those that it added, then its own text.
+fn printed(
+    alloc: Global,
+    world: &mut World<MemFs>,
+    traced: bool,
+    line: &Line,
+) -> Result<Vec<u8>, Memory>
+    ensures { IfOk result (λ text. (d : Disk) (h : List Happening) → IsPlaying d world.old h
+        → HasPrinted d world.new traced line.now text.items h) }
+{
+    let before = world.history().len();
+    let mut own = Vec::new(alloc);
+    play_line(alloc, world, line, &mut own)?;
+    if !traced {
+        return Ok(own);
+    }
+    let mut text = Vec::new(alloc);
+    put_events_behind(alloc, &mut text, world.history().events(), before)?;
+    text.extend_from_slice(&own)?;
+    Ok(text)
+}
+
+/// Plays one line, and puts what it prints at the end of a text.
+fn play_line(
+    alloc: Global,
+    world: &mut World<MemFs>,
+    line: &Line,
+    text: &mut Vec<u8>,
+) -> Result<(), Memory>
+    ensures { OnOk result ((d : Disk) (h : List Happening) → IsPlaying d world.old h
+        → HasPlayed d world.new line.now text.old.items text.new.items h) }
+{
+    match line {
+        Line::Mail {
+            name,
+            message,
+            envelope,
+        } => match world.start_mail(alloc, name, message.as_slice(), envelope.as_slice()) {
+            Ok(()) => Ok(()),
+            Err(why) => refuse(text, why, name),
+        },
+        Line::Step(actor) => match step(alloc, world, actor) {
+            Ok(_) => Ok(()),
+            Err(why) => refuse(text, why, actor),
+        },
+        Line::Run(actor) => run(alloc, world, actor, text),
+        Line::Stop(actor) => match world.stop(actor) {
+            Ok(()) => Ok(()),
+            Err(why) => refuse(text, why, actor),
+        },
+        Line::Moment(moment) => set_moment(world, *moment, text),
+        Line::Trace => Ok(()),
+        Line::Cat(path) => cat(alloc, world.disk(), path.as_slice(), text),
+        Line::Show => show(alloc, world, text),
+    }
+}
+
+/// One step of an actor. The exit status, where the actor ended. `Memory` also where its call found no memory: then the
+/// play is over, since a script plays on ample memory.
+fn step(
+    alloc: Global,
+    world: &mut World<MemFs>,
+    actor: &ActorName,
+) -> Result<Option<u8>, WorldError>
+    ensures ok { IfOk result (λ ended. (d : Disk) (h : List Happening) → IsPlaying d world.old h
+        → HasStepped d world.new actor.now ended h) }
+    ensures err { IfErr result (λ why. (d : Disk) (h : List Happening) → IsPlaying d world.old h
+        → IsRefusedAs why d actor.now h) }
+    ensures same { IfErr result (λ why. why ≢ WorldError.Memory → world.new ≡ world.old) }
+    ensures waits { (name : List ℕ) → result ≢ Err (WorldError.NotWaiting name) }
+{
+    let did = world.step(alloc, actor)?;
+    if newest_lacked_memory(world.history()) {
+        return Err(WorldError::Memory);
+    }
+    Ok(did.ended)
+}
+
+/// Whether the newest event is a call that found no memory.
+fn newest_lacked_memory(history: &History) -> bool
+    ensures { (before : List Kept) (newest : Kept) → events_of history.now ≡ before ++ newest ∷ []
+        → result ≡ lacked_memory newest }
+{
+    match history.events().last() {
+        Some(event) => lacked_memory(event),
+        None => false,
+    }
+}
+
+/// Whether an event is a call that found no memory.
+fn lacked_memory(event: &Event) -> bool
+    ensures { result ≡ lacked_memory event.now }
+{
+    match event {
+        Event::Call { told, .. } => matches!(told.answer, Answer::Refused(FsError::Memory)),
+        Event::Start { .. } | Event::End { .. } => false,
+        Event::Stop { .. } | Event::Moment { .. } => false,
+    }
+}
+
+/// Makes steps of an actor until it ends or waits, and puts the line of a refusal at the end of a text.
+fn run(
+    alloc: Global,
+    world: &mut World<MemFs>,
+    actor: &ActorName,
+    text: &mut Vec<u8>,
+) -> Result<(), Memory>
+    ensures { OnOk result ((d : Disk) (h : List Happening) → IsPlaying d world.old h
+        → HasPlayed d world.new (LineOf.Run actor.now) text.old.items text.new.items h) }
+{
+    for _ in 0..MOST_STEPS {
+        match step(alloc, world, actor) {
+            Ok(None) => {}
+            Ok(Some(_)) => return Ok(()),
+            Err(WorldError::NotWaiting(_)) => return Ok(()),
+            Err(why) => return refuse(text, why, actor),
+        }
+    }
+    put_refusal(text, b"steps", actor)
+}
+
+/// Sets the moment, or puts the line of its refusal at the end of a text.
+fn set_moment(world: &mut World<MemFs>, moment: Moment, text: &mut Vec<u8>) -> Result<(), Memory>
+    ensures { OnOk result ((d : Disk) (h : List Happening) → IsPlaying d world.old h
+        → HasPlayed d world.new (LineOf.Moment moment) text.old.items text.new.items h) }
+{
+    match world.moment(moment.seconds()) {
+        Ok(()) => Ok(()),
+        Err(WorldError::Past(present)) => put_past(text, present),
+        // want of memory, and no other
+        Err(WorldError::Gone(_, _) | WorldError::NotWaiting(_) | WorldError::Unknown) => {
+            Err(AllocError)
+        }
+        Err(WorldError::Taken | WorldError::Memory) => Err(AllocError),
+    }
+}
+
+/// Puts the line of a moment that lies before the present one at the end of a text.
+fn put_past(text: &mut Vec<u8>, present: u64) -> Result<(), Memory>
+    ensures { OnOk result (text.new.items ≡ text.old.items ++ refused Refusal.Past (digits present)) }
+{
+    text.extend_from_slice(b"refused past ")?;
+    put_number(text, present)?;
+    text.push(b'\n')?;
+    Ok(())
+}
+
+/// Puts the line of a refusal at the end of a text. Want of memory is no line.
+fn refuse(text: &mut Vec<u8>, why: WorldError, name: &ActorName) -> Result<(), Memory>
+    ensures { OnOk result ((refusal : Refusal) × IsRefusalOf why refusal × (text.new.items ≡ text.old.items ++ refused refusal name.now)) }
+{
+    match why {
+        WorldError::Gone(_, _) => put_refusal(text, b"gone", name),
+        WorldError::NotWaiting(_) => put_refusal(text, b"notwaiting", name),
+        WorldError::Unknown => put_refusal(text, b"unknown", name),
+        WorldError::Taken => put_refusal(text, b"taken", name),
+        WorldError::Past(_) => put_refusal(text, b"past", name),
+        WorldError::Memory => Err(AllocError),
+    }
+}
+
+/// Puts the line `refused WORD NAME` at the end of a text.
+fn put_refusal(text: &mut Vec<u8>, word: &[u8], name: &ActorName) -> Result<(), Memory>
+    ensures { OnOk result (text.new.items ≡ text.old.items ++ (codes "refused " ++ line_of word.now name.now)) }
+{
+    text.extend_from_slice(b"refused ")?;
+    put_line(text, word, name.as_slice())
+}

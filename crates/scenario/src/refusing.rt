@@ -1,0 +1,35 @@
+// What is printed of bytes that aren't a script.
+ghost use Rattle.std.specs.Prelude.{◌≡◌, ◌++◌, List, ℕ, IsOk, IfOk};
+ghost use Rattle.call_fs.specs.Told.{Rose, Meets};
+ghost use Rattle.scenario.specs.Text.{script_line, IsTaken};
+
+use call_fs::{NameBuf, NoRoom};
+use mail_bytes::dec;
+use outside::Sink;
+
+/// Gives the sink `script K` and a newline. Takes no memory; where the sink fails it has counted it.
+pub fn refuse<O: Sink>(out: &mut O, number: u64)
+    ensures { Meets (O.taken out.old) (O.taken out.new) (λ before after. (text : List ℕ)
+        × IsTaken (script_line number) text (Rose (O.faults out.old) (O.faults out.new)) × (after ≡ before ++ text)) }
+{
+    match script_line(number) {
+        Ok(line) => {
+            let _ = out.give(line.as_slice());
+        }
+        Err(NoRoom) => {}
+    }
+}
+
+/// The line `script K`.
+fn script_line(number: u64) -> Result<NameBuf, NoRoom>
+    ensures room { IsOk result }
+    ensures text { IfOk result (λ line. line ≡ script_line number) }
+{
+    let mut into = [0; 20];
+    let length = dec(number, &mut into);
+    let mut line = NameBuf::new();
+    line.extend(b"script ")?;
+    line.extend(&into[..length])?;
+    line.push(b'\n')?;
+    Ok(line)
+}

@@ -1,0 +1,200 @@
+// What `show` and `cat` print.
+ghost use Rattle.std.specs.Prelude.{◌≡◌, ◌++◌, ◌∷◌, List, ℕ, length, OnOk, codes, flat_map};
+ghost use Rattle.mail_bytes.specs.Decimal.{digits};
+ghost use Rattle.call_fs.specs.Disk.{Disk};
+ghost use Rattle.mem_fs.specs.MemDisk.{disk_of, bytes_at};
+ghost use Rattle.queue_inject.specs.Texts.{recipients_of};
+ghost use Rattle.mail_world.specs.History.{Event as Happening};
+ghost use Rattle.mail_world.specs.World.{Happened};
+ghost use Rattle.scenario.specs.Shown.{IsShown, line_of, state_word, life_word, recipient_lines, number_line};
+ghost use Rattle.scenario.specs.Played.{cat_line};
+ghost use Rattle.scenario.specs.Fates.{fate_of, life_of, fate_lines, start_lines};
+
+use crate::fates::{Fate, Fates, Life};
+use crate::numbers::{names_of, numbers_of, state_on};
+use crate::printing::{put_escaped, put_line, put_number};
+use envelope_records::{EnvStep, EnvelopeReader};
+use mail_bytes::Memory;
+use mail_world::queue_states::State;
+use mail_world::{Event, Program, World};
+use mem_fs::MemFs;
+use queue_inject::Arguments;
+use std::alloc::Global;
+
+/// The most bytes of an envelope that an injector reads.
+const ENVELOPE_LIMIT: usize = 1_073_741_824;
+
+/// Puts at the end of a text how many names `pid/` has, the state of each number that isn't in S1, and how each mail
+/// fares. A recipient of an accepted mail is pending: nothing takes a mail out of todo yet.
+pub fn show(alloc: Global, world: &World<MemFs>, text: &mut Vec<u8>) -> Result<(), Memory>
+    ensures { OnOk result ((own : List ℕ) × (text.new.items ≡ text.old.items ++ own)
+        × ((d : Disk) (h : List Happening) → Happened (λ m. Some (disk_of m.held)) d world.now h → IsShown d h own)) }
+{
+    let pids = names_of(alloc, world.disk(), b"pid")?;
+    put_pids(text, pids.len())?;
+    let numbers = numbers_of(alloc, world.disk())?;
+    put_states(text, world.disk(), &numbers)?;
+    let events = world.history().events();
+    let fates = Fates::of(alloc, events)?;
+    put_mails(text, &fates, events)
+}
+
+/// Puts the bytes of the file of a name, or that there is none, at the end of a text.
+pub fn cat(alloc: Global, disk: &MemFs, path: &[u8], text: &mut Vec<u8>) -> Result<(), Memory>
+    ensures { OnOk result (text.new.items ≡ text.old.items
+        ++ cat_line path.now (bytes_at (disk_of disk.now.held) path.now)) }
+{
+    put_escaped(alloc, text, path)?;
+    let Some(bytes) = disk.bytes_of(path) else {
+        return text.extend_from_slice(b" none\n");
+    };
+    text.extend_from_slice(b" : ")?;
+    put_escaped(alloc, text, bytes)?;
+    text.push(b'\n')?;
+    Ok(())
+}
+
+/// Puts the line of each of these numbers at the end of a text.
+fn put_states(text: &mut Vec<u8>, disk: &MemFs, numbers: &[u64]) -> Result<(), Memory>
+    ensures { OnOk result (text.new.items ≡ text.old.items ++ flat_map (number_line (disk_of disk.now.held)) numbers.now) }
+{
+    for number in numbers {
+        put_state(text, *number, state_on(disk, *number))?;
+    }
+    Ok(())
+}
+
+/// Puts the lines of each mail that these events start at the end of a text.
+fn put_mails(text: &mut Vec<u8>, fates: &Fates, events: &[Event]) -> Result<(), Memory>
+    ensures { OnOk result (text.new.items ≡ text.old.items ++ flat_map (start_lines (fate_of fates.now)) events.now) }
+{
+    for event in events {
+        put_mail(text, fates, event)?;
+    }
+    Ok(())
+}
+
+/// Puts the lines of the mail that this event starts, where it does, at the end of a text.
+fn put_mail(text: &mut Vec<u8>, fates: &Fates, event: &Event) -> Result<(), Memory>
+    ensures { OnOk result (text.new.items ≡ text.old.items ++ start_lines (fate_of fates.now) event.now) }
+{
+    match event {
+        Event::Start {
+            actor,
+            program: Program::Injector(arguments),
+        } => put_fate(
+            text,
+            actor.as_slice(),
+            fates.find(actor.as_slice()),
+            arguments,
+        ),
+        Event::Call { .. } | Event::End { .. } => Ok(()),
+        Event::Stop { .. } | Event::Moment { .. } => Ok(()),
+    }
+}
+
+/// Puts the lines of a mail that fares so at the end of a text.
+fn put_fate(
+    text: &mut Vec<u8>,
+    name: &[u8],
+    fate: Fate,
+    arguments: &Arguments,
+) -> Result<(), Memory>
+    ensures { OnOk result (text.new.items ≡ text.old.items ++ fate_lines name.now fate arguments.now) }
+{
+    put_life(text, name, fate.life)?;
+    if fate.accepted {
+        put_recipients(text, name, recipients(arguments))?;
+    }
+    Ok(())
+}
+
+/// How many recipients a mail has: none where no envelope ends within the limit.
+fn recipients(arguments: &Arguments) -> u64
+    ensures { result ≡ length (recipients_of arguments.now) }
+{
+    let envelope = arguments.envelope.as_slice();
+    let read = &envelope[..ENVELOPE_LIMIT.min(envelope.len())];
+    let mut reader = EnvelopeReader::new();
+    let mut count: u64 = 0;
+    for byte in read {
+        match reader.feed(*byte) {
+            EnvStep::Recipient => count += 1,
+            EnvStep::End => return count,
+            EnvStep::More | EnvStep::Sender | EnvStep::Fault(_) => {}
+        }
+    }
+    0
+}
+
+/// Puts the line of the names in `pid/` at the end of a text.
+fn put_pids(text: &mut Vec<u8>, count: usize) -> Result<(), Memory>
+    ensures { OnOk result (text.new.items ≡ text.old.items ++ line_of (codes "pid") (digits count)) }
+{
+    text.extend_from_slice(b"pid ")?;
+    put_number(text, count as u64)?;
+    text.push(b'\n')?;
+    Ok(())
+}
+
+/// Puts the line of a number's state at the end of a text.
+fn put_state(text: &mut Vec<u8>, number: u64, state: State) -> Result<(), Memory>
+    ensures { OnOk result (text.new.items ≡ text.old.items ++ line_of (digits number) (state_word state)) }
+{
+    put_number(text, number)?;
+    text.push(b' ')?;
+    text.extend_from_slice(word_of(state))?;
+    text.push(b'\n')?;
+    Ok(())
+}
+
+/// The word of a state.
+fn word_of(state: State) -> &'static [u8]
+    ensures { result.now ≡ state_word state }
+{
+    match state {
+        State::S1 => b"S1",
+        State::S2 => b"S2",
+        State::S3 => b"S3",
+        State::S4 => b"S4",
+        State::S5 => b"S5",
+        State::Other => b"other",
+    }
+}
+
+/// Puts the line of an injector at the end of a text: its exit status, or whether it lives or was stopped.
+fn put_life(text: &mut Vec<u8>, name: &[u8], life: Life) -> Result<(), Memory>
+    ensures { OnOk result (text.new.items ≡ text.old.items ++ line_of name.now (life_word (life_of life))) }
+{
+    let status = match life {
+        Life::Alive => return put_line(text, name, b"alive"),
+        Life::Stopped => return put_line(text, name, b"stopped"),
+        Life::Ended(status) => status,
+    };
+    text.extend_from_slice(name)?;
+    text.push(b' ')?;
+    put_number(text, u64::from(status))?;
+    text.push(b'\n')?;
+    Ok(())
+}
+
+/// Puts a line for each recipient of a mail that todo holds at the end of a text: pending.
+fn put_recipients(text: &mut Vec<u8>, name: &[u8], count: u64) -> Result<(), Memory>
+    ensures { OnOk result (text.new.items ≡ text.old.items ++ recipient_lines name.now 1 count) }
+{
+    for index in 0..count {
+        put_recipient(text, name, index + 1)?;
+    }
+    Ok(())
+}
+
+/// Puts the line of a recipient at the end of a text, counted from 1.
+fn put_recipient(text: &mut Vec<u8>, name: &[u8], index: u64) -> Result<(), Memory>
+    ensures { OnOk result (text.new.items ≡ text.old.items ++ line_of (name.now ++ 46 ∷ digits index) (codes "pending")) }
+{
+    text.extend_from_slice(name)?;
+    text.push(b'.')?;
+    put_number(text, index)?;
+    text.extend_from_slice(b" pending\n")?;
+    Ok(())
+}

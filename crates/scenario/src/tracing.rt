@@ -1,0 +1,215 @@
+// The lines of events.
+ghost use Rattle.std.specs.Prelude.{◌≡◌, ◌≤◌, ◌++◌, ◌∷◌, List, ℕ, length, drop, OnOk, codes, flat_map};
+ghost use Rattle.std.specs.List.{AllZip};
+ghost use Rattle.mail_bytes.specs.Decimal.{digits};
+ghost use Rattle.mail_world.specs.History.{Event as Happening};
+ghost use Rattle.mail_world.specs.World.{Tells};
+ghost use Rattle.scenario.specs.Shown.{line_of};
+ghost use Rattle.scenario.specs.Traced.{with_path, with_descriptor, with_count, call_text, answer_text, refusal_text, count_of, event_line, traced_after};
+
+use crate::Line;
+use crate::printing::{put_escaped, put_line, put_number};
+use call_fs::{Answer, CallData, Fd, FsError};
+use mail_bytes::Memory;
+use mail_world::{ActorName, Event};
+use std::alloc::Global;
+
+/// Whether events are traced behind a line, where before it they are, or aren't.
+pub fn traced_after(traced: bool, line: &Line) -> bool
+    ensures { result ≡ traced_after traced line.now }
+{
+    match line {
+        Line::Trace => true,
+        Line::Mail { .. } => traced,
+        Line::Step(_) | Line::Run(_) | Line::Stop(_) => traced,
+        Line::Moment(_) | Line::Cat(_) | Line::Show => traced,
+    }
+}
+
+/// Puts the lines of the events behind the first so many at the end of a text, the oldest event first.
+pub fn put_events_behind(
+    alloc: Global,
+    text: &mut Vec<u8>,
+    events: &[Event],
+    before: usize,
+) -> Result<(), Memory>
+    ensures { OnOk result ((added : List Happening) → before ≤ length events.now
+        → AllZip Tells (drop before events.now) added
+        → text.new.items ≡ text.old.items ++ flat_map event_line added) }
+{
+    match events.get(before..) {
+        Some(added) => put_events(alloc, text, added),
+        None => Ok(()),
+    }
+}
+
+/// Puts the lines of these events at the end of a text, the oldest event first.
+fn put_events(alloc: Global, text: &mut Vec<u8>, events: &[Event]) -> Result<(), Memory>
+    ensures { OnOk result ((happened : List Happening) → AllZip Tells events.now happened
+        → text.new.items ≡ text.old.items ++ flat_map event_line happened) }
+{
+    for event in events {
+        put_event(alloc, text, event)?;
+    }
+    Ok(())
+}
+
+/// Puts the line of an event at the end of a text.
+fn put_event(alloc: Global, text: &mut Vec<u8>, event: &Event) -> Result<(), Memory>
+    ensures { OnOk result ((happened : Happening) → Tells event.now happened
+        → text.new.items ≡ text.old.items ++ event_line happened) }
+{
+    match event {
+        Event::Start { actor, .. } => put_line(text, actor.as_slice(), b"start"),
+        Event::Call {
+            actor,
+            call,
+            told,
+            ..
+        } => put_call(alloc, text, actor, call, &told.answer),
+        Event::End { actor, status, .. } => put_end(text, actor, *status),
+        Event::Stop { actor } => put_line(text, actor.as_slice(), b"stop"),
+        Event::Moment { moment } => put_moment(text, *moment),
+    }
+}
+
+/// Puts the line of a moment at the end of a text.
+fn put_moment(text: &mut Vec<u8>, moment: u64) -> Result<(), Memory>
+    ensures { OnOk result (text.new.items ≡ text.old.items
+        ++ line_of (codes "world") (codes "moment " ++ digits moment)) }
+{
+    text.extend_from_slice(b"world moment ")?;
+    put_number(text, moment)?;
+    text.push(b'\n')?;
+    Ok(())
+}
+
+/// Puts the line of an end at the end of a text.
+fn put_end(text: &mut Vec<u8>, actor: &ActorName, status: u8) -> Result<(), Memory>
+    ensures { OnOk result (text.new.items ≡ text.old.items ++ line_of actor.now (codes "end " ++ digits status)) }
+{
+    text.extend_from_slice(actor.as_slice())?;
+    text.extend_from_slice(b" end ")?;
+    put_number(text, u64::from(status))?;
+    text.push(b'\n')?;
+    Ok(())
+}
+
+/// Puts the line of a call and its answer at the end of a text.
+fn put_call(
+    alloc: Global,
+    text: &mut Vec<u8>,
+    actor: &ActorName,
+    call: &CallData,
+    answer: &Answer,
+) -> Result<(), Memory>
+    ensures { OnOk result (text.new.items ≡ text.old.items
+        ++ line_of actor.now (call_text call.now answer.now ++ (codes " = " ++ answer_text answer.now))) }
+{
+    text.extend_from_slice(actor.as_slice())?;
+    text.push(b' ')?;
+    put_call_text(alloc, text, call, answer)?;
+    text.extend_from_slice(b" = ")?;
+    put_answer(alloc, text, answer)?;
+    text.push(b'\n')?;
+    Ok(())
+}
+
+/// Puts a call at the end of a text: a read with the count that it got, a write with that of its bytes, a truncate with
+/// the length that it asks for.
+fn put_call_text(
+    alloc: Global,
+    text: &mut Vec<u8>,
+    call: &CallData,
+    answer: &Answer,
+) -> Result<(), Memory>
+    ensures { OnOk result (text.new.items ≡ text.old.items ++ call_text call.now answer.now) }
+{
+    match call {
+        CallData::CreateExcl(name) => put_with_path(alloc, text, b"create", name.as_slice()),
+        CallData::Open(name, _) => put_with_path(alloc, text, b"open", name.as_slice()),
+        CallData::ReadAt(fd, _, _) => put_with_count(text, b"read", *fd, count_of(answer)),
+        CallData::WriteAt(fd, _, bytes) => {
+            put_with_count(text, b"write", *fd, bytes.as_slice().len() as u64)
+        }
+        CallData::Append(fd, bytes) => {
+            put_with_count(text, b"append", *fd, bytes.as_slice().len() as u64)
+        }
+        CallData::Truncate(fd, len) => put_with_count(text, b"truncate", *fd, *len),
+        CallData::Sync(fd) => put_with_descriptor(text, b"sync", *fd),
+        CallData::Close(fd) => put_with_descriptor(text, b"close", *fd),
+        CallData::Link(old, new) => {
+            put_with_path(alloc, text, b"link", old.as_slice())?;
+            text.push(b' ')?;
+            put_escaped(alloc, text, new.as_slice())
+        }
+        CallData::Unlink(name) => put_with_path(alloc, text, b"unlink", name.as_slice()),
+        CallData::Stat(name) => put_with_path(alloc, text, b"stat", name.as_slice()),
+        CallData::NextName(dir, _) => put_with_path(alloc, text, b"next", dir.as_slice()),
+    }
+}
+
+/// How many bytes a read got; none where it was refused.
+fn count_of(answer: &Answer) -> u64
+    ensures { result ≡ count_of answer.now }
+{
+    match answer {
+        Answer::Count(count) => *count,
+        _ => 0,
+    }
+}
+
+/// Puts a word and a path at the end of a text.
+fn put_with_path(alloc: Global, text: &mut Vec<u8>, word: &[u8], path: &[u8]) -> Result<(), Memory>
+    ensures { OnOk result (text.new.items ≡ text.old.items ++ with_path word.now path.now) }
+{
+    text.extend_from_slice(word)?;
+    text.push(b' ')?;
+    put_escaped(alloc, text, path)
+}
+
+/// Puts a word and a descriptor at the end of a text.
+fn put_with_descriptor(text: &mut Vec<u8>, word: &[u8], fd: Fd) -> Result<(), Memory>
+    ensures { OnOk result (text.new.items ≡ text.old.items ++ with_descriptor word.now fd) }
+{
+    text.extend_from_slice(word)?;
+    text.extend_from_slice(b" #")?;
+    put_number(text, fd.0)
+}
+
+/// Puts a word, a descriptor and a count of bytes at the end of a text.
+fn put_with_count(text: &mut Vec<u8>, word: &[u8], fd: Fd, count: u64) -> Result<(), Memory>
+    ensures { OnOk result (text.new.items ≡ text.old.items ++ with_count word.now fd count) }
+{
+    put_with_descriptor(text, word, fd)?;
+    text.push(b' ')?;
+    put_number(text, count)
+}
+
+/// Puts an answer at the end of a text.
+fn put_answer(alloc: Global, text: &mut Vec<u8>, answer: &Answer) -> Result<(), Memory>
+    ensures { OnOk result (text.new.items ≡ text.old.items ++ answer_text answer.now) }
+{
+    match answer {
+        Answer::Created(_, number) => put_number(text, *number),
+        Answer::Opened(_) => text.extend_from_slice(b"ok"),
+        Answer::Count(_) => text.extend_from_slice(b"ok"),
+        Answer::Done => text.extend_from_slice(b"ok"),
+        Answer::Stat(_) => text.extend_from_slice(b"ok"),
+        Answer::Name(name) => put_escaped(alloc, text, name.as_slice()),
+        Answer::NoName => text.extend_from_slice(b"none"),
+        Answer::Refused(why) => text.extend_from_slice(refusal_text(*why)),
+    }
+}
+
+/// The word of a refusal. A play is over at a call without memory, so that the last one is never printed.
+fn refusal_text(why: FsError) -> &'static [u8]
+    ensures { result.now ≡ refusal_text why }
+{
+    match why {
+        FsError::NotThere => b"notthere",
+        FsError::Exists => b"exists",
+        FsError::Fault => b"fault",
+        FsError::Memory => b"memory",
+    }
+}
