@@ -8,6 +8,7 @@ ghost use Rattle.call_fs.specs.Calls.{data_of, created, opened, counted, done, s
 ghost use Rattle.call_fs.specs.Apply.{Apply, MayCall, IsReadBy, IsNew, IsOpenable, IsLinkable, IsStat, changed, grown, overwritten, cut, synced, with_new, with_open, with_name, without_open};
 ghost use Rattle.call_fs.specs.Columns.{IsAnswerTo, IsTold, IsFound, IsRead, IsMomentIn, IsNumberIn, GrewPart, OverwrotePart, IsUnchanged, LacksLink, HasRoomFor};
 ghost use Rattle.call_fs.specs.Steady.{IsSteadyAnswer};
+ghost use Rattle.call_fs.specs.Plan.{Plan, KeepsPlan, CallKeepsPlan};
 ghost use Rattle.call_fs.specs.Told.{HasCause, AnswerHasCause, Meets, OnTold, Records};
 
 use crate::{Answer, Call, Fd, FsError, How, NameBuf, Stat};
@@ -42,6 +43,11 @@ pub trait CallFs {
     /// least number and the least descriptor that are free. A disk that promises nothing of the kind is never steady.
     ghost steady: { Self → Type 0 };
 
+    /// Which of the calls to come fails, and which number the next new file takes, where it tells. Where it also tells
+    /// what it holds, no other call of it answers `Fault`, and what it makes takes else the least number, and always the
+    /// least descriptor, that is free.
+    ghost plan: { Self → Option Plan };
+
     /// How often it has failed.
     fn faults(&self) -> u64
         ensures { result ≡ faults self.now };
@@ -65,6 +71,7 @@ pub trait CallFs {
         ensures unchanged { OnErr result (IsUnchanged (disk self.old) (disk self.new)) }
         ensures steady { steady self.old → steady self.new
             × OnTold (disk self.old) (λ before. IsSteadyAnswer before (created result)) }
+        ensures plan { KeepsPlan (plan self.old) (plan self.new) (disk self.old) (disk self.new) (created result) }
         ensures cause { HasCause (faults self.old) (faults self.new) result };
 
     /// Opens the file of this name, as open(2). `NotThere` exactly where the name is missing; `Memory` may come, `Exists`
@@ -81,6 +88,7 @@ pub trait CallFs {
         ensures unchanged { OnErr result (IsUnchanged (disk self.old) (disk self.new)) }
         ensures steady { steady self.old → steady self.new
             × OnTold (disk self.old) (λ before. IsSteadyAnswer before (opened result)) }
+        ensures plan { KeepsPlan (plan self.old) (plan self.new) (disk self.old) (disk self.new) (opened result) }
         ensures cause { HasCause (faults self.old) (faults self.new) result };
 
     /// Reads into the buffer from this place on, as pread(2): as many bytes as it has room for, or as the file has from
@@ -101,6 +109,7 @@ pub trait CallFs {
         ensures unchanged { IsUnchanged (disk self.old) (disk self.new) }
         ensures steady { steady self.old → steady self.new
             × OnTold (disk self.old) (λ before. IsSteadyAnswer before (counted result)) }
+        ensures plan { KeepsPlan (plan self.old) (plan self.new) (disk self.old) (disk self.new) (counted result) }
         ensures cause { HasCause (faults self.old) (faults self.new) result };
 
     /// Overwrites from this place on what lies below the length, and nothing else, as pwrite(2) does there. The condition:
@@ -127,6 +136,7 @@ pub trait CallFs {
             (λ before after. OverwrotePart before now fd.0 at bytes.now after) }
         ensures steady { steady self.old → steady self.new
             × OnTold (disk self.old) (λ before. IsSteadyAnswer before (done result)) }
+        ensures plan { KeepsPlan (plan self.old) (plan self.new) (disk self.old) (disk self.new) (done result) }
         ensures cause { HasCause (faults self.old) (faults self.new) result };
 
     /// Writes bytes at the end, as write(2). The condition: the descriptor was created, or opened for that. `Memory` may
@@ -146,6 +156,7 @@ pub trait CallFs {
             (λ before after. GrewPart before now fd.0 bytes.now after) }
         ensures steady { steady self.old → steady self.new
             × OnTold (disk self.old) (λ before. IsSteadyAnswer before (done result)) }
+        ensures plan { KeepsPlan (plan self.old) (plan self.new) (disk self.old) (disk self.new) (done result) }
         ensures cause { HasCause (faults self.old) (faults self.new) result };
 
     /// Cuts the file to this length where it is longer, as ftruncate(2) does there. The condition: the descriptor wasn't
@@ -163,6 +174,7 @@ pub trait CallFs {
         ensures unchanged { OnErr result (IsUnchanged (disk self.old) (disk self.new)) }
         ensures steady { steady self.old → steady self.new
             × OnTold (disk self.old) (λ before. IsSteadyAnswer before (done result)) }
+        ensures plan { KeepsPlan (plan self.old) (plan self.new) (disk self.old) (disk self.new) (done result) }
         ensures cause { HasCause (faults self.old) (faults self.new) result };
 
     /// Waits until the contents are on the disk, as fsync(2). The condition: the descriptor is open. Of the errors only
@@ -180,6 +192,7 @@ pub trait CallFs {
         ensures unchanged { OnErr result (IsUnchanged (disk self.old) (disk self.new)) }
         ensures steady { steady self.old → steady self.new
             × OnTold (disk self.old) (λ before. IsSteadyAnswer before (done result)) }
+        ensures plan { KeepsPlan (plan self.old) (plan self.new) (disk self.old) (disk self.new) (done result) }
         ensures cause { HasCause (faults self.old) (faults self.new) result };
 
     /// Closes the descriptor, as close(2). It is always `Ok`. The condition: the descriptor is open.
@@ -191,6 +204,7 @@ pub trait CallFs {
         ensures always { IsOk result }
         ensures ok { Meets (disk self.old) (disk self.new) (λ before after. after ≡ without_open before fd.0) }
         ensures steady { steady self.old → steady self.new }
+        ensures plan { plan self.new ≡ plan self.old }
         ensures cause { faults self.new ≡ faults self.old };
 
     /// Gives the file of `old` the name `new` too, as link(2). `NotThere` exactly where `old` or the directory of
@@ -210,6 +224,7 @@ pub trait CallFs {
         ensures unchanged { OnErr result (IsUnchanged (disk self.old) (disk self.new)) }
         ensures steady { steady self.old → steady self.new
             × OnTold (disk self.old) (λ before. IsSteadyAnswer before (done result)) }
+        ensures plan { KeepsPlan (plan self.old) (plan self.new) (disk self.old) (disk self.new) (done result) }
         ensures cause { HasCause (faults self.old) (faults self.new) result };
 
     /// Takes the name away, as unlink(2). `NotThere` exactly where it is missing; `Exists` and `Memory` never come.
@@ -226,6 +241,7 @@ pub trait CallFs {
         ensures unchanged { OnErr result (IsUnchanged (disk self.old) (disk self.new)) }
         ensures steady { steady self.old → steady self.new
             × OnTold (disk self.old) (λ before. IsSteadyAnswer before (done result)) }
+        ensures plan { KeepsPlan (plan self.old) (plan self.new) (disk self.old) (disk self.new) (done result) }
         ensures cause { HasCause (faults self.old) (faults self.new) result };
 
     /// Tells the number, length and moment of the file of this name, as stat(2). The moment is one, also from a disk that
@@ -243,6 +259,7 @@ pub trait CallFs {
         ensures unchanged { IsUnchanged (disk self.old) (disk self.new) }
         ensures steady { steady self.old → steady self.new
             × OnTold (disk self.old) (λ before. IsSteadyAnswer before (stated result)) }
+        ensures plan { KeepsPlan (plan self.old) (plan self.new) (disk self.old) (disk self.new) (stated result) }
         ensures cause { HasCause (faults self.old) (faults self.new) result };
 
     /// Puts the least name of the directory that comes after `after` in byte order into the buffer and answers true,
@@ -262,6 +279,7 @@ pub trait CallFs {
         ensures unchanged { IsUnchanged (disk self.old) (disk self.new) }
         ensures steady { steady self.old → steady self.new
             × OnTold (disk self.old) (λ before. IsSteadyAnswer before (next_found result into.new)) }
+        ensures plan { KeepsPlan (plan self.old) (plan self.new) (disk self.old) (disk self.new) (next_found result into.new) }
         ensures cause { HasCause (faults self.old) (faults self.new) result };
 }
 
@@ -286,6 +304,8 @@ pub fn perform<D: CallFs>(
     ensures number { IsNumberIn result }
     ensures steady { D.steady disk.old → D.steady disk.new
         × OnTold (D.disk disk.old) (λ before. IsSteadyAnswer before result) }
+    ensures plan { CallKeepsPlan (data_of call.entry) (D.plan disk.old) (D.plan disk.new)
+        (D.disk disk.old) (D.disk disk.new) result }
     ensures cause { AnswerHasCause (D.faults disk.old) (D.faults disk.new) result }
 {
     match call {
@@ -317,6 +337,8 @@ fn read_at<D: CallFs>(disk: &mut D, fd: Fd, at: u64, len: u64, into: &mut [u8; 8
     ensures number { IsNumberIn result }
     ensures steady { D.steady disk.old → D.steady disk.new
         × OnTold (D.disk disk.old) (λ before. IsSteadyAnswer before result) }
+    ensures plan { CallKeepsPlan (call.ReadAt fd at len) (D.plan disk.old) (D.plan disk.new)
+        (D.disk disk.old) (D.disk disk.new) result }
     ensures cause { AnswerHasCause (D.faults disk.old) (D.faults disk.new) result }
 {
     match disk.read_at(fd, at, &mut into[..len as usize]) {
@@ -335,6 +357,8 @@ fn next_name<D: CallFs>(disk: &mut D, dir: &[u8], after: &[u8]) -> Answer
     ensures number { IsNumberIn result }
     ensures steady { D.steady disk.old → D.steady disk.new
         × OnTold (D.disk disk.old) (λ before. IsSteadyAnswer before result) }
+    ensures plan { CallKeepsPlan (call.NextName dir.now after.now) (D.plan disk.old) (D.plan disk.new)
+        (D.disk disk.old) (D.disk disk.new) result }
     ensures cause { AnswerHasCause (D.faults disk.old) (D.faults disk.new) result }
 {
     let mut name = NameBuf::new();
@@ -346,7 +370,7 @@ fn next_name<D: CallFs>(disk: &mut D, dir: &[u8], after: &[u8]) -> Answer
 }
 
 /// The answer of a call that makes a file.
-fn created(outcome: Result<(Fd, u64), FsError>) -> Answer
+pub(crate) fn created(outcome: Result<(Fd, u64), FsError>) -> Answer
     ensures { result ≡ created outcome }
 {
     match outcome {
@@ -356,7 +380,7 @@ fn created(outcome: Result<(Fd, u64), FsError>) -> Answer
 }
 
 /// The answer of a call that opens a file.
-fn opened(outcome: Result<Fd, FsError>) -> Answer
+pub(crate) fn opened(outcome: Result<Fd, FsError>) -> Answer
     ensures { result ≡ opened outcome }
 {
     match outcome {
@@ -366,7 +390,7 @@ fn opened(outcome: Result<Fd, FsError>) -> Answer
 }
 
 /// The answer of a call that tells what a file is.
-fn stated(outcome: Result<Stat, FsError>) -> Answer
+pub(crate) fn stated(outcome: Result<Stat, FsError>) -> Answer
     ensures { result ≡ stated outcome }
 {
     match outcome {
@@ -376,7 +400,7 @@ fn stated(outcome: Result<Stat, FsError>) -> Answer
 }
 
 /// The answer of a call that tells nothing.
-fn done(outcome: Result<(), FsError>) -> Answer
+pub(crate) fn done(outcome: Result<(), FsError>) -> Answer
     ensures { result ≡ done outcome }
 {
     match outcome {

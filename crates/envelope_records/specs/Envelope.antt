@@ -143,6 +143,19 @@ pub record IsFirstFault (bytes before : List ℕ) (fault : EnvFault) : Type 0 wh
       IsEnvelope (before ++ byte ∷ more) sender recipients → ⊥
   pub cause : IsCause stage byte fault
 
+-- How many bytes are missing at least behind those that lead to a stage, until they are an envelope.
+abbrev pub missing_at : Stage → ℕ
+missing_at Begin = 3
+missing_at (InSender begun) = 2
+missing_at (Between sender recipients) = 1
+missing_at (InRecipient sender recipients begun) = 2
+
+-- these bytes make an envelope of those before them
+pub record Completes (bytes more : List ℕ) : Type 0 where
+  pub sender : List ℕ
+  pub recipients : List (List ℕ)
+  pub whole : IsEnvelope (bytes ++ more) sender recipients
+
 -- The reader that takes one byte after the other
 
 -- What a reader holds: an address as far as it has come, or, behind its NUL, the address that ended.
@@ -185,6 +198,16 @@ ended_address (AddressEnded address) = address
 ended_address (RecipientBegun begun) = []
 ended_address EnvelopeEnded = []
 ended_address (EnvelopeFailed fault) = []
+
+-- how many bytes are missing at least, until what was read is an envelope; none where one has ended, or can't come any
+-- more
+abbrev pub missing : Reader → ℕ
+missing AtBegin = missing_at Begin
+missing (SenderBegun begun) = missing_at (InSender begun)
+missing (AddressEnded address) = missing_at (Between address [])
+missing (RecipientBegun begun) = missing_at (InRecipient [] [] begun)
+missing EnvelopeEnded = 0
+missing (EnvelopeFailed fault) = 0
 
 -- what a reader holds at a place
 abbrev pub standing : Place → List ℕ → Reader

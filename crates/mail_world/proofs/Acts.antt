@@ -1,5 +1,5 @@
 -- What the world knows and has open, as one actor makes a call, ends, or starts.
-use Rattle.std.proofs.Common.{◌≡◌, ◌≢◌, ℕ, List, [], ◌∷◌, ◌++◌, length, true, false, if◌then◌else◌, Option, Some, None, refl, sym, ap, ◌∙◌, subst, ⊎_elim, arith, bytes_eq}
+use Rattle.std.proofs.Common.{◌≡◌, ◌≢◌, ℕ, List, [], ◌∷◌, ◌++◌, length, true, false, if◌then◌else◌, Option, Some, None, refl, sym, ap, ◌∙◌, subst, ⊎_elim, arith, bytes_eq, reverse}
 use Rattle.std.proofs.lemmas.Bool.Decides.{eqb_tells}
 use Rattle.call_fs.specs.declared.calls.CallData.{CallData}
 use Rattle.call_fs.specs.declared.calls.CallData.TheVariants as call
@@ -16,12 +16,12 @@ use Rattle.mail_world.specs.declared.event.Event.TheVariants as kept
 use Rattle.mail_world.specs.History.{State, Actor, Life, start_of, called, finished, happens, held_by, unless_by}
 use Rattle.mail_world.specs.History.Event.{Start}
 use Rattle.mail_world.specs.History.Life.{Alive, Over, Stopped}
-use Rattle.mail_world.specs.World.{IsEndOf, EndsAt, starts, is_start}
-use Rattle.mail_world.specs.Inside.{event_of, IsMember, IsStranger, Follows, is_by}
-use Rattle.mail_world.proofs.Lists.{some_pushed, some_last}
+use Rattle.mail_world.specs.World.{span_of, ends, starts, is_start}
+use Rattle.mail_world.specs.Inside.{event_of, span_by, IsMember, IsStranger, Follows, is_by}
 use Rattle.call_fs.proofs.Maps.{put_same, put_other, put_at_same, put_at_other}
-use Rattle.mail_world.proofs.Tests.{other_text}
-use Rattle.mail_world.proofs.Crew.{ActsAlone, StartsAlone, ends_other, ends_still}
+use Rattle.mail_world.proofs.Tests.{same_text, other_text}
+use Rattle.mail_world.proofs.Spans.{span_push, span_stays, span_begins, span_ends}
+use Rattle.mail_world.proofs.Crew.{ActsAlone, StartsAlone}
 
 -- the descriptors of others
 others_put : (h : ℕ → Option (List ℕ)) (b : List ℕ) (k : ℕ) (v : Option (List ℕ)) (fd : ℕ) → is_by b v ≡ false → is_by b (h fd) ≡ false → is_by b (put h k v fd) ≡ false
@@ -57,7 +57,8 @@ pub call_alone : (s : State) (a : List ℕ) (x : Actor) (p : ℕ) (ready : Ready
 call_alone s a x p ready c got = record {
   actors = λ b apart. put_at_other s.actors a _ b apart;
   holder = λ b apart fd was. held_other s.holder a b c got.answer fd apart was;
-  no_end = λ b apart h. h;
+  no_start = λ b apart. refl;
+  no_end = λ b apart. refl;
 }
 
 pub freed : (a : List ℕ) (o : Option (List ℕ)) → is_by a (unless_by a o o) ≡ false
@@ -76,30 +77,31 @@ pub record Finishes (a : List ℕ) (k : Kept) (life : Life) : Type 0 where
   pub happens : (s : State) → happens s (event_of k) ≡ finished s a life (s.actors a)
   pub none_starts : is_start k ≡ false
   pub nobody_starts : (b : List ℕ) → starts b k ≡ false
-  pub mine : IsEndOf a k
-  pub alone : (b : List ℕ) → IsEndOf b k → a ≡ b
+  pub mine : ends a k ≡ true
+  pub alone : (b : List ℕ) → b ≢ a → ends b k ≡ false
   pub dead : life ≢ Alive
 
 pub end_finishes : (a : List ℕ) (p : ℕ) (ready : Ready) (status : ℕ) → Finishes a (kept.End a p ready status) (Over status)
 end_finishes a p ready status =
-    record { happens = λ s. refl; none_starts = refl; nobody_starts = λ b. refl; mine = refl; alone = λ b h. h; dead = λ e. cc }
+    record { happens = λ s. refl; none_starts = refl; nobody_starts = λ b. refl; mine = same_text a; alone = λ b apart. other_text a b (λ e. apart (sym e)); dead = λ e. cc }
 
 pub stop_finishes : (a : List ℕ) → Finishes a (kept.Stop a) Stopped
-stop_finishes a = record { happens = λ s. refl; none_starts = refl; nobody_starts = λ b. refl; mine = refl; alone = λ b h. h; dead = λ e. cc }
+stop_finishes a = record { happens = λ s. refl; none_starts = refl; nobody_starts = λ b. refl; mine = same_text a; alone = λ b apart. other_text a b (λ e. apart (sym e)); dead = λ e. cc }
 
 -- and so is an end or a stop
 pub finish_alone : (s : State) (a : List ℕ) (x : Actor) (k : Kept) (life : Life) → Finishes a k life → ActsAlone a s (finished s a life (Some x)) k
 finish_alone s a x k life f = record {
   actors = λ b apart. put_at_other s.actors a _ b apart;
   holder = λ b apart fd was. kept_on a b (s.holder fd) apart ∙ was;
-  no_end = λ b apart h. apart (sym (f.alone b h));
+  no_start = λ b apart. f.nobody_starts b;
+  no_end = f.alone;
 }
 
 pub start_alone : (s : State) (a : List ℕ) (program : Program) → StartsAlone a s (happens s (Start a program)) (kept.Start a program)
 start_alone s a program = record {
   actors = λ b apart. put_at_other s.actors a _ b apart;
   holder = refl;
-  no_end = λ b h. h;
+  no_end = λ b. refl;
   start = λ b. refl;
 }
 
@@ -117,10 +119,7 @@ call_member s events p x y ready c got m alive name ended follows =
       follows = follows;
       in_order = omega arith;
       alive = λ e. m.alive alive;
-      ends = λ at. (
-        (λ h. ended ∙ (m.ends at).0 (ends_other events k x.name at (λ h. h) (subst (λ (a : List ℕ). EndsAt (events ++ k ∷ []) a at) name h))),
-        (λ e. subst (λ (a : List ℕ). EndsAt (events ++ k ∷ []) a at) (sym name) (ends_still events k x.name at ((m.ends at).1 (sym ended ∙ e)))),
-      );
+      spans = ap (λ (a : List ℕ). span_of a (reverse (events ++ k ∷ []))) name ∙ span_stays events k x.name refl refl ∙ m.spans ∙ ap span_by (sym ended);
     }
 
 -- the actor that ended or was stopped
@@ -135,16 +134,8 @@ finish_member s events p x y k life m f alive name ended follows =
       follows = follows;
       in_order = m.in_order;
       alive = λ e. let both : ◌≡◌ {A = Option ℕ} None (Some (length events)) = sym e ∙ ended in absurd (cc);
-      ends = λ at. (
-        (λ h. ⊎_elim
-            (λ here. ended ∙ ap Some (sym here.0))
-            (λ there. let both : ◌≡◌ {A = Option ℕ} None (Some at) = sym alive ∙ (m.ends at).0 there in absurd (cc))
-            (some_pushed (IsEndOf x.name) events k at (subst (λ (a : List ℕ). EndsAt (events ++ k ∷ []) a at) name h))),
-        (λ e. let both : ◌≡◌ {A = Option ℕ} (Some (length events)) (Some at) = sym ended ∙ e in
-            let last : length events ≡ at = cc in
-            subst (λ (at : ℕ). EndsAt (events ++ k ∷ []) y.name at) last
-            (some_last (IsEndOf y.name) events k (subst (λ (a : List ℕ). IsEndOf a k) (sym name) f.mine))),
-      );
+      spans = ap (λ (a : List ℕ). span_of a (reverse (events ++ k ∷ []))) name ∙ span_push events k x.name
+          ∙ span_ends x.name k (length events) (span_of x.name (reverse events)) (m.spans ∙ ap span_by alive) f.mine ∙ ap span_by (sym ended);
     }
 
 -- a new actor
@@ -160,10 +151,8 @@ start_member s events p y a program stranger name ended follows now =
       follows = follows;
       in_order = omega arith;
       alive = λ e. refl;
-      ends = λ at. (
-        (λ h. absurd (stranger.no_end at (ends_other events k a at (λ h. h) (subst (λ (a : List ℕ). EndsAt (events ++ k ∷ []) a at) name h)))),
-        (λ e. let both : ◌≡◌ {A = Option ℕ} None (Some at) = sym ended ∙ e in absurd (cc)),
-      );
+      spans = ap (λ (a : List ℕ). span_of a (reverse (events ++ k ∷ []))) name ∙ span_push events k a
+          ∙ span_begins a k (length events) (span_of a (reverse events)) stranger.unborn (same_text a) ∙ ap span_by (sym ended);
     }
 
 -- a machine that looked stands as before
@@ -175,8 +164,5 @@ look_member s events p x y m name ended follows = record {
   follows = follows;
   in_order = m.in_order;
   alive = λ e. m.alive (sym ended ∙ e);
-  ends = λ at. (
-    (λ h. ended ∙ (m.ends at).0 (subst (λ (a : List ℕ). EndsAt events a at) name h)),
-    (λ e. subst (λ (a : List ℕ). EndsAt events a at) (sym name) ((m.ends at).1 (sym ended ∙ e))),
-  );
+  spans = ap (λ (a : List ℕ). span_of a (reverse events)) name ∙ m.spans ∙ ap span_by (sym ended);
 }

@@ -1,30 +1,31 @@
 -- The actors that a world keeps, as one event comes.
-use Rattle.std.proofs.Common.{◌≡◌, ◌≢◌, ℕ, ◌≤◌, List, [], ◌∷◌, ◌++◌, length, set, false, ◌||◌, is_some, Option, Some, None, IsSomeAnd, sym, ap, ◌∙◌, subst, ⊎_elim, arith, bytes_eq}
+use Rattle.std.proofs.Common.{◌≡◌, ◌≢◌, ℕ, ◌≤◌, ◌<◌, List, [], ◌∷◌, ◌++◌, length, set, false, ◌||◌, is_some, Option, Some, None, IsSomeAnd, refl, sym, ap, ◌∙◌, subst, ⊎_elim, arith, bytes_eq, reverse}
 use Rattle.std.proofs.Math.Bool.{or-false, or-true}
 use Rattle.std.proofs.lemmas.List.Folds.{list_any-append}
+use Rattle.std.proofs.lemmas.Option.{slice_get_within}
 use Rattle.std.specs.List.{slice_get}
+use Rattle.std.specs.Option.{option_map}
 use Rattle.call_fs.specs.Maps.{put_at}
 use Rattle.mail_world.specs.declared.actor.Actor.{Actor as Held}
 use Rattle.mail_world.specs.declared.event.Event.{Event as Kept}
-use Rattle.mail_world.specs.History.{State, Actor}
-use Rattle.mail_world.specs.World.{IsEndOf, EndsAt, starts, was_started}
-use Rattle.mail_world.specs.Inside.{IsMember, IsStranger, AreActors, is_by}
+use Rattle.mail_world.specs.declared.event.Event.TheVariants as kept
+use Rattle.call_fs.specs.declared.crash_file_system.Survival.{Survival}
+use Rattle.queue_inject.specs.Machine.{Machine}
+use Rattle.mail_world.specs.History.{State, Actor, stopped}
+use Rattle.mail_world.specs.World.{span_after, span_of, ends, starts, was_started}
+use Rattle.mail_world.specs.Inside.{span_by, Follows, IsMember, IsStranger, AreActors, is_by}
+use Rattle.mail_world.specs.Acting.{ended_by, IsCutOff, AreCutOff}
 use Rattle.call_fs.proofs.Maps.{put_at_same, put_at_other}
 use Rattle.mail_world.proofs.Tests.{text_cases, same_text, other_text}
-use Rattle.mail_world.proofs.Lists.{each_set, some_set, each_push, some_push, some_last, some_pushed}
+use Rattle.mail_world.proofs.Lists.{each_set, some_set, each_push, some_push, some_last, some_at, some_within}
+use Rattle.mail_world.proofs.Spans.{span_push, span_stays}
 
 -- an event leaves each actor but one as it was
 pub record ActsAlone (a : List ℕ) (s t : State) (k : Kept) : Type 0 where
   pub actors : (b : List ℕ) → b ≢ a → t.actors b ≡ s.actors b
   pub holder : (b : List ℕ) → b ≢ a → (fd : ℕ) → is_by b (s.holder fd) ≡ false → is_by b (t.holder fd) ≡ false
-  pub no_end : (b : List ℕ) → b ≢ a → ¬ IsEndOf b k
-
--- an end that isn't of that actor tells nothing of it
-pub ends_other : (events : List Kept) (k : Kept) (a : List ℕ) (at : ℕ) → ¬ IsEndOf a k → EndsAt (events ++ k ∷ []) a at → EndsAt events a at
-ends_other events k a at none h = ⊎_elim (λ f. absurd (none f.1)) (λ f. f) (some_pushed (IsEndOf a) events k at h)
-
-pub ends_still : (events : List Kept) (k : Kept) (a : List ℕ) (at : ℕ) → EndsAt events a at → EndsAt (events ++ k ∷ []) a at
-ends_still events k a at h = some_push (IsEndOf a) events k at h
+  pub no_start : (b : List ℕ) → b ≢ a → starts b k ≡ false
+  pub no_end : (b : List ℕ) → b ≢ a → ends b k ≡ false
 
 pub started_push : (events : List Kept) (k : Kept) (a : List ℕ) → was_started (events ++ k ∷ []) a ≡ (was_started events a || starts a k)
 started_push events k a = list_any-append (starts a) events (k ∷ []) ∙ ap (λ b. was_started events a || b) (or-false (starts a k))
@@ -37,13 +38,13 @@ other_member s t events k p a x acts apart m = record {
   follows = m.follows;
   in_order = m.in_order;
   alive = m.alive;
-  ends = λ at. ((λ h. (m.ends at).0 (ends_other events k x.name at (acts.no_end x.name apart) h)), (λ e. ends_still events k x.name at ((m.ends at).1 e)));
+  spans = span_stays events k x.name (acts.no_start x.name apart) (acts.no_end x.name apart) ∙ m.spans;
 }
 
 other_stranger : (s t : State) (events : List Kept) (k : Kept) (a b : List ℕ) → ActsAlone a s t k → b ≢ a → IsStranger s events b → IsStranger t (events ++ k ∷ []) b
 other_stranger s t events k a b acts apart m = record {
   unknown = acts.actors b apart ∙ m.unknown;
-  no_end = λ at h. m.no_end at (ends_other events k b at (acts.no_end b apart) h);
+  unborn = span_stays events k b (acts.no_start b apart) (acts.no_end b apart) ∙ m.unborn;
   holds_none = λ fd. acts.holder b apart fd (m.holds_none fd);
 }
 
@@ -83,7 +84,7 @@ crew_looks places actors s events p i x y crew is same new = record {
 
 -- an event of no actor comes, and the present moment is a later one
 pub crew_waits : (places : List ℕ → Option ℕ) (actors : List Held) (s t : State) (events : List Kept) (k : Kept) (p q : ℕ) → p ≤ q
-    → AreActors places actors s events p → t.actors ≡ s.actors → t.holder ≡ s.holder → ((a : List ℕ) → ¬ IsEndOf a k) → ((a : List ℕ) → starts a k ≡ false)
+    → AreActors places actors s events p → t.actors ≡ s.actors → t.holder ≡ s.holder → ((a : List ℕ) → ends a k ≡ false) → ((a : List ℕ) → starts a k ≡ false)
     → AreActors places actors t (events ++ k ∷ []) q
 crew_waits places actors s t events k p q later crew same holder no_end no_start = record {
   placed = crew.placed;
@@ -93,22 +94,77 @@ crew_waits places actors s t events k p q later crew same holder no_end no_start
     follows = m.follows;
     in_order = omega arith;
     alive = m.alive;
-    ends = λ at. ((λ h. (m.ends at).0 (ends_other events k x.name at (no_end x.name) h)), (λ e. ends_still events k x.name at ((m.ends at).1 e)));
+    spans = span_stays events k x.name (no_start x.name) (no_end x.name) ∙ m.spans;
   };
   named = crew.named;
   strangers = λ a none. let m = crew.strangers a none in record {
     unknown = ap (λ (f : List ℕ → Option Actor). f a) same ∙ m.unknown;
-    no_end = λ at h. m.no_end at (ends_other events k a at (no_end a) h);
+    unborn = span_stays events k a (no_start a) (no_end a) ∙ m.unborn;
     holds_none = λ fd. ap (λ (f : ℕ → Option (List ℕ)). is_by a (f fd)) holder ∙ m.holds_none fd;
   };
   started = λ a. started_push events k a ∙ ap (λ b. was_started events a || b) (no_start a) ∙ or-false (was_started events a) ∙ crew.started a;
+}
+
+-- the actors after a machine stop are those that there were
+pub was_there : (at : ℕ) (old new : List Held) → AreCutOff at old new → (i : ℕ) (y : Held) → slice_get new i ≡ Some y → (x : Held) × (slice_get old i ≡ Some x) × IsCutOff at x y
+was_there at old new cut i y is =
+    let within : i < length old = subst (λ n. i < n) cut.many (slice_get_within new i y is) in
+    let x = some_within old i within in
+    (x.0, x.1, cut.each i x.0 y x.1 is)
+
+is_there : (at : ℕ) (old new : List Held) → AreCutOff at old new → (i : ℕ) (x : Held) → slice_get old i ≡ Some x → (y : Held) × (slice_get new i ≡ Some y) × IsCutOff at x y
+is_there at old new cut i x is =
+    let within : i < length new = subst (λ n. i < n) (sym cut.many) (slice_get_within old i x is) in
+    let y = some_within new i within in
+    (y.0, y.1, cut.each i x y.0 is y.1)
+
+-- what is known after a machine stop
+pub record Halted (s t : State) : Type 0 where
+  pub actors : (a : List ℕ) → t.actors a ≡ option_map stopped (s.actors a)
+  pub holder : (fd : ℕ) → t.holder fd ≡ None
+
+span_cut : (a : List ℕ) (how : Survival) (n : ℕ) (o : Option ℕ) → span_after a (kept.Halt how) n (span_by o) ≡ span_by (ended_by n o)
+span_cut a how n None = refl
+span_cut a how n (Some at) = refl
+
+none_alive : (n : ℕ) (o : Option ℕ) → ended_by n o ≡ None → ⊥
+none_alive n None h = cc
+none_alive n (Some at) h = cc
+
+halt_member : (s t : State) (events : List Kept) (how : Survival) (p : ℕ) (x y : Held) → Halted s t → IsCutOff (length events) x y → IsMember s events p x → IsMember t (events ++ kept.Halt how ∷ []) p y
+halt_member s t events how p x y halted cut m = record {
+  actor = stopped m.actor;
+  is = ap t.actors cut.name ∙ halted.actors x.name ∙ ap (option_map stopped) m.is;
+  follows = subst (λ (machine : Machine). Follows machine m.actor.program m.actor.past) (sym cut.machine) m.follows;
+  in_order = m.in_order;
+  alive = λ e. absurd (none_alive (length events) x.ended (sym cut.ended ∙ e));
+  spans = ap (λ (a : List ℕ). span_of a (reverse (events ++ kept.Halt how ∷ []))) cut.name ∙ span_push events (kept.Halt how) x.name
+      ∙ ap (span_after x.name (kept.Halt how) (length events)) m.spans ∙ span_cut x.name how (length events) x.ended ∙ ap span_by (sym cut.ended);
+}
+
+-- the machine stops
+pub crew_halts : (places : List ℕ → Option ℕ) (old new : List Held) (s t : State) (events : List Kept) (how : Survival) (p : ℕ)
+    → AreActors places old s events p → Halted s t → AreCutOff (length events) old new → AreActors places new t (events ++ kept.Halt how ∷ []) p
+crew_halts places old new s t events how p crew halted cut = record {
+  placed = λ i y is. let x = was_there (length events) old new cut i y is in ap places x.2.name ∙ crew.placed i x.0 x.1;
+  members = λ i y is. let x = was_there (length events) old new cut i y is in halt_member s t events how p x.0 y halted x.2 (crew.members i x.0 x.1);
+  named = λ a i at.
+      let x = some_at (λ (x : Held). x.name ≡ a) (slice_get old i) (crew.named a i at) in
+      let y = is_there (length events) old new cut i x.0 x.1 in
+      subst (λ (o : Option Held). IsSomeAnd o (λ x. x.name ≡ a)) (sym y.1) (y.2.name ∙ x.2);
+  strangers = λ a none. let m = crew.strangers a none in record {
+    unknown = halted.actors a ∙ ap (option_map stopped) m.unknown;
+    unborn = span_push events (kept.Halt how) a ∙ ap (span_after a (kept.Halt how) (length events)) m.unborn;
+    holds_none = λ fd. ap (is_by a) (halted.holder fd);
+  };
+  started = λ a. started_push events (kept.Halt how) a ∙ or-false (was_started events a) ∙ crew.started a;
 }
 
 -- an event starts that actor, and leaves the others as they were
 pub record StartsAlone (a : List ℕ) (s t : State) (k : Kept) : Type 0 where
   pub actors : (b : List ℕ) → b ≢ a → t.actors b ≡ s.actors b
   pub holder : t.holder ≡ s.holder
-  pub no_end : (b : List ℕ) → ¬ IsEndOf b k
+  pub no_end : (b : List ℕ) → ends b k ≡ false
   pub start : (b : List ℕ) → starts b k ≡ bytes_eq a b
 
 -- an actor starts
@@ -143,5 +199,6 @@ crew_starts places actors s t events k p a y next crew new put name starts_a mem
       acts = record {
         actors = starts_a.actors;
         holder = λ b apart fd none. ap (λ (h : ℕ → Option (List ℕ)). is_by b (h fd)) starts_a.holder ∙ none;
+        no_start = λ b apart. starts_a.start b ∙ other_text a b (λ e. apart (sym e));
         no_end = λ b apart. starts_a.no_end b;
       }

@@ -47,9 +47,9 @@ module _ (now : ℕ) (a : List ℕ) (m : Option ℕ) (q r : Queue) (E : Elsewher
 
   settles_frame : (o : List ℕ) (args : Arguments) (row : Row) → Settles q.books o args row → Settles r.books o args row
   settles_frame o args at.Queued h = queued_frame o args h
-  settles_frame o args (at.CleanIntd n status) h = h
-  settles_frame o args (at.CleanMess n status) h = h
-  settles_frame o args (at.Failed status) h = h
+  settles_frame o args (at.CleanIntd n cause) h = h
+  settles_frame o args (at.CleanMess n cause) h = h
+  settles_frame o args (at.Failed cause) h = h
   settles_frame o args (at.SyncMess n fd) h = h
   settles_frame o args (at.CreateIntd n) h = h
   settles_frame o args (at.AppendTodo n fd done) h = h
@@ -105,10 +105,10 @@ module _ (now : ℕ) (a : List ℕ) (m : Option ℕ) (q r : Queue) (E : Elsewher
     relies_frame (at.AppendTodo n fd done) h = todo_frame n fd.0 _ h
     relies_frame (at.SyncTodo n fd) h = todo_frame n fd.0 _ h
     relies_frame (at.LinkTodo n) h = record { number = h.number; holds = holds_frame n _ (λ w d. d.begins) h.holds }
-    relies_frame (at.CleanIntd n status) h = holds_frame n _ (λ w d. d) h
-    relies_frame (at.CleanMess n status) h = holds_frame n _ (λ w d. d.begins) h
+    relies_frame (at.CleanIntd n cause) h = holds_frame n _ (λ w d. d) h
+    relies_frame (at.CleanMess n cause) h = holds_frame n _ (λ w d. d.begins) h
     relies_frame at.Queued h = tt
-    relies_frame (at.Failed status) h = tt
+    relies_frame (at.Failed cause) h = tt
 
   -- another actor fares as before
   fares_by : (o : List ℕ) → o ≢ a → (program : Program) (past : List Own) (life : Life) → FaresBy now q o program past life → FaresBy now r o program past life

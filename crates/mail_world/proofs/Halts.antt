@@ -1,5 +1,6 @@
 -- A machine stop: what was synced survives as it was.
 use Rattle.std.proofs.Common.{◌≡◌, ℕ, suc, ◌<◌, ◌≤◌, List, [], ◌∷◌, length, Option, Some, None, refl, sym, ap, ◌∙◌, subst, ⊎_elim, arith, slice_get, le_antisymm}
+use Rattle.call_fs.specs.declared.crash_file_system.Survival.{Survival}
 use Rattle.call_fs.specs.Disk.{File, Among, IsSynced}
 use Rattle.call_fs.specs.Survival.{HadAt, Survives, AllSurvive, settled, halted}
 use Rattle.queue_paths.specs.Names.{Name}
@@ -50,7 +51,7 @@ settled_recent (AsMessage actor args) f bytes h = h
 settled_recent (AsPart part n) f bytes h = h
 settled_recent AsOld f bytes h = h
 
-never_alive : (l : Life) → cut_off l ≡ Alive → ⊥
+pub never_alive : (l : Life) → cut_off l ≡ Alive → ⊥
 never_alive Alive h = cc
 never_alive (Over status) h = cc
 never_alive Stopped h = cc
@@ -127,8 +128,8 @@ fares_halt now q contents a (Injector args) past life F = record {
 }
 
 -- no actor lives on, and what ended stays ended
-pub kept_halt : (s : State) (contents : ℕ → List ℕ) → AllSurvive s.disk contents → Inv s → Inv (happens s (Halt contents))
-kept_halt s contents survives I = record {
+pub kept_halt : (s : State) (how : Survival) (contents : ℕ → List ℕ) → AllSurvive s.disk contents → Inv s → Inv (happens s (Halt how contents))
+kept_halt s how contents survives I = record {
   role = I.role;
   sound = sound_after (queue s I.role) contents survives I.sound;
   actors = λ a y h.

@@ -19,17 +19,19 @@ use Rattle.mail_world.specs.declared.event.Program.{Program}
 use Rattle.mail_world.specs.declared.event.Program.TheVariants.{Injector}
 use Rattle.mail_world.specs.declared.actor.Actor.{Actor as Held}
 use Rattle.mail_world.specs.declared.event.Event.{Event as Kept}
-use Rattle.mail_world.specs.History.{State, Actor, Life, called, finished, happens, held_by, unless_by, shut_by}
+use Rattle.mail_world.specs.History.{State, Actor, Life, stopped, called, finished, happens, held_by, unless_by, shut_by}
 use Rattle.mail_world.specs.History.Event.{Start, Moment}
 use Rattle.mail_world.specs.History.Life.{Alive}
 use Rattle.mail_world.specs.Inside.{IsMember, AreActors, HasOpen, IsOpenTo, IsOwn, HasRow, HasNeeds, AreApart, has, is_by}
-use Rattle.mail_world.specs.Acting.{AreOpen, opened}
+use Rattle.mail_world.specs.Acting.{AreOpen, AreCutOff, opened}
 use Rattle.mail_world.proofs.Lists.{each_set, each_push}
 use Rattle.call_fs.proofs.Maps.{put_same, put_other, put_at_same, put_at_other}
 use Rattle.mail_world.proofs.Tests.{same_text, other_text}
 use Rattle.mail_world.proofs.Descriptors.{has_push, apart_push, all_open}
 use Rattle.mail_world.proofs.Opens.{Opens, has_made, needs_stay, needs_move, needs_none}
-use Rattle.mail_world.proofs.Crew.{apart_by}
+use Rattle.mail_world.proofs.Crew.{Halted, apart_by, was_there}
+use Rattle.mail_world.proofs.Halts.{never_alive}
+use Rattle.mail_world.proofs.Looks.{mapped_some}
 use Rattle.mail_world.proofs.Acts.{freed, kept_on}
 
 -- what is held stays open
@@ -147,10 +149,10 @@ row_after_end d h a b (at.SyncTodo n fd) apart own = own_after d h a b fd.0 apar
 row_after_end d h a b (at.Create seq) apart own = tt
 row_after_end d h a b (at.CreateIntd n) apart own = tt
 row_after_end d h a b (at.LinkTodo n) apart own = tt
-row_after_end d h a b (at.CleanIntd n status) apart own = tt
-row_after_end d h a b (at.CleanMess n status) apart own = tt
+row_after_end d h a b (at.CleanIntd n cause) apart own = tt
+row_after_end d h a b (at.CleanMess n cause) apart own = tt
 row_after_end d h a b at.Queued apart own = tt
-row_after_end d h a b (at.Failed status) apart own = tt
+row_after_end d h a b (at.Failed cause) apart own = tt
 
 needs_after_end : (d : Disk) (h : ℕ → Option (List ℕ)) (a b : List ℕ) (program : Program) (past : List Own) → b ≢ a
     → HasNeeds d h b program past → HasNeeds (shut_by a h d) (λ fd. unless_by a (h fd) (h fd)) b program past
@@ -219,6 +221,20 @@ pub moment_opens : (actors : List Held) (s : State) (m : ℕ) (d : Disk) → IsO
 moment_opens actors s m d open_to = record {
   held = open_to.held;
   each = λ i x is. let old = open_to.each i x is in record { lists = old.lists; apart = old.apart; needs = old.needs };
+}
+
+-- a machine stop leaves nothing open
+pub halt_opens : (at : ℕ) (old new : List Held) (s t : State) (d : Disk) → Halted s t → AreCutOff at old new → IsOpenTo d new t
+halt_opens at old new s t d halted cut = record {
+  held = λ fd a is. let both : ◌≡◌ {A = Option (List ℕ)} None (Some a) = sym (halted.holder fd) ∙ is in absurd (cc);
+  each = λ i y is.
+      let none = (was_there at old new cut i y is).2.descriptors in record {
+        lists = λ fd. ap (has fd) none ∙ sym (ap (is_by y.name) (halted.holder fd));
+        apart = subst AreApart (sym none) tt;
+        needs = λ actor known alive.
+            let w = mapped_some stopped (s.actors y.name) actor (sym (halted.actors y.name) ∙ known) in
+            absurd (never_alive w.0.life (ap (λ (x : Actor). x.life) w.2 ∙ alive));
+      };
 }
 
 -- a look opens nothing

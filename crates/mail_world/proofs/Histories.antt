@@ -7,7 +7,10 @@ use Rattle.call_fs.specs.declared.calls.CallData.TheVariants.{CreateExcl, Open, 
 use Rattle.call_fs.specs.declared.calls.Answer.{Answer}
 use Rattle.call_fs.specs.declared.calls.Told.{Told}
 use Rattle.call_fs.specs.declared.program.Ready.{Ready}
+use Rattle.call_fs.specs.declared.crash_file_system.Survival.{Survival}
 use Rattle.call_fs.specs.Calls.{without_bytes}
+use Rattle.call_fs.specs.Survival.{AllSurvive, halted}
+use Rattle.call_fs.specs.Choices.{Halts, contents_by}
 use Rattle.call_fs.specs.Disk.{Disk, IsMoment}
 use Rattle.call_fs.specs.Apply.{effect, Fits, Apply, IsReadBy}
 use Rattle.call_fs.specs.Program.{Due}
@@ -16,9 +19,9 @@ use Rattle.mail_world.specs.declared.event.Program.{Program}
 use Rattle.mail_world.specs.declared.event.Event.{Event as Kept}
 use Rattle.mail_world.specs.declared.event.Event.TheVariants as kept
 use Rattle.mail_world.specs.History.{Event, Actor, Life, State, next_of, Allowed, MayRead, happens, called, finished, shut_by, after, latest, Opening, EachAllowed, Legal}
-use Rattle.mail_world.specs.History.Event.{Start, Call, End, Stop, Moment}
+use Rattle.mail_world.specs.History.Event.{Start, Call, End, Stop, Moment, Halt}
 use Rattle.mail_world.specs.History.Life.{Alive}
-use Rattle.mail_world.specs.World.{Tells, Leads, IsHistory, EachSafe}
+use Rattle.mail_world.specs.World.{Tells, IsByName, Leads, IsHistory, EachSafe}
 use Rattle.mail_world.specs.Headline.{Headline}
 use Rattle.mail_world.specs.Inside.{IsLed, known}
 use Rattle.mail_world.proofs.Known.{AreAlike, after_known}
@@ -40,10 +43,11 @@ reads_none d (Stat name) answer plain = refl
 reads_none d (NextName dir last) answer plain = refl
 
 history_push : (o d : Disk) (events : List Kept) (p : ℕ) (h : List Event) (k : Kept) (e : Event)
-    → Leads o d events p h → Tells k e → Allowed (after o h) e
+    → Leads o d events p h → Tells k e → Allowed (after o h) e → IsByName (after o h).disk e
     → Leads o (happens (after o h) e).disk (events ++ k ∷ []) (happens (after o h) e).now (e ∷ h)
-history_push o d events p h k e is told allowed = record {
+history_push o d events p h k e is told allowed named = record {
   allowed = (is.allowed, allowed);
+  named = (is.named, named);
   told = subst (λ (l : List Kept). AllZip Tells l (e ∷ h)) (sym (reverse-append events (k ∷ []))) (told, is.told);
   disk = refl;
   moment = refl;
@@ -95,11 +99,12 @@ call_goes_on o d d' events p h a x ready call got is acts due applied bytes =
       fits = subst (λ (d : Disk). Fits d call got.answer w) (sym is.disk) applied.1;
       bytes = subst (λ (d : Disk). IsReadBy d call got) (sym is.disk) bytes;
     } in
-    let next = history_push o d events p h k e is refl allowed in (
+    let next = history_push o d events p h k e is refl allowed tt in (
       e,
       record {
         allowed = next.allowed;
         told = next.told;
+        named = next.named;
         disk = called_disk s a p ready call got w (s.actors a) x reads.is ∙ ap (λ (d : Disk). effect d p call got.answer w) is.disk ∙ sym applied.2;
         moment = called_now s a p ready call got w (s.actors a) ∙ is.moment;
       },
@@ -107,16 +112,17 @@ call_goes_on o d d' events p h a x ready call got is acts due applied bytes =
 
 -- an event with which an actor is over
 finish_goes_on : (o d : Disk) (events : List Kept) (p : ℕ) (h : List Event) (a : List ℕ) (x : Actor) (life : Life) (k : Kept) (e : Event)
-    → Leads o d events p h → (known events).actors a ≡ Some x → Tells k e → Allowed (after o h) e
+    → Leads o d events p h → (known events).actors a ≡ Some x → Tells k e → Allowed (after o h) e → IsByName (after o h).disk e
     → happens (after o h) e ≡ finished (after o h) a life ((after o h).actors a)
     → Leads o (shut_by a (known events).holder d) (events ++ k ∷ []) p (e ∷ h)
-finish_goes_on o d events p h a x life k e is there tells allowed over =
+finish_goes_on o d events p h a x life k e is there tells allowed named over =
     let s = after o h in
     let same = after_known o events h is.told in
     let here : s.actors a ≡ Some x = ap (λ (m : List ℕ → Option Actor). m a) same.actors ∙ there in
-    let next = history_push o d events p h k e is tells allowed in record {
+    let next = history_push o d events p h k e is tells allowed named in record {
       allowed = next.allowed;
       told = next.told;
+      named = next.named;
       disk = ap (λ (t : State). t.disk) over ∙ finished_disk s a life (s.actors a) x here ∙ ap (λ (g : ℕ → Option (List ℕ)). shut_by a g s.disk) same.holder ∙ ap (shut_by a (known events).holder) is.disk;
       moment = ap (λ (t : State). t.now) over ∙ finished_now s a life (s.actors a) ∙ is.moment;
     }
@@ -129,7 +135,7 @@ end_goes_on o d events p h a x ready status is acts due =
     let e : Event = End a p ready status in
     let reads : MayRead s a x p = may_read s (known events) a p x (after_known o events h is.told) is.moment acts in
     let allowed : Allowed s e = record { actor = x; reads = reads; due = due } in
-    (e, finish_goes_on o d events p h a x (Life.Over status) (kept.End a p ready status) e is acts.is refl allowed refl)
+    (e, finish_goes_on o d events p h a x (Life.Over status) (kept.End a p ready status) e is acts.is refl allowed tt refl)
 
 stop_goes_on : (o d : Disk) (events : List Kept) (p : ℕ) (h : List Event) (a : List ℕ) (x : Actor)
     → Leads o d events p h → IsActing (known events) a p x
@@ -139,7 +145,7 @@ stop_goes_on o d events p h a x is acts =
     let e : Event = Stop a in
     let reads : MayRead s a x p = may_read s (known events) a p x (after_known o events h is.told) is.moment acts in
     let allowed : Allowed s e = record { actor = x; is = reads.is; alive = reads.alive } in
-    (e, finish_goes_on o d events p h a x Life.Stopped (kept.Stop a) e is acts.is refl allowed refl)
+    (e, finish_goes_on o d events p h a x Life.Stopped (kept.Stop a) e is acts.is refl allowed tt refl)
 
 moment_goes_on : (o d : Disk) (events : List Kept) (p m : ℕ) (h : List Event) → IsMoment m → p ≤ m
     → Leads o d events p h → (e : Event) × Leads o d (events ++ kept.Moment m ∷ []) m (e ∷ h)
@@ -148,8 +154,8 @@ moment_goes_on o d events p m h moment later is =
     let e : Event = Moment m in
     let now = is.moment in
     let allowed : Allowed s e = record { moment = moment; no_earlier = omega arith } in
-    let next = history_push o d events p h (kept.Moment m) e is refl allowed in
-    (e, record { allowed = next.allowed; told = next.told; disk = is.disk; moment = refl })
+    let next = history_push o d events p h (kept.Moment m) e is refl allowed tt in
+    (e, record { allowed = next.allowed; told = next.told; named = next.named; disk = is.disk; moment = refl })
 
 start_goes_on : (o d : Disk) (events : List Kept) (p : ℕ) (h : List Event) (a : List ℕ) (program : Program)
     → Leads o d events p h → (known events).actors a ≡ None
@@ -161,8 +167,19 @@ start_goes_on o d events p h a program is new =
     let allowed : Allowed s e = record {
       new = ap (λ (m : List ℕ → Option Actor). m a) same.actors ∙ new;
     } in
-    let next = history_push o d events p h (kept.Start a program) e is refl allowed in
-    (e, record { allowed = next.allowed; told = next.told; disk = is.disk; moment = is.moment })
+    let next = history_push o d events p h (kept.Start a program) e is refl allowed tt in
+    (e, record { allowed = next.allowed; told = next.told; named = next.named; disk = is.disk; moment = is.moment })
+
+halt_goes_on : (o d e : Disk) (events : List Kept) (p : ℕ) (h : List Event) (how : Survival) (halts : Halts how d e)
+    → Leads o d events p h → Leads o e (events ++ kept.Halt how ∷ []) p (Halt how (contents_by how d halts.numbers) ∷ h)
+halt_goes_on o d e events p h how halts is =
+    let s = after o h in
+    let contents = contents_by how d halts.numbers in
+    let allowed : AllSurvive s.disk contents = subst (λ (d : Disk). AllSurvive d contents) (sym is.disk) halts.survive in
+    let named : IsByName s.disk (Halt how contents) =
+    subst (λ (d : Disk). IsByName d (Halt how contents)) (sym is.disk) (halts.numbers, halts.are_named, refl) in
+    let next = history_push o d events p h (kept.Halt how) (Halt how contents) is refl allowed named in
+    record { allowed = next.allowed; told = next.told; named = next.named; disk = ap (halted contents) is.disk ∙ sym halts.left; moment = is.moment }
 
 -- whatever led to the old disk, one event more leads to the new one
 abbrev pub LeadsOn : Option Disk → Option Disk → List Kept → List Kept → ℕ → ℕ → Type 0
@@ -202,6 +219,18 @@ pub start_told : (told : Option Disk) (events : List Kept) (p : ℕ) (a : List �
 start_told (Some d) events p a program new o h is = start_goes_on o d events p h a program is new
 start_told None events p a program new o h is = absurd is
 
+-- a machine stop, with contents that are those of its name
+pub halt_leads : (old new : Option Disk) (events : List Kept) (p : ℕ) (how : Survival) → Meets old new (λ d e. Halts how d e)
+    → (o : Disk) (h : List Event) → IsSomeAnd old (λ d. Leads o d events p h)
+    → (contents : ℕ → List ℕ) × IsSomeAnd new (λ d. Leads o d (events ++ kept.Halt how ∷ []) p (Halt how contents ∷ h))
+halt_leads (Some d) (Some e) events p how met o h is = (contents_by how d met.numbers, halt_goes_on o d e events p h how met is)
+halt_leads (Some d) None events p how met o h is = absurd met
+halt_leads None new events p how met o h is = absurd is
+
+pub halt_told : (old new : Option Disk) (events : List Kept) (p : ℕ) (how : Survival) → Meets old new (λ d e. Halts how d e)
+    → LeadsOn old new events (events ++ kept.Halt how ∷ []) p p
+halt_told old new events p how met o h is = let next = halt_leads old new events p how met o h is in (Halt how next.0, next.1)
+
 -- so, where a history led to the old disk, one leads to the new one
 pub led_on : (old new : Option Disk) (R : Disk → Disk → Type 0) (events later : List Kept) (p q : ℕ)
     → Meets old new R → LeadsOn old new events later p q → OnTold old (λ d. IsLed d events p) → OnTold new (λ d. IsLed d later q)
@@ -228,21 +257,32 @@ legal_allowed : (d : Disk) (h : List Event) → Legal d h → EachAllowed d h
 legal_allowed d [] legal = tt
 legal_allowed d (e ∷ h) legal = (legal_allowed d h legal.0, legal.1)
 
+-- what led from a disk to begin with is legal
+history_of : (o : Disk) (h : List Event) (new : Option Disk) (later : List Kept) (q : ℕ) (e : Event) → Opening o
+    → IsSomeAnd new (λ d. Leads o d later q (e ∷ h)) → IsSomeAnd new (λ d. IsHistory o d later q (e ∷ h))
+history_of o h None later q e opens leads = absurd leads
+history_of o h (Some d) later q e opens leads =
+    record { legal = legal_by o (e ∷ h) opens leads.allowed; told = leads.told; named = leads.named; disk = leads.disk; moment = leads.moment }
+
+leads_of : (o d : Disk) (h : List Event) (events : List Kept) (p : ℕ) → IsHistory o d events p h → Leads o d events p h
+leads_of o d h events p is = record { allowed = legal_allowed o h is.legal; told = is.told; named = is.named; disk = is.disk; moment = is.moment }
+
 -- so a legal history goes on
 pub goes_on : (old new : Option Disk) (events later : List Kept) (p q : ℕ) → LeadsOn old new events later p q
     → (o : Disk) (h : List Event) → IsSomeAnd old (λ d. IsHistory o d events p h) → (e : Event) × IsSomeAnd new (λ d. IsHistory o d later q (e ∷ h))
 goes_on None new events later p q on o h is = absurd is
 goes_on (Some d) new events later p q on o h is =
-    let next = on o h (record { allowed = legal_allowed o h is.legal; told = is.told; disk = is.disk; moment = is.moment }) in
-    (next.0, begun new next.0 next.1) where
-      begun : (new : Option Disk) (e : Event) → IsSomeAnd new (λ d. Leads o d later q (e ∷ h)) → IsSomeAnd new (λ d. IsHistory o d later q (e ∷ h))
-      begun None e leads = absurd leads
-      begun (Some d) e leads = record {
-        legal = legal_by o (e ∷ h) (legal_opens o h is.legal) leads.allowed;
-        told = leads.told;
-        disk = leads.disk;
-        moment = leads.moment;
-      }
+    let next = on o h (leads_of o d h events p is) in
+    (next.0, history_of o h new later q next.0 (legal_opens o h is.legal) next.1)
+
+-- and with a machine stop
+pub halt_goes_with : (old new : Option Disk) (events : List Kept) (p : ℕ) (how : Survival) → Meets old new (λ d e. Halts how d e)
+    → (o : Disk) (h : List Event) → IsSomeAnd old (λ d. IsHistory o d events p h)
+    → (contents : ℕ → List ℕ) × IsSomeAnd new (λ d. IsHistory o d (events ++ kept.Halt how ∷ []) p (Halt how contents ∷ h))
+halt_goes_with None new events p how met o h is = absurd is
+halt_goes_with (Some d) new events p how met o h is =
+    let next = halt_leads (Some d) new events p how met o h (leads_of o d h events p is) in
+    (next.0, history_of o h new (events ++ kept.Halt how ∷ []) p (Halt how next.0) (legal_opens o h is.legal) next.1)
 
 -- what led to a world from a disk to begin with is legal and safe
 pub led_safe : Headline → (told : Option Disk) (events : List Kept) (p : ℕ) → OnTold told (λ d. IsLed d events p)

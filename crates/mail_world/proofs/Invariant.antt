@@ -1,5 +1,5 @@
 -- What holds after each legal history: of each name, of each message number, and of each actor.
-use Rattle.std.proofs.Common.{◌≡◌, ◌≢◌, ℕ, ◌+◌, ◌≤◌, List, [], true, Option, Some, None, take}
+use Rattle.std.proofs.Common.{◌≡◌, ℕ, ◌+◌, ◌≤◌, List, [], true, Option, Some, None, take}
 use Rattle.call_fs.specs.Disk.{Disk, File, Mode, Open, Among, IsSynced}
 use Rattle.queue_inject.specs.declared.injection.Arguments.{Arguments}
 use Rattle.queue_inject.specs.declared.row.Row.{Row}
@@ -15,6 +15,7 @@ use Rattle.mail_world.specs.declared.event.Program.TheVariants.{Injector}
 use Rattle.mail_world.specs.History.{Injection, Books, Actor, Life, State, begun, latest}
 use Rattle.mail_world.specs.History.Life.{Alive, Over}
 use Rattle.mail_world.specs.Headline.{IsValid, HasQueued}
+use Rattle.mail_world.proofs.Texts.{IsFailure}
 use Rattle.mail_world.proofs.Looks.{Entry, find}
 
 -- what a file was made as: the message of an injector, or a part of a number; or it was there at the beginning
@@ -182,22 +183,22 @@ Relies q a args (at.CreateIntd n) = Holds q a args n (λ w. IsWhole w a args n)
 Relies q a args (at.AppendTodo n fd done) = AtTodo q a args n fd.0 (take done (intd_text args).bytes)
 Relies q a args (at.SyncTodo n fd) = AtTodo q a args n fd.0 (intd_text args).bytes
 Relies q a args (at.LinkTodo n) = AtLinkTodo q a args n
-Relies q a args (at.CleanIntd n status) = Holds q a args n (λ w. IsBegun w a args n)
-Relies q a args (at.CleanMess n status) = Holds q a args n (λ w. IsBare w a args n)
+Relies q a args (at.CleanIntd n cause) = Holds q a args n (λ w. IsBegun w a args n)
+Relies q a args (at.CleanMess n cause) = Holds q a args n (λ w. IsBare w a args n)
 Relies q a args at.Queued = Unit {0}
-Relies q a args (at.Failed status) = Unit {0}
+Relies q a args (at.Failed cause) = Unit {0}
 
 -- what the end that a row leads to will say
 abbrev pub Settles : Books → List ℕ → Arguments → Row → Type 0
-Settles b a args (at.CleanIntd n status) = status ≢ 0
-Settles b a args (at.CleanMess n status) = status ≢ 0
+Settles b a args (at.CleanIntd n cause) = IsFailure cause
+Settles b a args (at.CleanMess n cause) = IsFailure cause
 Settles b a args (at.SyncMess n fd) = (message_text args).fault ≡ None
 Settles b a args (at.CreateIntd n) = (message_text args).fault ≡ None
 Settles b a args (at.AppendTodo n fd done) = (message_text args).fault ≡ None
 Settles b a args (at.SyncTodo n fd) = IsValid args
 Settles b a args (at.LinkTodo n) = IsValid args
 Settles b a args at.Queued = HasQueued b a args
-Settles b a args (at.Failed status) = status ≢ 0
+Settles b a args (at.Failed cause) = IsFailure cause
 Settles b a args row = Unit {0}
 
 -- what a row rests on

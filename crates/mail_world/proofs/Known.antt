@@ -2,13 +2,14 @@
 use Rattle.std.proofs.Common.{◌≡◌, ℕ, List, [], ◌∷◌, ◌++◌, Option, Some, None, refl, sym, ap, subst, map, reverse}
 use Rattle.std.proofs.lemmas.List.{reverse-append}
 use Rattle.std.specs.List.{AllZip}
+use Rattle.std.specs.Option.{option_map}
 use Rattle.call_fs.specs.declared.calls.CallData.{CallData}
 use Rattle.call_fs.specs.declared.calls.Told.{Told}
 use Rattle.call_fs.specs.declared.program.Ready.{Ready}
 use Rattle.call_fs.specs.Disk.{Disk}
 use Rattle.call_fs.specs.Maps.{put_at}
 use Rattle.mail_world.specs.declared.event.Event.{Event as Kept}
-use Rattle.mail_world.specs.History.{Event, Actor, Life, State, happens, called, finished, after, held_by, unless_by}
+use Rattle.mail_world.specs.History.{Event, Actor, Life, State, stopped, happens, called, finished, after, held_by, unless_by}
 use Rattle.mail_world.specs.History.Event.{Start, Call, End, Stop, Moment, Halt}
 use Rattle.mail_world.specs.World.{Tells}
 use Rattle.mail_world.specs.Inside.{event_of, nowhere, known}
@@ -63,7 +64,12 @@ happens_alike s t k (Stop a) told c =
     (ap (λ (m : List ℕ → Option Actor). m a) c.actors) (finished_alike s t a Life.Stopped (s.actors a) c))
 happens_alike s t k (Moment m) told c =
     subst (λ (k : Kept). AreAlike (happens s (Moment m)) (happens t (event_of k))) (sym told) (record { holder = c.holder; now = refl; actors = c.actors })
-happens_alike s t k (Halt contents) told c = absurd told
+happens_alike s t k (Halt how contents) told c =
+    subst (λ (k : Kept). AreAlike (happens s (Halt how contents)) (happens t (event_of k))) (sym told) (record {
+      holder = refl;
+      now = c.now;
+      actors = let cut : (List ℕ → Option Actor) → List ℕ → Option Actor = λ m a. option_map stopped (m a) in ap cut c.actors;
+    })
 
 told_alike : (d : Disk) (events : List Kept) (h : List Event) → AllZip Tells events h → AreAlike (after d h) (after nowhere (map event_of events))
 told_alike d [] [] told = record { holder = refl; now = refl; actors = refl }

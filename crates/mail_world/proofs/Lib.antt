@@ -32,6 +32,8 @@ pub mod Descriptors
 pub mod Opens
 -- injectors that were told their whole input
 pub mod Machines
+-- the life of an actor
+pub mod Spans
 -- lists by their places
 pub mod Lists
 -- the actors that a world keeps

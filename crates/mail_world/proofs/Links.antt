@@ -3,6 +3,7 @@ use Rattle.std.proofs.Common.{◌≡◌, ◌≢◌, ◌⊎◌, inl, inr, ℕ, Li
 use Rattle.call_fs.specs.Maps.{put}
 use Rattle.call_fs.specs.Disk.{Among}
 use Rattle.queue_inject.specs.declared.injection.Arguments.{Arguments}
+use Rattle.queue_inject.specs.declared.row.Cause.{Cause}
 use Rattle.queue_inject.specs.declared.row.Row.{Row}
 use Rattle.queue_inject.specs.declared.row.Row.TheVariants as at
 use Rattle.queue_paths.specs.Names.{Name, path}
@@ -13,6 +14,7 @@ use Rattle.queue_inject.specs.Table.{in_message}
 use Rattle.mail_world.specs.History.{Injection, Books, begun, accept}
 use Rattle.mail_world.specs.Headline.{IsInjected, IsValid}
 use Rattle.call_fs.proofs.Maps.{put_cases, put_same, put_other}
+use Rattle.mail_world.proofs.Texts.{IsFailure}
 use Rattle.mail_world.proofs.Tests.{off, same_text}
 use Rattle.mail_world.proofs.Looks.{Entry, entry, find_put, find_gone, find_none, found}
 use Rattle.mail_world.proofs.Invariant.{Queue, IsRight, NameSuits, About, about, IsFree, Phase, IsBegun, IsBare, Holds, AtLink, AtUnlink, AtLinkTodo, Basis, Sound}
@@ -149,18 +151,18 @@ module _ (now : ℕ) (q : Queue) (a : List ℕ) (args : Arguments) (G : Sound q)
         opened = h.mess.opened;
       }))
 
-  pub clean_intd_row : (n status : ℕ) → Holds q a args n (λ w. IsBegun w a args n) → status ≢ 0
-      → To (named q (Of Intd n) None q.books) (at.CleanMess n status)
-  clean_intd_row n status h bad =
+  pub clean_intd_row : (n : ℕ) (cause : Cause) → Holds q a args n (λ w. IsBegun w a args n) → IsFailure cause
+      → To (named q (Of Intd n) None q.books) (at.CleanMess n cause)
+  clean_intd_row n cause h bad =
       let x = Of Intd n in
       let r = named q x None q.books in
       let begins = begun_still x n (λ s. cc) (λ s. cc) h.rest in
       gone_row x n _ h.mine refl (begun_phase r a args n begins)
       (record { mine = h.mine; rest = record { begins = begins; no_intd = find_gone q.disk.names q.disk.files x } }, bad)
 
-  pub clean_mess_row : (n status : ℕ) → Holds q a args n (λ w. IsBare w a args n) → status ≢ 0
-      → To (named q (Of Mess n) None q.books) (at.Failed status)
-  clean_mess_row n status h bad =
+  pub clean_mess_row : (n : ℕ) (cause : Cause) → Holds q a args n (λ w. IsBare w a args n) → IsFailure cause
+      → To (named q (Of Mess n) None q.books) (at.Failed cause)
+  clean_mess_row n cause h bad =
       let x = Of Mess n in
       let other = named_other q x None q.books in
       let b = h.rest.begins in

@@ -1,9 +1,10 @@
 -- Lists by their places.
-use Rattle.std.proofs.Common.{◌≡◌, ◌≢◌, ◌⊎◌, inl, inr, ℕ, zero, suc, List, [], ◌∷◌, ◌++◌, length, set, Option, Some, None, IsSomeAnd, refl, sym, ap, subst, ⊎_elim, arith}
+use Rattle.std.proofs.Common.{◌≡◌, ◌≢◌, ◌⊎◌, inl, inr, ℕ, zero, suc, List, [], ◌∷◌, ◌++◌, ◌<◌, length, take, drop, set, Option, Some, None, IsSomeAnd, refl, sym, ap, ◌∙◌, append-nil, subst, ⊎_elim, arith}
+use Rattle.std.proofs.lemmas.List.{drop_all, take_all}
 use Rattle.std.specs.List.{slice_get}
 
 -- what stands at a place after one item was changed
-get_set : {X : Type 0} (xs : List X) (i : ℕ) (y : X) (j : ℕ) (z : X) → slice_get (set xs i y) j ≡ Some z → ((j ≡ i) × (y ≡ z)) ⊎ ((j ≢ i) × (slice_get xs j ≡ Some z))
+pub get_set : {X : Type 0} (xs : List X) (i : ℕ) (y : X) (j : ℕ) (z : X) → slice_get (set xs i y) j ≡ Some z → ((j ≡ i) × (y ≡ z)) ⊎ ((j ≢ i) × (slice_get xs j ≡ Some z))
 get_set [] i y j z h = absurd cc
 get_set (x ∷ xs) zero y zero z h = inl (refl, cc)
 get_set (x ∷ xs) zero y (suc j) z h = inr ((λ e. absurd (omega arith)), h)
@@ -63,3 +64,13 @@ some_pushed P (x ∷ xs) y (suc j) h = ⊎_elim (λ f. inl (ap suc f.0, f.1)) (�
 pub some_at : {X : Type 0} (P : X → Type 0) (o : Option X) → IsSomeAnd o P → (x : X) × (o ≡ Some x) × P x
 some_at P None h = absurd h
 some_at P (Some x) h = (x, refl, h)
+
+pub some_within : {X : Type 0} (xs : List X) (i : ℕ) → i < length xs → (x : X) × (slice_get xs i ≡ Some x)
+some_within [] i h = absurd (omega arith)
+some_within (x ∷ xs) zero h = (x, refl)
+some_within (x ∷ xs) (suc i) h = some_within xs i (omega arith)
+
+-- a whole list that was written over another one of its length
+pub written_back : {X : Type 0} (n : ℕ) (old new : List X) → length new ≡ length old → n ≡ length old → take n (new ++ drop (length new) old) ≡ new
+written_back {X} n old new same is =
+    ap (λ (rest : List X). take n (new ++ rest)) (drop_all (length new) old (omega arith)) ∙ ap (take n) (append-nil new) ∙ take_all n new (omega arith)

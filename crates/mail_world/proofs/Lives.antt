@@ -1,27 +1,31 @@
 -- What kept events tell of who was started and who has ended, whatever history they tell.
-use Rattle.std.proofs.Common.{◌≡◌, ◌≢◌, ◌⊎◌, inl, inr, ℕ, ◌+◌, List, [], ◌∷◌, ◌++◌, length, Bool, ◌||◌, is_some, Option, Some, None, refl, sym, ap, ◌∙◌, subst, ⊎_elim, arith, bytes_eq, reverse}
+use Rattle.std.proofs.Common.{◌≡◌, ◌≢◌, ◌⊎◌, inl, inr, ℕ, ◌+◌, List, [], ◌∷◌, ◌++◌, length, Bool, true, false, ◌||◌, is_some, Option, Some, None, refl, sym, ap, ◌∙◌, subst, ⊎_elim, arith, bytes_eq, reverse}
 use Rattle.std.proofs.Math.Bool.{or-false, or-true}
 use Rattle.std.proofs.lemmas.Grind.{reverse_onto}
 use Rattle.std.proofs.lemmas.List.{reverse-reverse}
 use Rattle.std.proofs.lemmas.List.Sums.{sum_by-append}
 use Rattle.std.specs.Prelude.{count_by, if◌then◌else◌}
 use Rattle.std.specs.List.{AllZip}
+use Rattle.std.specs.Option.{option_map}
 use Rattle.call_fs.specs.declared.calls.CallData.{CallData}
 use Rattle.call_fs.specs.declared.calls.Told.{Told}
 use Rattle.call_fs.specs.declared.program.Ready.{Ready}
+use Rattle.call_fs.specs.declared.crash_file_system.Survival.{Survival}
 use Rattle.call_fs.specs.Disk.{Disk}
 use Rattle.call_fs.specs.Maps.{put_at}
 use Rattle.call_fs.proofs.Maps.{put_at_same, put_at_other}
 use Rattle.mail_world.specs.declared.event.Program.{Program}
 use Rattle.mail_world.specs.declared.event.Event.{Event as Kept}
 use Rattle.mail_world.specs.declared.event.Event.TheVariants as kept
-use Rattle.mail_world.specs.History.{Event, Actor, Life, State, Allowed, Legal, called, finished, happens, after, is_start as starts_one}
+use Rattle.mail_world.specs.History.{Event, Actor, Life, State, Allowed, Legal, stopped, called, finished, happens, after, is_start as starts_one}
 use Rattle.mail_world.specs.History.Event.{Start, Call, End, Stop, Moment, Halt}
 use Rattle.mail_world.specs.History.Life.{Alive, Over, Stopped}
-use Rattle.mail_world.specs.World.{Tells, IsEndOf, EndsAt, starts, was_started, is_start}
+use Rattle.mail_world.specs.World.{Tells, Span, span_after, span_of, EndsAt, starts, ends, was_started, is_start}
+use Rattle.mail_world.specs.World.Span.{Unborn, Lasting, OverAt}
 use Rattle.mail_world.proofs.Tests.{text_cases, same_text, other_text}
-use Rattle.mail_world.proofs.Lists.{some_last}
-use Rattle.mail_world.proofs.Crew.{ends_other, ends_still, started_push}
+use Rattle.mail_world.proofs.Crew.{started_push}
+use Rattle.mail_world.proofs.Spans.{span_still, span_begins, span_ends}
+use Rattle.mail_world.proofs.Halts.{never_alive}
 
 -- by induction over the kept events, the newest last
 along : (P : List Kept → List Event → Type 0) → P [] []
@@ -59,6 +63,10 @@ started_there m b y a = ⊎_elim
     (λ f. ap (λ t. is_some (m a) || t) (other_text b a (λ e. f.0 (sym e))) ∙ or-false (is_some (m a)) ∙ sym (ap is_some (put_at_other m b (Some y) a f.0)))
     (text_cases a b)
 
+some_stopped : (o : Option Actor) → is_some (option_map stopped o) ≡ is_some o
+some_stopped None = refl
+some_stopped (Some x) = refl
+
 happens_started : (s : State) (k : Kept) (e : Event) (a : List ℕ) → Tells k e → (is_some (s.actors a) || starts a k) ≡ is_some ((happens s e).actors a)
 happens_started s k (Start b program) a told =
     subst (λ (k : Kept). (is_some (s.actors a) || starts a k) ≡ is_some ((happens s (Start b program)).actors a)) (sym told) (started_there s.actors b _ a)
@@ -73,7 +81,9 @@ happens_started s k (Stop b) a told =
     (or-false (is_some (s.actors a)) ∙ sym (finished_there s b Stopped (s.actors b) a refl))
 happens_started s k (Moment m) a told =
     subst (λ (k : Kept). (is_some (s.actors a) || starts a k) ≡ is_some (s.actors a)) (sym told) (or-false (is_some (s.actors a)))
-happens_started s k (Halt contents) a told = absurd told
+happens_started s k (Halt how contents) a told =
+    subst (λ (k : Kept). (is_some (s.actors a) || starts a k) ≡ is_some (option_map stopped (s.actors a))) (sym told)
+    (or-false (is_some (s.actors a)) ∙ sym (some_stopped (s.actors a)))
 
 -- the actors that were started are those that there are
 pub started_is : (d : Disk) (h : List Event) (events : List Kept) (a : List ℕ) → AllZip Tells (reverse events) h → was_started events a ≡ is_some ((after d h).actors a)
@@ -89,7 +99,7 @@ starts_alike k (Call a read ready call got w) told = ap is_start told
 starts_alike k (End a read ready status) told = ap is_start told
 starts_alike k (Stop a) told = ap is_start told
 starts_alike k (Moment m) told = ap is_start told
-starts_alike k (Halt contents) told = absurd told
+starts_alike k (Halt how contents) told = ap is_start told
 
 one_more : (m n : ℕ) (b c : Bool) → m ≡ n → b ≡ c → m + (0 + (if b then 1 else 0)) ≡ (0 + (if c then 1 else 0)) + n
 one_more m n b c same alike = ap (λ (b : Bool). m + (0 + (if b then 1 else 0))) alike ∙ omega arith
@@ -105,114 +115,108 @@ starts_is h events told =
 
 -- who has ended
 
--- the kept events tell of an actor's life
-abbrev Lasts : List Kept → List ℕ → Life → Type 0
-Lasts events a Alive = (at : ℕ) → ¬ EndsAt events a at
-Lasts events a (Over status) = (at : ℕ) × EndsAt events a at
-Lasts events a Stopped = (at : ℕ) × EndsAt events a at
+-- the life of an actor by the kept events, and in the state
+abbrev Suits : Span → Option Actor → Type 0
+Suits Unborn None = Unit {0}
+Suits Unborn (Some x) = ⊥
+Suits Lasting None = ⊥
+Suits Lasting (Some x) = x.life ≡ Alive
+Suits (OverAt at) None = ⊥
+Suits (OverAt at) (Some x) = x.life ≢ Alive
 
--- and of whoever has the name
-abbrev Marked : List Kept → List ℕ → Option Actor → Type 0
-Marked events a None = (at : ℕ) → ¬ EndsAt events a at
-Marked events a (Some x) = Lasts events a x.life
-
-lasts_still : (events : List Kept) (k : Kept) (a : List ℕ) (life : Life) → ¬ IsEndOf a k → Lasts events a life → Lasts (events ++ k ∷ []) a life
-lasts_still events k a Alive other was = λ at h. was at (ends_other events k a at other h)
-lasts_still events k a (Over status) other was = (was.0, ends_still events k a was.0 was.1)
-lasts_still events k a Stopped other was = (was.0, ends_still events k a was.0 was.1)
-
-marked_still : (events : List Kept) (k : Kept) (a : List ℕ) (o : Option Actor) → ¬ IsEndOf a k → Marked events a o → Marked (events ++ k ∷ []) a o
-marked_still events k a None other was = λ at h. was at (ends_other events k a at other h)
-marked_still events k a (Some x) other was = lasts_still events k a x.life other was
+suits_still : (a : List ℕ) (k : Kept) (n : ℕ) (span : Span) (o : Option Actor) → starts a k ≡ false → ends a k ≡ false → Suits span o → Suits (span_after a k n span) o
+suits_still a k n span o no_start no_end was = subst (λ (s : Span). Suits s o) (sym (span_still a k n span no_start no_end)) was
 
 -- one actor's part of the map changed, by this event
-marked_put : (events : List Kept) (k : Kept) (m : List ℕ → Option Actor) (b : List ℕ) (o : Option Actor) (a : List ℕ) → ((a ≢ b) → ¬ IsEndOf a k)
-    → Marked (events ++ k ∷ []) b o → Marked events a (m a) → Marked (events ++ k ∷ []) a (put_at m b o a)
-marked_put events k m b o a other new was = ⊎_elim
-    (λ f. subst (λ (a : List ℕ). Marked (events ++ k ∷ []) a (put_at m b o a)) (sym f.0)
-    (subst (λ (o : Option Actor). Marked (events ++ k ∷ []) b o) (sym (put_at_same m b o)) new))
-    (λ f. subst (λ (o : Option Actor). Marked (events ++ k ∷ []) a o) (sym (put_at_other m b o a f.0)) (marked_still events k a (m a) (other f.0) was))
+suits_put : (m : List ℕ → Option Actor) (b : List ℕ) (o : Option Actor) (a : List ℕ) (k : Kept) (n : ℕ) (span : Span)
+    → (a ≢ b → starts a k ≡ false) → (a ≢ b → ends a k ≡ false) → (a ≡ b → Suits (span_after a k n span) o)
+    → Suits span (m a) → Suits (span_after a k n span) (put_at m b o a)
+suits_put m b o a k n span no_start no_end mine was = ⊎_elim
+    (λ f. subst (Suits (span_after a k n span)) (sym (ap (put_at m b o) f.0 ∙ put_at_same m b o)) (mine f.0))
+    (λ f. subst (Suits (span_after a k n span)) (sym (put_at_other m b o a f.0)) (suits_still a k n span (m a) (no_start f.0) (no_end f.0) was))
     (text_cases a b)
 
--- a history and the kept events that tell it
-record Agree (s : State) (events : List Kept) : Type 0 where
-  pub each : (a : List ℕ) → Marked events a (s.actors a)
+start_suits : (a : List ℕ) (k : Kept) (n : ℕ) (span : Span) (x : Actor) → starts a k ≡ true → x.life ≡ Alive → Suits span None → Suits (span_after a k n span) (Some x)
+start_suits a k n Unborn x starts_it alive was = subst (λ (s : Span). Suits s (Some x)) (sym (span_begins a k n Unborn refl starts_it)) alive
+start_suits a k n Lasting x starts_it alive was = absurd was
+start_suits a k n (OverAt at) x starts_it alive was = absurd was
 
-start_marked : (s : State) (events : List Kept) (b : List ℕ) (program : Program) → Agree s events → Allowed s (Start b program)
-    → Agree (happens s (Start b program)) (events ++ kept.Start b program ∷ [])
-start_marked s events b program was allowed =
-    let k : Kept = kept.Start b program in record {
-      each = λ a. marked_put events k s.actors b _ a (λ apart h. h)
-          (λ at h. subst (λ (o : Option Actor). Marked events b o) allowed.new (was.each b) at (ends_other events k b at (λ h. h) h)) (was.each a);
-    }
+same_suits : (span : Span) (x y : Actor) → y.life ≡ x.life → Suits span (Some x) → Suits span (Some y)
+same_suits Unborn x y same was = was
+same_suits Lasting x y same was = same ∙ was
+same_suits (OverAt at) x y same was = λ e. was (sym same ∙ e)
 
-call_marked : (s : State) (events : List Kept) (b : List ℕ) (read : ℕ) (ready : Ready) (call : CallData) (got : Told) (w : ℕ) → Agree s events
-    → (x : Actor) → s.actors b ≡ Some x
-    → Agree (called s b read ready call got w (Some x)) (events ++ kept.Call b read ready call got ∷ [])
-call_marked s events b read ready call got w was x is =
-    let k : Kept = kept.Call b read ready call got in record {
-      each = λ a. marked_put events k s.actors b _ a (λ apart h. h)
-          (lasts_still events k b x.life (λ h. h) (subst (λ (o : Option Actor). Marked events b o) is (was.each b))) (was.each a);
-    }
+end_suits : (a : List ℕ) (k : Kept) (n : ℕ) (span : Span) (x y : Actor) → ends a k ≡ true → y.life ≢ Alive → Suits span (Some x) → Suits (span_after a k n span) (Some y)
+end_suits a k n Unborn x y ends_it dead was = absurd was
+end_suits a k n Lasting x y ends_it dead was = subst (λ (s : Span). Suits s (Some y)) (sym (span_ends a k n Lasting refl ends_it)) dead
+end_suits a k n (OverAt at) x y ends_it dead was = dead
 
-end_marked : (s : State) (events : List Kept) (b : List ℕ) (read : ℕ) (ready : Ready) (status : ℕ) → Agree s events → (x : Actor)
-    → Agree (finished s b (Over status) (Some x)) (events ++ kept.End b read ready status ∷ [])
-end_marked s events b read ready status was x =
-    let k : Kept = kept.End b read ready status in record {
-      each = λ a. marked_put events k s.actors b _ a (λ apart h. apart (sym h)) (length events, some_last (IsEndOf b) events k refl) (was.each a);
-    }
+halt_suits : (a : List ℕ) (how : Survival) (n : ℕ) (span : Span) (o : Option Actor) → Suits span o → Suits (span_after a (kept.Halt how) n span) (option_map stopped o)
+halt_suits a how n Unborn None was = tt
+halt_suits a how n Unborn (Some x) was = was
+halt_suits a how n Lasting None was = was
+halt_suits a how n Lasting (Some x) was = λ e. never_alive x.life e
+halt_suits a how n (OverAt at) None was = was
+halt_suits a how n (OverAt at) (Some x) was = λ e. never_alive x.life e
 
-stop_marked : (s : State) (events : List Kept) (b : List ℕ) → Agree s events → (x : Actor) → Agree (finished s b Stopped (Some x)) (events ++ kept.Stop b ∷ [])
-stop_marked s events b was x =
-    let k : Kept = kept.Stop b in record {
-      each = λ a. marked_put events k s.actors b _ a (λ apart h. apart (sym h)) (length events, some_last (IsEndOf b) events k refl) (was.each a);
-    }
+-- one event more
+happens_suits : (s : State) (n : ℕ) (k : Kept) (e : Event) (a : List ℕ) (span : Span) → Tells k e → Allowed s e → Suits span (s.actors a)
+    → Suits (span_after a k n span) ((happens s e).actors a)
+happens_suits s n k (Start b program) a span told allowed was =
+    let one : Kept = kept.Start b program in
+    subst (λ (k : Kept). Suits (span_after a k n span) ((happens s (Start b program)).actors a)) (sym told)
+    (suits_put s.actors b _ a one n span (λ f. other_text b a (λ e. f (sym e))) (λ f. refl)
+    (λ same. start_suits a one n span _ (ap (λ (c : List ℕ). bytes_eq c a) (sym same) ∙ same_text a) refl
+    (subst (Suits span) (ap s.actors same ∙ allowed.new) was)) was)
+happens_suits s n k (Call b read ready call got w) a span told allowed was =
+    let one : Kept = kept.Call b read ready call got in
+    let is = allowed.reads.is in
+    subst (λ (k : Kept). Suits (span_after a k n span) ((happens s (Call b read ready call got w)).actors a)) (sym told)
+    (subst (λ (o : Option Actor). Suits (span_after a one n span) ((called s b read ready call got w o).actors a)) (sym is)
+    (suits_put s.actors b _ a one n span (λ f. refl) (λ f. refl)
+    (λ same. suits_still a one n span _ refl refl (same_suits span allowed.actor _ refl (subst (Suits span) (ap s.actors same ∙ is) was))) was))
+happens_suits s n k (End b read ready status) a span told allowed was =
+    let one : Kept = kept.End b read ready status in
+    let is = allowed.reads.is in
+    subst (λ (k : Kept). Suits (span_after a k n span) ((happens s (End b read ready status)).actors a)) (sym told)
+    (subst (λ (o : Option Actor). Suits (span_after a one n span) ((finished s b (Over status) o).actors a)) (sym is)
+    (suits_put s.actors b _ a one n span (λ f. refl) (λ f. other_text b a (λ e. f (sym e)))
+    (λ same. end_suits a one n span allowed.actor _ (ap (λ (c : List ℕ). bytes_eq c a) (sym same) ∙ same_text a) (λ e. cc)
+    (subst (Suits span) (ap s.actors same ∙ is) was)) was))
+happens_suits s n k (Stop b) a span told allowed was =
+    let one : Kept = kept.Stop b in
+    subst (λ (k : Kept). Suits (span_after a k n span) ((happens s (Stop b)).actors a)) (sym told)
+    (subst (λ (o : Option Actor). Suits (span_after a one n span) ((finished s b Stopped o).actors a)) (sym allowed.is)
+    (suits_put s.actors b _ a one n span (λ f. refl) (λ f. other_text b a (λ e. f (sym e)))
+    (λ same. end_suits a one n span allowed.actor _ (ap (λ (c : List ℕ). bytes_eq c a) (sym same) ∙ same_text a) (λ e. cc)
+    (subst (Suits span) (ap s.actors same ∙ allowed.is) was)) was))
+happens_suits s n k (Moment m) a span told allowed was =
+    subst (λ (k : Kept). Suits (span_after a k n span) (s.actors a)) (sym told) (suits_still a (kept.Moment m) n span (s.actors a) refl refl was)
+happens_suits s n k (Halt how contents) a span told allowed was =
+    subst (λ (k : Kept). Suits (span_after a k n span) (option_map stopped (s.actors a))) (sym told) (halt_suits a how n span (s.actors a) was)
 
-happens_marked : (s : State) (events : List Kept) (k : Kept) (e : Event) → Tells k e → Agree s events → Allowed s e → Agree (happens s e) (events ++ k ∷ [])
-happens_marked s events k (Start b program) told was allowed =
-    subst (λ (k : Kept). Agree (happens s (Start b program)) (events ++ k ∷ [])) (sym told) (start_marked s events b program was allowed)
-happens_marked s events k (Call b read ready call got w) told was allowed =
-    subst (λ (k : Kept). Agree (happens s (Call b read ready call got w)) (events ++ k ∷ [])) (sym told)
-    (subst (λ (o : Option Actor). Agree (called s b read ready call got w o) (events ++ kept.Call b read ready call got ∷ []))
-    (sym allowed.reads.is) (call_marked s events b read ready call got w was allowed.actor allowed.reads.is))
-happens_marked s events k (End b read ready status) told was allowed =
-    subst (λ (k : Kept). Agree (happens s (End b read ready status)) (events ++ k ∷ [])) (sym told)
-    (subst (λ (o : Option Actor). Agree (finished s b (Over status) o) (events ++ kept.End b read ready status ∷ []))
-    (sym allowed.reads.is) (end_marked s events b read ready status was allowed.actor))
-happens_marked s events k (Stop b) told was allowed =
-    subst (λ (k : Kept). Agree (happens s (Stop b)) (events ++ k ∷ [])) (sym told)
-    (subst (λ (o : Option Actor). Agree (finished s b Stopped o) (events ++ kept.Stop b ∷ []))
-    (sym allowed.is) (stop_marked s events b was allowed.actor))
-happens_marked s events k (Moment m) told was allowed =
-    subst (λ (k : Kept). Agree (happens s (Moment m)) (events ++ k ∷ [])) (sym told)
-    (record { each = λ a. marked_still events (kept.Moment m) a (s.actors a) (λ h. h) (was.each a) })
-happens_marked s events k (Halt contents) told was allowed = absurd told
-
-marked : (d : Disk) (h : List Event) (events : List Kept) → Legal d h → AllZip Tells (reverse events) h → Agree (after d h) events
-marked d h events legal told =
-    along (λ events h. Legal d h → Agree (after d h) events) (λ legal. record { each = λ a at h. h })
-    (λ events h k e one was legal. happens_marked (after d h) events k e one (was legal.0) legal.1)
-    events h told legal
+suits : (d : Disk) (newest : List Kept) (h : List Event) → Legal d h → AllZip Tells newest h → (a : List ℕ) → Suits (span_of a newest) ((after d h).actors a)
+suits d [] [] legal told a = tt
+suits d [] (e ∷ h) legal told a = absurd told
+suits d (k ∷ newest) [] legal told a = absurd told
+suits d (k ∷ newest) (e ∷ h) legal told a =
+    happens_suits (after d h) (length newest) k e a (span_of a newest) told.0 legal.1 (suits d newest h legal.0 told.1 a)
 
 -- an actor whose end or stop was kept lives no more
 pub ended_is : (d : Disk) (h : List Event) (events : List Kept) (a : List ℕ) (at : ℕ) → Legal d h → AllZip Tells (reverse events) h → EndsAt events a at
     → (x : Actor) × ((after d h).actors a ≡ Some x) × (x.life ≢ Alive)
-ended_is d h events a at legal told ends = by_actor ((after d h).actors a) ((marked d h events legal told).each a) where
-  by_life : (life : Life) → Lasts events a life → life ≢ Alive
-  by_life Alive m = absurd (m at ends)
-  by_life (Over status) m = λ e. cc
-  by_life Stopped m = λ e. cc
-
-  by_actor : (o : Option Actor) → Marked events a o → (x : Actor) × (o ≡ Some x) × (x.life ≢ Alive)
-  by_actor None m = absurd (m at ends)
-  by_actor (Some x) m = (x, refl, by_life x.life m)
+ended_is d h events a at legal told ends =
+    by_actor ((after d h).actors a) (subst (λ (s : Span). Suits s ((after d h).actors a)) ends (suits d (reverse events) h legal told a)) where
+      by_actor : (o : Option Actor) → Suits (OverAt at) o → (x : Actor) × (o ≡ Some x) × (x.life ≢ Alive)
+      by_actor None m = absurd m
+      by_actor (Some x) m = (x, refl, m)
 
 -- and no other one is: it lives, or its end or stop was kept
 pub lives_or_ended : (d : Disk) (h : List Event) (events : List Kept) (a : List ℕ) (x : Actor) → Legal d h → AllZip Tells (reverse events) h → (after d h).actors a ≡ Some x
     → (x.life ≡ Alive) ⊎ ((at : ℕ) × EndsAt events a at)
 lives_or_ended d h events a x legal told is =
-    by_life x.life (subst (λ (o : Option Actor). Marked events a o) is ((marked d h events legal told).each a)) where
-      by_life : (life : Life) → Lasts events a life → (life ≡ Alive) ⊎ ((at : ℕ) × EndsAt events a at)
-      by_life Alive m = inl refl
-      by_life (Over status) m = inr m
-      by_life Stopped m = inr m
+    by_span (span_of a (reverse events)) refl (subst (Suits (span_of a (reverse events))) is (suits d (reverse events) h legal told a)) where
+      by_span : (span : Span) → span_of a (reverse events) ≡ span → Suits span (Some x) → (x.life ≡ Alive) ⊎ ((at : ℕ) × EndsAt events a at)
+      by_span Unborn same m = absurd m
+      by_span Lasting same m = inl m
+      by_span (OverAt at) same m = inr (at, same)

@@ -9,7 +9,7 @@ use Rattle.call_fs.specs.declared.calls.Answer.{Answer}
 use Rattle.call_fs.specs.Program.{Own, due_of}
 use Rattle.queue_inject.specs.declared.injection.Arguments.{Arguments}
 use Rattle.queue_inject.specs.declared.injection.InputEnd.TheVariants.{Whole}
-use Rattle.queue_inject.specs.Table.{Next, has_input}
+use Rattle.queue_inject.specs.Table.{Next}
 use Rattle.queue_inject.specs.Machine.{Machine, Progress, begun, fed_on, ended_on, is_over, is_told, is_decided}
 use Rattle.queue_inject.specs.Stands.{Stands, Continues, Ends}
 use Rattle.queue_inject.proofs.Settled.{told_decides}
@@ -32,12 +32,12 @@ told_still m n same told = let progress : n.heard.progress ≡ m.heard.progress 
 -- a machine that looked needs what is next
 pub needs_next : (m n : Machine) (r : Need) (p : ℕ) (program : Program) (past : List Own) → n ≡ record m { present = p; ready = input_ready }
     → ((args : Arguments) → Stands m args past → Stands n args past)
-    → ((args : Arguments) → Stands n args past → (IsTrue (has_input n.ready) → IsTrue (is_decided n)) → due_of r ≡ Next args past n.present n.ready)
+    → ((args : Arguments) → Stands n args past → IsTrue (is_decided n) → due_of r ≡ Next args past n.present n.ready)
     → Follows m program past → due_of r ≡ next_of program past p input_ready
 needs_next m n r p (Injector args) past is stands needs f =
     let present : n.present ≡ p = ap (λ (m : Machine). m.present) is in
     let ready : n.ready ≡ input_ready = ap (λ (m : Machine). m.ready) is in
-    needs args (stands args f.stands) (λ h. told_decides n (told_still m n (ap (λ (m : Machine). m.heard) is) f.told))
+    needs args (stands args f.stands) (told_decides n (told_still m n (ap (λ (m : Machine). m.heard) is) f.told))
     ∙ ap (λ (k : ℕ). Next args past k n.ready) present ∙ ap (λ (r : Ready). Next args past p r) ready
 
 -- an injector that finds its input ready neither waits nor needs anything but a call

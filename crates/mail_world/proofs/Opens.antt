@@ -15,6 +15,7 @@ use Rattle.call_fs.specs.Columns.{HasRoomFor}
 use Rattle.call_fs.specs.Program.{Due, Own}
 use Rattle.call_fs.specs.Program.Did.{Called}
 use Rattle.queue_inject.specs.declared.injection.Arguments.{Arguments}
+use Rattle.queue_inject.specs.declared.row.Cause.TheVariants.{Status, Envelope}
 use Rattle.queue_inject.specs.declared.row.Row.{Row}
 use Rattle.queue_inject.specs.declared.row.Row.TheVariants as at
 use Rattle.queue_inject.specs.Texts.{Text, message_text, intd_text}
@@ -165,10 +166,10 @@ row_stays d e h g a b answer (at.SyncTodo n fd) s own = own_stays d e h g a b an
 row_stays d e h g a b answer (at.Create seq) s own = tt
 row_stays d e h g a b answer (at.CreateIntd n) s own = tt
 row_stays d e h g a b answer (at.LinkTodo n) s own = tt
-row_stays d e h g a b answer (at.CleanIntd n status) s own = tt
-row_stays d e h g a b answer (at.CleanMess n status) s own = tt
+row_stays d e h g a b answer (at.CleanIntd n cause) s own = tt
+row_stays d e h g a b answer (at.CleanMess n cause) s own = tt
 row_stays d e h g a b answer at.Queued s own = tt
-row_stays d e h g a b answer (at.Failed status) s own = tt
+row_stays d e h g a b answer (at.Failed cause) s own = tt
 
 -- and so does what another program needs
 pub needs_stay : (d e : Disk) (h g : ℕ → Option (List ℕ)) (a b : List ℕ) (answer : Answer) (program : Program) (past : List Own) → Opens d e h g a answer
@@ -185,17 +186,17 @@ in_piece d h a bytes (Some status) done more end bad m e b =
 
 message_row : (d : Disk) (h : ℕ → Option (List ℕ)) (a : List ℕ) (text : Text) (n fd done : ℕ) → IsOwn d h a fd → HasRow d h a (in_message text n fd done)
 message_row d h a text n fd done own =
-    in_piece d h a text.bytes text.fault done (at.AppendMess n (record { 0 = fd }) done) (at.SyncMess n (record { 0 = fd })) (at.CleanMess n) own own (λ status. tt)
+    in_piece d h a text.bytes text.fault done (at.AppendMess n (record { 0 = fd }) done) (at.SyncMess n (record { 0 = fd })) (λ status. at.CleanMess n (Status status)) own own (λ status. tt)
 
 todo_row : (d : Disk) (h : ℕ → Option (List ℕ)) (a : List ℕ) (text : Text) (n fd done : ℕ) → IsOwn d h a fd → HasRow d h a (in_todo text n fd done)
 todo_row d h a text n fd done own =
-    in_piece d h a text.bytes text.fault done (at.AppendTodo n (record { 0 = fd }) done) (at.SyncTodo n (record { 0 = fd })) (at.CleanIntd n) own own (λ status. tt)
+    in_piece d h a text.bytes text.fault done (at.AppendTodo n (record { 0 = fd }) done) (at.SyncTodo n (record { 0 = fd })) (λ _. at.CleanIntd n Envelope) own own (λ status. tt)
 
 -- an actor's own row has its descriptor after its call
 pub row_moves : (d : Disk) (h : ℕ → Option (List ℕ)) (a : List ℕ) (args : Arguments) (row : Row) (answer : Answer) → HasRow d h a row → HasMade d h a answer → HasRow d h a (moved args row answer)
 row_moves d h a args (at.Create seq) (told.Created fd n) own made = made
 row_moves d h a args (at.Create seq) (told.Refused Exists) own made =
-    elim (nat_lt seq 9) as (λ t. HasRow d h a (settled (work_of args) (if t then at.Create (seq + 1) else at.Failed 63))) [ true ↦ tt | false ↦ tt ]
+    elim (nat_lt seq 9) as (λ t. HasRow d h a (settled (work_of args) (if t then at.Create (seq + 1) else at.Failed (Status 63)))) [ true ↦ tt | false ↦ tt ]
 row_moves d h a args (at.Create seq) answer own made = tt
 row_moves d h a args (at.LinkMess seq n fd) told.Done own made = own
 row_moves d h a args (at.LinkMess seq n fd) answer own made = tt
@@ -213,12 +214,12 @@ row_moves d h a args (at.SyncTodo n fd) told.Done own made = tt
 row_moves d h a args (at.SyncTodo n fd) answer own made = tt
 row_moves d h a args (at.LinkTodo n) told.Done own made = tt
 row_moves d h a args (at.LinkTodo n) answer own made = tt
-row_moves d h a args (at.CleanIntd n status) told.Done own made = tt
-row_moves d h a args (at.CleanIntd n status) (told.Refused NotThere) own made = tt
-row_moves d h a args (at.CleanIntd n status) answer own made = tt
-row_moves d h a args (at.CleanMess n status) answer own made = tt
+row_moves d h a args (at.CleanIntd n cause) told.Done own made = tt
+row_moves d h a args (at.CleanIntd n cause) (told.Refused NotThere) own made = tt
+row_moves d h a args (at.CleanIntd n cause) answer own made = tt
+row_moves d h a args (at.CleanMess n cause) answer own made = tt
 row_moves d h a args at.Queued answer own made = tt
-row_moves d h a args (at.Failed status) answer own made = tt
+row_moves d h a args (at.Failed cause) answer own made = tt
 
 pub needs_move : (d : Disk) (h : ℕ → Option (List ℕ)) (a : List ℕ) (program : Program) (past : List Own) (read : ℕ) (ready : Ready) (c : CallData) (got : Told)
     → HasNeeds d h a program past → HasMade d h a got.answer → HasNeeds d h a program ((record { read = read; ready = ready; did = Called c got.answer got.bytes }) ∷ past)
@@ -249,10 +250,10 @@ row_may d h a args (at.CreateIntd n) own = (tt, tt)
 row_may d h a args (at.AppendTodo n fd done) own = (may_append d h a fd.0 own, tt)
 row_may d h a args (at.SyncTodo n fd) own = (may_use d h a fd.0 own, tt)
 row_may d h a args (at.LinkTodo n) own = (tt, tt)
-row_may d h a args (at.CleanIntd n status) own = (tt, tt)
-row_may d h a args (at.CleanMess n status) own = (tt, tt)
+row_may d h a args (at.CleanIntd n cause) own = (tt, tt)
+row_may d h a args (at.CleanMess n cause) own = (tt, tt)
 row_may d h a args at.Queued own = tt
-row_may d h a args (at.Failed status) own = tt
+row_may d h a args (at.Failed cause) own = tt
 
 in_time_may : (d : Disk) (input late : Bool) (due : Due) → MayDo d due → MayDo d (in_time input late due)
 in_time_may d true true (Due.File c) may = tt
@@ -286,10 +287,10 @@ row_act args (at.CreateIntd n) = tt
 row_act args (at.AppendTodo n fd done) = tt
 row_act args (at.SyncTodo n fd) = tt
 row_act args (at.LinkTodo n) = tt
-row_act args (at.CleanIntd n status) = tt
-row_act args (at.CleanMess n status) = tt
+row_act args (at.CleanIntd n cause) = tt
+row_act args (at.CleanMess n cause) = tt
 row_act args at.Queued = tt
-row_act args (at.Failed status) = tt
+row_act args (at.Failed cause) = tt
 
 in_time_act : (late : Bool) (due : Due) → IsAct due → IsAct (in_time true late due)
 in_time_act true (Due.File c) act = tt

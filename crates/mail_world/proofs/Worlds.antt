@@ -1,5 +1,5 @@
 -- A world keeps what it keeps, as one actor makes a call, ends, is stopped, or starts, and as a moment comes.
-use Rattle.std.proofs.Common.{◌≡◌, ℕ, ◌+◌, ◌-◌, ◌^◌, ◌≤◌, ◌<◌, min, List, [], ◌∷◌, ◌++◌, length, set, Bool, false, Option, Some, None, IsSomeAnd, is_some, refl, sym, ap, ◌∙◌, subst, arith, get_or}
+use Rattle.std.proofs.Common.{◌≡◌, ℕ, ◌+◌, ◌-◌, ◌^◌, ◌≤◌, ◌<◌, min, List, [], ◌∷◌, ◌++◌, length, set, Bool, true, false, Option, Some, None, IsSomeAnd, is_some, reverse, refl, sym, ap, ◌∙◌, subst, arith, get_or}
 use Rattle.std.proofs.lemmas.Option.{slice_get_within, get_or_from_slice_get}
 use Rattle.std.proofs.lemmas.List.Sums.{sum_by-append}
 use Rattle.std.specs.Prelude.{count_by, if◌then◌else◌}
@@ -10,6 +10,8 @@ use Rattle.call_fs.specs.Disk.{Disk, IsMoment}
 use Rattle.call_fs.specs.Maps.{put_at}
 use Rattle.call_fs.specs.Apply.{Apply, IsReadBy}
 use Rattle.call_fs.specs.Told.{OnTold, Meets}
+use Rattle.call_fs.specs.declared.crash_file_system.Survival.{Survival}
+use Rattle.call_fs.specs.Choices.{Halts}
 use Rattle.call_fs.specs.Program.{Due}
 use Rattle.call_fs.specs.Program.Did.{Called}
 use Rattle.mail_world.specs.declared.actor.Actor.{Actor as Held}
@@ -17,19 +19,21 @@ use Rattle.mail_world.specs.declared.event.Event.{Event as Kept}
 use Rattle.mail_world.specs.declared.event.Event.TheVariants as kept
 use Rattle.mail_world.specs.declared.event.Program.{Program}
 use Rattle.mail_world.specs.History.{Life, State, next_of, start_of, called, finished, happens, held_by, shut_by}
-use Rattle.mail_world.specs.History.Event.{Start, Moment}
+use Rattle.mail_world.specs.History.Event.{Start, Moment, Halt}
 use Rattle.mail_world.specs.History.Life.{Over, Stopped}
-use Rattle.mail_world.specs.World.{next_pid, is_start, input_ready, IsStep}
-use Rattle.mail_world.specs.Inside.{known, Follows, IsMember, AreActors, IsOpenTo, IsLed, IsWorld}
-use Rattle.mail_world.specs.Acting.{MayAct, MayMake, AreOpen, HasActed, IsFinished, call_event, opened, shut}
+use Rattle.mail_world.specs.World.{next_pid, is_start, input_ready, IsStep, span_after, span_of, was_started, EndsAt}
+use Rattle.mail_world.specs.World.Span.{OverAt}
+use Rattle.mail_world.specs.Inside.{known, span_by, Follows, IsMember, AreActors, IsOpenTo, IsLed, IsWorld}
+use Rattle.mail_world.specs.Acting.{MayAct, MayMake, AreOpen, AreCutOff, HasActed, IsFinished, call_event, opened, shut}
 use Rattle.mail_world.proofs.Known.{known_push}
-use Rattle.mail_world.proofs.Histories.{IsActing, LeadsOn, call_told, end_told, stop_told, moment_told, start_told, led_on, led_still}
+use Rattle.mail_world.proofs.Spans.{span_push}
+use Rattle.mail_world.proofs.Histories.{IsActing, LeadsOn, call_told, end_told, stop_told, moment_told, start_told, halt_told, led_on, led_still}
 use Rattle.mail_world.proofs.Descriptors.{shut_listed}
 use Rattle.mail_world.proofs.Opens.{Opens, MayDo, opens_by, next_may}
 use Rattle.mail_world.proofs.Lists.{some_at}
-use Rattle.mail_world.proofs.Crew.{crew_acts, crew_looks, crew_waits, crew_starts}
+use Rattle.mail_world.proofs.Crew.{Halted, crew_halts, crew_acts, crew_looks, crew_waits, crew_starts}
 use Rattle.mail_world.proofs.Acts.{Finishes, call_alone, end_finishes, stop_finishes, finish_alone, start_alone, call_member, finish_member, start_member, look_member}
-use Rattle.mail_world.proofs.Hands.{call_opens, finish_opens, start_opens, moment_opens, look_opens, may_close}
+use Rattle.mail_world.proofs.Hands.{call_opens, finish_opens, start_opens, moment_opens, halt_opens, look_opens, may_close}
 
 -- where the disk tells
 on_told : {X : Type 0} (t : Option X) (P Q : X → Type 0) → ((x : X) → P x → Q x) → OnTold t P → OnTold t Q
@@ -260,10 +264,52 @@ moment_keeps told places actors events p m n moment later w =
       moment = moment;
       now = refl;
       pid = w.pid ∙ sym (pid_push events k ∙ still_pid events k refl);
-      kept = crew_waits places actors s t events k p m later w.kept refl refl (λ a h. h) (λ a. refl);
+      kept = crew_waits places actors s t events k p m later w.kept refl refl (λ a. refl) (λ a. refl);
       opens = on_told told (λ d. IsOpenTo d actors s) (λ d. IsOpenTo d actors t) (λ d o. moment_opens actors s m d o) w.opens;
       led = led_still told events (events ++ k ∷ []) p m (moment_told told events p m moment later) w.led;
     })
+
+-- the machine stopped
+pub halt_keeps : (old new : Option Disk) (places : List ℕ → Option ℕ) (actors stood : List Held) (events : List Kept) (p n : ℕ) (how : Survival)
+    → IsWorld old places actors (known events) events p n → AreCutOff (length events) actors stood → Meets old new (λ d e. Halts how d e)
+    → IsWorld new places stood (known (events ++ kept.Halt how ∷ [])) (events ++ kept.Halt how ∷ []) p n
+halt_keeps old new places actors stood events p n how w cut met =
+    let s = known events in
+    let k = kept.Halt how in
+    let t = happens s (Halt how (λ _. [])) in
+    let halted : Halted s t = record { actors = λ a. refl; holder = λ fd. refl } in
+    subst (λ (s : State). IsWorld new places stood s (events ++ k ∷ []) p n) (sym (known_push events k)) (record {
+      moment = w.moment;
+      now = w.now;
+      pid = w.pid ∙ sym (pid_push events k ∙ still_pid events k refl);
+      kept = crew_halts places actors stood s t events how p w.kept halted cut;
+      opens = on_both old new (λ d. IsOpenTo d actors s) (λ d. IsOpenTo d stood t) (λ d e. Halts how d e)
+          (λ d e halts o. halt_opens (length events) actors stood s t e halted cut) met w.opens;
+      led = led_on old new (λ d e. Halts how d e) events (events ++ k ∷ []) p p met (halt_told old new events p how met) w.led;
+    })
+
+-- a disk that tells the same, or not
+pub same_told : (old new : Option Disk) → Meets old new (λ d e. e ≡ d) → new ≡ old
+same_told None None met = refl
+same_told None (Some e) met = absurd met
+same_told (Some d) None met = absurd met
+same_told (Some d) (Some e) met = ap Some met
+
+-- each actor that was started is over then
+pub all_over : (places : List ℕ → Option ℕ) (actors : List Held) (s : State) (events : List Kept) (p : ℕ) (how : Survival) (a : List ℕ)
+    → AreActors places actors s events p → was_started events a ≡ true → (at : ℕ) × EndsAt (events ++ kept.Halt how ∷ []) a at
+all_over places actors s events p how a crew was = by_place (places a) refl where
+  over : (o : Option ℕ) → (at : ℕ) × (span_after a (kept.Halt how) (length events) (span_by o) ≡ OverAt at)
+  over None = (length events, refl)
+  over (Some at) = (at, refl)
+
+  by_place : (o : Option ℕ) → places a ≡ o → (at : ℕ) × EndsAt (events ++ kept.Halt how ∷ []) a at
+  by_place None is = let both : ◌≡◌ {A = Bool} true false = sym was ∙ crew.started a ∙ ap is_some is in absurd (cc)
+  by_place (Some i) is =
+      let x = some_at (λ (x : Held). x.name ≡ a) (slice_get actors i) (crew.named a i is) in
+      let spans = ap (λ (a : List ℕ). span_of a (reverse events)) (sym x.2) ∙ (crew.members i x.0 x.1).spans in
+      let last = over x.0.ended in
+      (last.0, span_push events (kept.Halt how) a ∙ ap (span_after a (kept.Halt how) (length events)) spans ∙ last.1)
 
 -- the actor that a place has
 pub stands_at : (told : Option Disk) (places : List ℕ → Option ℕ) (actors : List Held) (s : State) (events : List Kept) (p n i : ℕ) (a : List ℕ) (x : Held)
@@ -319,11 +365,11 @@ new_keeps told places none = record {
     placed = λ i x is. absurd (cc);
     members = λ i x is. absurd (cc);
     named = λ a i at. let both : ◌≡◌ {A = Option ℕ} None (Some i) = sym (none a) ∙ at in absurd (cc);
-    strangers = λ a is. record { unknown = refl; no_end = λ at h. h; holds_none = λ fd. refl };
+    strangers = λ a is. record { unknown = refl; unborn = refl; holds_none = λ fd. refl };
     started = λ a. sym (ap is_some (none a));
   };
   opens = every told (λ d. IsOpenTo d [] (known [])) (λ d. record { held = λ fd a is. absurd (cc); each = λ i x is. absurd (cc) });
-  led = every told (λ d. IsLed d [] 0) (λ d. (d, [], record { allowed = tt; told = tt; disk = refl; moment = refl }));
+  led = every told (λ d. IsLed d [] 0) (λ d. (d, [], record { allowed = tt; told = tt; named = tt; disk = refl; moment = refl }));
 } where
   every : {X : Type 0} (t : Option X) (P : X → Type 0) → ((x : X) → P x) → OnTold t P
   every None P f = tt

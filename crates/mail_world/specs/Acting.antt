@@ -9,6 +9,7 @@ use Rattle.call_fs.specs.declared.calls.Answer.TheVariants as answer
 use Rattle.call_fs.specs.Disk.{Disk}
 use Rattle.call_fs.specs.Steady.{IsSteadyAnswer}
 use Rattle.call_fs.specs.Told.{OnTold, Meets}
+use Rattle.call_fs.specs.Plan.{Plan, CallKeepsPlan}
 use Rattle.call_fs.specs.Apply.{Apply, IsReadBy, MayCall}
 use Rattle.call_fs.specs.Program.{Due, Own}
 use Rattle.call_fs.specs.Program.Did.{Called}
@@ -67,6 +68,11 @@ abbrev pub IsSteadyCame : Disk → Came → Type 0
 IsSteadyCame d (came.Called call answer) = IsSteadyAnswer d answer
 IsSteadyCame d (came.Ended status) = Unit {0}
 
+-- what a plan says of it, and what is left of the plan
+abbrev pub IsPlannedCame : Came → Option Plan → Option Plan → Option Disk → Option Disk → Type 0
+IsPlannedCame (came.Called call answer) old new disk disk_after = CallKeepsPlan call old new disk disk_after answer
+IsPlannedCame (came.Ended status) old new disk disk_after = new ≡ old
+
 -- the call that was due and its answer as the newest event of a past
 abbrev pub with_call : Machine → List Own → CallData → Answer → List Own
 with_call machine past call answer = (record { read = machine.present; ready = machine.ready; did = Called call answer [] }) ∷ past
@@ -87,6 +93,11 @@ pub record HasCalled (old new : Option Disk) (x y : Held) (before now_kept : Lis
   pub descriptors : y.descriptors.items ≡ x.descriptors.items ++ opened told.answer
   pub ended : y.ended ≡ x.ended
 
+-- the index of the event with which an actor's life ended, where else it is this one's
+abbrev pub ended_by : ℕ → Option ℕ → Option ℕ
+ended_by at None = Some at
+ended_by at (Some before) = Some before
+
 -- an actor is over with this event, and what it had open is closed
 pub record IsFinished (k : Kept) (old new : Option Disk) (x y : Held) (before now_kept : List Kept) : Type 0 where
   pub event : now_kept ≡ before ++ k ∷ []
@@ -104,6 +115,18 @@ pub record HasEnded (status : ℕ) (old new : Option Disk) (x y : Held) (before 
 abbrev pub HasActed : Option ℕ → Option Disk → Option Disk → Held → Held → List Kept → List Kept → ℕ → Type 0
 HasActed None old new x y before now_kept now = HasCalled old new x y before now_kept now
 HasActed (Some status) old new x y before now_kept now = HasEnded status old new x y before now_kept now
+
+-- an actor's life ended with the machine stop of this index, where it lasted, and it has nothing open any more
+pub record IsCutOff (at : ℕ) (x y : Held) : Type 0 where
+  pub name : y.name ≡ x.name
+  pub machine : y.machine ≡ x.machine
+  pub descriptors : y.descriptors.items ≡ []
+  pub ended : y.ended ≡ ended_by at x.ended
+
+-- so each one's at its place
+pub record AreCutOff (at : ℕ) (old new : List Held) : Type 0 where
+  pub many : length new ≡ length old
+  pub each : (i : ℕ) (x y : Held) → slice_get old i ≡ Some x → slice_get new i ≡ Some y → IsCutOff at x y
 
 -- the machine has looked, and nothing came of it
 pub record HasLooked (x y : Held) : Type 0 where

@@ -7,6 +7,7 @@ use Rattle.call_fs.specs.declared.calls.Answer.{Answer}
 use Rattle.call_fs.specs.declared.calls.Answer.TheVariants.{Created, Opened, Done}
 use Rattle.call_fs.specs.declared.calls.Told.{Told}
 use Rattle.call_fs.specs.declared.program.Ready.{Ready}
+use Rattle.call_fs.specs.declared.crash_file_system.Survival.{Survival}
 use Rattle.call_fs.specs.Maps.{put, put_at}
 use Rattle.call_fs.specs.Disk.{Disk, IsMoment, IsSynced}
 use Rattle.call_fs.specs.Apply.{effect, Fits, IsReadBy}
@@ -23,14 +24,14 @@ use Rattle.mail_world.specs.declared.event.Program.{Program}
 use Rattle.mail_world.specs.declared.event.Program.TheVariants.{Injector}
 
 -- One event. `wrote` is how many bytes a failed write had written, which no program is told. `contents` is what a
--- machine stop left of each file.
+-- machine stop left of each file; `how` is what it was called, and limits nothing.
 pub data Event : Type 0 where
   Start : (actor : List ℕ) (program : Program) → Event
   Call : (actor : List ℕ) (read : ℕ) (ready : Ready) (call : CallData) (told : Told) (wrote : ℕ) → Event
   End : (actor : List ℕ) (read : ℕ) (ready : Ready) (status : ℕ) → Event
   Stop : (actor : List ℕ) → Event
   Moment : ℕ → Event
-  Halt : (contents : ℕ → List ℕ) → Event
+  Halt : (how : Survival) (contents : ℕ → List ℕ) → Event
 
 -- any start
 abbrev pub is_start : Event → Bool
@@ -39,7 +40,7 @@ is_start (Call a read ready call told wrote) = false
 is_start (End a read ready status) = false
 is_start (Stop a) = false
 is_start (Moment m) = false
-is_start (Halt contents) = false
+is_start (Halt how contents) = false
 
 -- what a program must do next: after this past, newest event first, at this moment, with this ready
 abbrev pub next_of : Program → List Own → ℕ → Ready → Due
@@ -171,7 +172,7 @@ happens s (Call a read ready call told wrote) = called s a read ready call told 
 happens s (End a read ready status) = finished s a (Over status) (s.actors a)
 happens s (Stop a) = finished s a Stopped (s.actors a)
 happens s (Moment m) = record { disk = s.disk; holder = s.holder; now = m; actors = s.actors; books = s.books }
-happens s (Halt contents) = record {
+happens s (Halt how contents) = record {
   disk = halted contents s.disk;
   holder = λ _. None;
   now = s.now;
@@ -228,7 +229,7 @@ Allowed s (Call a read ready call told wrote) = MayCall s a read ready call told
 Allowed s (End a read ready status) = MayEnd s a read ready status
 Allowed s (Stop a) = IsLiving s a
 Allowed s (Moment m) = MayCome s m
-Allowed s (Halt contents) = AllSurvive s.disk contents
+Allowed s (Halt how contents) = AllSurvive s.disk contents
 
 -- the directories of the queue: four plain ones, and twenty-three below each of mess, info, local and remote
 abbrev pub splits_of : List ℕ → ℕ → List (List ℕ)

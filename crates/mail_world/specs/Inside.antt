@@ -1,5 +1,5 @@
 -- What the fields of a world mean, and what they keep.
-use Rattle.std.specs.Prelude.{◌≡◌, ◌↔◌, ℕ, ◌≤◌, ◌==◌, List, [], ◌∷◌, map, reverse, count_by, Bool, false, Option, Some, None, IsSome, IsSomeAnd, is_some, is_none, IsTrue, bytes_eq}
+use Rattle.std.specs.Prelude.{◌≡◌, ℕ, ◌≤◌, ◌==◌, List, [], ◌∷◌, map, reverse, count_by, Bool, false, Option, Some, None, IsSome, IsSomeAnd, is_some, is_none, IsTrue, bytes_eq}
 use Rattle.std.specs.List.{list_any, slice_get}
 use Rattle.call_fs.specs.declared.calls.Fd.{Fd}
 use Rattle.call_fs.specs.Disk.{Disk, Open, Mode, IsMoment}
@@ -18,17 +18,19 @@ use Rattle.mail_world.specs.declared.event.Program.{Program}
 use Rattle.mail_world.specs.declared.event.Program.TheVariants.{Injector}
 use Rattle.mail_world.specs.declared.actor.Actor.{Actor as Held}
 use Rattle.mail_world.specs.History.{Event, Actor, State, after, latest}
-use Rattle.mail_world.specs.History.Event.{Start, Call, End, Stop, Moment}
+use Rattle.mail_world.specs.History.Event.{Start, Call, End, Stop, Moment, Halt}
 use Rattle.mail_world.specs.History.Life.{Alive}
-use Rattle.mail_world.specs.World.{Leads, EndsAt, was_started, next_pid}
+use Rattle.mail_world.specs.World.{Leads, Span, span_of, was_started, next_pid}
+use Rattle.mail_world.specs.World.Span.{Unborn, Lasting, OverAt}
 
--- a kept event, read as one whose failed write had written nothing
+-- a kept event, read as one whose failed write had written nothing, or that left nothing of any file
 abbrev pub event_of : Kept → Event
 event_of (kept.Start a program) = Start a program
 event_of (kept.Call a read ready call told) = Call a read ready call told 0
 event_of (kept.End a read ready status) = End a read ready status
 event_of (kept.Stop a) = Stop a
 event_of (kept.Moment m) = Moment m
+event_of (kept.Halt how) = Halt how (λ _. [])
 
 -- any disk
 abbrev pub nowhere : Disk
@@ -47,6 +49,11 @@ pub record Injects (machine : Machine) (args : Arguments) (past : List Own) : Ty
 abbrev pub Follows : Machine → Program → List Own → Type 0
 Follows machine (Injector args) past = Injects machine args past
 
+-- the life of an actor that ended with this event, or lasts
+abbrev pub span_by : Option ℕ → Span
+span_by None = Lasting
+span_by (Some at) = OverAt at
+
 -- what is kept of an actor is what is known of it
 pub record IsMember (s : State) (events : List Kept) (present : ℕ) (x : Held) : Type 0 where
   pub actor : Actor
@@ -54,7 +61,7 @@ pub record IsMember (s : State) (events : List Kept) (present : ℕ) (x : Held) 
   pub follows : Follows x.machine actor.program actor.past
   pub in_order : latest actor.program actor.past ≤ present
   pub alive : x.ended ≡ None → actor.life ≡ Alive
-  pub ends : (at : ℕ) → EndsAt events x.name at ↔ (x.ended ≡ Some at)
+  pub spans : span_of x.name (reverse events) ≡ span_by x.ended
 
 -- it is that actor's
 abbrev pub is_by : List ℕ → Option (List ℕ) → Bool
@@ -64,7 +71,7 @@ is_by a (Some b) = bytes_eq b a
 -- no actor has this name
 pub record IsStranger (s : State) (events : List Kept) (a : List ℕ) : Type 0 where
   pub unknown : s.actors a ≡ None
-  pub no_end : (at : ℕ) → ¬ EndsAt events a at
+  pub unborn : span_of a (reverse events) ≡ Unborn
   pub holds_none : (fd : ℕ) → is_by a (s.holder fd) ≡ false
 
 -- The actors that are kept, each at its place, are those that are known.

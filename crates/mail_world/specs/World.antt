@@ -1,9 +1,12 @@
 -- A world: what it keeps of its history, and what is promised of that.
-use Rattle.std.specs.Prelude.{◌≡◌, ℕ, ◌+◌, ◌-◌, ◌^◌, min, List, [], ◌∷◌, ◌++◌, reverse, count_by, Bool, true, false, bytes_eq, Option, Some, None, IsSomeAnd}
-use Rattle.std.specs.List.{AllZip, list_any, slice_get}
+use Rattle.std.specs.Prelude.{◌≡◌, ℕ, ◌+◌, ◌-◌, ◌^◌, min, List, [], ◌∷◌, ◌++◌, length, reverse, count_by, Bool, true, false, bytes_eq, if◌then◌else◌, Option, Some, None, IsSomeAnd}
+use Rattle.std.specs.List.{AllZip, list_any}
 use Rattle.call_fs.specs.declared.calls.CallData.{CallData}
 use Rattle.call_fs.specs.declared.calls.Told.{Told}
 use Rattle.call_fs.specs.declared.program.Ready.{Ready}
+use Rattle.call_fs.specs.declared.crash_file_system.Survival.{Survival}
+use Rattle.call_fs.specs.Choices.{AreNamed, contents_by}
+use Rattle.call_fs.specs.Plan.{Plan, CallKeepsPlan}
 use Rattle.call_fs.specs.Disk.{Disk}
 use Rattle.call_fs.specs.Steady.{IsSteadyAnswer}
 use Rattle.call_fs.specs.Told.{OnTold}
@@ -24,13 +27,28 @@ Tells event (Call a read ready call told wrote) = event ≡ kept.Call a read rea
 Tells event (End a read ready status) = event ≡ kept.End a read ready status
 Tells event (Stop a) = event ≡ kept.Stop a
 Tells event (Moment m) = event ≡ kept.Moment m
-Tells event (Halt contents) = ⊥
+Tells event (Halt how contents) = event ≡ kept.Halt how
+
+-- a machine stop left of this disk what its name says
+abbrev pub IsByName : Disk → Event → Type 0
+IsByName d (Start a program) = Unit {0}
+IsByName d (Call a read ready call told wrote) = Unit {0}
+IsByName d (End a read ready status) = Unit {0}
+IsByName d (Stop a) = Unit {0}
+IsByName d (Moment m) = Unit {0}
+IsByName d (Halt how contents) = (numbers : List ℕ) × AreNamed d numbers × (contents ≡ contents_by how d numbers)
+
+-- so did each machine stop of a history that began with this disk
+abbrev pub AreByName : Disk → List Event → Type 0
+AreByName d [] = Unit {0}
+AreByName d (event ∷ before) = AreByName d before × IsByName (after d before).disk event
 
 -- What led from one disk to another one, at this moment: a history of which each event might happen when it did, and
 -- was kept by a world, the oldest first.
 pub record Leads (opening now : Disk) (events : List Kept) (present : ℕ) (h : List Event) : Type 0 where
   pub allowed : EachAllowed opening h
   pub told : AllZip Tells (reverse events) h
+  pub named : AreByName opening h
   pub disk : (after opening h).disk ≡ now
   pub moment : (after opening h).now ≡ present
 
@@ -39,6 +57,7 @@ pub record Leads (opening now : Disk) (events : List Kept) (present : ℕ) (h : 
 pub record IsHistory (opening now : Disk) (events : List Kept) (present : ℕ) (h : List Event) : Type 0 where
   pub legal : Legal opening h
   pub told : AllZip Tells (reverse events) h
+  pub named : AreByName opening h
   pub disk : (after opening h).disk ≡ now
   pub moment : (after opening h).now ≡ present
 
@@ -68,22 +87,41 @@ starts a (kept.Call b read ready call told) = false
 starts a (kept.End b read ready status) = false
 starts a (kept.Stop b) = false
 starts a (kept.Moment m) = false
+starts a (kept.Halt how) = false
 
 -- an actor of that name was started
 abbrev pub was_started : List Kept → List ℕ → Bool
 was_started events a = list_any (starts a) events
 
--- an end or a stop of that actor
-abbrev pub IsEndOf : List ℕ → Kept → Type 0
-IsEndOf a (kept.Start b program) = ⊥
-IsEndOf a (kept.Call b read ready call told) = ⊥
-IsEndOf a (kept.End b read ready status) = b ≡ a
-IsEndOf a (kept.Stop b) = b ≡ a
-IsEndOf a (kept.Moment m) = ⊥
+-- an event with which the life of that actor ends, where it lives: its end or its stop, or a machine stop
+abbrev pub ends : List ℕ → Kept → Bool
+ends a (kept.Start b program) = false
+ends a (kept.Call b read ready call told) = false
+ends a (kept.End b read ready status) = bytes_eq b a
+ends a (kept.Stop b) = bytes_eq b a
+ends a (kept.Moment m) = false
+ends a (kept.Halt how) = true
 
--- that actor ended or was stopped with the event at this index
+-- the life of an actor: not begun, lasting, or over with the event at this index
+pub data Span : Type 0 where
+  Unborn : Span
+  Lasting : Span
+  OverAt : (at : ℕ) → Span
+
+-- after one event more, which has this index
+abbrev pub span_after : List ℕ → Kept → ℕ → Span → Span
+span_after a event at Unborn = if starts a event then Lasting else Unborn
+span_after a event at Lasting = if ends a event then OverAt at else Lasting
+span_after a event at (OverAt before) = OverAt before
+
+-- by these events, the newest first
+abbrev pub span_of : List ℕ → List Kept → Span
+span_of a [] = Unborn
+span_of a (event ∷ before) = span_after a event (length before) (span_of a before)
+
+-- the life of that actor ended with the event at this index
 abbrev pub EndsAt : List Kept → List ℕ → ℕ → Type 0
-EndsAt events a at = IsSomeAnd (slice_get events at) (IsEndOf a)
+EndsAt events a at = span_of a (reverse events) ≡ OverAt at
 
 -- any start
 abbrev pub is_start : Kept → Bool
@@ -92,6 +130,7 @@ is_start (kept.Call b read ready call told) = false
 is_start (kept.End b read ready status) = false
 is_start (kept.Stop b) = false
 is_start (kept.Moment m) = false
+is_start (kept.Halt how) = false
 
 -- the process number of the next actor after so many starts: 77 and on; it stands still at the last u32
 abbrev pub pid_after : ℕ → ℕ
@@ -140,6 +179,23 @@ IsStop a old new = (new.events ≡ old.events ++ kept.Stop a ∷ []) × (new.pre
 abbrev pub moment_world : {D : Type 0} → Seen D → ℕ → Seen D
 moment_world old m = record { disk = old.disk; events = old.events ++ kept.Moment m ∷ []; present = m }
 
+-- the world after a machine stop of this name: one event more, and the present moment stays
+abbrev pub IsHalt : {D : Type 0} → Survival → Seen D → Seen D → Type 0
+IsHalt how old new = (new.events ≡ old.events ++ kept.Halt how ∷ []) × (new.present ≡ old.present)
+
+-- whatever happened in the old world, this machine stop happened next, and left what its name says of the disk
+abbrev pub GoesOnWith : {D : Type 0} → (D → Option Disk) → Survival → Seen D → Seen D → Type 0
+GoesOnWith tells how old new = (opening : Disk) (h : List Event) → Happened tells opening old h
+    → (contents : ℕ → List ℕ) × Happened tells opening new (Halt how contents ∷ h)
+
+-- the world is as before, by all that its disk tells
+pub record IsAsBefore {D : Type 0} (tells : D → Option Disk) (plan : D → Option Plan) (steady : D → Type 0) (old new : Seen D) : Type 0 where
+  pub events : new.events ≡ old.events
+  pub present : new.present ≡ old.present
+  pub disk : tells new.disk ≡ tells old.disk
+  pub plan_is : plan new.disk ≡ plan old.disk
+  pub still : steady old.disk → steady new.disk
+
 -- an event that a steady disk, which is this one before it, lets happen
 abbrev pub IsSteadyEvent : Disk → Kept → Type 0
 IsSteadyEvent d (kept.Start a program) = Unit {0}
@@ -147,8 +203,23 @@ IsSteadyEvent d (kept.Call a read ready call told) = IsSteadyAnswer d told.answe
 IsSteadyEvent d (kept.End a read ready status) = Unit {0}
 IsSteadyEvent d (kept.Stop a) = Unit {0}
 IsSteadyEvent d (kept.Moment m) = Unit {0}
+IsSteadyEvent d (kept.Halt how) = Unit {0}
 
 -- A disk that was steady is so still, and the one event that was appended is a steady disk's.
 abbrev pub StaysSteady : {D : Type 0} → (D → Type 0) → (D → Option Disk) → D → D → List Kept → List Kept → Type 0
 StaysSteady steady tells old new before now =
     steady old → steady new × OnTold (tells old) (λ d. (e : Kept) → now ≡ before ++ e ∷ [] → IsSteadyEvent d e)
+
+-- what the plan of a disk says of an event, and what is left of it: a call is by the plan, and nothing else uses it up
+abbrev pub IsPlannedEvent : Kept → Option Plan → Option Plan → Option Disk → Option Disk → Type 0
+IsPlannedEvent (kept.Start a program) old new told told_after = new ≡ old
+IsPlannedEvent (kept.Call a read ready call told) old new disk disk_after = CallKeepsPlan call old new disk disk_after told.answer
+IsPlannedEvent (kept.End a read ready status) old new told told_after = new ≡ old
+IsPlannedEvent (kept.Stop a) old new told told_after = new ≡ old
+IsPlannedEvent (kept.Moment m) old new told told_after = new ≡ old
+IsPlannedEvent (kept.Halt how) old new told told_after = new ≡ old
+
+-- The one event that was appended is by the plan that the disk had, and the disk has what is left of it.
+abbrev pub GoesByPlan : {D : Type 0} → (D → Option Plan) → (D → Option Disk) → D → D → List Kept → List Kept → Type 0
+GoesByPlan plan tells old new before now =
+    (e : Kept) → now ≡ before ++ e ∷ [] → IsPlannedEvent e (plan old) (plan new) (tells old) (tells new)

@@ -8,9 +8,9 @@ ghost use Rattle.queue_inject.specs.Machine.{due_now, is_call};
 ghost use Rattle.mail_world.specs.declared.event.Program.{Program};
 ghost use Rattle.mail_world.specs.declared.event.Program.TheVariants.{Injector as Injecting};
 ghost use Rattle.mail_world.specs.History.{next_of};
-ghost use Rattle.mail_world.specs.World.{mail, input_ready, StaysSteady};
+ghost use Rattle.mail_world.specs.World.{mail, input_ready, StaysSteady, GoesByPlan};
 ghost use Rattle.mail_world.specs.Inside.{Follows};
-ghost use Rattle.mail_world.specs.Acting.{MayAct, AreOpen, due_by, IsMade, IsSteadyCame, HasActed, HasLooked, IsFinished, with_call, opened, shut};
+ghost use Rattle.mail_world.specs.Acting.{MayAct, AreOpen, due_by, IsMade, IsSteadyCame, IsPlannedCame, IsCutOff, AreCutOff, HasActed, HasLooked, IsFinished, with_call, opened, shut};
 ghost use Rattle.mail_world.specs.declared.event.Event.TheVariants as kept;
 ghost use Rattle.mail_world.specs.Kept.{events_of, HasRoom};
 
@@ -78,6 +78,8 @@ impl Actor {
         ensures made { IfOk result (λ came. IsMade came now (D.disk disk.old) (D.disk disk.new)) }
         ensures steady { IfOk result (λ came. D.steady disk.old → D.steady disk.new
             × OnTold (D.disk disk.old) (λ before. IsSteadyCame before came)) }
+        ensures plan { IfOk result (λ came. IsPlannedCame came (D.plan disk.old) (D.plan disk.new)
+            (D.disk disk.old) (D.disk disk.new)) }
         ensures room { OnOk result (vec_len self.new.descriptors < vec_capacity self.new.descriptors) }
 
         // The machine stands as before, and has read this moment.
@@ -124,6 +126,8 @@ impl Actor {
         ensures acted { IfOk result (λ did. HasActed did.ended (D.disk disk.old) (D.disk disk.new)
             self.old self.new (events_of history.old) (events_of history.new) now) }
         ensures steady { OnOk result (StaysSteady D.steady D.disk disk.old disk.new
+            (events_of history.old) (events_of history.new)) }
+        ensures plan { OnOk result (GoesByPlan D.plan D.disk disk.old disk.new
             (events_of history.old) (events_of history.new)) }
         ensures at { IfOk result (λ did. did.at ≡ length (events_of history.old)) }
         ensures idle { IfOk result (λ did. did.idle ≡ false) }
@@ -183,6 +187,8 @@ impl Actor {
             self.old self.new (events_of history.old) (events_of history.new) }
         ensures steady { StaysSteady D.steady D.disk disk.old disk.new
             (events_of history.old) (events_of history.new) }
+        ensures plan { GoesByPlan D.plan D.disk disk.old disk.new
+            (events_of history.old) (events_of history.new) }
         ensures room { (more : ℕ) → HasRoom history.old (more + 1) → HasRoom history.new more }
     {
         let index = history.len() as u64;
@@ -198,6 +204,7 @@ impl Actor {
         ensures closed { Meets (D.disk disk.old) (D.disk disk.new)
             (λ before after. after ≡ shut self.old.descriptors.items before) }
         ensures steady { D.steady disk.old → D.steady disk.new }
+        ensures plan { D.plan disk.new ≡ D.plan disk.old }
         ensures descriptors { self.new.descriptors.items ≡ [] }
         ensures ended { self.new.ended ≡ Some at }
         ensures name { self.new.name ≡ self.old.name }
@@ -205,6 +212,25 @@ impl Actor {
     {
         self.ended = Some(at);
         close_all(disk, &mut self.descriptors);
+    }
+
+    /// The machine stopped, with the event of this index: it is over, where it wasn't, and has nothing open any more.
+    fn cut_off(&mut self, index: u64)
+        ensures { IsCutOff index self.old self.new }
+    {
+        if self.ended.is_none() {
+            self.ended = Some(index);
+        }
+        self.descriptors.clear();
+    }
+}
+
+/// The machine stopped, with the event of this index: all actors are over.
+pub fn cut_off_all(actors: &mut [Actor], index: u64)
+    ensures { AreCutOff index actors.old actors.new }
+{
+    for actor in actors.iter_mut() {
+        actor.cut_off(index);
     }
 }
 
@@ -234,6 +260,7 @@ fn close_all<D: CallFs>(disk: &mut D, descriptors: &mut Vec<Fd>)
     ensures closed { Meets (D.disk disk.old) (D.disk disk.new)
         (λ before after. after ≡ shut descriptors.old.items before) }
     ensures steady { D.steady disk.old → D.steady disk.new }
+    ensures plan { D.plan disk.new ≡ D.plan disk.old }
     ensures none { descriptors.new.items ≡ [] }
 {
     while let Some(fd) = descriptors.pop() {

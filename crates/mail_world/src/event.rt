@@ -2,7 +2,7 @@
 ghost use Rattle.std.specs.Prelude.{◌≡◌, ◌∷◌, ◌++◌, ◌+◌, [], List, ℕ, length, OnOk};
 
 use crate::ActorName;
-use call_fs::{CallData, Ready, Told};
+use call_fs::{CallData, Ready, Survival, Told};
 use mail_bytes::Memory;
 use queue_inject::Arguments;
 use std::alloc::Global;
@@ -57,6 +57,11 @@ pub enum Event {
     Moment {
         /// The moment, the present one from then on.
         moment: u64,
+    },
+    /// The machine stopped and started again. Each actor that lived was stopped with it, and no descriptor is open.
+    Halt {
+        /// What survived of the files.
+        how: Survival,
     },
 }
 

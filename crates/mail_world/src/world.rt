@@ -1,21 +1,23 @@
 // The world: the disk, the actors, the history.
-ghost use Rattle.std.specs.Prelude.{◌≡◌, ◌≢◌, ◌∷◌, ◌++◌, ◌⊎◌, ◌↔◌, ◌<◌, [], List, ℕ, Some, None, true, false, length, IsTrue, IsSomeAnd, IsOk, IfOk, IfErr, OnOk, OnErr};
+ghost use Rattle.std.specs.Prelude.{◌≡◌, ◌≢◌, ◌∷◌, ◌++◌, ◌⊎◌, ◌↔◌, ◌<◌, ◌≤◌, [], List, ℕ, Some, None, true, false, length, IsTrue, IsSomeAnd, IsOk, IfOk, IfErr, OnOk, OnErr};
 ghost use Rattle.std.specs.List.{slice_get};
-ghost use Rattle.call_fs.specs.Disk.{Disk, IsMoment};
-ghost use Rattle.call_fs.specs.Told.{OnTold};
+ghost use Rattle.call_fs.specs.Disk.{Disk, IsMoment, IsUnused};
+ghost use Rattle.call_fs.specs.Told.{OnTold, Meets};
+ghost use Rattle.call_fs.specs.Choices.{Halts};
+ghost use Rattle.call_fs.specs.Plan.{with_fault, with_pick};
 ghost use Rattle.mail_world.specs.History.{Opening, Legal, Event as Happening};
 ghost use Rattle.mail_world.specs.Kept.{events_of};
 ghost use Rattle.mail_world.specs.MailNames.{IsMailName};
-ghost use Rattle.mail_world.specs.World.{Leads, Happened, GoesOn, EachSafe, was_started, EndsAt, started_world, moment_world, IsStep, IsStop, StaysSteady};
+ghost use Rattle.mail_world.specs.World.{Leads, Happened, GoesOn, EachSafe, was_started, EndsAt, started_world, moment_world, IsStep, IsStop, StaysSteady, GoesByPlan, IsHalt, GoesOnWith, IsAsBefore};
 ghost use Rattle.mail_world.specs.Acting.{IsNoLiving};
 ghost use Rattle.mail_world.specs.Places.{place_of};
 
-use crate::actor::{Actor, injector_of, mail_of};
+use crate::actor::{Actor, cut_off_all, injector_of, mail_of};
 use crate::laws::headline;
 use crate::mail_name::is_mail_name;
 use crate::places::Places;
 use crate::{ActorName, Event, History, Program, WorldError};
-use call_fs::CallFs;
+use call_fs::{CallFs, CrashFs, Survival, Taken};
 use mail_bytes::Memory;
 use std::alloc::Global;
 use std::marker::Model;
@@ -161,6 +163,7 @@ impl<D: CallFs> World<D> {
         let machine = injector_of(alloc, self.next_pid, self.present, message, envelope)?;
         let arguments = mail_of(alloc, self.next_pid, self.present, message, envelope)?;
         self.actors.reserve(1)?;
+        // for its start, and for the stop of each actor, of this one too
         self.history.reserve(self.actors.len() + 2)?;
         self.places.add(alloc, name.as_slice(), self.actors.len())?;
         let actor = Actor::new(alloc, name.copy(), machine);
@@ -184,6 +187,8 @@ impl<D: CallFs> World<D> {
         ensures goes_on { OnOk result (GoesOn D.disk self.old self.new) }
         ensures steady { OnOk result (StaysSteady D.steady D.disk self.old.disk self.new.disk
             self.old.events self.new.events) }
+        ensures plan { OnOk result (GoesByPlan D.plan D.disk self.old.disk self.new.disk
+            self.old.events self.new.events) }
 
         ensures unknown { (result ≡ Err WorldError.Unknown) ↔ (was_started self.old.events actor.now ≡ false) }
         ensures gone { (name : List ℕ) (at : ℕ) → (result ≡ Err (WorldError.Gone name at))
@@ -194,6 +199,7 @@ impl<D: CallFs> World<D> {
         ensures err { OnErr result (self.new ≡ self.old) }
     {
         let place = living(&self.places, &self.actors, actor)?;
+        // for this event, and for the stop of each actor
         self.history.reserve(self.actors.len() + 1)?;
         let acting = &mut self.actors[place];
         Ok(acting.act(alloc, &mut self.disk, &mut self.history, self.present)?)
@@ -206,6 +212,8 @@ impl<D: CallFs> World<D> {
         ensures event { OnOk result (IsStop actor.now self.old self.new) }
         ensures goes_on { OnOk result (GoesOn D.disk self.old self.new) }
         ensures steady { OnOk result (StaysSteady D.steady D.disk self.old.disk self.new.disk
+            self.old.events self.new.events) }
+        ensures plan { OnOk result (GoesByPlan D.plan D.disk self.old.disk self.new.disk
             self.old.events self.new.events) }
 
         ensures unknown { (result ≡ Err WorldError.Unknown) ↔ (was_started self.old.events actor.now ≡ false) }
@@ -229,6 +237,8 @@ impl<D: CallFs> World<D> {
         ensures goes_on { OnOk result (GoesOn D.disk self.old self.new) }
         ensures steady { OnOk result (StaysSteady D.steady D.disk self.old.disk self.new.disk
             self.old.events self.new.events) }
+        ensures plan { OnOk result (GoesByPlan D.plan D.disk self.old.disk self.new.disk
+            self.old.events self.new.events) }
 
         ensures past { (now : ℕ) → (result ≡ Err (WorldError.Past now))
             ↔ ((now ≡ self.old.present) × (moment < self.old.present)) }
@@ -238,10 +248,67 @@ impl<D: CallFs> World<D> {
         if moment < self.present {
             return Err(WorldError::Past(self.present));
         }
+        // for this event, and for the stop of each actor
         self.history.reserve(self.actors.len() + 1)?;
         self.history.put(Event::Moment { moment });
         self.present = moment;
         Ok(())
+    }
+}
+
+impl<D: CrashFs> World<D> {
+    /// The machine stops and starts again: every living actor is stopped with it, no descriptor is open any more, and of
+    /// the files survives what this choice names. The present moment stays, and so do the call and the number that were
+    /// chosen and haven't come. After `Memory` the world is as before.
+    pub fn halt(&mut self, alloc: Global, how: Survival) -> Result<(), Memory>
+        ensures event { OnOk result (IsHalt how self.old self.new) }
+        ensures left { OnOk result (Meets (D.disk self.old.disk) (D.disk self.new.disk)
+            (λ before after. Halts how before after)) }
+        ensures goes_on { OnOk result (GoesOnWith D.disk how self.old self.new) }
+        ensures over { OnOk result ((actor : List ℕ) → was_started self.old.events actor ≡ true
+            → (at : ℕ) × EndsAt self.new.events actor at) }
+        ensures steady { OnOk result (StaysSteady D.steady D.disk self.old.disk self.new.disk
+            self.old.events self.new.events) }
+        ensures plan { OnOk result (GoesByPlan D.plan D.disk self.old.disk self.new.disk
+            self.old.events self.new.events) }
+        ensures err { OnErr result (IsAsBefore D.disk D.plan D.steady self.old self.new) }
+    {
+        // for this event; none that lives is left to be stopped
+        self.history.reserve(self.actors.len() + 1)?;
+        self.disk.halt(alloc, how)?;
+        let at = self.history.len() as u64;
+        self.history.put(Event::Halt { how });
+        cut_off_all(&mut self.actors, at);
+        Ok(())
+    }
+
+    /// The k-th call from now fails, `close` not counted, in place of one that was chosen and hasn't come. It is no
+    /// event. The condition: k is from 1.
+    pub fn fault_in(&mut self, k: u64)
+        requires { 1 ≤ k }
+        ensures plan { Meets (D.plan self.old.disk) (D.plan self.new.disk)
+            (λ before after. after ≡ with_fault k before) }
+        ensures disk { D.disk self.new.disk ≡ D.disk self.old.disk }
+        ensures events { self.new.events ≡ self.old.events }
+        ensures present { self.new.present ≡ self.old.present }
+    {
+        self.disk.fault_in(k);
+    }
+
+    /// The next new file takes this number, in place of one that was chosen and hasn't come. It is no event. `Taken`
+    /// exactly where a name or an open descriptor uses the number; then nothing is chosen anew. The condition: the number
+    /// is from 1.
+    pub fn pick(&mut self, number: u64) -> Result<(), Taken>
+        requires { 1 ≤ number }
+        ensures ok { OnOk result (Meets (D.plan self.old.disk) (D.plan self.new.disk)
+            (λ before after. after ≡ with_pick number before)) }
+        ensures unused { OnTold (D.disk self.old.disk) (λ before. IsOk result ↔ IsUnused before number) }
+        ensures err { OnErr result (IsAsBefore D.disk D.plan D.steady self.old self.new) }
+        ensures disk { D.disk self.new.disk ≡ D.disk self.old.disk }
+        ensures events { self.new.events ≡ self.old.events }
+        ensures present { self.new.present ≡ self.old.present }
+    {
+        self.disk.pick(number)
     }
 }
 

@@ -73,13 +73,20 @@ module _ (h : Held) (sound : IsSound h) where
   pub opened_entry : (fd : ℕ) (o : Open) → at_number h.opens fd ≡ Some o → IsSome (at_number h.files o.number)
   opened_entry fd o found = entry_of_holds h.files o.number (opened_holds fd o found)
 
+  -- a number that its entry gives a name has one
+  pub linked_name : (n : ℕ) → 1 ≤ links_of h.files n → (name : List ℕ) × (at_name h.names name ≡ Some n)
+  linked_name n some =
+      let found = counted (λ (k : ℕ). k) h.names n (omega (arith, sound.links n, some)) in
+      let name = (get_or h.names found.0 ([], 0)).0 in
+      (name, name-at h.names sound.names name found.0 (record { within = found.1; has_key = λ d. key_same found.0 found.1 d }) ([], 0) ∙ ap (λ (m : ℕ). Some m) (found.2 ([], 0)))
+    where
+      key_same : (i : ℕ) → i < length h.names → (d : List ℕ × ℕ) → (get_or h.names i d).0 ≡ (get_or h.names i ([], 0)).0
+      key_same i within d = ap (λ (e : List ℕ × ℕ). e.0) (get_or_default h.names i d ([], 0) within)
+
   -- a number that nothing uses is idle, and the other way round
   pub unused_idle : (n : ℕ) → IsUnused (disk_of h) n → IsIdle h.files n
   unused_idle n unused = (
-    zero_of (links_of h.files n) (λ some.
-        let found = counted (λ (k : ℕ). k) h.names n (omega (arith, sound.links n, some)) in
-        let name = (get_or h.names found.0 ([], 0)).0 in
-        unused.unnamed name (name-at h.names sound.names name found.0 (record { within = found.1; has_key = λ d. key_same found.0 found.1 d }) ([], 0) ∙ ap (λ (m : ℕ). Some m) (found.2 ([], 0)))),
+    zero_of (links_of h.files n) (λ some. let name = linked_name n some in unused.unnamed name.0 name.1),
     zero_of (holds_of h.files n) (λ some.
         let found = counted (λ (o : Open). o.number) h.opens n (omega (arith, sound.holds n, some)) in
         let fd = (get_or h.opens found.0 none).0 in
@@ -89,9 +96,6 @@ module _ (h : Held) (sound : IsSound h) where
     where
       zero_of : (m : ℕ) → (1 ≤ m → ⊥) → m ≡ 0
       zero_of m not = ⊎_elim (λ (is : m ≡ 0). is) (λ differs. absurd (not (omega arith))) (cases_eq m 0)
-
-      key_same : (i : ℕ) → i < length h.names → (d : List ℕ × ℕ) → (get_or h.names i d).0 ≡ (get_or h.names i ([], 0)).0
-      key_same i within d = ap (λ (e : List ℕ × ℕ). e.0) (get_or_default h.names i d ([], 0) within)
 
       none : ℕ × Open
       none = (0, record { number = 0; mode = Mode.Created })

@@ -4,3 +4,5 @@ pub mod Tables
 pub mod MemFile
 -- a disk in memory
 pub mod MemDisk
+-- its files after a machine stop
+pub mod MemHalt

@@ -6,6 +6,7 @@ use Rattle.call_fs.specs.declared.calls.FsError.TheVariants.{NotThere, Exists, F
 use Rattle.mem_fs.specs.declared.file.Inode.{Inode}
 use Rattle.call_fs.specs.Disk.{File, Open, Disk}
 use Rattle.call_fs.specs.Steady.{IsFree, IsLeastFree}
+use Rattle.call_fs.specs.Plan.{Plan, no_plan}
 use Rattle.call_fs.specs.Maps.{put, put_at}
 use Rattle.mem_fs.specs.MemFile.{no_file, settled_file}
 use Rattle.mem_fs.specs.Tables.{at_name, at_number, AreNamesInOrder, AreNumbersInOrder}
@@ -70,6 +71,12 @@ abbrev pub IsNextNumber : Disk → List ℕ → ℕ → List ℕ → Type 0
 IsNextNumber d [] n left = IsLeastFree d n × (left ≡ [])
 IsNextNumber d (pick ∷ picks) n left =
     ((IsFree d pick × (n ≡ pick)) ⊎ ((¬ (IsFree d pick)) × IsLeastFree d n)) × (left ≡ picks)
+
+-- the same where a number is picked for this file alone: it comes before the picks of the disk, and none is used up
+abbrev pub IsPickedNumber : Disk → Option ℕ → List ℕ → ℕ → List ℕ → Type 0
+IsPickedNumber d None picks n left = IsNextNumber d picks n left
+IsPickedNumber d (Some pick) picks n left =
+    (IsFree d pick × (n ≡ pick) × (left ≡ picks)) ⊎ ((¬ (IsFree d pick)) × IsNextNumber d picks n left)
 
 -- nothing uses the number
 abbrev pub IsIdle : List (ℕ × Inode) → ℕ → Type 0
@@ -163,3 +170,9 @@ pub record Counts {T : Type 0} (old new : Planned) (result : Result T FsError) :
 -- only the lists changed
 abbrev pub with_held : Planned → Held → Planned
 with_held p h = record { held = h; picks = p.picks; plan = p.plan; made = p.made; faults = p.faults }
+
+-- A disk without picks, and without calls that are to fail, tells its plan: nothing is chosen.
+abbrev pub empty_plan : List ℕ → List ℕ → Option Plan
+empty_plan [] [] = Some no_plan
+empty_plan [] (fault ∷ faults) = None
+empty_plan (pick ∷ picks) faults = None

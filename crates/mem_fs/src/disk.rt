@@ -1,5 +1,5 @@
 // The disk in memory.
-ghost use Rattle.std.specs.Prelude.{◌≡◌, ◌≤◌, IsOk, IfOk, IfSome, IfNone, OnOk, OnErr, Some, None, Ok, [], length, drop};
+ghost use Rattle.std.specs.Prelude.{◌≡◌, ◌≤◌, ◌↔◌, IsTrue, IsOk, IfOk, IfSome, IfNone, OnOk, OnErr, Some, None, Ok, [], length, drop};
 ghost use Rattle.std.specs.Option.{option_copied};
 ghost use Rattle.call_fs.specs.declared.calls.CallData.TheVariants as call;
 ghost use Rattle.call_fs.specs.declared.calls.Answer.TheVariants as answer;
@@ -7,14 +7,15 @@ ghost use Rattle.call_fs.specs.Disk.{IsMoment, MayUse, MayAppend, MayWrite, MayC
 ghost use Rattle.call_fs.specs.Calls.{created, opened, counted, done, stated, next_found};
 ghost use Rattle.call_fs.specs.Apply.{Apply, IsNextName, IsLastName};
 ghost use Rattle.call_fs.specs.Columns.{IsRead};
+ghost use Rattle.call_fs.specs.Choices.{Halts};
 ghost use Rattle.call_fs.specs.Told.{HasCause};
 ghost use Rattle.call_fs.specs.Steady.{IsFree, IsNextDescriptor};
-ghost use Rattle.mem_fs.specs.MemDisk.{disk_of, fresh, with_dir, with_held, bytes_at, Places, Counts, NoneFree, IsNextNumber};
+ghost use Rattle.mem_fs.specs.MemDisk.{disk_of, fresh, with_dir, with_held, bytes_at, Places, Counts, NoneFree, IsNextNumber, IsPickedNumber, empty_plan};
 
 use crate::picks::Picks;
 use crate::plan::Plan;
 use crate::store::Store;
-use call_fs::{CallFs, Fd, FsError, How, NameBuf, Stat};
+use call_fs::{CallFs, Fd, FsError, How, NameBuf, Stat, Survival};
 use mail_bytes::Memory;
 use std::alloc::Global;
 use std::marker::Model;
@@ -88,6 +89,76 @@ impl MemFs {
     {
         self.store.bytes_of(name)
     }
+
+    /// Whether a new file may take the number.
+    pub fn is_free(&self, number: u64) -> bool
+        ensures { IsTrue result ↔ IsFree (disk_of self.now.held) number }
+    {
+        self.store.is_free(number)
+    }
+
+    /// Makes a new file as `create_excl` does; where a number is picked here and is free, it takes that one, and no pick
+    /// of the disk is used up.
+    pub fn create_picked(
+        &mut self,
+        alloc: Global,
+        now: u64,
+        name: &[u8],
+        pick: Option<u64>,
+    ) -> Result<(Fd, u64), FsError>
+        requires { IsMoment now }
+        ensures told { Apply (disk_of self.old.held) now (call.CreateExcl name.now) (created result) (disk_of self.new.held) }
+        ensures from_one { IfOk result (λ made. 1 ≤ made.1) }
+        ensures cause { HasCause self.old.faults self.new.faults result }
+        ensures counts { Counts self.old self.new result }
+        ensures number { IfOk result (λ made. IsPickedNumber (disk_of self.old.held) pick self.old.picks made.1 self.new.picks) }
+        ensures descriptor { IfOk result (λ made. IsNextDescriptor (disk_of self.old.held) made.0.0) }
+        ensures picks { OnErr result (self.new.picks ≡ self.old.picks) }
+    {
+        self.plan.begin()?;
+        if !self.store.has_dir(name) {
+            return Err(FsError::NotThere);
+        }
+        if self.store.number_of(name).is_some() {
+            return Err(FsError::Exists);
+        }
+        let Some((number, used)) = picked_number(&self.store, self.picks.as_slice(), pick) else {
+            return Err(FsError::Memory);
+        };
+        let Some(fd) = self.store.least_descriptor() else {
+            return Err(FsError::Memory);
+        };
+        self.store.create(alloc, now, name, fd, number)?;
+        self.picks.use_up(used);
+        Ok((fd, number))
+    }
+
+    /// The machine stops and starts again. It isn't counted as a call, and the picks and the calls that are to fail stay.
+    /// After `Memory` it is as before.
+    pub fn halt(&mut self, alloc: Global, how: Survival) -> Result<(), Memory>
+        ensures ok { OnOk result (Halts how (disk_of self.old.held) (disk_of self.new.held)) }
+        ensures rest { self.new ≡ with_held self.old self.new.held }
+        ensures err { OnErr result (self.new ≡ self.old) }
+    {
+        self.store.halt(alloc, how)
+    }
+}
+
+/// The number that a new file takes, and how many picks are used up then: the picked one where that is free. None
+/// only where each u64 from 1 is used.
+fn picked_number(store: &Store, picks: &[u64], pick: Option<u64>) -> Option<(u64, usize)>
+    ensures number { IfSome result (λ next. IsPickedNumber (disk_of store.now) pick picks.now next.0 (drop next.1 picks.now)) }
+    ensures free { IfSome result (λ next. IsFree (disk_of store.now) next.0) }
+    ensures used { IfSome result (λ next. next.1 ≤ length picks.now) }
+    ensures none { IfNone result (NoneFree (disk_of store.now)) }
+{
+    let Some(pick) = pick else {
+        return next_number(store, picks);
+    };
+    if store.is_free(pick) {
+        return Some((pick, 0));
+    }
+    next_number(store, picks)
 }
 
 /// The number that a new file takes, and how many picks are used up then; None only where each u64 from 1 is used.
@@ -125,6 +196,8 @@ impl CallFs for MemFs {
     // without picks, and without calls that are to fail
     ghost steady = { λ m. (m.picks ≡ []) × (m.plan ≡ []) };
 
+    ghost plan = { λ m. empty_plan m.picks m.plan };
+
     fn faults(&self) -> u64 {
         self.plan.faults
     }
@@ -140,22 +213,7 @@ impl CallFs for MemFs {
         ensures descriptor { IfOk result (λ made. IsNextDescriptor (disk_of self.old.held) made.0.0) }
         ensures picks { OnErr result (self.new.picks ≡ self.old.picks) }
     {
-        self.plan.begin()?;
-        if !self.store.has_dir(name) {
-            return Err(FsError::NotThere);
-        }
-        if self.store.number_of(name).is_some() {
-            return Err(FsError::Exists);
-        }
-        let Some((number, used)) = next_number(&self.store, self.picks.as_slice()) else {
-            return Err(FsError::Memory);
-        };
-        let Some(fd) = self.store.least_descriptor() else {
-            return Err(FsError::Memory);
-        };
-        self.store.create(alloc, now, name, fd, number)?;
-        self.picks.use_up(used);
-        Ok((fd, number))
+        self.create_picked(alloc, now, name, None)
     }
 
     /// As the trait says. It takes the least free descriptor.

@@ -3,7 +3,8 @@ ghost use Rattle.std.specs.Prelude.{◌≡◌, ◌++◌, ◌∷◌, [], ◌<◌,
 ghost use Rattle.std.specs.List.{enumerate_from};
 ghost use Rattle.call_fs.specs.Disk.{IsMoment};
 ghost use Rattle.call_fs.specs.Apply.{empty_file, lying, put_over, grown, overwritten, cut, synced};
-ghost use Rattle.mem_fs.specs.MemFile.{settled_file};
+ghost use Rattle.call_fs.specs.Survival.{settled};
+ghost use Rattle.mem_fs.specs.MemFile.{settled_file, IsSurvivor};
 
 use mail_bytes::Memory;
 use std::alloc::{AllocError, Global};
@@ -24,6 +25,7 @@ pub struct FileData {
 impl Model for FileData {
     ghost use Rattle.std.specs.Prelude.{◌≤◌, vec_len, vec_capacity};
     ghost use Rattle.call_fs.specs.Disk.{File, IsMoment};
+    ghost use Rattle.mem_fs.specs.MemFile.{IsSurvivor};
 
     ghost Value = { File };
 
@@ -36,7 +38,14 @@ impl Model for FileData {
       moment = f.moment;
     } };
 
-    ghost invariant = { λ f. (vec_len f.bytes ≤ vec_capacity f.kept) × IsMoment f.moment };
+    ghost invariant = { λ f. (vec_len f.bytes ≤ vec_capacity f.kept) × IsMoment f.moment × IsSurvivor (record {
+      bytes = f.bytes.items;
+      kept = f.kept.items;
+      given = f.given.items;
+      least = f.least;
+      greatest = f.greatest;
+      moment = f.moment;
+    }) };
 }
 
 impl FileData {
@@ -74,6 +83,57 @@ impl FileData {
         ensures { result.now ≡ self.now.bytes }
     {
         self.bytes.as_slice()
+    }
+
+    /// Its bytes at the last sync.
+    pub fn kept(&self) -> &[u8]
+        ensures { result.now ≡ self.now.kept }
+    {
+        self.kept.as_slice()
+    }
+
+    /// What places of those were given since, oldest first.
+    pub fn given(&self) -> &[(usize, u8)]
+        ensures { result.now ≡ self.now.given }
+    {
+        self.given.as_slice()
+    }
+
+    /// The least length since the last sync.
+    pub fn least(&self) -> usize
+        ensures { result ≡ self.now.least }
+    {
+        self.least
+    }
+
+    /// The greatest length since the last sync.
+    pub fn greatest(&self) -> usize
+        ensures value { result ≡ self.now.greatest }
+        ensures order { self.now.least ≤ result }
+        ensures small { result < 2 ^ 63 }
+    {
+        self.greatest
+    }
+
+    /// What holds of it at any time.
+    pub fn is_survivor(&self)
+        ensures { IsSurvivor self.now }
+    {
+        let _ = &self.bytes;
+    }
+
+    /// A file with just these bytes, all of them on the disk, and its moment.
+    pub fn settled_as(&self, alloc: Global, bytes: Vec<u8>) -> Result<Self, Memory>
+        ensures { IfOk result (λ file. file ≡ settled bytes.items self.now) }
+    {
+        Ok(FileData {
+            kept: Vec::from_slice(alloc, &bytes)?,
+            given: Vec::new(alloc),
+            least: bytes.len(),
+            greatest: bytes.len(),
+            moment: self.moment,
+            bytes,
+        })
     }
 
     /// How many bytes it has.

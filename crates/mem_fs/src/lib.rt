@@ -4,6 +4,8 @@
 mod disk;
 mod file;
 mod files;
+mod halt;
+mod junk;
 mod names;
 mod numbers;
 mod open_file;

@@ -7,13 +7,14 @@ ghost use Rattle.call_fs.specs.Maps.{put, put_at};
 ghost use Rattle.call_fs.specs.Disk.{Disk, HasDir, IsMoment, IsUnused};
 ghost use Rattle.call_fs.specs.Apply.{effect, IsStat, IsNextName, IsLastName};
 ghost use Rattle.call_fs.specs.Columns.{IsRead};
+ghost use Rattle.call_fs.specs.Choices.{Halts};
 ghost use Rattle.call_fs.specs.Steady.{IsFree, IsLeastFree, IsNextDescriptor};
 ghost use Rattle.mem_fs.specs.MemDisk.{disk_of, nothing, IsOpenOn, bytes_at, IsGreatestFree, NoneFree, AllOpen, with_dir, Places, PlacesNew};
 
 use crate::file::{FileData, Inode};
 use crate::open_file::OpenFile;
-use crate::{files, names, numbers, part};
-use call_fs::{Fd, How, Stat};
+use crate::{files, halt, names, numbers, part};
+use call_fs::{Fd, How, Stat, Survival};
 use mail_bytes::{ByteText, Memory};
 use std::alloc::{AllocError, Global};
 use std::marker::Model;
@@ -283,6 +284,17 @@ impl Store {
         ensures none { IfNone result (IsLastName (disk_of self.now) dir.now after.now) }
     {
         names::next(&self.names, dir, after)
+    }
+
+    /// The machine stops and starts again. After an `Err` it is as before.
+    pub fn halt(&mut self, alloc: Global, how: Survival) -> Result<(), Memory>
+        ensures ok { OnOk result (Halts how (disk_of self.old) (disk_of self.new)) }
+        ensures err { OnErr result (self.new ≡ self.old) }
+    {
+        let files = halt::settled_entries(alloc, how, &self.files)?;
+        self.files = files;
+        self.opens.clear();
+        Ok(())
     }
 
     /// Adds a directory. After an `Err` it is as before.

@@ -5,7 +5,7 @@ ghost use Rattle.call_fs.specs.Disk.{IsMoment, IsSynced};
 ghost use Rattle.call_fs.specs.Told.{HasCause, Meets};
 
 use crate::MemFs;
-use call_fs::{CallFs, Fd, FsError, How, NameBuf, Stat};
+use call_fs::{CallFs, Fd, FsError, How, NameBuf, Recorder, Stat};
 use std::alloc::{AllocError, Global};
 use std::test::Fail;
 
@@ -211,5 +211,32 @@ fn planned_calls_fail_and_picks_are_taken(rt: HostRuntime) -> Result<(), Fail> {
     assert_eq!(rt; create(alloc, &mut disk, b"pid/c")?, (Fd(3), 2));
     assert_eq!(rt; create(alloc, &mut disk, b"pid/d")?, (Fd(4), 7));
     assert_eq!(rt; create(alloc, &mut disk, b"pid/e")?, (Fd(5), 3));
+    Ok(())
+}
+
+#[test]
+fn a_recorder_keeps_each_call_with_its_answer(rt: HostRuntime) -> Result<(), Fail> {
+    let alloc = rt.alloc();
+    let mut disk = Recorder::new(alloc, disk_with(alloc, &[], &[])?);
+    put_twice(alloc, &mut disk, 5, b"pid/a", b"mess/1/24", b"one")?;
+    let mut into = [0; 4];
+    read_from(alloc, &mut disk, b"mess/1/24", 1, &mut into)?;
+    assert_eq!(rt; disk.unlink(b"pid/b"), Err(FsError::NotThere));
+    let calls = disk.calls().ok_or("no calls")?;
+    assert_eq!(rt; calls.len(), 9);
+    let read = calls.get(6).ok_or("no read")?;
+    assert_eq!(rt;
+        format!(in alloc; "{read:?}")?.as_str(),
+        "Recorded { call: ReadAt(Fd(1), 1, 4), told: Told { answer: Count(2), bytes: ByteText { bytes: [110, 101] } } }"
+    );
+    let last = calls.last().ok_or("no unlink")?;
+    assert_eq!(rt;
+        format!(in alloc; "{last:?}")?.as_str(),
+        "Recorded { call: Unlink(ByteText { bytes: [112, 105, 100, 47, 98] }), told: Told { answer: Refused(NotThere), bytes: ByteText { bytes: [] } } }"
+    );
+    assert_eq!(rt;
+        disk.into_inner().bytes_of(b"pid/a").ok_or("no bytes")?,
+        b"one".as_slice()
+    );
     Ok(())
 }

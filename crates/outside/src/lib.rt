@@ -14,6 +14,7 @@ mod posts;
 mod sink;
 mod source;
 mod spawner;
+mod taking;
 
 pub use clock::{Clock, MemClock};
 pub use gate::{Gate, OpenGate};
@@ -21,3 +22,4 @@ pub use posts::{MemPosts, Post, Posts, Waiting};
 pub use sink::{Gave, MemSink, Sink};
 pub use source::{MemSource, Source, Took};
 pub use spawner::{MemChild, MemSpawner, Spawner, Started, Status};
+pub use taking::{Stopped, take_up_to};

@@ -1,15 +1,25 @@
-//! The program: hands the one public call the real standard input, output and error.
+//! The program: hands the one public call the real standard input, output and error, the files and the clock.
 //!
-//! What `play` doesn't touch is handed in as empty forms in memory. The exit status is the call's; want of memory
-//! before the call ends with 51.
+//! The words of the command line name the file of the envelope and the directory of the queue. Without a directory the
+//! disk is an empty one in memory. What no command touches yet is handed in as empty forms in memory. The exit status is
+//! the call's; want of memory before the call ends with 51.
 #![tactic(auto)]
 
+mod host_clock;
+mod late_file;
 mod reader_source;
+#[cfg(test)]
+mod tests;
 mod writer_sink;
 
+use call_fs::CallFs;
+use command_words::places;
+use host_clock::HostClock;
+use host_fs::HostFs;
+use late_file::LateFile;
 use mail_bytes::Memory;
 use mem_fs::MemFs;
-use outside::{MemClock, MemPosts, MemSource, MemSpawner, OpenGate};
+use outside::{MemPosts, MemSpawner, OpenGate, Source};
 use qmail_top::{qmail, status};
 use reader_source::ReaderSource;
 use std::alloc::{AllocError, Global};
@@ -24,23 +34,10 @@ fn main(rt: HostRuntime) -> ExitCode {
     }
 }
 
-/// Calls `qmail` with the words of the command line.
+/// Calls `qmail` with the words of the command line and standard input.
 fn run(rt: &HostRuntime, alloc: Global) -> Result<u8, Memory> {
     let words = words_of(rt, alloc)?;
-    Ok(qmail(
-        rt,
-        alloc,
-        &words,
-        &mut MemFs::new(alloc, Vec::new(alloc), Vec::new(alloc))?,
-        &mut ReaderSource::new(rt.stdin()),
-        &mut MemSource::new(Vec::new(alloc), Vec::new(alloc)),
-        &mut WriterSink::new(rt.stdout()),
-        &mut WriterSink::new(rt.stderr()),
-        &mut MemClock::new(Vec::new(alloc), 1),
-        &mut MemPosts::new(Vec::new(alloc)),
-        &mut MemSpawner::new(alloc, Vec::new(alloc), Vec::new(alloc)),
-        &OpenGate,
-    ))
+    run_words(rt, alloc, &words, &mut ReaderSource::new(rt.stdin()))
 }
 
 /// The words after the program's name. Where one isn't UTF-8 there are none, which is no command.
@@ -50,4 +47,50 @@ fn words_of(rt: &HostRuntime, alloc: Global) -> Result<Vec<String>, Memory> {
         Err(why) if why.kind() == io::ErrorKind::OutOfMemory => Err(AllocError),
         Err(_) => Ok(Vec::new(alloc)),
     }
+}
+
+/// Calls `qmail` with these words and this message, over the places that the words name.
+fn run_words<M: Source>(
+    rt: &HostRuntime,
+    alloc: Global,
+    words: &[String],
+    message: &mut M,
+) -> Result<u8, Memory> {
+    let places = places(alloc, words)?;
+    let mut envelope = ReaderSource::new(LateFile::new(rt, places.env));
+    Ok(match places.dir {
+        Some(dir) => {
+            let mut disk = HostFs::open(rt, alloc, dir.as_slice())?;
+            run_over(rt, alloc, words, &mut disk, message, &mut envelope)
+        }
+        None => {
+            let mut disk = MemFs::new(alloc, Vec::new(alloc), Vec::new(alloc))?;
+            run_over(rt, alloc, words, &mut disk, message, &mut envelope)
+        }
+    })
+}
+
+/// Calls `qmail` over this disk.
+fn run_over<D: CallFs, M: Source, E: Source>(
+    rt: &HostRuntime,
+    alloc: Global,
+    words: &[String],
+    disk: &mut D,
+    message: &mut M,
+    envelope: &mut E,
+) -> u8 {
+    qmail(
+        rt,
+        alloc,
+        words,
+        disk,
+        message,
+        envelope,
+        &mut WriterSink::new(rt.stdout()),
+        &mut WriterSink::new(rt.stderr()),
+        &mut HostClock::new(rt),
+        &mut MemPosts::new(Vec::new(alloc)),
+        &mut MemSpawner::new(alloc, Vec::new(alloc), Vec::new(alloc)),
+        &OpenGate,
+    )
 }

@@ -3,8 +3,8 @@ use Rattle.std.proofs.Common.{◌≡◌, ◌≢◌, ◌⊎◌, ℕ, List, [], �
 use Rattle.std.proofs.lemmas.List.{append-nil}
 use Rattle.call_fs.specs.Told.{Rose, Meets, OnTold}
 use Rattle.scenario.specs.declared.line.Line.{Line}
-use Rattle.qmail_top.specs.declared.top.Failure.{Failure}
-use Rattle.qmail_top.specs.declared.top.Failure.TheVariants.{Memory, Output, Input, Malformed}
+use Rattle.qmail_top.specs.declared.play_command.Failure.{Failure}
+use Rattle.qmail_top.specs.declared.play_command.Failure.TheVariants.{Memory, Output, Input, Malformed}
 use Rattle.scenario.specs.Lines.{IsScript, IsBadLine, IsRefused, most_bytes}
 use Rattle.mem_fs.proofs.InTurn.{told_weaker}
 use Rattle.qmail_top.specs.Command.{Counted, HasCause, status_of, IsReading, IsChecked}
@@ -67,13 +67,13 @@ bad_line_printed P (Some before) None old new bytes number Failed reading bad to
 bad_line_printed P None after old new bytes number Failed reading bad took = tt
 
 -- A script that was read, with no failure, is played or lacks memory.
-pub completes : (why : Failure) (left : Option (List ℕ)) (source sink : Counted) (P : Type 0) → HasCause why source sink → OnTold left (λ script. IsChecked script (Err why))
-    → OnTold left (λ script. P → (lines : List Line) → IsScript script lines → ¬ (Rose source.before source.after) → ¬ (Rose sink.before sink.after) → (status_of why ≡ 0) ⊎ (status_of why ≡ 51))
-completes Memory (Some script) source sink P cause checked = λ p lines is calm quiet. inr refl
-completes Output (Some script) source sink P cause checked = λ p lines is calm quiet. absurd (quiet cause)
-completes Input (Some script) source sink P cause checked = λ p lines is calm quiet. absurd (calm cause)
-completes Malformed (Some script) source sink P cause checked = λ p lines is calm quiet. absurd (no_refusal script lines is (checked.refused refl))
-completes why None source sink P cause checked = tt
+pub completes : (why : Failure) (left : Option (List ℕ)) (source sink : Counted) → HasCause why source sink → OnTold left (λ script. IsChecked script (Err why))
+    → OnTold left (λ script. (lines : List Line) → IsScript script lines → ¬ (Rose source.before source.after) → ¬ (Rose sink.before sink.after) → (status_of why ≡ 0) ⊎ (status_of why ≡ 51))
+completes Memory (Some script) source sink cause checked = λ lines is calm quiet. inr refl
+completes Output (Some script) source sink cause checked = λ lines is calm quiet. absurd (quiet cause)
+completes Input (Some script) source sink cause checked = λ lines is calm quiet. absurd (calm cause)
+completes Malformed (Some script) source sink cause checked = λ lines is calm quiet. absurd (no_refusal script lines is (checked.refused refl))
+completes why None source sink cause checked = tt
 
 -- what was taken of a script that wasn't played to its end is a front of its text
 pub front_taken : (why : Failure) (status : ℕ) (left old new : Option (List ℕ)) → status ≡ status_of why

@@ -1,14 +1,41 @@
 -- The words of the top call, and why a command fails.
-use Rattle.std.specs.Prelude.{◌≡◌, ◌⊎◌, ℕ, ◌<◌, List, [], ◌∷◌, ◌++◌, length, map, codes, String, string_bytes, Result, Ok, Err}
+use Rattle.std.specs.Prelude.{◌≡◌, ◌⊎◌, ℕ, ◌<◌, List, [], ◌∷◌, ◌++◌, length, map, Option, Some, None, if◌then◌else◌, String, string_bytes, Result, Ok, Err}
 use Rattle.std.specs.declared.alloc.Global.{Global}
 use Rattle.call_fs.specs.Told.{Rose}
+use Rattle.command_words.specs.declared.command.Command.TheVariants.{Play, Queue}
+use Rattle.command_words.specs.declared.command.QueueWords.{QueueWords}
+use Rattle.command_words.specs.Reads.{Reads}
+use Rattle.queue_inject.specs.declared.received_line.Invoked.{Invoked}
+use Rattle.queue_inject.specs.declared.received_line.Invoked.TheVariants.{Uid, Bounce}
+use Rattle.queue_command.specs.declared.input.Form.{Form}
+use Rattle.queue_command.specs.declared.input.Form.TheVariants.{Beside, Netstrings}
+use Rattle.queue_command.specs.Inputs.{Stream}
+use Rattle.queue_command.specs.Runs.{Outside}
+use Rattle.queue_command.specs.Injected.{HasInjected}
 use Rattle.scenario.specs.Lines.{IsRefused, most_bytes}
-use Rattle.qmail_top.specs.declared.top.Failure.{Failure}
-use Rattle.qmail_top.specs.declared.top.Failure.TheVariants.{Memory, Output, Input, Malformed}
+use Rattle.qmail_top.specs.declared.play_command.Failure.{Failure}
+use Rattle.qmail_top.specs.declared.play_command.Failure.TheVariants.{Memory, Output, Input, Malformed}
 
--- the one word `play`
+-- the words are `play`, or `queue` with what it is told
 abbrev pub IsPlay : List (String Global) → Type 0
-IsPlay words = map string_bytes words ≡ codes "play" ∷ []
+IsPlay words = Reads (map string_bytes words) Play
+
+abbrev pub IsQueue : List (String Global) → QueueWords → Type 0
+IsQueue words queue = Reads (map string_bytes words) (Queue queue)
+
+-- by whom, or for what, the injector of a command was invoked
+abbrev pub invoked_by : QueueWords → Invoked
+invoked_by queue = if queue.bounce then Bounce else Uid queue.uid
+
+-- the envelope comes from a file beside the message, or behind it
+abbrev pub form_of : Option (List ℕ) → Form
+form_of (Some file) = Beside
+form_of None = Netstrings
+
+-- The command `queue` was done by this process.
+abbrev pub HasQueued : QueueWords → ℕ → Stream → Stream → Outside → Outside → ℕ → Type 0
+HasQueued queue pid message envelope old new status =
+    HasInjected (record { uid = queue.uid; pid = pid; invoked = invoked_by queue }) (form_of queue.env) message envelope old new status
 
 -- the exit status of a failure
 abbrev pub status_of : Failure → ℕ

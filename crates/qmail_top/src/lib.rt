@@ -4,7 +4,10 @@
 //! what a script is and what it prints. The exit statuses are those of qmail-queue(8) where it has one.
 #![tactic(auto)]
 
+mod play_command;
+mod refusing;
 pub mod status;
 mod top;
 
+pub use command_words::{Places, places};
 pub use top::qmail;

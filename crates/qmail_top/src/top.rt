@@ -1,24 +1,32 @@
 // The one public call.
-ghost use Rattle.std.specs.Prelude.{◌≡◌, ◌≢◌, ◌⊎◌, ◌↔◌, ◌++◌, ◌∷◌, [], List, ℕ, IsTrue, IsOk, IfOk, IfErr, OnOk, Contains, Err, length, ◌<◌};
+ghost use Rattle.std.specs.Prelude.{◌≡◌, ◌≢◌, ◌⊎◌, ◌++◌, ◌∷◌, [], List, ℕ, Contains, None, length, ◌<◌, map, string_bytes};
 ghost use Rattle.call_fs.specs.Told.{Rose, Meets, OnTold};
+ghost use Rattle.command_words.specs.declared.command.QueueWords.{QueueWords as Wanted};
+ghost use Rattle.command_words.specs.Reads.{IsNoCommand};
 ghost use Rattle.scenario.specs.declared.line.Line.{Line};
 ghost use Rattle.scenario.specs.Lines.{IsScript, IsRefused, most_bytes};
-ghost use Rattle.scenario.specs.Text.{Prints, BeginsAtMost, IsFrontAtMost, PrintsBadLine};
-ghost use Rattle.qmail_top.specs.Command.{IsPlay, IsReading, IsChecked, HasCause, IsBeforeOutput, status_of};
+ghost use Rattle.scenario.specs.Text.{Prints, IsFrontAtMost, PrintsBadLine};
+ghost use Rattle.qmail_top.specs.Command.{IsPlay, IsQueue, HasQueued};
 
+use crate::play_command::play_script;
 use crate::status::{DONE, INPUT, MALFORMED, MEMORY, OUTPUT, USAGE};
 use call_fs::CallFs;
-use outside::{Clock, Gate, Posts, Sink, Source, Spawner, Took};
-use scenario::{MAX_SCRIPT, PlayError, ScriptError, play, read_script, refuse};
-use std::alloc::{AllocError, Global};
+use command_words::{Command, QueueWords, WordsError, read_words};
+use outside::{Clock, Gate, Posts, Sink, Source, Spawner};
+use queue_command::{Form, inject};
+use queue_inject::received_line::Invoked;
+use std::alloc::Global;
 
 /// Does what the words after the program's name say, and answers the exit status.
 ///
 /// `play` reads a script whole from `message`, checks it whole and plays it over a disk in memory; `out` gets what it
-/// prints. Other words write the line `usage` to `log`. What a command doesn't use stays untouched.
+/// prints. 0: done. 51: want of memory. 53: `out` failed. 54: `message` failed. 91: a line isn't in the grammar, or the
+/// script has over 16,777,216 bytes; `out` gets `script K`, whether it takes it or not.
 ///
-/// 0: done. 51: want of memory. 53: `out` failed. 54: `message` failed. 91: a line isn't in the grammar, or the script
-/// has over 16,777,216 bytes; `out` gets `script K`, whether it takes it or not. 100: the words are no command.
+/// `queue` injects the message that `message` gives, for the envelope that `envelope` gives, or where its word is `-` as
+/// the second netstring of `message`, into the queue on `disk`; its exit statuses are those of qmail-queue(8).
+///
+/// Other words write the line `usage` to `log`, with exit status 100. What a command doesn't use stays untouched.
 pub fn qmail<
     R,
     D: CallFs,
@@ -44,156 +52,100 @@ pub fn qmail<
     spawn: &mut S,
     gate: &G,
 ) -> u8
-    // the causes of the statuses
-    ensures usage { (result ≡ USAGE) ↔ (¬ (IsPlay words.now)) }
-    ensures input { result ≡ INPUT → Rose (M.faults message.old) (M.faults message.new) }
-    ensures output { result ≡ OUTPUT → Rose (O.faults out.old) (O.faults out.new) }
-    ensures malformed { OnTold (M.left message.old) (λ script. result ≡ MALFORMED → IsRefused script) }
-    ensures checked { OnTold (M.left message.old) (λ script. (result ≡ DONE) ⊎ (result ≡ OUTPUT) → ¬ (IsRefused script)) }
-    ensures known { Contains (DONE ∷ MEMORY ∷ OUTPUT ∷ INPUT ∷ MALFORMED ∷ USAGE ∷ []) result }
-    ensures complete { OnTold (M.left message.old) (λ script. IsPlay words.now → (lines : List Line) → IsScript script lines
+    // 100 exactly where the words are no command, want of memory aside
+    ensures usage { result ≡ USAGE → IsNoCommand (map string_bytes words.now) }
+    ensures no_command { IsNoCommand (map string_bytes words.now) → (result ≡ USAGE) ⊎ (result ≡ MEMORY) }
+
+    // `queue`: each file call, each reading of the clock, and why it ended so
+    ensures queue { (q : Wanted) → IsQueue words.now q → HasQueued q (K.pid clock.old)
+        (record { old = M.left message.old; new = M.left message.new; faults_old = M.faults message.old; faults_new = M.faults message.new })
+        (record { old = E.left envelope.old; new = E.left envelope.new; faults_old = E.faults envelope.old; faults_new = E.faults envelope.new })
+        (record { disk = D.disk disk.old; calls = D.calls disk.old; faults = D.faults disk.old; moments = K.calls clock.old })
+        (record { disk = D.disk disk.new; calls = D.calls disk.new; faults = D.faults disk.new; moments = K.calls clock.new })
+        result }
+
+    // `play`: the causes of the statuses
+    ensures input { IsPlay words.now → result ≡ INPUT → Rose (M.faults message.old) (M.faults message.new) }
+    ensures output { IsPlay words.now → result ≡ OUTPUT → Rose (O.faults out.old) (O.faults out.new) }
+    ensures malformed { IsPlay words.now → OnTold (M.left message.old) (λ script. result ≡ MALFORMED → IsRefused script) }
+    ensures checked { IsPlay words.now → OnTold (M.left message.old)
+        (λ script. (result ≡ DONE) ⊎ (result ≡ OUTPUT) → ¬ (IsRefused script)) }
+    ensures known { IsPlay words.now → Contains (DONE ∷ MEMORY ∷ OUTPUT ∷ INPUT ∷ MALFORMED ∷ []) result }
+    ensures complete { IsPlay words.now → OnTold (M.left message.old) (λ script. (lines : List Line) → IsScript script lines
         → ¬ (Rose (M.faults message.old) (M.faults message.new)) → ¬ (Rose (O.faults out.old) (O.faults out.new))
         → (result ≡ DONE) ⊎ (result ≡ MEMORY)) }
 
-    // What is printed: the text of the script, whose history is legal, and safe at each prefix; or a front of that text;
+    // What `play` prints: the text of the script, whose history is legal, and safe at each prefix; or a front of that text;
     // or the number of the first bad line; and nothing before the script was read to its end, or is too long.
-    ensures prints { OnTold (M.left message.old) (λ script. result ≡ DONE → Meets (O.taken out.old) (O.taken out.new)
+    ensures prints { IsPlay words.now → OnTold (M.left message.old) (λ script. result ≡ DONE
+        → Meets (O.taken out.old) (O.taken out.new)
         (λ before after. (text : List ℕ) × Prints script text × (after ≡ before ++ text))) }
-    ensures begins { OnTold (M.left message.old) (λ script. result ≢ DONE → result ≢ MALFORMED
+    ensures begins { IsPlay words.now → OnTold (M.left message.old) (λ script. result ≢ DONE → result ≢ MALFORMED
         → Meets (O.taken out.old) (O.taken out.new)
         (λ before after. (text : List ℕ) × IsFrontAtMost script text × (after ≡ before ++ text))) }
-    ensures refuses { OnTold (M.left message.old) (λ script. result ≡ MALFORMED → Meets (O.taken out.old) (O.taken out.new)
+    ensures refuses { IsPlay words.now → OnTold (M.left message.old) (λ script. result ≡ MALFORMED
+        → Meets (O.taken out.old) (O.taken out.new)
         (λ before after. (text : List ℕ) × PrintsBadLine script text (Rose (O.faults out.old) (O.faults out.new))
         × (after ≡ before ++ text))) }
-    ensures reached { Meets (M.left message.old) (M.left message.new) (λ script rest. rest ≢ []
+    ensures reached { IsPlay words.now → Meets (M.left message.old) (M.left message.new) (λ script rest. rest ≢ []
         → (out.new ≡ out.old) ⊎ ((result ≡ MALFORMED) × (most_bytes < length script))) }
 
-    // 0 says that the script was read to its end
-    ensures ended { Meets (M.left message.old) (M.left message.new) (λ script rest. result ≡ DONE → rest ≡ []) }
+    // 0 of `play` says that the script was read to its end
+    ensures ended { IsPlay words.now → Meets (M.left message.old) (M.left message.new)
+        (λ script rest. result ≡ DONE → rest ≡ []) }
 
     // what stays untouched
     ensures unread { result ≡ USAGE → message.new ≡ message.old }
-    ensures unwritten { (result ≡ USAGE) ⊎ (result ≡ INPUT) → out.new ≡ out.old }
-    ensures unlogged { IsPlay words.now → log.new ≡ log.old }
-    ensures disk { disk.new ≡ disk.old }
-    ensures envelope { envelope.new ≡ envelope.old }
-    ensures clock { clock.new ≡ clock.old }
+    ensures unwritten { (result ≡ USAGE) ⊎ (IsPlay words.now × (result ≡ INPUT)) → out.new ≡ out.old }
+    ensures unprinted { (q : Wanted) → IsQueue words.now q → out.new ≡ out.old }
+    ensures unlogged { ¬ (IsNoCommand (map string_bytes words.now)) → log.new ≡ log.old }
+    ensures disk { (result ≡ USAGE) ⊎ IsPlay words.now → disk.new ≡ disk.old }
+    ensures envelope { (result ≡ USAGE) ⊎ IsPlay words.now → envelope.new ≡ envelope.old }
+    ensures beside { (q : Wanted) → IsQueue words.now q → q.env ≡ None → envelope.new ≡ envelope.old }
+    ensures clock { (result ≡ USAGE) ⊎ IsPlay words.now → clock.new ≡ clock.old }
     ensures posts { posts.new ≡ posts.old }
     ensures spawn { spawn.new ≡ spawn.old }
 {
-    if !is_play(words) {
-        let _ = log.give(b"usage\n");
-        return USAGE;
-    }
-    match play_message(alloc, message, out) {
-        Ok(()) => DONE,
-        Err(why) => status_of(why),
-    }
-}
-
-/// Whether the words are `play` alone.
-fn is_play(words: &[String]) -> bool
-    ensures { IsTrue result ↔ IsPlay words.now }
-{
-    match words {
-        [word] => word.as_str() == "play",
-        _ => false,
+    match read_words(alloc, words) {
+        Ok(Command::Play) => play_script(alloc, message, out),
+        Ok(Command::Queue(queue)) => queue_message(alloc, queue, disk, message, envelope, clock),
+        Err(WordsError::Usage) => {
+            let _ = log.give(b"usage\n");
+            USAGE
+        }
+        Err(WordsError::Memory) => MEMORY,
     }
 }
 
-/// Why a command didn't do all its work.
-#[derive(Clone, Copy, Debug, PartialEq, Eq)]
-enum Failure {
-    /// Want of memory.
-    Memory,
-    /// The output failed.
-    Output,
-    /// The input failed.
-    Input,
-    /// The input is malformed.
-    Malformed,
-}
-
-impl From<AllocError> for Failure {
-    ghost use Rattle.std.specs.Prelude.{◌≡◌};
-    ghost use Rattle.qmail_top.specs.declared.top.Failure.TheVariants.{Memory};
-
-    ghost from_gives = { λ _ why. why ≡ Memory };
-
-    fn from(_: AllocError) -> Self {
-        Failure::Memory
-    }
-}
-
-/// The exit status of a failure.
-fn status_of(why: Failure) -> u8
-    ensures { result ≡ status_of why }
-{
-    match why {
-        Failure::Memory => MEMORY,
-        Failure::Output => OUTPUT,
-        Failure::Input => INPUT,
-        Failure::Malformed => MALFORMED,
-    }
-}
-
-/// Plays the script that a source gives.
-fn play_message<M: Source, O: Sink>(
+/// Injects the message of the command `queue`.
+fn queue_message<D: CallFs, M: Source, E: Source, K: Clock>(
     alloc: Global,
+    queue: QueueWords,
+    disk: &mut D,
     message: &mut M,
-    out: &mut O,
-) -> Result<(), Failure>
-    ensures prints { OnTold (M.left message.old) (λ script. OnOk result (Meets (O.taken out.old) (O.taken out.new)
-        (λ before after. (text : List ℕ) × Prints script text × (after ≡ before ++ text)))) }
-    ensures begins { OnTold (M.left message.old) (λ script. IfErr result (λ why. why ≢ Failure.Malformed
-        → Meets (O.taken out.old) (O.taken out.new)
-        (λ before after. (text : List ℕ) × BeginsAtMost script text × (after ≡ before ++ text)))) }
-    ensures refuses { OnTold (M.left message.old) (λ script. result ≡ Err Failure.Malformed
-        → Meets (O.taken out.old) (O.taken out.new)
-        (λ before after. (text : List ℕ) × PrintsBadLine script text (Rose (O.faults out.old) (O.faults out.new))
-        × (after ≡ before ++ text))) }
-    ensures reached { Meets (M.left message.old) (M.left message.new) (λ script rest. rest ≢ []
-        → (out.new ≡ out.old) ⊎ ((result ≡ Err Failure.Malformed) × (most_bytes < length script))) }
-    ensures ended { Meets (M.left message.old) (M.left message.new) (λ script rest. IsOk result → rest ≡ []) }
-    ensures cause { IfErr result (λ why. HasCause why (record { before = M.faults message.old; after = M.faults message.new })
-        (record { before = O.faults out.old; after = O.faults out.new })) }
-    ensures unwritten { IfErr result (λ why. IsBeforeOutput why → out.new ≡ out.old) }
-    ensures checked { OnTold (M.left message.old) (λ bytes. IsChecked bytes result) }
+    envelope: &mut E,
+    clock: &mut K,
+) -> u8
+    ensures queued { HasQueued queue (K.pid clock.old)
+        (record { old = M.left message.old; new = M.left message.new; faults_old = M.faults message.old; faults_new = M.faults message.new })
+        (record { old = E.left envelope.old; new = E.left envelope.new; faults_old = E.faults envelope.old; faults_new = E.faults envelope.new })
+        (record { disk = D.disk disk.old; calls = D.calls disk.old; faults = D.faults disk.old; moments = K.calls clock.old })
+        (record { disk = D.disk disk.new; calls = D.calls disk.new; faults = D.faults disk.new; moments = K.calls clock.new })
+        result }
+    ensures beside { queue.env ≡ None → envelope.new ≡ envelope.old }
 {
-    let bytes = read_whole(alloc, message)?;
-    let script = match read_script(alloc, &bytes) {
-        Ok(script) => script,
-        Err(ScriptError::Line(number)) => {
-            refuse(out, number);
-            return Err(Failure::Malformed);
-        }
-        Err(ScriptError::Memory) => return Err(Failure::Memory),
+    let invoked = if queue.bounce {
+        Invoked::Bounce
+    } else {
+        Invoked::Uid(queue.uid)
     };
-    match play(alloc, script, out) {
-        Ok(()) => Ok(()),
-        Err(PlayError::Failed) => Err(Failure::Output),
-        Err(PlayError::Memory) => Err(Failure::Memory),
-    }
-}
-
-/// Reads a source to its end, or one byte past the most that a script may have.
-fn read_whole<M: Source>(alloc: Global, message: &mut M) -> Result<Vec<u8>, Failure>
-    ensures tells { Meets (M.left message.old) (M.left message.new)
-        (λ before after. (front : List ℕ) × (before ≡ front ++ after)) }
-    ensures read { IfOk result (λ bytes. Meets (M.left message.old) (M.left message.new) (λ before after. IsReading before after bytes.items)) }
-    ensures cause { IfErr result (λ why. (why ≡ Failure.Memory) ⊎ ((why ≡ Failure.Input) × Rose (M.faults message.old) (M.faults message.new))) }
-{
-    let mut bytes = Vec::new(alloc);
-    let mut piece = [0; 8192];
-    while bytes.len() <= MAX_SCRIPT {
-        let room = (MAX_SCRIPT + 1 - bytes.len()).min(piece.len());
-        match message.take(&mut piece[..room]) {
-            Took::Got(count) => bytes.extend_from_slice(&piece[..count])?,
-            Took::End => break,
-            Took::Failed => return Err(Failure::Input),
-        }
-    }
-    Ok(bytes)
+    let form = match queue.env {
+        Some(_) => Form::Beside,
+        None => Form::Netstrings,
+    };
+    inject(
+        alloc, queue.uid, invoked, form, disk, message, envelope, clock,
+    )
 }
 
 #[cfg(test)]

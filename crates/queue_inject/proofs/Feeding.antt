@@ -28,7 +28,7 @@ verdict_at most read = verdict_by (read_envelope (take most read)) (slice_get re
 abbrev taken_at : ℕ → List ℕ → List ℕ
 taken_at most read = taken_by (read_envelope (take most read))
 
-is_open_tells : (v : Verdict) → is_open v ≡ true → v ≡ verdict.Open
+pub is_open_tells : (v : Verdict) → is_open v ≡ true → v ≡ verdict.Open
 is_open_tells verdict.Open e = refl
 is_open_tells verdict.Whole e = absurd (cc)
 is_open_tells (verdict.Faulty status) e = absurd (cc)
@@ -50,7 +50,7 @@ open_by (Broken before fault) next e = absurd (cc)
 open_by (Open stage) None e = (refl, (stage, refl))
 open_by (Open stage) (Some b) e = absurd (cc)
 
-open_at : (most : ℕ) (read : List ℕ) → verdict_at most read ≡ verdict.Open → IsOpen most read
+pub open_at : (most : ℕ) (read : List ℕ) → verdict_at most read ≡ verdict.Open → IsOpen most read
 open_at most read e =
     let w = open_by (read_envelope (take most read)) (slice_get read most) e in
     ⊎_elim
@@ -58,7 +58,7 @@ open_at most read e =
     (λ within. record { stage = w.1.0; is = ap read_envelope (sym (take_all most read within)) ∙ w.1.1; within = within })
     (cases_lt most (length read))
 
-open_taken : (most : ℕ) (read : List ℕ) → IsOpen most read → taken_at most read ≡ read
+pub open_taken : (most : ℕ) (read : List ℕ) → IsOpen most read → taken_at most read ≡ read
 open_taken most read o =
     ap (λ t. taken_by (read_envelope t)) (take_all most read o.within) ∙ ap taken_by o.is ∙ sym (sound_as read (Open o.stage) o.is).text
 

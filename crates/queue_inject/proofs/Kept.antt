@@ -12,7 +12,8 @@ use Rattle.queue_inject.specs.Received.{received_text}
 use Rattle.queue_inject.specs.Texts.{limit}
 use Rattle.queue_inject.specs.Table.{work_of, settled}
 use Rattle.queue_inject.specs.Machine.{Progress, Heard, Machine, message_part, envelope_part, fed_on, ended_by, ended_on}
-use Rattle.queue_inject.specs.Stands.{Told, HearsMessage, Reads, HearsEnvelope, Stands, GoesOn, Continues, EndsBy, Ends}
+use Rattle.queue_inject.specs.Stands.{Told, HearsMessage, Reads, HearsEnvelope, IsAlike, Stands, GoesOn, Continues, EndsBy, Ends}
+use Rattle.queue_inject.proofs.Alike.{alike_fed, alike_ended}
 
 -- More of an input
 
@@ -105,7 +106,8 @@ stands_fed m n args past bytes s g rest p text reads = record {
   start = ap (λ x. x.start) rest ∙ s.start;
   message = hears_message_on m.heard n.heard args bytes s.message g p text;
   envelope = λ told. hears_envelope_on m.heard n.heard args bytes (s.envelope (sym (ap (λ q. is_some q.message_end) p) ∙ told)) g p reads;
-  row = s.row ∙ ap (λ x. settled (work_of args) x.row) (sym rest);
+  row = λ others alike.
+      s.row others (alike_fed m.heard.progress bytes args others (subst (λ q. IsAlike q args others) p alike)) ∙ ap (λ x. settled (work_of others) x.row) (sym rest);
 }
 
 -- The end of an input
@@ -166,5 +168,6 @@ stands_ended m n args past end s e rest p text begun reads = record {
       (subst (λ u. Reads n.heard (todo_head u args.pid) [] × (m.heard.progress.envelope_end ≡ None)) s.uid
       (subst (λ i. Reads n.heard (todo_head m.uid i) [] × (m.heard.progress.envelope_end ≡ None)) s.pid (begun first))))
       (some_or_none m.heard.progress.message_end);
-  row = s.row ∙ ap (λ x. settled (work_of args) x.row) (sym rest);
+  row = λ others alike.
+      s.row others (alike_ended m.heard.progress end args others (subst (λ q. IsAlike q args others) p alike)) ∙ ap (λ x. settled (work_of others) x.row) (sym rest);
 }

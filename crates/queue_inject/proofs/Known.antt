@@ -1,8 +1,8 @@
 -- What was fed of a text settles what follows its written bytes: all of it is known, or a full piece.
 use Rattle.std.proofs.Common.{◌≡◌, ◌⊎◌, ℕ, ◌+◌, ◌-◌, ◌≤◌, ◌<◌, List, ◌++◌, length, take, drop, Option, Some, None, Bool, true, false, refl, sym, ap, ◌∙◌, ⊎_elim, inl, inr, arith, length-drop}
-use Rattle.std.specs.Prelude.{◌||◌, not, if◌then◌else◌, is_some, unwrap_or, nat_lt, nat_le, slice_get}
+use Rattle.std.specs.Prelude.{◌||◌, if◌then◌else◌, is_some, unwrap_or, nat_lt, nat_le, slice_get}
 use Rattle.std.proofs.lemmas.List.{take_all, take-append-drop, take-append-le, drop-append-le, length-take-le, append_assoc}
-use Rattle.std.proofs.lemmas.Bool.{lt-ltb, ltb-true, le-leb, leb-true, or_cases, not-true}
+use Rattle.std.proofs.lemmas.Bool.{lt-ltb, ltb-true, le-leb, leb-true, or_cases}
 use Rattle.queue_inject.specs.declared.injection.Arguments.{Arguments}
 use Rattle.queue_inject.specs.declared.injection.InputEnd.{InputEnd}
 use Rattle.queue_inject.specs.declared.injection.InputEnd.TheVariants as ends
@@ -14,7 +14,7 @@ use Rattle.envelope_records.specs.Envelope.Reading.{Whole, Open, Broken}
 use Rattle.queue_inject.specs.Received.{received_text}
 use Rattle.queue_inject.specs.Texts.{Text, limit, message_end, message_text, envelope_text, envelope_of, intd_text}
 use Rattle.queue_inject.specs.Table.{piece_size, past_piece}
-use Rattle.queue_inject.specs.Machine.{Heard, fault_behind, message_known, todo_known}
+use Rattle.queue_inject.specs.Machine.{Heard, fault_behind, message_known, todo_known, has_full}
 use Rattle.queue_inject.specs.Rows.{is_open}
 use Rattle.queue_inject.specs.Stands.{Told, HearsMessage, verdict_by, taken_by, verdict_of, taken, HearsEnvelope}
 use Rattle.queue_inject.proofs.Feeding.{is_closed_tells, closed_more, taken_more}
@@ -31,7 +31,7 @@ IsKnown known whole done = (known ≡ whole) ⊎ HasPiece known whole done
 
 -- What follows so many bytes
 
-either : (P : Row → Type 0) (t : Bool) (x y : Row) → P x → P y → P (if t then x else y)
+pub either : (P : Row → Type 0) (t : Bool) (x y : Row) → P x → P y → P (if t then x else y)
 either P true x y at_x at_y = at_x
 either P false x y at_x at_y = at_y
 
@@ -95,7 +95,7 @@ message_front h args m =
     )
 
 pub message_settles : (h : Heard) (args : Arguments) (done : ℕ) → HearsMessage h args
-    → (is_some h.progress.message_end || (nat_lt limit h.progress.message_fed || nat_le (done + piece_size) (length h.message))) ≡ true → IsKnown (message_known h) (message_text args) done
+    → (is_some h.progress.message_end || (nat_lt limit h.progress.message_fed || has_full (length h.message) done)) ≡ true → IsKnown (message_known h) (message_text args) done
 message_settles h args done m e = ⊎_elim
     (λ ended. inl (message_is h args ended m))
     (λ more. ⊎_elim
@@ -105,7 +105,7 @@ message_settles h args done m e = ⊎_elim
     (or_cases (is_some h.progress.message_end) (nat_lt limit h.progress.message_fed || nat_le (done + piece_size) (length h.message)) e)
 
 -- past the limit or not, a message that failed has a fault
-faulty : (past : Bool) (end : Option ℕ) (status : ℕ) → end ≡ Some status → (fault : ℕ) × ((if past then Some 31 else end) ≡ Some fault)
+pub faulty : (past : Bool) (end : Option ℕ) (status : ℕ) → end ≡ Some status → (fault : ℕ) × ((if past then Some 31 else end) ≡ Some fault)
 faulty true end status e = (31, refl)
 faulty false end status e = (status, e)
 
@@ -123,7 +123,7 @@ fault_is (Open stage) None end = refl
 fault_is (Open stage) (Some b) end = refl
 fault_is (Broken before fault) next end = refl
 
-bytes_are : (r : Reading) (next : Option ℕ) (end : InputEnd) → taken_by r ≡ (envelope_text r end next).bytes
+pub bytes_are : (r : Reading) (next : Option ℕ) (end : InputEnd) → taken_by r ≡ (envelope_text r end next).bytes
 bytes_are (Whole sender recipients) next end = refl
 bytes_are (Open stage) next end = refl
 bytes_are (Broken before fault) next end = refl
@@ -155,7 +155,7 @@ closed_fault verdict.Whole a b e = refl
 closed_fault (verdict.Faulty status) a b e = refl
 
 -- or what it is was found
-todo_closed : (h : Heard) (args : Arguments) → is_open h.verdict ≡ false → HearsEnvelope h args → todo_known h ≡ intd_text args
+pub todo_closed : (h : Heard) (args : Arguments) → is_open h.verdict ≡ false → HearsEnvelope h args → todo_known h ≡ intd_text args
 todo_closed h args closed heard =
     let front : List ℕ = take h.progress.envelope_fed args.envelope in
     let behind : List ℕ = drop h.progress.envelope_fed args.envelope in
@@ -164,7 +164,7 @@ todo_closed h args closed heard =
     todo_by h args heard (sym same.verdict_is ∙ ap verdict_of whole) (sym same.taken_is ∙ ap taken whole)
     (closed_fault h.verdict (unwrap_or h.progress.envelope_end ends.Whole) args.envelope_end closed)
 
-todo_front : (h : Heard) (args : Arguments) → HearsEnvelope h args → (rest : List ℕ) × ((intd_text args).bytes ≡ h.todo ++ rest)
+pub todo_front : (h : Heard) (args : Arguments) → HearsEnvelope h args → (rest : List ℕ) × ((intd_text args).bytes ≡ h.todo ++ rest)
 unfolding intd_text envelope_of
 todo_front h args heard =
     let head : List ℕ = todo_head args.uid args.pid in
@@ -177,9 +177,6 @@ todo_front h args heard =
           ∙ sym (append_assoc head (taken front) w.0) ∙ ap (λ t. t ++ w.0) (sym heard.read.todo),
     )
 
-pub todo_settles : (h : Heard) (args : Arguments) (done : ℕ) → HearsEnvelope h args → (not (is_open h.verdict) || nat_le (done + piece_size) (length h.todo)) ≡ true
-    → IsKnown (todo_known h) (intd_text args) done
-todo_settles h args done heard e = ⊎_elim
-    (λ closed. inl (todo_closed h args (not-true (is_open h.verdict) closed) heard))
-    (λ full. let w = todo_front h args heard in inr (record { rest = w.0; front = w.1; full = leb-true (done + piece_size) (length h.todo) full }))
-    (or_cases (not (is_open h.verdict)) (nat_le (done + piece_size) (length h.todo)) e)
+pub todo_piece : (h : Heard) (args : Arguments) (done : ℕ) → HearsEnvelope h args → has_full (length h.todo) done ≡ true → IsKnown (todo_known h) (intd_text args) done
+todo_piece h args done heard full =
+    let w = todo_front h args heard in inr (record { rest = w.0; front = w.1; full = leb-true (done + piece_size) (length h.todo) full })

@@ -12,3 +12,7 @@ pub mod Stands
 pub mod Rows
 -- what the parts of an injector are, and what their fields keep
 pub mod Inside
+-- a run of an injector, as its past
+pub mod Run
+-- which exit status comes when, and why
+pub mod Causes

@@ -9,9 +9,10 @@ use Rattle.queue_inject.specs.declared.injection.InputEnd.{InputEnd}
 use Rattle.queue_inject.specs.declared.injection.InputEnd.TheVariants as ends
 use Rattle.queue_inject.specs.declared.intake.Verdict.{Verdict}
 use Rattle.queue_inject.specs.declared.intake.Verdict.TheVariants as verdict
+use Rattle.queue_inject.specs.declared.row.Cause.TheVariants.{Envelope}
 use Rattle.queue_inject.specs.declared.row.Row.{Row}
 use Rattle.queue_inject.specs.declared.row.Row.TheVariants as at
-use Rattle.envelope_records.specs.Envelope.{Reader}
+use Rattle.envelope_records.specs.Envelope.{Reader, missing}
 use Rattle.queue_inject.specs.Texts.{Text, limit, message_end, end_status}
 use Rattle.queue_inject.specs.Table.{Work, piece_size, settled, asked, has_input, in_time}
 use Rattle.queue_inject.specs.Rows.{is_open}
@@ -98,7 +99,7 @@ fault_behind verdict.Open end = Some (end_status end)
 fault_behind verdict.Whole end = None
 fault_behind (verdict.Faulty status) end = Some status
 
--- The texts as far as they are known, and their faults by what was told of their ends.
+-- The texts as far as they are known, and their faults as if what wasn't told of their ends had ended well here.
 abbrev pub message_known : Heard → Text
 message_known h = record {
   bytes = h.message;
@@ -111,14 +112,31 @@ todo_known h = record { bytes = h.todo; fault = fault_behind h.verdict (unwrap_o
 abbrev pub work_known : Machine → Work
 work_known m = record { pid = m.pid; start = m.start; message = message_known m.heard; todo = todo_known m.heard }
 
--- What was fed settles what follows the written bytes of a text: a full piece of it was fed, or its end or its fault.
--- Any other row reads no text.
+-- how many bytes of the envelope may still come within its greatest length
+abbrev pub left : Heard → ℕ
+left h = limit - h.progress.envelope_fed
+
+-- a text of so many bytes has a full piece behind those that were written
+abbrev pub has_full : ℕ → ℕ → Bool
+has_full len done = nat_le (done + piece_size) len
+
+-- However an open envelope goes on, it is a fault, and no full piece of the todo text comes before that: more bytes are
+-- missing of a whole one than may still come, and those don't fill a piece.
+abbrev pub is_doomed : Heard → ℕ → Bool
+is_doomed h done = nat_lt (left h) (missing h.reader) && not (has_full (length h.todo + left h) done)
+
+-- what the envelope is was found: it is whole, or it has a fault, or its input is over
+abbrev pub is_found : Heard → Bool
+is_found h = is_over h.progress.message_end h.progress.envelope_end || (is_some h.progress.message_end && not (is_open h.verdict))
+
+-- What was fed settles what its row asks for. Behind the written bytes of a text: a full piece of it was fed, or its end
+-- or its fault, or nothing but a fault can come. At an end that a fault of the envelope has: that fault. Any other row
+-- reads no text.
 abbrev pub settles : Heard → Row → Bool
-settles h (at.AppendMess n fd done) =
-    is_some h.progress.message_end || (nat_lt limit h.progress.message_fed || nat_le (done + piece_size) (length h.message))
+settles h (at.AppendMess n fd done) = is_some h.progress.message_end || (nat_lt limit h.progress.message_fed || has_full (length h.message) done)
 settles h (at.AppendTodo n fd done) =
-    is_over h.progress.message_end h.progress.envelope_end
-    || (is_some h.progress.message_end && (not (is_open h.verdict) || nat_le (done + piece_size) (length h.todo)))
+    is_found h || (is_some h.progress.message_end && (has_full (length h.todo) done || is_doomed h done))
+settles h (at.Failed Envelope) = is_found h
 settles h row = true
 
 abbrev pub is_settled : Machine → Bool
@@ -127,19 +145,6 @@ is_settled m = settles m.heard m.row
 -- the row whose call is due, by what was fed
 abbrev pub row_now : Machine → Row
 row_now m = settled (work_known m) m.row
-
--- it has run for more than a day
-abbrev pub late_now : Machine → Bool
-late_now m = nat_lt (m.start + 86400) m.present
-
--- What it does at its row doesn't depend on the rest of its input: what it was fed settles that, or it makes no call
--- any more.
-abbrev pub is_decided : Machine → Bool
-is_decided m = is_settled m || late_now m
-
--- what the injector needs
-abbrev pub due_now : Machine → Due
-due_now m = in_time (is_decided m && has_input m.ready) (late_now m) (asked (work_known m) (row_now m))
 
 -- it needs a file call
 abbrev pub is_call : Due → Bool
@@ -150,6 +155,19 @@ is_call (Due.Start child) = false
 is_call (Due.Command bytes) = false
 is_call Due.Wait = false
 is_call (Due.Ended status) = false
+
+-- it has run for more than a day
+abbrev pub late_now : Machine → Bool
+late_now m = nat_lt (m.start + 86400) m.present
+
+-- What it does next doesn't depend on the rest of its input: what it was fed settles that, or it is at a call and makes
+-- none now, since its input isn't ready or its day is over.
+abbrev pub is_decided : Machine → Bool
+is_decided m = is_settled m || ((not (has_input m.ready) || late_now m) && is_call (asked (work_known m) (row_now m)))
+
+-- what the injector needs
+abbrev pub due_now : Machine → Due
+due_now m = if is_decided m then in_time (has_input m.ready) (late_now m) (asked (work_known m) (row_now m)) else Due.Wait
 
 -- it is the answer to a file call
 abbrev pub is_answer : Got → Bool

@@ -34,10 +34,10 @@ seq_in (at.CreateIntd n) = None
 seq_in (at.AppendTodo n fd done) = None
 seq_in (at.SyncTodo n fd) = None
 seq_in (at.LinkTodo n) = None
-seq_in (at.CleanIntd n status) = None
-seq_in (at.CleanMess n status) = None
+seq_in (at.CleanIntd n cause) = None
+seq_in (at.CleanMess n cause) = None
 seq_in at.Queued = None
-seq_in (at.Failed status) = None
+seq_in (at.Failed cause) = None
 
 -- the number of the message
 abbrev pub number_in : Row → Option ℕ
@@ -50,10 +50,10 @@ number_in (at.CreateIntd n) = Some n
 number_in (at.AppendTodo n fd done) = Some n
 number_in (at.SyncTodo n fd) = Some n
 number_in (at.LinkTodo n) = Some n
-number_in (at.CleanIntd n status) = Some n
-number_in (at.CleanMess n status) = Some n
+number_in (at.CleanIntd n cause) = Some n
+number_in (at.CleanMess n cause) = Some n
 number_in at.Queued = None
-number_in (at.Failed status) = None
+number_in (at.Failed cause) = None
 
 -- the rows behind those of the message
 abbrev pub IsBehindMess : Row → Type 0
@@ -66,10 +66,10 @@ IsBehindMess (at.CreateIntd n) = Unit {0}
 IsBehindMess (at.AppendTodo n fd done) = Unit {0}
 IsBehindMess (at.SyncTodo n fd) = Unit {0}
 IsBehindMess (at.LinkTodo n) = Unit {0}
-IsBehindMess (at.CleanIntd n status) = Unit {0}
-IsBehindMess (at.CleanMess n status) = Unit {0}
+IsBehindMess (at.CleanIntd n cause) = Unit {0}
+IsBehindMess (at.CleanMess n cause) = Unit {0}
 IsBehindMess at.Queued = Unit {0}
-IsBehindMess (at.Failed status) = Unit {0}
+IsBehindMess (at.Failed cause) = Unit {0}
 
 -- a piece more than was written can be counted
 abbrev pub CountsOn : Row → Type 0

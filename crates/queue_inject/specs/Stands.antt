@@ -54,15 +54,31 @@ pub record HearsEnvelope (h : Heard) (args : Arguments) : Type 0 where
   pub told : Told h.progress.envelope_end args.envelope_end h.progress.envelope_fed (length args.envelope)
   pub read : Reads h (todo_head args.uid args.pid) (take h.progress.envelope_fed args.envelope)
 
+-- Another input agrees with one as far as that was fed: it begins with the same bytes, and is the same once its end was
+-- told.
+pub record Agrees (told : Option InputEnd) (fed : ℕ) (one other : List ℕ) (one_end other_end : InputEnd) : Type 0 where
+  pub front : take fed other ≡ take fed one
+  pub whole : IsTrue (is_some told) → (other ≡ one) × (other_end ≡ one_end)
+
+-- other arguments agree with these as far as their input was fed
+pub record IsAlike (p : Progress) (args others : Arguments) : Type 0 where
+  pub uid : others.uid ≡ args.uid
+  pub pid : others.pid ≡ args.pid
+  pub invoked : others.invoked ≡ args.invoked
+  pub start : others.start ≡ args.start
+  pub message : Agrees p.message_end p.message_fed args.message others.message args.message_end others.message_end
+  pub envelope : Agrees p.envelope_end p.envelope_fed args.envelope others.envelope args.envelope_end others.envelope_end
+
 -- The injector stands for these arguments and this past, newest event first: it is theirs, it was fed the front of
--- their input, and where its last answer led their texts settle the row after the past.
+-- their input, and however that may go on, the row after the past is the one to which the whole texts lead from where
+-- its last answer led.
 pub record Stands (m : Machine) (args : Arguments) (past : List Own) : Type 0 where
   pub uid : m.uid ≡ args.uid
   pub pid : m.pid ≡ args.pid
   pub start : m.start ≡ args.start
   pub message : HearsMessage m.heard args
   pub envelope : IsTrue (is_some m.heard.progress.message_end) → HearsEnvelope m.heard args
-  pub row : row_after args past ≡ settled (work_of args) m.row
+  pub row : (others : Arguments) → IsAlike m.heard.progress args others → row_after others past ≡ settled (work_of others) m.row
 
 -- the arguments of an injector that was started so
 pub record IsStartedBy (args : Arguments) (uid pid : ℕ) (invoked : Invoked) (start : ℕ) : Type 0 where

@@ -53,8 +53,8 @@ past_limit (Fails EndEarly) = 31
 past_limit (Goes stage) = 31
 past_limit (Ends sender recipients) = 31
 
--- An envelope that is still open behind its last byte ended early; one that is still open at the byte past the limit
--- went over its greatest length.
+-- An envelope that is still open behind its last byte fails as its input ended; one that is still open at the byte past
+-- the limit went over its greatest length.
 abbrev pub open_status : Stage → InputEnd → Option ℕ → ℕ
 open_status stage end None = end_status end
 open_status stage end (Some b) = past_limit (step stage b)

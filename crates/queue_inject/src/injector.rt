@@ -8,7 +8,7 @@ ghost use Rattle.call_fs.specs.Program.Did.{Called};
 ghost use Rattle.queue_inject.specs.declared.injection.Arguments.{Arguments};
 ghost use Rattle.queue_inject.specs.Table.{Next, goes_to, asked, has_input};
 ghost use Rattle.queue_inject.specs.Rows.{CountsOn};
-ghost use Rattle.queue_inject.specs.Machine.{begun, fed_on, ended_on, work_known, row_now, late_now, is_decided, due_now, is_call, is_answer, IsFileAnswer};
+ghost use Rattle.queue_inject.specs.Machine.{begun, fed_on, ended_on, work_known, row_now, late_now, is_settled, is_decided, due_now, is_call, is_answer, IsFileAnswer};
 ghost use Rattle.queue_inject.specs.Stands.{Stands, IsStartedBy, Continues, Ends};
 
 use crate::intake::Intake;
@@ -27,9 +27,9 @@ const DAY: u64 = 86400;
 /// The injector: the program that puts one message into the queue, as a machine.
 ///
 /// Its input is fed from left to right: the message's bytes and their end, then the envelope's. With its input ready it
-/// makes each call that what it was fed settles: a full piece goes out before the next byte is fed, and what follows a
-/// shorter one once the text's end or fault is known. More than a day after its start it ends in place of any call,
-/// whatever it was fed. It takes all its memory when it is made.
+/// makes each call that what it was fed settles: a full piece can go out before the next byte is fed, and what follows a
+/// shorter one once the text's end or fault is known, or nothing but a fault can come. More than a day after its start it
+/// ends in place of any call, whatever it was fed. It takes all its memory when it is made.
 #[derive(Debug, Drop)]
 pub struct Injector {
     uid: u32,
@@ -140,9 +140,11 @@ impl Injector {
         requires { IsMoment now }
         ensures stands { (args : Arguments) (past : List Own) → Stands self.old args past → Stands self.new args past }
         ensures rest { self.new ≡ record self.old { present = now; ready = ready } }
-        // One whose table is at its end has ended, and stays so whatever it is told.
+        // One whose table is at its end has ended, and stays so whatever it is told; while the fault that it ends for
+        // isn't known yet, it waits.
         ensures ended { (status : ℕ) → asked (work_known self.old) (row_now self.old) ≡ Ended status
-            → (due_now self.old ≡ Ended status) × (due_now self.new ≡ Ended status) }
+            → let due = if is_settled self.old then Ended status else Wait in
+            (due_now self.old ≡ due) × (due_now self.new ≡ due) }
         // Any other end is the timer's: it stays where moments don't fall and the input stays ready.
         ensures timed_out { (status : ℕ) → due_now self.old ≡ Ended status → self.old.present ≤ now
             → (IsTrue (has_input self.old.ready) → IsTrue (has_input ready)) → due_now self.new ≡ Ended status }
@@ -151,11 +153,10 @@ impl Injector {
         self.ready = ready;
     }
 
-    /// What it does next. It waits while its input isn't ready, and within a day of its start also where what it was
-    /// fed doesn't settle its next call.
+    /// What it does next. It waits while its input isn't ready, and where what it was fed doesn't settle that: at a call
+    /// within a day of its start, at an end always.
     pub fn need(&self) -> Need<'_>
-        ensures stands { (args : Arguments) (past : List Own) → Stands self.now args past
-            → (IsTrue (has_input self.now.ready) → IsTrue (is_decided self.now))
+        ensures stands { (args : Arguments) (past : List Own) → Stands self.now args past → IsTrue (is_decided self.now)
             → due_of result ≡ Next args past self.now.present self.now.ready }
         ensures waits { is_decided self.now ≡ false → due_of result ≡ Wait }
         ensures due { due_of result ≡ due_now self.now }
@@ -163,22 +164,24 @@ impl Injector {
         self.due()
     }
 
+    // A late one makes no call, whatever the rest of its input is.
     fn due(&self) -> Need<'_>
         ensures { due_of result ≡ due_now self.now }
     {
         match self.asked() {
-            Need::File(_) if !self.may_go_on() => Need::Wait,
+            Need::File(_) if !self.ready.links[0] => Need::Wait,
             Need::File(_) if self.is_late() => Need::Ended(52),
+            _ if !self.is_settled() => Need::Wait,
             need => need,
         }
     }
 
-    // The call of its row, at whatever time.
+    // The call of its row, or its end, at whatever time.
     fn asked(&self) -> Need<'_>
         ensures { due_of result ≡ asked (work_known self.now) (row_now self.now) }
     {
-        self.place
-            .need(self.row(), self.intake.message(), self.intake.todo())
+        let fault = self.intake.todo_outlook().fault;
+        self.place.need(self.row(), self.intake.message(), self.intake.todo(), fault)
     }
 
     // The row whose call is due, by what was fed: here what follows a written piece is decided, and nowhere else.
@@ -191,17 +194,10 @@ impl Injector {
         settled(self.place.row(), message, todo)
     }
 
-    fn may_go_on(&self) -> bool
-        ensures { result ≡ is_decided self.now && has_input self.now.ready }
+    fn is_settled(&self) -> bool
+        ensures { result ≡ is_settled self.now }
     {
-        self.is_decided() && self.ready.links[0]
-    }
-
-    // Whether what it does doesn't depend on the rest of its input: a late one makes no call, whatever that is.
-    fn is_decided(&self) -> bool
-        ensures { result ≡ is_decided self.now }
-    {
-        self.intake.settles(self.place.row()) || self.is_late()
+        self.intake.settles(self.place.row())
     }
 
     fn is_late(&self) -> bool

@@ -3,13 +3,13 @@ ghost use Rattle.std.specs.Prelude.{◌≡◌, ◌≤◌, ◌<◌, ◌+◌, ◌-
 ghost use Rattle.mail_bytes.specs.Decimal.{digits};
 ghost use Rattle.envelope_records.specs.Envelope.{todo_head};
 ghost use Rattle.queue_inject.specs.Texts.{limit, message_end};
-ghost use Rattle.queue_inject.specs.Machine.{Heard, message_part, envelope_part, begun, fed_on, ended_on, is_over, settles, message_known, todo_known};
+ghost use Rattle.queue_inject.specs.Machine.{Heard, message_part, envelope_part, begun, fed_on, ended_on, is_over, is_found, is_doomed, settles, message_known, todo_known};
 ghost use Rattle.queue_inject.specs.Rows.{IsOutlook, verdict_after};
 ghost use Rattle.queue_inject.specs.Stands.{Reads};
 
 use crate::steps::{Outlook, has_full_piece};
 use crate::texts::Texts;
-use crate::{InputEnd, Row};
+use crate::{Cause, InputEnd, Row};
 use envelope_records::{EnvFault, EnvStep, EnvelopeReader};
 use mail_bytes::{Memory, dec};
 use std::alloc::AllocError;
@@ -94,8 +94,9 @@ impl Intake {
         self.room
     }
 
-    /// Whether what was fed settles what follows the written bytes of a text: a full piece of it was fed, or its end or
-    /// its fault. Any other row reads no text.
+    /// Whether what was fed settles what this row asks for. Behind the written bytes of a text: a full piece of it was
+    /// fed, or its end or its fault, or nothing but a fault can come. At an end that a fault of the envelope has: that
+    /// fault. Any other row reads no text.
     pub fn settles(&self, row: Row) -> bool
         ensures { result ≡ settles self.now row }
     {
@@ -106,12 +107,31 @@ impl Intake {
                     || has_full_piece(self.message().len(), done)
             }
             Row::AppendTodo { done, .. } => {
-                self.is_told()
+                self.is_found()
                     || self.message_end.is_some()
-                        && (!self.verdict.is_open() || has_full_piece(self.todo().len(), done))
+                        && (has_full_piece(self.todo().len(), done) || self.is_doomed(done))
             }
+            Row::Failed {
+                cause: Cause::Envelope,
+            } => self.is_found(),
             _ => true,
         }
+    }
+
+    // Whether what the envelope is was found: it is whole, or it has a fault, or its input is over.
+    fn is_found(&self) -> bool
+        ensures { result ≡ is_found self.now }
+    {
+        self.is_told() || self.message_end.is_some() && !self.verdict.is_open()
+    }
+
+    // Whether an open envelope can only be a fault, with no full piece of the todo text behind so many bytes: more bytes
+    // are missing of a whole one than may still come.
+    fn is_doomed(&self, done: usize) -> bool
+        ensures { result ≡ is_doomed self.now done }
+    {
+        let left = LIMIT.saturating_sub(self.envelope_fed);
+        left < self.reader.missing() && !has_full_piece(self.todo().len() + left, done)
     }
 
     // Whether the input is over: the message failed, or it ended and after it the envelope.

@@ -88,13 +88,20 @@ impl NamedRow {
         self.row = row;
     }
 
-    /// The call of a row, over these texts of the message file and of intd, or its end. The conditions: its call has
-    /// the names that are held.
-    pub fn need<'a>(&'a self, row: Row, message: &'a [u8], todo: &'a [u8]) -> Need<'a>
+    /// The call of a row, over these texts of the message file and of intd, or its end, by the fault of the second. The
+    /// conditions: its call has the names that are held.
+    pub fn need<'a>(
+        &'a self,
+        row: Row,
+        message: &'a [u8],
+        todo: &'a [u8],
+        fault: Option<u8>,
+    ) -> Need<'a>
         requires seq { seq_in row ≡ seq_in self.now.row }
         requires number { number_in row ≡ number_in self.now.row }
         ensures { (work : Work) → work.pid ≡ self.now.pid → work.start ≡ self.now.start
-            → work.message.bytes ≡ message.now → work.todo.bytes ≡ todo.now → due_of result ≡ asked work row }
+            → work.message.bytes ≡ message.now → work.todo.bytes ≡ todo.now → work.todo.fault ≡ fault
+            → due_of result ≡ asked work row }
     {
         let pid_name = self.pid_name.as_slice();
         let mess_name = self.mess_name.as_slice();
@@ -112,7 +119,7 @@ impl NamedRow {
             Row::CleanIntd { .. } => Need::File(Call::Unlink(intd_name)),
             Row::CleanMess { .. } => Need::File(Call::Unlink(mess_name)),
             Row::Queued => Need::Ended(0),
-            Row::Failed { status } => Need::Ended(status),
+            Row::Failed { cause } => Need::Ended(cause.status(fault)),
         }
     }
 }

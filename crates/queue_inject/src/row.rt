@@ -3,9 +3,34 @@ ghost use Rattle.std.specs.Prelude.{◌≡◌};
 
 use call_fs::Fd;
 
-/// The call that an injector makes next, with the numbers that it needs for that. `number` is the number of the
-/// message file and so of the message; `fd` is an open file; `done` is how many bytes of the text were written;
-/// `status` is the exit status that a clean up ends with.
+/// Why an injector fails, from which its exit status follows.
+#[derive(Clone, Copy, Debug, PartialEq, Eq)]
+pub enum Cause {
+    /// With this status.
+    Status(u8),
+    /// Of the envelope's fault, with that fault's status. It may be certain that there is one before it is known which.
+    Envelope,
+}
+
+impl Cause {
+    ghost use Rattle.std.specs.Prelude.{◌≡◌};
+    ghost use Rattle.queue_inject.specs.Table.{status_of};
+
+    // The exit status, by the fault of the todo text.
+    pub(crate) fn status(self, fault: Option<u8>) -> u8
+        ensures { result ≡ status_of self fault }
+    {
+        match self {
+            Cause::Status(status) => status,
+            Cause::Envelope => fault.unwrap_or(54),
+        }
+    }
+}
+
+/// Where an injector stands: at the call that is named, or, at the two appends, behind so many pieces of a text, where
+/// what follows them is still to be looked up. `number` is the number of the message file and so of the message; `fd` is
+/// an open file; `done` counts 8192 bytes for each piece that was written, the last one as a whole one too; `cause` is
+/// the failure that a clean up ends with.
 #[derive(Clone, Copy, Debug, PartialEq, Eq)]
 pub enum Row {
     /// Creates the pid name with this number at its end, from 1 to 9.
@@ -27,13 +52,13 @@ pub enum Row {
     /// Links intd to todo, by which the message is queued.
     LinkTodo { number: u64 },
     /// Unlinks intd after a failure.
-    CleanIntd { number: u64, status: u8 },
+    CleanIntd { number: u64, cause: Cause },
     /// Unlinks the message file after a failure.
-    CleanMess { number: u64, status: u8 },
+    CleanMess { number: u64, cause: Cause },
     /// Has ended with 0: the message is queued.
     Queued,
     /// Has ended with another status.
-    Failed { status: u8 },
+    Failed { cause: Cause },
 }
 
 impl Row {

@@ -4,7 +4,7 @@ ghost use Rattle.queue_inject.specs.Texts.{Text};
 ghost use Rattle.queue_inject.specs.Table.{Work, piece_size, goes_to, settled, failure, in_message, in_todo};
 ghost use Rattle.queue_inject.specs.Rows.{CountsOn, IsOutlook, IsBehindMess, has_piece};
 
-use crate::Row;
+use crate::{Cause, Row};
 use call_fs::{Answer, Fd, FsError, PIECE};
 
 /// What the table reads of a text: its length, and the exit status of the fault behind it, where there is one.
@@ -27,7 +27,7 @@ pub fn after(row: Row, answer: &Answer) -> Row
         Row::LinkMess { seq, number, fd } => match answer {
             Answer::Done => Row::UnlinkPid { seq, number, fd },
             _ => Row::Failed {
-                status: failure(answer, 64),
+                cause: failure(answer, 64),
             },
         },
         Row::UnlinkPid { number, fd, .. } => match answer {
@@ -81,14 +81,14 @@ fn after_mess(row: Row, answer: &Answer) -> Row
         Row::LinkTodo { .. } => match answer {
             Answer::Done => Row::Queued,
             _ => Row::Failed {
-                status: failure(answer, 66),
+                cause: failure(answer, 66),
             },
         },
-        Row::CleanIntd { number, status } => match answer {
-            Answer::Done | Answer::Refused(FsError::NotThere) => Row::CleanMess { number, status },
-            _ => Row::Failed { status },
+        Row::CleanIntd { number, cause } => match answer {
+            Answer::Done | Answer::Refused(FsError::NotThere) => Row::CleanMess { number, cause },
+            _ => Row::Failed { cause },
         },
-        Row::CleanMess { status, .. } => Row::Failed { status },
+        Row::CleanMess { cause, .. } => Row::Failed { cause },
         _ => row,
     }
 }
@@ -105,7 +105,7 @@ fn after_create(seq: u8, answer: &Answer) -> Row
         },
         Answer::Refused(FsError::Exists) if seq < 9 => Row::Create { seq: seq + 1 },
         _ => Row::Failed {
-            status: failure(answer, 63),
+            cause: failure(answer, 63),
         },
     }
 }
@@ -136,7 +136,10 @@ fn in_message(text: Outlook, number: u64, fd: Fd, done: usize) -> Row
     match text.fault {
         _ if has_piece(text, done) => Row::AppendMess { number, fd, done },
         None => Row::SyncMess { number, fd },
-        Some(status) => Row::CleanMess { number, status },
+        Some(status) => Row::CleanMess {
+            number,
+            cause: Cause::Status(status),
+        },
     }
 }
 
@@ -149,7 +152,10 @@ fn in_todo(text: Outlook, number: u64, fd: Fd, done: usize) -> Row
     match text.fault {
         _ if has_piece(text, done) => Row::AppendTodo { number, fd, done },
         None => Row::SyncTodo { number, fd },
-        Some(status) => Row::CleanIntd { number, status },
+        Some(_) => Row::CleanIntd {
+            number,
+            cause: Cause::Envelope,
+        },
     }
 }
 
@@ -173,23 +179,23 @@ pub fn has_full_piece(len: usize, done: usize) -> bool
 fn clean_mess(number: u64, answer: &Answer, status: u8) -> Row
     ensures { result ≡ Row.CleanMess number (failure answer.now status) }
 {
-    let status = failure(answer, status);
-    Row::CleanMess { number, status }
+    let cause = failure(answer, status);
+    Row::CleanMess { number, cause }
 }
 
 fn clean_intd(number: u64, answer: &Answer, status: u8) -> Row
     ensures { result ≡ Row.CleanIntd number (failure answer.now status) }
 {
-    let status = failure(answer, status);
-    Row::CleanIntd { number, status }
+    let cause = failure(answer, status);
+    Row::CleanIntd { number, cause }
 }
 
-// The status of a failed call: want of memory has its own.
-fn failure(answer: &Answer, status: u8) -> u8
+// A failed call ends with this status: want of memory has its own.
+fn failure(answer: &Answer, status: u8) -> Cause
     ensures { result ≡ failure answer.now status }
 {
     match answer {
-        Answer::Refused(FsError::Memory) => 51,
-        _ => status,
+        Answer::Refused(FsError::Memory) => Cause::Status(51),
+        _ => Cause::Status(status),
     }
 }

@@ -14,8 +14,8 @@ use Rattle.queue_inject.specs.declared.row.Row.TheVariants as at
 use Rattle.queue_inject.specs.Table.{row_after}
 use Rattle.mail_world.specs.declared.event.Program.{Program}
 use Rattle.mail_world.specs.declared.event.Program.TheVariants.{Injector}
-use Rattle.mail_world.specs.History.{Event, Actor, Life, State, Legal, MayRead, next_of, latest, start_of, after, happens, called, finished, unless_by, shut_by}
-use Rattle.mail_world.specs.History.Event.{Start, Call, End, Stop, Moment}
+use Rattle.mail_world.specs.History.{Event, Actor, Life, State, Legal, MayRead, next_of, latest, start_of, stopped, after, happens, called, finished, unless_by, shut_by}
+use Rattle.mail_world.specs.History.Event.{Start, Call, End, Stop, Moment, Halt}
 use Rattle.mail_world.specs.History.Life.{Alive, Over, Stopped}
 use Rattle.mail_world.specs.Inside.{IsOwn, HasRow, HasNeeds}
 use Rattle.mail_world.specs.World.{input_ready}
@@ -23,10 +23,16 @@ use Rattle.mail_world.proofs.Opens.{IsPlain, MayDo, opens_by, has_made, needs_st
 use Rattle.mail_world.proofs.Tests.{other_text}
 use Rattle.scenario.specs.Played.{Answers, DoesNext, DoesAlive, DoesStep, StepsTo}
 use Rattle.scenario.specs.Played.Outcome.{Happens}
-use Rattle.scenario.proofs.FiniteDisks.{IsFinite, finite_after, finite_shut}
+use Rattle.scenario.proofs.FiniteDisks.{IsFinite, finite_after, finite_shut, finite_halted}
+use Rattle.scenario.proofs.LastingFiles.{AreLasting, lasting_after, lasting_halted, halt_survives}
+use Rattle.call_fs.specs.declared.crash_file_system.Survival.{Survival}
+use Rattle.call_fs.specs.Choices.{contents_by}
+use Rattle.mail_world.proofs.Halts.{never_alive}
+use Rattle.mail_world.proofs.Looks.{mapped_some}
 
 pub record Carries (s : State) : Type 0 where
   pub finite : IsFinite s.disk
+  pub lasting : AreLasting s.disk
   pub needs : (a : List ℕ) (x : Actor) → s.actors a ≡ Some x → x.life ≡ Alive
       → HasNeeds s.disk s.holder a x.program x.past
   pub in_order : (a : List ℕ) (x : Actor) → s.actors a ≡ Some x → latest x.program x.past ≤ s.now
@@ -100,6 +106,7 @@ module _ (s : State) (a : List ℕ) (x : Actor) (carries : Carries s) (is : s.ac
       needs_stay s.disk t.disk s.holder t.holder a b got.answer y.program y.past opens h in
       record {
         finite = finite_after s.disk s.now c got.answer 0 carries.finite;
+        lasting = lasting_after s.disk s.now c got.answer none carries.lasting;
         needs = λ b y here lives. ⊎_elim
             (λ h.
             subst (λ (q : List ℕ). HasNeeds t.disk t.holder q y.program y.past) (sym h.0)
@@ -141,10 +148,10 @@ row_after_end d h a b (at.SyncTodo n fd) apart own = own_after d h a b fd.0 apar
 row_after_end d h a b (at.Create seq) apart own = tt
 row_after_end d h a b (at.CreateIntd n) apart own = tt
 row_after_end d h a b (at.LinkTodo n) apart own = tt
-row_after_end d h a b (at.CleanIntd n status) apart own = tt
-row_after_end d h a b (at.CleanMess n status) apart own = tt
+row_after_end d h a b (at.CleanIntd n cause) apart own = tt
+row_after_end d h a b (at.CleanMess n cause) apart own = tt
 row_after_end d h a b at.Queued apart own = tt
-row_after_end d h a b (at.Failed status) apart own = tt
+row_after_end d h a b (at.Failed cause) apart own = tt
 
 needs_after_end : (d : Disk) (h : ℕ → Option (List ℕ)) (a b : List ℕ) (program : Program) (past : List Own) → b ≢ a
     → HasNeeds d h b program past → HasNeeds (shut_by a h d) (λ fd. unless_by a (h fd) (h fd)) b program past
@@ -156,6 +163,7 @@ finished_carries s a x life over carries is =
     let gone : Actor = record { program = x.program; past = x.past; life = life } in
     record {
       finite = finite_shut a s.holder s.disk carries.finite;
+      lasting = carries.lasting;
       needs = λ b y here lives. ⊎_elim
           (λ h. absurd (over (ap (λ (z : Actor). z.life) h.1 ∙ lives)))
           (λ h. needs_after_end s.disk s.holder a b y.program y.past h.0 (carries.needs b y h.1 lives))
@@ -172,6 +180,7 @@ started_carries s a program begun carries =
     let new : Actor = record { program = program; past = []; life = Alive } in
     record {
       finite = carries.finite;
+      lasting = carries.lasting;
       needs = λ b y here lives. ⊎_elim
           (λ h.
           subst (λ (z : Actor). HasNeeds s.disk s.holder b z.program z.past) h.1
@@ -268,7 +277,28 @@ goes_moment d h m so moment later =
       legal = (so.legal, record { moment = moment; no_earlier = later });
       carries = record {
         finite = carries.finite;
+        lasting = carries.lasting;
         needs = carries.needs;
         in_order = λ a x is. let before = carries.in_order a x is in omega arith;
+      };
+    }
+
+-- and each machine stop that leaves what its name says
+pub goes_halted : (d : Disk) (h : List Event) (how : Survival) (named : List ℕ) → Goes d h
+    → Goes d (Halt how (contents_by how (after d h).disk named) ∷ h)
+goes_halted d h how named so =
+    let s = after d h in
+    let carries = so.carries in
+    record {
+      legal = (so.legal, halt_survives s.disk how named carries.lasting);
+      carries = record {
+        finite = finite_halted (contents_by how s.disk named) s.disk carries.finite;
+        lasting = lasting_halted (contents_by how s.disk named) s.disk;
+        needs = λ a x is lives.
+            let w = mapped_some stopped (s.actors a) x is in
+            absurd (never_alive w.0.life (ap (λ (x : Actor). x.life) w.2 ∙ lives));
+        in_order = λ a x is.
+            let w = mapped_some stopped (s.actors a) x is in
+            subst (λ (x : Actor). latest x.program x.past ≤ s.now) w.2 (carries.in_order a w.0 w.1);
       };
     }

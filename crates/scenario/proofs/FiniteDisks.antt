@@ -9,6 +9,7 @@ use Rattle.call_fs.specs.declared.calls.Answer.{Answer}
 use Rattle.call_fs.specs.declared.calls.Answer.TheVariants as told
 use Rattle.call_fs.specs.Disk.{Disk, File, Mode, Open, Among}
 use Rattle.call_fs.specs.Apply.{effect, changed, with_open}
+use Rattle.call_fs.specs.Survival.{halted}
 use Rattle.call_fs.specs.Maps.{put, put_at}
 use Rattle.call_fs.proofs.Maps.{put_cases, put_at_cases}
 use Rattle.mail_world.specs.History.{unless_by, shut_by}
@@ -186,3 +187,15 @@ unless_was a (Some b) file x is =
 pub finite_shut : (a : List ℕ) (holder : ℕ → Option (List ℕ)) (d : Disk) → IsFinite d → IsFinite (shut_by a holder d)
 finite_shut a holder d f =
     fewer_open d (λ fd. unless_by a (holder fd) (d.opens fd)) (λ fd o is. unless_was a (holder fd) (d.opens fd) o is) f
+
+-- and a machine stop
+pub finite_halted : (contents : ℕ → List ℕ) (d : Disk) → IsFinite d → IsFinite (halted contents d)
+finite_halted contents d f = record {
+  texts = f.texts;
+  named = f.named;
+  numbers = f.numbers;
+  below = f.below;
+  behind = λ fd o is. absurd (cc);
+  descriptors = f.descriptors;
+  within = λ fd o is. absurd (cc);
+}

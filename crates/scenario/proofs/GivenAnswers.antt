@@ -100,10 +100,10 @@ row_given d args (at.CreateIntd n) f = λ may. create_given d _ f
 row_given d args (at.AppendTodo n fd written) f = λ may. done d (call.Append fd _) tt may
 row_given d args (at.SyncTodo n fd) f = λ may. done d (call.Sync fd) tt may
 row_given d args (at.LinkTodo n) f = λ may. link_given d _ _
-row_given d args (at.CleanIntd n status) f = λ may. unlink_given d _
-row_given d args (at.CleanMess n status) f = λ may. unlink_given d _
+row_given d args (at.CleanIntd n cause) f = λ may. unlink_given d _
+row_given d args (at.CleanMess n cause) f = λ may. unlink_given d _
 row_given d args at.Queued f = tt
-row_given d args (at.Failed status) f = tt
+row_given d args (at.Failed cause) f = tt
 
 in_time_given : (d : Disk) (input late : Bool) (due : Due) → IsGiven d due → IsGiven d (in_time input late due)
 in_time_given d true true (Due.File c) given = tt

@@ -1,9 +1,10 @@
 -- The fates of the events that a world kept, one event after the other.
-use Rattle.std.proofs.Common.{◌≡◌, ◌≢◌, ℕ, ◌+◌, ◌<◌, List, [], ◌∷◌, ◌++◌, length, get_or, take, reverse, Bool, true, false, Some, sym, ap, ◌∙◌, ⊎_elim, bytes_eq, nat_cmp}
+use Rattle.std.proofs.Common.{◌≡◌, ◌≢◌, ℕ, ◌+◌, ◌<◌, List, [], ◌∷◌, ◌++◌, length, get_or, take, reverse, Bool, true, false, ◌||◌, Some, refl, sym, ap, ◌∙◌, ⊎_elim, bytes_eq, nat_cmp}
 use Rattle.std.specs.Prelude.{if◌then◌else◌}
 use Rattle.std.specs.Option.{unwrap_or}
-use Rattle.std.proofs.lemmas.List.{take_more, reverse-append}
+use Rattle.std.proofs.lemmas.List.{take_more, reverse-append, reverse-reverse}
 use Rattle.std.proofs.lemmas.Map.Text.{is_eq-slice_cmp}
+use Rattle.std.proofs.Math.Bool.{or-false, or-true}
 use Rattle.std.specs.BTreeMap.{BTreeMap, UpdatesBy, get_by, is_at}
 use Rattle.std.specs.Map.{KeepsOthers, IsKeyTest, AreApart}
 use Rattle.std.specs.Ordering.{eq_by_cmp}
@@ -12,10 +13,14 @@ use Rattle.call_fs.specs.Maps.{put_at}
 use Rattle.mail_world.specs.declared.event.Event.{Event as Kept}
 use Rattle.mail_world.specs.declared.event.Event.TheVariants as kept
 use Rattle.call_fs.proofs.Maps.{put_at_cases, put_at_same, put_at_other}
-use Rattle.mail_world.proofs.Tests.{text_cases, other_text}
+use Rattle.mail_world.proofs.Tests.{text_cases, same_text, other_text}
 use Rattle.scenario.specs.declared.fates.Fate.{Fate}
+use Rattle.scenario.specs.declared.fates.Life.{Life as ToldLife}
 use Rattle.scenario.specs.declared.fates.Life.TheVariants as told
-use Rattle.scenario.specs.Fates.{no_fate, queues, accepted, left_as, fate_by, fate_in}
+use Rattle.scenario.specs.Fates.{no_fate, queues, accepted, left_as, cut_off, all_cut_off, fate_by, fate_in}
+use Rattle.mail_world.specs.declared.event.Program.{Program}
+use Rattle.mail_world.specs.World.{was_started, starts}
+use Rattle.mail_world.proofs.Crew.{started_push}
 
 -- what a map holds of a text
 abbrev found : {K : Type 0} → (K → List ℕ) → BTreeMap K Fate → List ℕ → Fate
@@ -52,18 +57,76 @@ queued_alike : (t : Bool) (f g : List ℕ → Fate) (a : List ℕ) → ((q : Lis
 queued_alike true f g a h q = put_alike f g a accepted h q
 queued_alike false f g a h q = h q
 
-by_alike : (event : Kept) (f g : List ℕ → Fate) → ((q : List ℕ) → f q ≡ g q) → (q : List ℕ) → fate_by event f q ≡ fate_by event g q
-by_alike (kept.Start a program) f g h q = h q
-by_alike (kept.Call a read ready call told) f g h q = queued_alike (queues call told.answer) f g a h q
-by_alike (kept.End a read ready status) f g h q = put_alike f g a (left_as (told.Ended status)) h q
-by_alike (kept.Stop a) f g h q = put_alike f g a (left_as told.Stopped) h q
-by_alike (kept.Moment m) f g h q = h q
+by_alike : (event : Kept) (before : List Kept) (f g : List ℕ → Fate) → ((q : List ℕ) → f q ≡ g q) → (q : List ℕ) → fate_by event before f q ≡ fate_by event before g q
+by_alike (kept.Start a program) before f g h q = h q
+by_alike (kept.Call a read ready call told) before f g h q = queued_alike (queues call told.answer) f g a h q
+by_alike (kept.End a read ready status) before f g h q = put_alike f g a (left_as (told.Ended status)) h q
+by_alike (kept.Stop a) before f g h q = put_alike f g a (left_as told.Stopped) h q
+by_alike (kept.Moment m) before f g h q = h q
+by_alike (kept.Halt how) before f g h q = ap (λ (fate : Fate). if was_started before q then left_as (cut_off fate.life) fate else fate) (h q)
+
+-- a machine stop, one event after the other
+
+cut_twice : (fate : Fate) → left_as (cut_off (left_as (cut_off fate.life) fate).life) (left_as (cut_off fate.life) fate) ≡ left_as (cut_off fate.life) fate
+cut_twice fate = ap (λ life. left_as life fate) (twice fate.life) where
+  twice : (life : ToldLife) → cut_off (cut_off life) ≡ cut_off life
+  twice told.Alive = refl
+  twice (told.Ended status) = refl
+  twice told.Stopped = refl
+
+-- one that was started before is cut off already
+cut_one : (t : Bool) (fate : Fate) → left_as (cut_off (if t then left_as (cut_off fate.life) fate else fate).life) (if t then left_as (cut_off fate.life) fate else fate) ≡ left_as (cut_off fate.life) fate
+cut_one true fate = cut_twice fate
+cut_one false fate = refl
+
+-- one event more, that starts nobody, or somebody
+cut_still : (before : List Kept) (k : Kept) (fates : List ℕ → Fate) (q : List ℕ) → starts q k ≡ false → all_cut_off (before ++ k ∷ []) fates q ≡ all_cut_off before fates q
+cut_still before k fates q none =
+    ap (λ (b : Bool). if b then left_as (cut_off (fates q).life) (fates q) else fates q) (started_push before k q ∙ ap (λ (b : Bool). was_started before q || b) none ∙ or-false (was_started before q))
+
+cut_start : (before : List Kept) (k : Kept) (fates : List ℕ → Fate) (q : List ℕ) → starts q k ≡ true → all_cut_off (before ++ k ∷ []) fates q ≡ left_as (cut_off (fates q).life) (fates q)
+cut_start before k fates q starts_it =
+    ap (λ (b : Bool). if b then left_as (cut_off (fates q).life) (fates q) else fates q) (started_push before k q ∙ ap (λ (b : Bool). was_started before q || b) starts_it ∙ or-true (was_started before q))
+
+grown_by : (events : List Kept) (i : ℕ) (event : Kept) → i < length events → event ≡ get_or events i event → take (i + 1) events ≡ take i events ++ event ∷ []
+grown_by events i event inside is = take_more events i event inside ∙ ap (λ e. take i events ++ e ∷ []) (sym is)
+
+-- an event that is no start
+pub starts_none : (event : Kept) → ((a : List ℕ) (program : Program) → event ≢ kept.Start a program) → (q : List ℕ) → starts q event ≡ false
+starts_none (kept.Start a program) other q = absurd (other a program refl)
+starts_none (kept.Call a read ready call told) other q = refl
+starts_none (kept.End a read ready status) other q = refl
+starts_none (kept.Stop a) other q = refl
+starts_none (kept.Moment m) other q = refl
+starts_none (kept.Halt how) other q = refl
+
+pub cut_more_still : (events : List Kept) (i : ℕ) (event : Kept) (start old : List ℕ → Fate) → i < length events → event ≡ get_or events i event
+    → ((q : List ℕ) → starts q event ≡ false)
+    → ((q : List ℕ) → old q ≡ all_cut_off (take i events) start q)
+    → (q : List ℕ) → old q ≡ all_cut_off (take (i + 1) events) start q
+cut_more_still events i event start old inside is none before q =
+    before q ∙ sym (cut_still (take i events) event start q (none q)) ∙ ap (λ (l : List Kept). all_cut_off l start q) (sym (grown_by events i event inside is))
+
+pub cut_more_start : (events : List Kept) (i : ℕ) (a : List ℕ) (event : Kept) (start old new : List ℕ → Fate) → i < length events → event ≡ get_or events i event
+    → ((q : List ℕ) → starts q event ≡ bytes_eq a q)
+    → ((q : List ℕ) → old q ≡ all_cut_off (take i events) start q) → ((q : List ℕ) → new q ≡ put_at old a (left_as (cut_off (old a).life) (old a)) q)
+    → (q : List ℕ) → new q ≡ all_cut_off (take (i + 1) events) start q
+cut_more_start events i a event start old new inside is starts_it before by q =
+    by q ∙ ⊎_elim
+    (λ w. w.1 ∙ ap (λ (fate : Fate). left_as (cut_off fate.life) fate) (before a) ∙ cut_one (was_started (take i events) a) (start a)
+    ∙ ap (λ (n : List ℕ). left_as (cut_off (start n).life) (start n)) (sym w.0)
+    ∙ sym (cut_start (take i events) event start q (starts_it q ∙ ap (bytes_eq a) w.0 ∙ same_text a)))
+    (λ w. w.1 ∙ before q ∙ sym (cut_still (take i events) event start q (starts_it q ∙ other_text a q (λ e. w.0 (sym e)))))
+    (put_at_cases old a (left_as (cut_off (old a).life) (old a)) q)
+    ∙ ap (λ (l : List Kept). all_cut_off l start q) (sym (grown_by events i event inside is))
 
 -- the fates after one event more
 pub fates_more : (events : List Kept) (i : ℕ) (event : Kept) (old new : List ℕ → Fate) → i < length events → event ≡ get_or events i event
-    → ((q : List ℕ) → old q ≡ fate_in (reverse (take i events)) q) → ((q : List ℕ) → new q ≡ fate_by event old q)
+    → ((q : List ℕ) → old q ≡ fate_in (reverse (take i events)) q) → ((q : List ℕ) → new q ≡ fate_by event (take i events) old q)
     → (q : List ℕ) → new q ≡ fate_in (reverse (take (i + 1) events)) q
 fates_more events i event old new inside is before by q =
     let grown : reverse (take (i + 1) events) ≡ event ∷ reverse (take i events) =
     ap reverse (take_more events i event inside ∙ ap (λ e. take i events ++ e ∷ []) (sym is)) ∙ reverse-append (take i events) (event ∷ []) in
-    by q ∙ by_alike event old (fate_in (reverse (take i events))) before q ∙ ap (λ l. fate_in l q) (sym grown)
+    let turned : reverse (reverse (take i events)) ≡ take i events = reverse-reverse (take i events) in
+    by q ∙ by_alike event (take i events) old (fate_in (reverse (take i events))) before q
+    ∙ ap (λ (l : List Kept). fate_by event l (fate_in (reverse (take i events))) q) (sym turned) ∙ ap (λ l. fate_in l q) (sym grown)

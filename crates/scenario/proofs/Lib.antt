@@ -56,6 +56,8 @@ pub mod InOrder
 pub mod Decided
 -- disks with finitely many names and open descriptors
 pub mod FiniteDisks
+-- what each file reads as may survive
+pub mod LastingFiles
 -- the least free number and descriptor
 pub mod LeastFree
 -- the answers of a disk that doesn't fail

@@ -1,11 +1,12 @@
 -- A disk with finitely many names has the list of a directory, and that of the numbers that aren't in S1.
-use Rattle.std.proofs.Common.{◌≡◌, ◌≢◌, inl, inr, ⊎_elim, ℕ, suc, ◌<◌, ◌≤◌, ◌^◌, List, [], ◌∷◌, ◌++◌, length, drop, Contains, nat_cmp, Less, Option, Some, None, IsSome, IsTrue, refl, sym, ap, ◌∙◌}
+use Rattle.std.proofs.Common.{◌≡◌, ◌≢◌, inl, inr, ⊎_elim, ℕ, suc, ◌<◌, ◌≤◌, ◌^◌, List, [], ◌∷◌, ◌++◌, length, drop, Contains, nat_cmp, Less, Option, Some, None, IsSome, IsTrue, refl, sym, ap, ◌∙◌, subst}
 use Rattle.std.specs.Cmp.Lexicographic.{slice_cmp}
 use Rattle.std.proofs.lemmas.Bool.{cases_eq}
 use Rattle.std.proofs.lemmas.Cmp.{nat_list_cmp_total, nat_cmp_total}
 use Rattle.std.proofs.lemmas.List.Elements.{All-weaker, All-contains_itself}
 use Rattle.call_fs.specs.Disk.{Disk, Among}
 use Rattle.call_fs.specs.Apply.{StandsAfter, IsLater}
+use Rattle.call_fs.specs.Choices.{AreNamed}
 use Rattle.queue_paths.specs.Names.{Name, Part, path, parse, is_number}
 use Rattle.queue_paths.specs.Names.Name.{Pid, Of}
 use Rattle.queue_paths.proofs.Paths.{parse-path, is_number_tells, is_number_if}
@@ -121,5 +122,46 @@ numbers_in d f =
         rising =
             pairs_increase in_order.items
             (rises_pairs nat_cmp nat_cmp_total equal_is in_order.items in_order.rises);
+      },
+    )
+
+-- the number of each text that is a name
+abbrev with_number : Option ℕ → List ℕ → List ℕ
+with_number None ns = ns
+with_number (Some n) ns = n ∷ ns
+
+abbrev named_numbers : Disk → List (List ℕ) → List ℕ
+named_numbers d [] = []
+named_numbers d (text ∷ texts) = with_number (d.names text) (named_numbers d texts)
+
+is_named : (d : Disk) (texts : List (List ℕ)) (n : ℕ) → Among n (named_numbers d texts) → (name : List ℕ) × (d.names name ≡ Some n)
+is_named d [] n here = absurd here
+is_named d (text ∷ texts) n here = by_name (is_named d texts n) (d.names text) refl here where
+  by_name : (Among n (named_numbers d texts) → (name : List ℕ) × (d.names name ≡ Some n)) → (o : Option ℕ) → d.names text ≡ o
+      → Among n (with_number o (named_numbers d texts)) → (name : List ℕ) × (d.names name ≡ Some n)
+  by_name rest None is here = rest here
+  by_name rest (Some m) is here = ⊎_elim (λ e. (text, is ∙ ap Some (sym e))) (λ later. rest later) here
+
+more_numbers : (o : Option ℕ) (ns : List ℕ) (n : ℕ) → Among n ns → Among n (with_number o ns)
+more_numbers None ns n here = here
+more_numbers (Some m) ns n here = inr here
+
+among_named : (d : Disk) (texts : List (List ℕ)) (name : List ℕ) (n : ℕ) → Among name texts → d.names name ≡ Some n → Among n (named_numbers d texts)
+among_named d [] name n here is = absurd here
+among_named d (text ∷ texts) name n here is = ⊎_elim
+    (λ e. let there : d.names text ≡ Some n = ap d.names (sym e) ∙ is in
+    subst (λ (o : Option ℕ). Among n (with_number o (named_numbers d texts))) (sym there) (inl refl))
+    (λ later. more_numbers (d.names text) (named_numbers d texts) n (among_named d texts name n later is))
+    here
+
+-- the numbers that have a name, in order
+pub numbers_named : (d : Disk) → IsFinite d → (numbers : List ℕ) × AreNamed d numbers
+numbers_named d f =
+    let in_order = ordered nat_cmp nat_cmp_total equal_is (named_numbers d f.texts) in (
+      in_order.items,
+      record {
+        rising = pairs_increase in_order.items (rises_pairs nat_cmp nat_cmp_total equal_is in_order.items in_order.rises);
+        named = λ n here. is_named d f.texts n (in_order.on n (contains_among in_order.items n here));
+        all = λ name n is. among_contains in_order.items n (in_order.all n (among_named d f.texts name n (f.named name n is) is));
       },
     )

@@ -26,16 +26,18 @@ use Rattle.mail_world.specs.declared.event.Event.{Event as Kept}
 use Rattle.mail_world.specs.declared.event.Event.TheVariants as kept
 use Rattle.mail_world.specs.declared.event.Program.{Program}
 use Rattle.mail_world.specs.declared.event.Program.TheVariants.{Injector}
-use Rattle.mail_world.specs.History.{Event, Actor, Life, State, next_of, MayCall, called, finished, happens, after, Legal}
+use Rattle.mail_world.specs.History.{Event, Actor, Life, State, next_of, MayCall, stopped, cut_off as ends_as, called, finished, happens, after, Legal}
 use Rattle.mail_world.specs.History.Event.{Start, Call, End, Stop, Moment, Halt}
 use Rattle.mail_world.specs.History.Life.{Alive, Over, Stopped}
-use Rattle.mail_world.specs.World.{Tells}
+use Rattle.mail_world.specs.World.{Tells, was_started}
+use Rattle.mail_world.proofs.Lives.{started_is}
+use Rattle.std.specs.Option.{option_map}
 use Rattle.call_fs.proofs.Maps.{put_at_cases, put_at_same, put_at_other}
 use Rattle.mail_world.proofs.Tests.{text_cases, same_text}
 use Rattle.scenario.specs.declared.fates.Fate.{Fate}
 use Rattle.scenario.specs.declared.fates.Life.{Life as ToldLife}
 use Rattle.scenario.specs.declared.fates.Life.TheVariants as left
-use Rattle.scenario.specs.Fates.{queues, accepted, life_of, left_as, fate_by, fate_in, fate_lines, start_lines}
+use Rattle.scenario.specs.Fates.{queues, accepted, life_of, left_as, cut_off, fate_by, fate_in, fate_lines, start_lines}
 use Rattle.scenario.specs.Shown.{line_of, life_word, recipient_lines, is_to_todo, is_accepting, is_accepted, mail_lines, mails_of, all_mail_lines}
 
 -- Which calls accept a mail: an injector's link to todo is one of its intd.
@@ -77,10 +79,10 @@ row_agrees args (at.CreateIntd n) call due = due_agrees _ call due (λ answer. r
 row_agrees args (at.AppendTodo n fd done) call due = due_agrees _ call due (λ answer. refl)
 row_agrees args (at.SyncTodo n fd) call due = due_agrees _ call due (λ answer. refl)
 row_agrees args (at.LinkTodo n) call due = due_agrees _ call due (link_agrees (path (Of Intd n)) (path (Of Todo n)) (to_todo n))
-row_agrees args (at.CleanIntd n status) call due = due_agrees _ call due (λ answer. refl)
-row_agrees args (at.CleanMess n status) call due = due_agrees _ call due (λ answer. refl)
+row_agrees args (at.CleanIntd n cause) call due = due_agrees _ call due (λ answer. refl)
+row_agrees args (at.CleanMess n cause) call due = due_agrees _ call due (λ answer. refl)
 row_agrees args at.Queued call due = absurd (cc)
-row_agrees args (at.Failed status) call due = absurd (cc)
+row_agrees args (at.Failed cause) call due = absurd (cc)
 
 timely : (input late : Bool) (due : Due) (call : CallData) → in_time input late due ≡ Due.File call → due ≡ Due.File call
 timely true true (Due.File own) call h = absurd (cc)
@@ -145,6 +147,16 @@ over_fares actors fates b y life over h a =
     (λ w. fares_as (actors a) (put_at actors b (Some y) a) (fates a) (put_at fates b last a) w.1 (ap (λ (f : Fate). f.life) (put_at_other fates b last a w.0)) (h a))
     (put_at_cases actors b (Some y) a)
 
+cut_life : (life : ToldLife) → ends_as (life_of life) ≡ life_of (cut_off life)
+cut_life left.Alive = refl
+cut_life (left.Ended status) = refl
+cut_life left.Stopped = refl
+
+-- a machine stop ends each that was started
+halt_fares : (o : Option Actor) (fate : Fate) → Fares o fate → Fares (option_map stopped o) (if is_some o then left_as (cut_off fate.life) fate else fate)
+halt_fares None fate h = h
+halt_fares (Some x) fate h = ap ends_as h ∙ cut_life fate.life
+
 fares_told : (d : Disk) (events : List Kept) (h : List Event) → Legal d h → AllZip Tells events h → (a : List ℕ)
     → Fares ((after d h).actors a) (fate_in events a)
 fares_told d [] [] legal told a = refl
@@ -153,30 +165,36 @@ fares_told d (k ∷ events) [] legal told a = absurd told
 fares_told d (k ∷ events) ((Start b program) ∷ h) legal told a =
     let s = after d h in
     let before = fares_told d events h legal.0 told.1 in
-    subst (λ (k : Kept). Fares ((happens s (Start b program)).actors a) (fate_by k (fate_in events) a)) (sym told.0)
+    subst (λ (k : Kept). Fares ((happens s (Start b program)).actors a) (fate_by k (reverse events) (fate_in events) a)) (sym told.0)
     (start_fares s.actors (fate_in events) b _ refl legal.1.new before a)
 fares_told d (k ∷ events) ((Call b read ready call got wrote) ∷ h) legal told a =
     let s = after d h in
     let before = fares_told d events h legal.0 told.1 in
     let x = legal.1.actor in
-    subst (λ (k : Kept). Fares ((happens s (Call b read ready call got wrote)).actors a) (fate_by k (fate_in events) a)) (sym told.0)
-    (subst (λ (o : Option Actor). Fares ((called s b read ready call got wrote o).actors a) (fate_by (kept.Call b read ready call got) (fate_in events) a)) (sym legal.1.reads.is)
+    subst (λ (k : Kept). Fares ((happens s (Call b read ready call got wrote)).actors a) (fate_by k (reverse events) (fate_in events) a)) (sym told.0)
+    (subst (λ (o : Option Actor). Fares ((called s b read ready call got wrote o).actors a) (fate_by (kept.Call b read ready call got) (reverse events) (fate_in events) a)) (sym legal.1.reads.is)
     (call_fares s.actors (fate_in events) (queues call got.answer) b x _ refl legal.1.reads.is before a))
 fares_told d (k ∷ events) ((End b read ready status) ∷ h) legal told a =
     let s = after d h in
     let before = fares_told d events h legal.0 told.1 in
-    subst (λ (k : Kept). Fares ((happens s (End b read ready status)).actors a) (fate_by k (fate_in events) a)) (sym told.0)
-    (subst (λ (o : Option Actor). Fares ((finished s b (Over status) o).actors a) (fate_by (kept.End b read ready status) (fate_in events) a)) (sym legal.1.reads.is)
+    subst (λ (k : Kept). Fares ((happens s (End b read ready status)).actors a) (fate_by k (reverse events) (fate_in events) a)) (sym told.0)
+    (subst (λ (o : Option Actor). Fares ((finished s b (Over status) o).actors a) (fate_by (kept.End b read ready status) (reverse events) (fate_in events) a)) (sym legal.1.reads.is)
     (over_fares s.actors (fate_in events) b _ (left.Ended status) refl before a))
 fares_told d (k ∷ events) ((Stop b) ∷ h) legal told a =
     let s = after d h in
     let before = fares_told d events h legal.0 told.1 in
-    subst (λ (k : Kept). Fares ((happens s (Stop b)).actors a) (fate_by k (fate_in events) a)) (sym told.0)
-    (subst (λ (o : Option Actor). Fares ((finished s b Stopped o).actors a) (fate_by (kept.Stop b) (fate_in events) a)) (sym legal.1.is)
+    subst (λ (k : Kept). Fares ((happens s (Stop b)).actors a) (fate_by k (reverse events) (fate_in events) a)) (sym told.0)
+    (subst (λ (o : Option Actor). Fares ((finished s b Stopped o).actors a) (fate_by (kept.Stop b) (reverse events) (fate_in events) a)) (sym legal.1.is)
     (over_fares s.actors (fate_in events) b _ left.Stopped refl before a))
 fares_told d (k ∷ events) ((Moment m) ∷ h) legal told a =
-    subst (λ (k : Kept). Fares ((after d h).actors a) (fate_by k (fate_in events) a)) (sym told.0) (fares_told d events h legal.0 told.1 a)
-fares_told d (k ∷ events) ((Halt contents) ∷ h) legal told a = absurd told.0
+    subst (λ (k : Kept). Fares ((after d h).actors a) (fate_by k (reverse events) (fate_in events) a)) (sym told.0) (fares_told d events h legal.0 told.1 a)
+fares_told d (k ∷ events) ((Halt how contents) ∷ h) legal told a =
+    let s = after d h in
+    let there : was_started (reverse events) a ≡ is_some (s.actors a) =
+    started_is d h (reverse events) a (subst (λ (l : List Kept). AllZip Tells l h) (sym (reverse-reverse events)) told.1) in
+    subst (λ (k : Kept). Fares (option_map stopped (s.actors a)) (fate_by k (reverse events) (fate_in events) a)) (sym told.0)
+    (subst (λ (b : Bool). Fares (option_map stopped (s.actors a)) (if b then left_as (cut_off (fate_in events a).life) (fate_in events a) else fate_in events a)) (sym there)
+    (halt_fares (s.actors a) (fate_in events a) (fares_told d events h legal.0 told.1 a)))
 
 -- whether its mail was accepted
 
@@ -202,28 +220,35 @@ over_accepted fates life b a =
     (λ w. sym (ap (λ (f : Fate). f.accepted) w.1))
     (put_at_cases fates b last a)
 
+cut_accepted : (t : Bool) (fate : Fate) → fate.accepted ≡ (if t then left_as (cut_off fate.life) fate else fate).accepted
+cut_accepted true fate = refl
+cut_accepted false fate = refl
+
 accepted_told : (d : Disk) (events : List Kept) (h : List Event) → Legal d h → AllZip Tells events h → (a : List ℕ)
     → is_accepted a h ≡ (fate_in events a).accepted
 accepted_told d [] [] legal told a = refl
 accepted_told d [] (e ∷ h) legal told a = absurd told
 accepted_told d (k ∷ events) [] legal told a = absurd told
 accepted_told d (k ∷ events) ((Start b program) ∷ h) legal told a =
-    accepted_told d events h legal.0 told.1 a ∙ sym (ap (λ (k : Kept). (fate_by k (fate_in events) a).accepted) told.0)
+    accepted_told d events h legal.0 told.1 a ∙ sym (ap (λ (k : Kept). (fate_by k (reverse events) (fate_in events) a).accepted) told.0)
 accepted_told d (k ∷ events) ((Call b read ready call got wrote) ∷ h) legal told a =
     ap (λ t. (bytes_eq b a && t) || is_accepted a h) (call_agrees (after d h) b read ready call got wrote legal.1)
     ∙ accept_step (fate_in events) (queues call got.answer) (is_accepted a h) b a (accepted_told d events h legal.0 told.1 a)
-    ∙ sym (ap (λ (k : Kept). (fate_by k (fate_in events) a).accepted) told.0)
+    ∙ sym (ap (λ (k : Kept). (fate_by k (reverse events) (fate_in events) a).accepted) told.0)
 accepted_told d (k ∷ events) ((End b read ready status) ∷ h) legal told a =
     accepted_told d events h legal.0 told.1 a
     ∙ over_accepted (fate_in events) (left.Ended status) b a
-    ∙ sym (ap (λ (k : Kept). (fate_by k (fate_in events) a).accepted) told.0)
+    ∙ sym (ap (λ (k : Kept). (fate_by k (reverse events) (fate_in events) a).accepted) told.0)
 accepted_told d (k ∷ events) ((Stop b) ∷ h) legal told a =
     accepted_told d events h legal.0 told.1 a
     ∙ over_accepted (fate_in events) left.Stopped b a
-    ∙ sym (ap (λ (k : Kept). (fate_by k (fate_in events) a).accepted) told.0)
+    ∙ sym (ap (λ (k : Kept). (fate_by k (reverse events) (fate_in events) a).accepted) told.0)
 accepted_told d (k ∷ events) ((Moment m) ∷ h) legal told a =
-    accepted_told d events h legal.0 told.1 a ∙ sym (ap (λ (k : Kept). (fate_by k (fate_in events) a).accepted) told.0)
-accepted_told d (k ∷ events) ((Halt contents) ∷ h) legal told a = absurd told.0
+    accepted_told d events h legal.0 told.1 a ∙ sym (ap (λ (k : Kept). (fate_by k (reverse events) (fate_in events) a).accepted) told.0)
+accepted_told d (k ∷ events) ((Halt how contents) ∷ h) legal told a =
+    accepted_told d events h legal.0 told.1 a
+    ∙ cut_accepted (was_started (reverse events) a) (fate_in events a)
+    ∙ sym (ap (λ (k : Kept). (fate_by k (reverse events) (fate_in events) a).accepted) told.0)
 
 -- Each actor that was started is there.
 
@@ -234,7 +259,7 @@ IsStarted a ((Call b read ready call got wrote) ∷ h) = IsStarted a h
 IsStarted a ((End b read ready status) ∷ h) = IsStarted a h
 IsStarted a ((Stop b) ∷ h) = IsStarted a h
 IsStarted a ((Moment m) ∷ h) = IsStarted a h
-IsStarted a ((Halt contents) ∷ h) = IsStarted a h
+IsStarted a ((Halt how contents) ∷ h) = IsStarted a h
 
 some_put : (actors : List ℕ → Option Actor) (b : List ℕ) (x : Actor) (a : List ℕ) → (b ≡ a) ⊎ IsSome (actors a) → IsSome (put_at actors b (Some x) a)
 some_put actors b x a h = ⊎_elim
@@ -251,6 +276,10 @@ some_finished : (s : State) (b : List ℕ) (life : Life) (o : Option Actor) (a :
 some_finished s b life None a h = h
 some_finished s b life (Some x) a h = some_put s.actors b _ a (inr h)
 
+some_stopped : (o : Option Actor) → IsSome o → IsSome (option_map stopped o)
+some_stopped None h = h
+some_stopped (Some x) h = refl
+
 started_some : (d : Disk) (events : List Kept) (h : List Event) → AllZip Tells events h → (a : List ℕ) → IsStarted a h → IsSome ((after d h).actors a)
 started_some d [] [] told a was = absurd was
 started_some d [] (e ∷ h) told a was = absurd told
@@ -264,7 +293,8 @@ started_some d (k ∷ events) ((End b read ready status) ∷ h) told a was =
 started_some d (k ∷ events) ((Stop b) ∷ h) told a was =
     some_finished (after d h) b Stopped ((after d h).actors b) a (started_some d events h told.1 a was)
 started_some d (k ∷ events) ((Moment m) ∷ h) told a was = started_some d events h told.1 a was
-started_some d (k ∷ events) ((Halt contents) ∷ h) told a was = absurd told.0
+started_some d (k ∷ events) ((Halt how contents) ∷ h) told a was =
+    some_stopped ((after d h).actors a) (started_some d events h told.1 a was)
 
 -- The lines of the mails.
 
@@ -309,7 +339,8 @@ lines_told fates g (k ∷ events) ((Stop b) ∷ h) told each =
     no_lines fates events k _ told.0 refl ∙ lines_told fates g events h told.1 each
 lines_told fates g (k ∷ events) ((Moment m) ∷ h) told each =
     no_lines fates events k _ told.0 refl ∙ lines_told fates g events h told.1 each
-lines_told fates g (k ∷ events) ((Halt contents) ∷ h) told each = absurd told.0
+lines_told fates g (k ∷ events) ((Halt how contents) ∷ h) told each =
+    no_lines fates events k _ told.0 refl ∙ lines_told fates g events h told.1 each
 
 pub mails_told : (d : Disk) (events : List Kept) (h : List Event) (fates : List ℕ → Fate) → Legal d h → AllZip Tells (reverse events) h
     → ((a : List ℕ) → fates a ≡ fate_in (reverse events) a) → flat_map (start_lines fates) events ≡ all_mail_lines (after d h) h

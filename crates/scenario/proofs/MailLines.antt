@@ -8,7 +8,7 @@ use Rattle.mail_bytes.specs.Escape.{unescaped}
 use Rattle.envelope_records.specs.Envelope.{record_of}
 use Rattle.mail_world.specs.MailNames.{IsLetterOrDigit, IsMailName}
 use Rattle.scenario.specs.declared.line.Line.{Line}
-use Rattle.scenario.specs.declared.line.Line.TheVariants.{Mail, Step, Run, Stop, Moment, Trace, Cat, Show}
+use Rattle.scenario.specs.declared.line.Line.TheVariants.{Mail, Step, Run, Stop, Halt, Moment, Trace, Cat, Show}
 use Rattle.scenario.specs.declared.reading.Form.{Form}
 use Rattle.scenario.specs.declared.reading.Form.TheVariants.{Written, Raw}
 use Rattle.scenario.specs.Lines.{joined, StandsFor, StandsForText, HasBody, IsLine}
@@ -165,6 +165,7 @@ only_mail Raw words (Mail name message envelope) (inr m) =
 only_mail Written words (Step actor) h = let e = head-same h.0 in absurd (omega arith)
 only_mail Written words (Run actor) h = let e = head-same h.0 in absurd (omega arith)
 only_mail Written words (Stop actor) h = let e = head-same h.0 in absurd (omega arith)
+only_mail Written words (Halt how) h = let e = head-same h.0 in absurd (omega arith)
 only_mail Written words (Moment m) h = let e = head-same (tail-same h.0) in absurd (omega arith)
 only_mail Written words Trace h = let e = head-same h in absurd (omega arith)
 only_mail Written words (Cat path) h = let e = head-same h.1 in absurd (omega arith)
@@ -172,6 +173,7 @@ only_mail Written words Show h = let e = head-same h in absurd (omega arith)
 only_mail Raw words (Step actor) h = let e = head-same h.0 in absurd (omega arith)
 only_mail Raw words (Run actor) h = let e = head-same (tail-same h.0) in absurd (omega arith)
 only_mail Raw words (Stop actor) h = let e = head-same h.0 in absurd (omega arith)
+only_mail Raw words (Halt how) h = let e = head-same h.0 in absurd (omega arith)
 only_mail Raw words (Moment m) h = let e = head-same h.0 in absurd (omega arith)
 only_mail Raw words Trace h = let e = head-same h in absurd (omega arith)
 only_mail Raw words (Cat path) h = let e = head-same h.1 in absurd (omega arith)

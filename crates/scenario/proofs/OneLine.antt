@@ -1,5 +1,5 @@
 -- A text is one line, and bytes are one script.
-use Rattle.std.proofs.Common.{◌≡◌, ℕ, List, [], ◌∷◌, ◌++◌, All, Contains, Ok, inl, inr, refl, sym, ap, ◌∙◌, subst, arith, append_assoc}
+use Rattle.std.proofs.Common.{◌≡◌, ℕ, List, [], ◌∷◌, ◌++◌, get_or, All, Contains, Ok, inl, inr, refl, sym, ap, ◌∙◌, subst, arith, append_assoc}
 use Rattle.std.specs.Prelude.{codes, cond, ◌==◌, bytes_eq, true, false}
 use Rattle.std.specs.List.{AllZip}
 use Rattle.std.proofs.lemmas.List.{append_cancel_left}
@@ -9,8 +9,10 @@ use Rattle.mail_bytes.specs.Escape.{unescaped}
 use Rattle.mail_bytes.proofs.Digits.{digits_injective}
 use Rattle.mail_world.proofs.Tests.{same_text}
 use Rattle.scenario.specs.declared.line.Line.{Line}
-use Rattle.scenario.specs.declared.line.Line.TheVariants.{Mail, Step, Run, Stop, Moment, Trace, Cat, Show}
-use Rattle.scenario.specs.Lines.{joined, StandsFor, StandsForText, HasBody, IsMailLine, IsRawLine, envelope_of, IsLine, kept, IsScript, IsUnbroken, ended}
+use Rattle.scenario.specs.declared.line.Line.TheVariants.{Mail, Step, Run, Stop, Halt, Moment, Trace, Cat, Show}
+use Rattle.call_fs.specs.declared.crash_file_system.Survival.{Survival}
+use Rattle.call_fs.specs.declared.crash_file_system.Survival.TheVariants.{Keep, Lose, Junk}
+use Rattle.scenario.specs.Lines.{survival_text, joined, StandsFor, StandsForText, HasBody, IsMailLine, IsRawLine, envelope_of, IsLine, kept, IsScript, IsUnbroken, ended}
 use Rattle.scenario.proofs.Cuts.{same-cut, not-cut}
 use Rattle.scenario.proofs.Words.{front, joined-front, colon-alone, Ends}
 use Rattle.scenario.proofs.MailLines.{name_lacks, text_lacks, joined-more, body-ends}
@@ -115,6 +117,7 @@ word_of text (Mail name message envelope) (inr h) = codes "raw"
 word_of text (Step actor) h = codes "step"
 word_of text (Run actor) h = codes "run"
 word_of text (Stop actor) h = codes "stop"
+word_of text (Halt how) h = codes "halt"
 word_of text (Moment m) h = codes "moment"
 word_of text Trace h = codes "trace"
 word_of text (Cat path) h = codes "cat"
@@ -126,6 +129,7 @@ begins_so text (Mail name message envelope) (inr h) = ap first_word h.words
 begins_so text (Step actor) h = ap first_word h.0
 begins_so text (Run actor) h = ap first_word h.0
 begins_so text (Stop actor) h = ap first_word h.0
+begins_so text (Halt how) h = ap first_word h.0
 begins_so text (Moment m) h = ap first_word h.0
 begins_so text Trace h = ap first_word h
 begins_so text (Cat path) h = ap first_word h.1
@@ -138,6 +142,21 @@ other_word : (text : List ℕ) (l m : Line) (h : IsLine text l) (k : IsLine text
 other_word text l m h k apart =
     let both : true ≡ false = sym (same_text (word_of text l h)) ∙ ap (bytes_eq (word_of text l h)) (same_word text l m h k) ∙ apart in absurd (cc)
 
+-- two texts that begin with other bytes
+other_first : (a b : List ℕ) (m n : ℕ) → get_or a 0 0 ≡ m → get_or b 0 0 ≡ n → (m ≡ n → ⊥) → a ≡ b → ⊥
+other_first a b m n is is' apart e = apart (sym is ∙ ap (λ (l : List ℕ). get_or l 0 0) e ∙ is')
+
+one_survival : (a b : Survival) → survival_text a ≡ survival_text b → a ≡ b
+one_survival Keep Keep e = refl
+one_survival Keep Lose e = absurd (other_first (survival_text Keep) (survival_text Lose) 107 108 refl refl (λ e. omega arith) e)
+one_survival Keep (Junk seed) e = absurd (other_first (survival_text Keep) (survival_text (Junk seed)) 107 106 refl refl (λ e. omega arith) e)
+one_survival Lose Keep e = absurd (other_first (survival_text Lose) (survival_text Keep) 108 107 refl refl (λ e. omega arith) e)
+one_survival Lose Lose e = refl
+one_survival Lose (Junk seed) e = absurd (other_first (survival_text Lose) (survival_text (Junk seed)) 108 106 refl refl (λ e. omega arith) e)
+one_survival (Junk seed) Keep e = absurd (other_first (survival_text (Junk seed)) (survival_text Keep) 106 107 refl refl (λ e. omega arith) e)
+one_survival (Junk seed) Lose e = absurd (other_first (survival_text (Junk seed)) (survival_text Lose) 106 108 refl refl (λ e. omega arith) e)
+one_survival (Junk seed) (Junk other) e = ap Junk (digits_injective seed other (append_cancel_left (codes "junk ") (digits seed) (digits other) e))
+
 pub one_line : (text : List ℕ) (l m : Line) → IsLine text l → IsLine text m → l ≡ m
 one_line text (Mail name message envelope) (Mail name' message' envelope') (inl h) (inl k) =
     ap (Mail name message) h.3 ∙ one_mail text name name' h.0 k.0 message message' h.1 k.1 h.2 k.2 ∙ ap (Mail name' message') (sym k.3)
@@ -145,6 +164,7 @@ one_line text (Mail name message envelope) (Mail name' message' envelope') (inr 
 one_line text (Step actor) (Step actor') h k = ap Step (append_cancel_left (codes "step ") actor actor' (sym h.0 ∙ k.0))
 one_line text (Run actor) (Run actor') h k = ap Run (append_cancel_left (codes "run ") actor actor' (sym h.0 ∙ k.0))
 one_line text (Stop actor) (Stop actor') h k = ap Stop (append_cancel_left (codes "stop ") actor actor' (sym h.0 ∙ k.0))
+one_line text (Halt how) (Halt how') h k = ap Halt (one_survival how how' (append_cancel_left (codes "halt ") (survival_text how) (survival_text how') (sym h.0 ∙ k.0)))
 one_line text (Moment m) (Moment m') h k = ap Moment (digits_injective m m' (append_cancel_left (codes "moment ") (digits m) (digits m') (sym h.0 ∙ k.0)))
 one_line text Trace Trace h k = refl
 one_line text (Cat path) (Cat path') h k =

@@ -1,9 +1,12 @@
 -- A script prints one text.
-use Rattle.std.proofs.Common.{◌≡◌, ℕ, List, [], ◌∷◌, ◌++◌, Bool, false, Option, Some, None, sym, ap, ◌∙◌, subst, inl, inr, arith, append_assoc}
+use Rattle.std.proofs.Common.{◌≡◌, ℕ, ◌<◌, List, [], ◌∷◌, ◌++◌, Bool, false, Option, Some, None, sym, ap, ◌∙◌, subst, inl, inr, arith, append_assoc}
 use mathlib.Core.Path.{fun_ext}
 use Rattle.call_fs.specs.Disk.{Disk, File, Open}
 use Rattle.mail_bytes.specs.Decimal.{digits}
+use Rattle.call_fs.specs.Choices.{AreNamed, contents_by}
+use Rattle.std.proofs.lemmas.List.Kept.{AllPairs-from_increasing}
 use Rattle.mail_world.specs.History.{Event, Actor, Life, after}
+use Rattle.mail_world.specs.History.Event.{Halt}
 use Rattle.mail_world.specs.History.Life.{Alive, Over, Stopped}
 use Rattle.mail_world.specs.World.{mail}
 use Rattle.scenario.specs.declared.line.Line.{Line}
@@ -13,6 +16,7 @@ use Rattle.scenario.specs.Traced.{traced_after, traced_text}
 use Rattle.scenario.specs.Text.{IsPlayed, Prints, IsBegun, BeginsToPrint, IsFront}
 use Rattle.scenario.proofs.OneStep.{one_step, one_start, one_run}
 use Rattle.scenario.proofs.OneShown.{one_shown}
+use Rattle.scenario.proofs.OneOrder.{one_order}
 use Rattle.scenario.proofs.OneLine.{one_script}
 
 one_disk : (d e : Disk) → IsFirstDisk d → IsFirstDisk e → d ≡ e
@@ -21,6 +25,12 @@ one_disk d e p q =
     ∙ ap (λ (names : List ℕ → Option ℕ). let x : Disk = record { dirs = e.dirs; names = names; files = d.files; opens = d.opens } in x) (fun_ext (λ name. p.empty name ∙ sym (q.empty name)))
     ∙ ap (λ (files : ℕ → File). let x : Disk = record { dirs = e.dirs; names = e.names; files = files; opens = d.opens } in x) (fun_ext (λ n. p.fresh n ∙ sym (q.fresh n)))
     ∙ ap (λ (opens : ℕ → Option Open). let x : Disk = record { dirs = e.dirs; names = e.names; files = e.files; opens = opens } in x) (fun_ext (λ fd. p.shut fd ∙ sym (q.shut fd)))
+
+-- the named numbers are one list
+one_named : (d : Disk) (xs ys : List ℕ) → AreNamed d xs → AreNamed d ys → xs ≡ ys
+one_named d xs ys p q =
+    one_order (λ low high. low < high) (λ x y low high. omega arith) xs ys (AllPairs-from_increasing xs p.rising) (AllPairs-from_increasing ys q.rising)
+    (λ n. ((λ here. let by = p.named n here in q.all by.0 n by.1), (λ here. let by = q.named n here in p.all by.0 n by.1)))
 
 -- Lines
 
@@ -50,6 +60,10 @@ one_play d h (line.Step actor) e f t u p q = by_outcome actor p.0 q.0 e f t u (o
 one_play d h (line.Run actor) e f t u p q = one_run d h actor e f t u p q
 one_play d h (line.Stop actor) e f t u p q =
     by_outcome actor p.0 q.0 e f t u (one_stop actor ((after d h).actors actor) p.0 q.0 p.1 q.1) p.2 q.2 p.3 q.3
+one_play d h (line.Halt how) e f t u p q =
+    let now = (after d h).disk in
+    let same : p.0 ≡ q.0 = one_named now p.0 q.0 p.1 q.1 in
+    (p.2 ∙ ap (λ (named : List ℕ). Halt how (contents_by how now named) ∷ []) same ∙ sym q.2, p.3 ∙ sym q.3)
 one_play d h (line.Moment m) e f t u p q =
     by_outcome (digits (after d h).now) p.0 q.0 e f t u (one_moment (after d h).now m p.0 q.0 p.1 q.1) p.2 q.2 p.3 q.3
 one_play d h line.Trace e f t u p q = (p.0 ∙ sym q.0, p.1 ∙ sym q.1)
@@ -86,6 +100,14 @@ one_play_all d h traced (l ∷ lines) mid end t u p q =
     (subst (λ (e : List Event). PlaysAll d (e ++ h) (traced_after traced l) lines mid p.2) one.0 p.4) q.4 in
     p.5 ∙ ap (λ t. t ++ p.2) (same_print traced p.0 q.0 p.1 q.1 one) ∙ ap (λ t. (traced_text traced q.0 ++ q.1) ++ t) rest ∙ sym q.5
 
+one_end : (d : Disk) (h : List Event) (traced : Bool) (lines : List Line) (mid end : List Event) (t u : List ℕ)
+    → PlaysAll d h traced lines mid t → PlaysAll d h traced lines end u → mid ≡ end
+one_end d h traced [] mid end t u p q = p.0 ∙ sym q.0
+one_end d h traced (l ∷ lines) mid end t u p q =
+    let one = one_play d h l p.0 q.0 p.1 q.1 p.3 q.3 in
+    one_end d (q.0 ++ h) (traced_after traced l) lines mid end p.2 q.2
+    (subst (λ (e : List Event). PlaysAll d (e ++ h) (traced_after traced l) lines mid p.2) one.0 p.4) q.4
+
 -- from one disk
 all_from : (d e : Disk) (lines : List Line) (end : List Event) (t : List ℕ) → IsFirstDisk d → IsFirstDisk e → PlaysAll d [] false lines end t → PlaysAll e [] false lines end t
 all_from d e lines end t p q plays = subst (λ (x : Disk). PlaysAll x [] false lines end t) (one_disk d e p q) plays
@@ -93,6 +115,11 @@ all_from d e lines end t p q plays = subst (λ (x : Disk). PlaysAll x [] false l
 one_played : (lines : List Line) (t u : List ℕ) → IsPlayed lines t → IsPlayed lines u → t ≡ u
 one_played lines t u p q =
     one_play_all q.disk [] false lines p.history q.history t u (all_from p.disk q.disk lines p.history t p.is_first q.is_first p.plays) q.plays
+
+-- lines make one history
+pub one_history : (lines : List Line) (t u : List ℕ) (p : IsPlayed lines t) (q : IsPlayed lines u) → p.history ≡ q.history
+one_history lines t u p q =
+    one_end q.disk [] false lines p.history q.history t u (all_from p.disk q.disk lines p.history t p.is_first q.is_first p.plays) q.plays
 
 -- Scripts
 

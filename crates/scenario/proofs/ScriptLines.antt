@@ -8,7 +8,8 @@ use Rattle.queue_paths.specs.Names.Name.{Of}
 use Rattle.call_fs.specs.Apply.{empty_file}
 use Rattle.call_fs.specs.Disk.{Disk}
 use Rattle.call_fs.specs.Told.{Meets}
-use Rattle.mem_fs.specs.MemDisk.{Planned, disk_of, bytes_at}
+use Rattle.mem_fs.specs.MemDisk.{bytes_at}
+use Rattle.crash_fs.specs.Crash.{Crash, crash_disk, IsQuiet}
 use Rattle.mail_world.specs.declared.error.WorldError.{WorldError}
 use Rattle.mail_world.specs.declared.error.WorldError.TheVariants as error
 use Rattle.mail_world.specs.declared.event.Event.{Event as Kept}
@@ -33,7 +34,7 @@ use Rattle.scenario.proofs.ScriptRuns.{refused_with}
 
 -- `step`
 
-abbrev pub step_played : (d : Disk) (new : Seen Planned) (a : List ℕ) (ended : Option ℕ) (text : List ℕ) (h : List Event) → HasStepped d new a ended h
+abbrev pub step_played : (d : Disk) (new : Seen Crash) (a : List ℕ) (ended : Option ℕ) (text : List ℕ) (h : List Event) → HasStepped d new a ended h
     → HasPlayed d new (line.Step a) text text h
 step_played d new a ended text h step = record {
   events = step.event ∷ [];
@@ -43,7 +44,7 @@ step_played d new a ended text h step = record {
   text = sym (append-nil text);
 }
 
-abbrev pub step_refused : (d : Disk) (w : Seen Planned) (a : List ℕ) (text : List ℕ) (why : WorldError) (r : Refusal) (h : List Event) → IsPlaying d w h
+abbrev pub step_refused : (d : Disk) (w : Seen Crash) (a : List ℕ) (text : List ℕ) (why : WorldError) (r : Refusal) (h : List Event) → IsPlaying d w h
     → IsRefusedAs why d a h → IsRefusalOf why r → HasPlayed d w (line.Step a) text (text ++ refused r a) h
 step_refused d w a text why r h playing seen is = record {
   events = [];
@@ -55,7 +56,7 @@ step_refused d w a text why r h playing seen is = record {
 
 -- `show`
 
-abbrev pub show_played : (d : Disk) (w : Seen Planned) (text own after_text : List ℕ) (h : List Event) → IsPlaying d w h → IsShown d h own → after_text ≡ text ++ own
+abbrev pub show_played : (d : Disk) (w : Seen Crash) (text own after_text : List ℕ) (h : List Event) → IsPlaying d w h → IsShown d h own → after_text ≡ text ++ own
     → HasPlayed d w line.Show text after_text h
 show_played d w text own after_text h playing shown is = record { events = []; own = own; plays = (refl, shown); playing = playing; text = is }
 
@@ -70,7 +71,7 @@ only_taken error.Taken r one is = (refl, is)
 only_taken (error.Past now) r one is = ⊎_elim (λ e. absurd (cc)) (λ e. absurd (cc)) one
 only_taken error.Memory r one is = absurd is
 
-abbrev pub mail_refused : (d : Disk) (w : Seen Planned) (name message envelope text : List ℕ) (h : List Event) → IsPlaying d w h
+abbrev pub mail_refused : (d : Disk) (w : Seen Crash) (name message envelope text : List ℕ) (h : List Event) → IsPlaying d w h
     → (was_started w.events name ≡ true) ⊎ (¬ (IsMailName name)) → HasPlayed d w (line.Mail name message envelope) text (text ++ refused Refusal.Taken name) h
 mail_refused d w name message envelope text h playing why = record {
   events = [];
@@ -85,18 +86,18 @@ mail_refused d w name message envelope text h playing why = record {
   text = refl;
 }
 
-abbrev pub mail_started : (d : Disk) (old new : Seen Planned) (name message envelope text : List ℕ) (h : List Event) → IsPlaying d old h → IsMailName name
+abbrev pub mail_started : (d : Disk) (old new : Seen Crash) (name message envelope text : List ℕ) (h : List Event) → IsPlaying d old h → IsMailName name
     → new ≡ started_world old name message envelope → GoesOn tells old new → HasPlayed d new (line.Mail name message envelope) text text h
 mail_started d old new name message envelope text h playing good started goes =
     let args = mail (kept_pid old.events) old.present message envelope in
     let k : Kept = kept.Start name (Injector args) in
-    let events : new.events ≡ old.events ++ k ∷ [] = ap (λ (w : Seen Planned). w.events) started in
-    let present : new.present ≡ old.present = ap (λ (w : Seen Planned). w.present) started in
-    let disk : new.disk ≡ old.disk = ap (λ (w : Seen Planned). w.disk) started in
+    let events : new.events ≡ old.events ++ k ∷ [] = ap (λ (w : Seen Crash). w.events) started in
+    let present : new.present ≡ old.present = ap (λ (w : Seen Crash). w.present) started in
+    let disk : new.disk ≡ old.disk = ap (λ (w : Seen Crash). w.disk) started in
     let next = goes d h playing.is in
-    let is : IsHistory d (disk_of new.disk.held) (old.events ++ k ∷ []) old.present (next.0 ∷ h) = moved d (disk_of new.disk.held) new.events (old.events ++ k ∷ []) new.present old.present (next.0 ∷ h) events present next.1 in
+    let is : IsHistory d (crash_disk new.disk) (old.events ++ k ∷ []) old.present (next.0 ∷ h) = moved d (crash_disk new.disk) new.events (old.events ++ k ∷ []) new.present old.present (next.0 ∷ h) events present next.1 in
     let told : next.0 ≡ Start name (Injector args) = start_told name (Injector args) next.0 (last_told old.events k next.0 h is.told) in
-    let now : IsHistory d (disk_of new.disk.held) new.events new.present (Start name (Injector args) ∷ h) = subst (λ (e : Event). IsHistory d (disk_of new.disk.held) new.events new.present (e ∷ h)) told next.1 in
+    let now : IsHistory d (crash_disk new.disk) new.events new.present (Start name (Injector args) ∷ h) = subst (λ (e : Event). IsHistory d (crash_disk new.disk) new.events new.present (e ∷ h)) told next.1 in
     let same : args ≡ mail (next_pid h) (after d h).now message envelope =
     ap (λ n. mail (pid_after n) old.present message envelope) (starts_is h old.events playing.is.told)
     ∙ ap (λ p. mail (next_pid h) p message envelope) (sym playing.is.moment) in
@@ -106,22 +107,21 @@ mail_started d old new name message envelope text h playing good started goes =
       plays = (Happens (Start name (Injector args)), inl (good, now.legal.1.new, ap (λ args. Happens (Start name (Injector args))) same), refl, refl);
       playing = record {
         is = now;
-        picks = ap (λ (m : Planned). m.picks) disk ∙ playing.picks;
-        plan = ap (λ (m : Planned). m.plan) disk ∙ playing.plan;
+        quiet = subst IsQuiet (sym disk) playing.quiet;
       };
       text = sym (append-nil text);
     }
 
 -- `trace` and `cat`
 
-abbrev pub trace_played : (d : Disk) (w : Seen Planned) (text : List ℕ) (h : List Event) → IsPlaying d w h → HasPlayed d w line.Trace text text h
+abbrev pub trace_played : (d : Disk) (w : Seen Crash) (text : List ℕ) (h : List Event) → IsPlaying d w h → HasPlayed d w line.Trace text text h
 trace_played d w text h playing = record { events = []; own = []; plays = (refl, refl); playing = playing; text = sym (append-nil text) }
 
-abbrev pub cat_played : (d : Disk) (w : Seen Planned) (path text after_text : List ℕ) (h : List Event) → IsPlaying d w h
-    → after_text ≡ text ++ cat_line path (bytes_at (disk_of w.disk.held) path) → HasPlayed d w (line.Cat path) text after_text h
+abbrev pub cat_played : (d : Disk) (w : Seen Crash) (path text after_text : List ℕ) (h : List Event) → IsPlaying d w h
+    → after_text ≡ text ++ cat_line path (bytes_at (crash_disk w.disk) path) → HasPlayed d w (line.Cat path) text after_text h
 cat_played d w path text after_text h playing is = record {
   events = [];
-  own = cat_line path (bytes_at (disk_of w.disk.held) path);
+  own = cat_line path (bytes_at (crash_disk w.disk) path);
   plays = (refl, ap (λ (now : Disk). cat_line path (bytes_at now path)) (sym playing.is.disk));
   playing = playing;
   text = is;
@@ -161,7 +161,7 @@ plays_push d h mid traced (first ∷ lines) one text own events all plays =
     )
 
 -- These lines were played, and print this.
-pub record HavePlayed (lines : List Line) (w : Seen Planned) (traced : Bool) : Type 0 where
+pub record HavePlayed (lines : List Line) (w : Seen Crash) (traced : Bool) : Type 0 where
   pub disk : Disk
   pub is_first : IsFirstDisk disk
   pub history : List Event
@@ -171,14 +171,14 @@ pub record HavePlayed (lines : List Line) (w : Seen Planned) (traced : Bool) : T
   pub tracing : traced ≡ traced_through false lines
 
 -- what is printed of a line, as `PlaysAll` says it
-pub printed_text : (d : Disk) (v : Seen Planned) (traced through : Bool) (one : Line) (text : List ℕ) (h : List Event) (printed : HasPrinted d v traced one text h)
+pub printed_text : (d : Disk) (v : Seen Crash) (traced through : Bool) (one : Line) (text : List ℕ) (h : List Event) (printed : HasPrinted d v traced one text h)
     → traced ≡ through → traced_text through printed.played.events ++ printed.played.own ≡ text
 printed_text d v traced through one text h printed same =
     ap (λ t. traced_text t printed.played.events ++ printed.played.own) (sym same)
     ∙ ap (λ own. traced_text traced printed.played.events ++ own) (sym printed.played.text)
     ∙ sym printed.text_is
 
-abbrev pub play_goes_on : (lines all : List Line) (one : Line) (w v : Seen Planned) (traced after : Bool) (text : List ℕ) (so : HavePlayed lines w traced)
+abbrev pub play_goes_on : (lines all : List Line) (one : Line) (w v : Seen Crash) (traced after : Bool) (text : List ℕ) (so : HavePlayed lines w traced)
     → HasPrinted so.disk v traced one text so.history → all ≡ lines ++ one ∷ [] → after ≡ traced_after traced one → HavePlayed all v after
 play_goes_on lines all one w v traced after text so printed is behind = record {
   disk = so.disk;
@@ -194,7 +194,7 @@ play_goes_on lines all one w v traced after text so printed is behind = record {
 }
 
 -- the history of a play is legal and safe
-abbrev pub is_played : Headline → (lines : List Line) (w : Seen Planned) (traced : Bool) (so : HavePlayed lines w traced) → IsPlayed lines so.text
+abbrev pub is_played : Headline → (lines : List Line) (w : Seen Crash) (traced : Bool) (so : HavePlayed lines w traced) → IsPlayed lines so.text
 is_played law lines w traced so = record {
   disk = so.disk;
   history = so.history;
@@ -246,7 +246,7 @@ nothing_begun law lines =
       text_is = refl;
     }
 
-abbrev pub nothing_played : (d : Disk) (w : Seen Planned) → IsFirstDisk d → IsPlaying d w [] → HavePlayed [] w false
+abbrev pub nothing_played : (d : Disk) (w : Seen Crash) → IsFirstDisk d → IsPlaying d w [] → HavePlayed [] w false
 nothing_played d w first playing = record { disk = d; is_first = first; history = []; text = []; plays = (refl, refl); playing = playing; tracing = refl }
 
 -- what an output took so far, and more

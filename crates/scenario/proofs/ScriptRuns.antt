@@ -2,7 +2,7 @@
 use Rattle.std.proofs.Common.{◌≡◌, ◌≢◌, ◌⊎◌, inl, inr, ℕ, zero, suc, ◌+◌, ◌<◌, ◌≤◌, List, [], ◌∷◌, ◌++◌, length, Some, None, refl, sym, ◌∙◌, subst, ⊎_elim, arith}
 use Rattle.std.proofs.lemmas.List.{append-nil}
 use Rattle.call_fs.specs.Disk.{Disk}
-use Rattle.mem_fs.specs.MemDisk.{Planned}
+use Rattle.crash_fs.specs.Crash.{Crash}
 use Rattle.mail_world.specs.declared.error.WorldError.{WorldError}
 use Rattle.mail_world.specs.declared.error.WorldError.TheVariants as error
 use Rattle.mail_world.specs.History.{Event, IsLiving, after}
@@ -49,17 +49,17 @@ doesn't_wait (error.Past now) r is waits e = let both = sym is ∙ e in absurd (
 doesn't_wait error.Memory r is waits e = absurd is
 
 -- So many steps were made, and the actor lives.
-pub record HasRun (d : Disk) (h : List Event) (a : List ℕ) (w : Seen Planned) (steps : ℕ) : Type 0 where
+pub record HasRun (d : Disk) (h : List Event) (a : List ℕ) (w : Seen Crash) (steps : ℕ) : Type 0 where
   pub events : List Event
   pub are_steps : AreSteps d h a events
   pub count : length events ≡ steps
   pub playing : IsPlaying d w (events ++ h)
   pub living : (steps ≡ 0) ⊎ IsLiving (after d (events ++ h)) a
 
-abbrev pub run_begins : (d : Disk) (h : List Event) (a : List ℕ) (w : Seen Planned) → IsPlaying d w h → HasRun d h a w 0
+abbrev pub run_begins : (d : Disk) (h : List Event) (a : List ℕ) (w : Seen Crash) → IsPlaying d w h → HasRun d h a w 0
 run_begins d h a w playing = record { events = []; are_steps = tt; count = refl; playing = playing; living = inl refl }
 
-abbrev pub run_goes_on : (d : Disk) (h : List Event) (a : List ℕ) (w v : Seen Planned) (n : ℕ) (run : HasRun d h a w n) → HasStepped d v a None (run.events ++ h) → HasRun d h a v (n + 1)
+abbrev pub run_goes_on : (d : Disk) (h : List Event) (a : List ℕ) (w v : Seen Crash) (n : ℕ) (run : HasRun d h a w n) → HasStepped d v a None (run.events ++ h) → HasRun d h a v (n + 1)
 run_goes_on d h a w v n run step = record {
   events = step.event ∷ run.events;
   are_steps = (run.are_steps, step.steps);
@@ -74,7 +74,7 @@ over_text : (n : ℕ) (a : List ℕ) → 1 ≤ n → [] ≡ stop_text n Refusal.
 over_text zero a some = absurd (omega arith)
 over_text (suc n) a some = refl
 
-pub run_ends : (d : Disk) (h : List Event) (a : List ℕ) (w v : Seen Planned) (n : ℕ) (text : List ℕ) (status : ℕ) (run : HasRun d h a w n) → n < most_steps
+pub run_ends : (d : Disk) (h : List Event) (a : List ℕ) (w v : Seen Crash) (n : ℕ) (text : List ℕ) (status : ℕ) (run : HasRun d h a w n) → n < most_steps
     → HasStepped d v a (Some status) (run.events ++ h) → HasPlayed d v (line.Run a) text text h
 run_ends d h a w v n text status run within step = record {
   events = step.event ∷ run.events;
@@ -97,7 +97,7 @@ refusal_text zero Refusal.Past a none other = refl
 refusal_text zero Refusal.Steps a none other = refl
 refusal_text (suc n) r a none other = absurd (omega arith)
 
-pub run_refused : (d : Disk) (h : List Event) (a : List ℕ) (w : Seen Planned) (n : ℕ) (text : List ℕ) (why : WorldError) (r : Refusal) (run : HasRun d h a w n) → n < most_steps
+pub run_refused : (d : Disk) (h : List Event) (a : List ℕ) (w : Seen Crash) (n : ℕ) (text : List ℕ) (why : WorldError) (r : Refusal) (run : HasRun d h a w n) → n < most_steps
     → IsRefusedAs why d a (run.events ++ h) → IsRefusalOf why r → ((name : List ℕ) → why ≢ error.NotWaiting name) → HasPlayed d w (line.Run a) text (text ++ refused r a) h
 run_refused d h a w n text why r run within seen is waits =
     let refuses : StepsTo (after d (run.events ++ h)) a (Is r) = refused_with why r d a (run.events ++ h) seen is in
@@ -118,7 +118,7 @@ run_refused d h a w n text why r run within seen is waits =
 not_gone : Refusal.Gone ≢ Refusal.NotWaiting
 not_gone e = absurd (cc)
 
-pub run_full : (d : Disk) (h : List Event) (a : List ℕ) (w : Seen Planned) (n : ℕ) (text : List ℕ) (run : HasRun d h a w n) → n ≡ most_steps
+pub run_full : (d : Disk) (h : List Event) (a : List ℕ) (w : Seen Crash) (n : ℕ) (text : List ℕ) (run : HasRun d h a w n) → n ≡ most_steps
     → HasPlayed d w (line.Run a) text (text ++ refused Refusal.Steps a) h
 run_full d h a w n text run full = record {
   events = run.events;

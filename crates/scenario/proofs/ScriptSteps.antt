@@ -11,7 +11,7 @@ use Rattle.call_fs.specs.declared.program.Ready.{Ready}
 use Rattle.call_fs.specs.Disk.{Disk}
 use Rattle.call_fs.specs.Program.{Due}
 use Rattle.call_fs.specs.Steady.{IsSteadyAnswer}
-use Rattle.mem_fs.specs.MemDisk.{Planned, disk_of}
+use Rattle.crash_fs.specs.Crash.{Crash, crash_disk, IsQuiet}
 use Rattle.call_fs.proofs.Maps.{put_at_same}
 use Rattle.mail_world.specs.declared.event.Event.{Event as Kept}
 use Rattle.mail_world.specs.declared.event.Event.TheVariants as kept
@@ -46,7 +46,7 @@ call_told a p ready call got (Call b q r c n w) told = (w, cc)
 call_told a p ready call got (End b q r status) told = absurd (cc)
 call_told a p ready call got (Stop b) told = absurd (cc)
 call_told a p ready call got (Moment m) told = absurd (cc)
-call_told a p ready call got (Halt contents) told = absurd told
+call_told a p ready call got (Halt how contents) told = absurd (cc)
 
 end_told : (a : List ℕ) (p : ℕ) (ready : Ready) (status : ℕ) (e : Event) → Tells (kept.End a p ready status) e → e ≡ End a p ready status
 end_told a p ready status (Start b program) told = absurd (cc)
@@ -54,7 +54,7 @@ end_told a p ready status (Call b q r c n w) told = absurd (cc)
 end_told a p ready status (End b q r other) told = cc
 end_told a p ready status (Stop b) told = absurd (cc)
 end_told a p ready status (Moment m) told = absurd (cc)
-end_told a p ready status (Halt contents) told = absurd told
+end_told a p ready status (Halt how contents) told = absurd (cc)
 
 pub start_told : (a : List ℕ) (program : Program) (e : Event) → Tells (kept.Start a program) e → e ≡ Start a program
 start_told a program (Start b other) told = cc
@@ -62,7 +62,7 @@ start_told a program (Call b q r c n w) told = absurd (cc)
 start_told a program (End b q r status) told = absurd (cc)
 start_told a program (Stop b) told = absurd (cc)
 start_told a program (Moment m) told = absurd (cc)
-start_told a program (Halt contents) told = absurd told
+start_told a program (Halt how contents) told = absurd (cc)
 
 pub stop_told : (a : List ℕ) (e : Event) → Tells (kept.Stop a) e → e ≡ Stop a
 stop_told a (Start b program) told = absurd (cc)
@@ -70,7 +70,7 @@ stop_told a (Call b q r c n w) told = absurd (cc)
 stop_told a (End b q r status) told = absurd (cc)
 stop_told a (Stop b) told = cc
 stop_told a (Moment m) told = absurd (cc)
-stop_told a (Halt contents) told = absurd told
+stop_told a (Halt how contents) told = absurd (cc)
 
 pub moment_told : (m : ℕ) (e : Event) → Tells (kept.Moment m) e → e ≡ Moment m
 moment_told m (Start b program) told = absurd (cc)
@@ -78,7 +78,7 @@ moment_told m (Call b q r c n w) told = absurd (cc)
 moment_told m (End b q r status) told = absurd (cc)
 moment_told m (Stop b) told = absurd (cc)
 moment_told m (Moment n) told = cc
-moment_told m (Halt contents) told = absurd told
+moment_told m (Halt how contents) told = absurd (cc)
 
 -- What a living actor does next
 
@@ -139,6 +139,7 @@ call_steps o d d' events p h a call got e was memory steady is =
         is = record {
           legal = (was.legal, may);
           told = told_by events k (Call a p input_ready call got w) f h refl at_w.told;
+          named = (was.named, tt);
           disk = ap (λ (t : State). t.disk) (sym zero.1) ∙ at_w.disk;
           moment = ap (λ (t : State). t.now) (sym zero.1) ∙ at_w.moment;
         };
@@ -198,16 +199,16 @@ gone_steps o d events p h a at was ends =
     let x = ended_is o h events a at was.legal was.told ends in
     over_gone (after o h) a x.0 x.1 x.2
 
-pub refused_as : {T : Type 0} (r : Result T WorldError) (why : WorldError) (o : Disk) (old : Seen Planned) (a : List ℕ) (h : List Event)
+pub refused_as : {T : Type 0} (r : Result T WorldError) (why : WorldError) (o : Disk) (old : Seen Crash) (a : List ℕ) (h : List Event)
     → IsPlaying o old h → r ≡ Err why → (r ≡ Err error.Unknown → was_started old.events a ≡ false)
     → ((name : List ℕ) (at : ℕ) → r ≡ Err (error.Gone name at) → (name ≡ a) × EndsAt old.events a at)
     → ((name : List ℕ) → r ≢ Err (error.NotWaiting name)) → r ≢ Err error.Taken → ((now : ℕ) → r ≢ Err (error.Past now))
     → IsRefusedAs why o a h
 refused_as r (error.Gone name at) o old a h playing is unknown gone waits taken past =
-    (Gone, refl, gone_steps o (disk_of old.disk.held) old.events old.present h a at playing.is (gone name at is).1)
+    (Gone, refl, gone_steps o (crash_disk old.disk) old.events old.present h a at playing.is (gone name at is).1)
 refused_as r (error.NotWaiting name) o old a h playing is unknown gone waits taken past = absurd (waits name is)
 refused_as r error.Unknown o old a h playing is unknown gone waits taken past =
-    (Unknown, refl, unknown_steps o (disk_of old.disk.held) old.events old.present h a playing.is (unknown is))
+    (Unknown, refl, unknown_steps o (crash_disk old.disk) old.events old.present h a playing.is (unknown is))
 refused_as r error.Taken o old a h playing is unknown gone waits taken past = absurd (taken is)
 refused_as r (error.Past now) o old a h playing is unknown gone waits taken past = absurd (past now is)
 refused_as r error.Memory o old a h playing is unknown gone waits taken past = tt
@@ -220,13 +221,13 @@ moved o d events kept_now p q h same now is = subst (λ (q : ℕ). IsHistory o d
 not_memory : (answer : Answer) → is_memory answer ≡ false → answer ≢ Refused Memory
 not_memory answer is e = let both : true ≡ false = sym (ap is_memory e) ∙ is in absurd (cc)
 
-abbrev pub tells : Planned → Option Disk
-tells m = Some (disk_of m.held)
+abbrev pub tells : Crash → Option Disk
+tells m = Some (crash_disk m)
 
-abbrev pub is_steady : Planned → Type 0
-is_steady m = (m.picks ≡ []) × (m.plan ≡ [])
+abbrev pub is_steady : Crash → Type 0
+is_steady m = IsQuiet m
 
-pub stepped : (o : Disk) (old new : Seen Planned) (a : List ℕ) (ended : Option ℕ) (h : List Event) → IsPlaying o old h
+pub stepped : (o : Disk) (old new : Seen Crash) (a : List ℕ) (ended : Option ℕ) (h : List Event) → IsPlaying o old h
     → IsStep a ended old new → new.present ≡ old.present → GoesOn tells old new
     → StaysSteady is_steady tells old.disk new.disk old.events new.events
     → ((before : List Kept) (newest : Kept) → new.events ≡ before ++ newest ∷ [] → false ≡ lacked_memory newest)
@@ -236,33 +237,31 @@ stepped o old new a None h playing step same goes steady memory =
     let got = step.1 in
     let k : Kept = kept.Call a old.present input_ready call got in
     let next = goes o h playing.is in
-    let stays = steady (playing.picks, playing.plan) in
-    let done = call_steps o (disk_of old.disk.held) (disk_of new.disk.held) old.events old.present h a call got next.0 playing.is
+    let stays = steady playing.quiet in
+    let done = call_steps o (crash_disk old.disk) (crash_disk new.disk) old.events old.present h a call got next.0 playing.is
     (not_memory got.answer (sym (memory old.events k step.2))) (stays.1 k step.2)
-    (moved o (disk_of new.disk.held) new.events (old.events ++ k ∷ []) new.present old.present (next.0 ∷ h) step.2 same next.1) in
+    (moved o (crash_disk new.disk) new.events (old.events ++ k ∷ []) new.present old.present (next.0 ∷ h) step.2 same next.1) in
     record {
       event = done.0.event;
       steps = done.0.steps;
       playing = record {
-        is = moved o (disk_of new.disk.held) (old.events ++ k ∷ []) new.events old.present new.present (done.0.event ∷ h) (sym step.2) (sym same) done.0.is;
-        picks = stays.0.0;
-        plan = stays.0.1;
+        is = moved o (crash_disk new.disk) (old.events ++ k ∷ []) new.events old.present new.present (done.0.event ∷ h) (sym step.2) (sym same) done.0.is;
+        quiet = stays.0;
       };
       over = done.1;
     }
 stepped o old new a (Some status) h playing step same goes steady memory =
     let k : Kept = kept.End a old.present input_ready status in
     let next = goes o h playing.is in
-    let stays = steady (playing.picks, playing.plan) in
-    let done = end_steps o (disk_of old.disk.held) (disk_of new.disk.held) old.events old.present h a status next.0 playing.is
-    (moved o (disk_of new.disk.held) new.events (old.events ++ k ∷ []) new.present old.present (next.0 ∷ h) step same next.1) in
+    let stays = steady playing.quiet in
+    let done = end_steps o (crash_disk old.disk) (crash_disk new.disk) old.events old.present h a status next.0 playing.is
+    (moved o (crash_disk new.disk) new.events (old.events ++ k ∷ []) new.present old.present (next.0 ∷ h) step same next.1) in
     record {
       event = done.0.event;
       steps = done.0.steps;
       playing = record {
-        is = moved o (disk_of new.disk.held) (old.events ++ k ∷ []) new.events old.present new.present (done.0.event ∷ h) (sym step) (sym same) done.0.is;
-        picks = stays.0.0;
-        plan = stays.0.1;
+        is = moved o (crash_disk new.disk) (old.events ++ k ∷ []) new.events old.present new.present (done.0.event ∷ h) (sym step) (sym same) done.0.is;
+        quiet = stays.0;
       };
       over = done.1;
     }

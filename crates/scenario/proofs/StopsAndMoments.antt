@@ -2,16 +2,17 @@
 use Rattle.std.proofs.Common.{◌≡◌, ◌≢◌, ◌⊎◌, inl, inr, ℕ, ◌<◌, List, [], ◌∷◌, ◌++◌, false, Option, Some, refl, sym, ap, subst}
 use Rattle.std.proofs.lemmas.List.{append-nil}
 use Rattle.mail_bytes.specs.Decimal.{digits}
+use Rattle.call_fs.specs.declared.crash_file_system.Survival.{Survival}
 use Rattle.call_fs.specs.Disk.{Disk}
-use Rattle.mem_fs.specs.MemDisk.{Planned, disk_of}
+use Rattle.crash_fs.specs.Crash.{Crash, crash_disk}
 use Rattle.mail_world.specs.declared.error.WorldError.{WorldError}
 use Rattle.mail_world.specs.declared.error.WorldError.TheVariants as error
 use Rattle.mail_world.specs.declared.event.Event.{Event as Kept}
 use Rattle.mail_world.specs.declared.event.Event.TheVariants as kept
 use Rattle.mail_world.specs.History.{Event, Actor, Life, after}
-use Rattle.mail_world.specs.History.Event.{Stop, Moment}
+use Rattle.mail_world.specs.History.Event.{Stop, Moment, Halt}
 use Rattle.mail_world.specs.History.Life.{Alive, Over, Stopped}
-use Rattle.mail_world.specs.World.{Seen, IsHistory, GoesOn, IsStop, Tells, EndsAt, StaysSteady, moment_world, was_started}
+use Rattle.mail_world.specs.World.{Seen, IsHistory, GoesOn, GoesOnWith, IsStop, Tells, EndsAt, StaysSteady, moment_world, was_started}
 use Rattle.mail_world.proofs.Lives.{ended_is}
 use Rattle.scenario.specs.declared.line.Line.TheVariants as line
 use Rattle.scenario.specs.Played.{Refusal, IsRefusalOf, StopsAlive, StopComesTo, refused}
@@ -20,19 +21,18 @@ use Rattle.scenario.specs.Playing.{IsPlaying, HasPlayed}
 use Rattle.scenario.proofs.ScriptSteps.{last_told, stop_told, moment_told, moved, never_started, tells, is_steady}
 
 -- one event more in the world, told by the one that was kept
-abbrev pub one_more : (d : Disk) (old new : Seen Planned) (k : Kept) (e : Event) (p : ℕ) (h : List Event) → IsPlaying d old h → GoesOn tells old new
+abbrev pub one_more : (d : Disk) (old new : Seen Crash) (k : Kept) (e : Event) (p : ℕ) (h : List Event) → IsPlaying d old h → GoesOn tells old new
     → StaysSteady is_steady tells old.disk new.disk old.events new.events → new.events ≡ old.events ++ k ∷ [] → new.present ≡ p
     → ((f : Event) → Tells k f → f ≡ e) → IsPlaying d new (e ∷ h)
 one_more d old new k e p h playing goes steady events present told =
     let next = goes d h playing.is in
-    let stays = steady (playing.picks, playing.plan) in
-    let is : IsHistory d (disk_of new.disk.held) (old.events ++ k ∷ []) p (next.0 ∷ h) =
-    moved d (disk_of new.disk.held) new.events (old.events ++ k ∷ []) new.present p (next.0 ∷ h) events present next.1 in
+    let stays = steady playing.quiet in
+    let is : IsHistory d (crash_disk new.disk) (old.events ++ k ∷ []) p (next.0 ∷ h) =
+    moved d (crash_disk new.disk) new.events (old.events ++ k ∷ []) new.present p (next.0 ∷ h) events present next.1 in
     let same : next.0 ≡ e = told next.0 (last_told old.events k next.0 h is.told) in
     record {
-      is = subst (λ (e : Event). IsHistory d (disk_of new.disk.held) new.events new.present (e ∷ h)) same next.1;
-      picks = stays.0.0;
-      plan = stays.0.1;
+      is = subst (λ (e : Event). IsHistory d (crash_disk new.disk) new.events new.present (e ∷ h)) same next.1;
+      quiet = stays.0;
     }
 
 -- Stops
@@ -50,7 +50,7 @@ is_gone a o x is over = subst (λ (o : Option Actor). StopComesTo a o (Is Refusa
   by_life (Over status) over = refl
   by_life Stopped over = refl
 
-pub stop_played : (d : Disk) (old new : Seen Planned) (a text : List ℕ) (h : List Event) → IsPlaying d old h → IsStop a old new → GoesOn tells old new
+pub stop_played : (d : Disk) (old new : Seen Crash) (a text : List ℕ) (h : List Event) → IsPlaying d old h → IsStop a old new → GoesOn tells old new
     → StaysSteady is_steady tells old.disk new.disk old.events new.events → HasPlayed d new (line.Stop a) text text h
 stop_played d old new a text h playing stop goes steady =
     let now : IsPlaying d new (Stop a ∷ h) = one_more d old new (kept.Stop a) (Stop a) old.present h playing goes steady stop.0 stop.1 (stop_told a) in
@@ -64,18 +64,18 @@ stop_played d old new a text h playing stop goes steady =
     }
 
 -- what a refused stop comes to
-stop_comes : (d : Disk) (w : Seen Planned) (a : List ℕ) (why : WorldError) (r : Refusal) (h : List Event) → IsPlaying d w h → IsRefusalOf why r
+stop_comes : (d : Disk) (w : Seen Crash) (a : List ℕ) (why : WorldError) (r : Refusal) (h : List Event) → IsPlaying d w h → IsRefusalOf why r
     → (why ≡ error.Unknown → was_started w.events a ≡ false) → ((name : List ℕ) (at : ℕ) → why ≡ error.Gone name at → EndsAt w.events a at)
     → (why ≡ error.Unknown) ⊎ ((name : List ℕ) × (at : ℕ) × (why ≡ error.Gone name at)) → StopComesTo a ((after d h).actors a) (Is r)
 stop_comes d w a why r h playing is unknown gone (inl e) =
     subst (λ r. StopComesTo a ((after d h).actors a) (Is r)) (sym (subst (λ why. IsRefusalOf why r) e is))
-    (subst (λ (o : Option Actor). StopComesTo a o (Is Refusal.Unknown)) (sym (never_started d (disk_of w.disk.held) w.events w.present h a playing.is (unknown e))) refl)
+    (subst (λ (o : Option Actor). StopComesTo a o (Is Refusal.Unknown)) (sym (never_started d (crash_disk w.disk) w.events w.present h a playing.is (unknown e))) refl)
 stop_comes d w a why r h playing is unknown gone (inr e) =
     let x = ended_is d h w.events a e.1 playing.is.legal playing.is.told (gone e.0 e.1 e.2) in
     subst (λ r. StopComesTo a ((after d h).actors a) (Is r)) (sym (subst (λ why. IsRefusalOf why r) e.2 is))
     (is_gone a ((after d h).actors a) x.0 x.1 x.2)
 
-pub stop_refused : (d : Disk) (w : Seen Planned) (a text : List ℕ) (why : WorldError) (r : Refusal) (h : List Event) → IsPlaying d w h → IsRefusalOf why r
+pub stop_refused : (d : Disk) (w : Seen Crash) (a text : List ℕ) (why : WorldError) (r : Refusal) (h : List Event) → IsPlaying d w h → IsRefusalOf why r
     → (why ≡ error.Unknown → was_started w.events a ≡ false) → ((name : List ℕ) (at : ℕ) → why ≡ error.Gone name at → EndsAt w.events a at)
     → (why ≡ error.Unknown) ⊎ ((name : List ℕ) × (at : ℕ) × (why ≡ error.Gone name at)) → HasPlayed d w (line.Stop a) text (text ++ refused r a) h
 stop_refused d w a text why r h playing is unknown gone only = record {
@@ -86,13 +86,28 @@ stop_refused d w a text why r h playing is unknown gone only = record {
   text = refl;
 }
 
+-- Machine stops
+
+pub halt_played : (d : Disk) (old new : Seen Crash) (how : Survival) (text : List ℕ) (h : List Event) → IsPlaying d old h → GoesOnWith tells how old new
+    → StaysSteady is_steady tells old.disk new.disk old.events new.events → HasPlayed d new (line.Halt how) text text h
+halt_played d old new how text h playing goes steady =
+    let next = goes d h playing.is in
+    let named = next.1.named.1 in
+    record {
+      events = Halt how next.0 ∷ [];
+      own = [];
+      plays = (named.0, named.1, ap (λ (contents : ℕ → List ℕ). Halt how contents ∷ []) named.2, refl);
+      playing = record { is = next.1; quiet = (steady playing.quiet).0 };
+      text = sym (append-nil text);
+    }
+
 -- Moments
 
-pub moment_came : (d : Disk) (old new : Seen Planned) (m : ℕ) (text : List ℕ) (h : List Event) → IsPlaying d old h → new ≡ moment_world old m → GoesOn tells old new
+pub moment_came : (d : Disk) (old new : Seen Crash) (m : ℕ) (text : List ℕ) (h : List Event) → IsPlaying d old h → new ≡ moment_world old m → GoesOn tells old new
     → StaysSteady is_steady tells old.disk new.disk old.events new.events → HasPlayed d new (line.Moment m) text text h
 moment_came d old new m text h playing came goes steady =
     let now : IsPlaying d new (Moment m ∷ h) =
-    one_more d old new (kept.Moment m) (Moment m) m h playing goes steady (ap (λ (w : Seen Planned). w.events) came) (ap (λ (w : Seen Planned). w.present) came) (moment_told m) in
+    one_more d old new (kept.Moment m) (Moment m) m h playing goes steady (ap (λ (w : Seen Crash). w.events) came) (ap (λ (w : Seen Crash). w.present) came) (moment_told m) in
     record {
       events = Moment m ∷ [];
       own = [];
@@ -101,7 +116,7 @@ moment_came d old new m text h playing came goes steady =
       text = sym (append-nil text);
     }
 
-pub moment_refused : (d : Disk) (w : Seen Planned) (m : ℕ) (text : List ℕ) (h : List Event) → IsPlaying d w h → m < w.present
+pub moment_refused : (d : Disk) (w : Seen Crash) (m : ℕ) (text : List ℕ) (h : List Event) → IsPlaying d w h → m < w.present
     → HasPlayed d w (line.Moment m) text (text ++ refused Refusal.Past (digits w.present)) h
 moment_refused d w m text h playing earlier =
     let present = playing.is.moment in

@@ -5,7 +5,7 @@ use Rattle.std.specs.List.{AllZip}
 use Rattle.std.proofs.lemmas.List.{length-reverse, reverse-append, reverse-reverse, append-nil, take_more}
 use Rattle.std.proofs.lemmas.Grind.{flat_map-append}
 use Rattle.call_fs.specs.Disk.{Disk}
-use Rattle.mem_fs.specs.MemDisk.{Planned}
+use Rattle.crash_fs.specs.Crash.{Crash}
 use Rattle.mail_world.specs.declared.event.Event.{Event as Kept}
 use Rattle.mail_world.specs.History.{Event}
 use Rattle.mail_world.specs.World.{Seen, Tells}
@@ -89,7 +89,7 @@ lines_more events i event start old new inside is before one happened told =
     ∙ ap (λ t. start ++ t) (sym lines)
 
 -- what is printed of a line where events are traced
-abbrev pub traced_lines : (d : Disk) (old new : Seen Planned) (line : Line) (own text : List ℕ) (h : List Event) → IsPlaying d old h → HasPlayed d new line [] own h
+abbrev pub traced_lines : (d : Disk) (old new : Seen Crash) (line : Line) (own text : List ℕ) (h : List Event) → IsPlaying d old h → HasPlayed d new line [] own h
     → ((added : List Event) → length old.events ≤ length new.events → AllZip Tells (drop (length old.events) new.events) added → text ≡ flat_map event_line added ++ own)
     → HasPrinted d new true line text h
 traced_lines d old new line own text h playing played lines = record {

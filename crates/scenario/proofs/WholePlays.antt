@@ -9,7 +9,7 @@ use Rattle.mem_fs.specs.MemDisk.{bytes_at}
 use Rattle.queue_inject.specs.declared.injection.Arguments.{Arguments}
 use Rattle.mail_world.specs.declared.event.Program.TheVariants.{Injector}
 use Rattle.mail_world.specs.History.{Event, Actor, Life, State, Legal, next_of, after}
-use Rattle.mail_world.specs.History.Event.{Start, Call, End, Stop, Moment}
+use Rattle.mail_world.specs.History.Event.{Start, Call, End, Stop, Moment, Halt}
 use Rattle.mail_world.specs.History.Life.{Alive, Over, Stopped}
 use Rattle.mail_world.specs.MailNames.{IsMailName, IsLetter, IsLetterOrDigit, members}
 use Rattle.mail_world.specs.World.{input_ready, mail}
@@ -24,11 +24,14 @@ use Rattle.scenario.specs.Played.Refusal.{Unknown, Gone, NotWaiting, Taken, Past
 use Rattle.scenario.specs.Shown.{IsShown, pid_line, number_line, all_mail_lines}
 use Rattle.scenario.specs.Traced.{traced_after, traced_text}
 use Rattle.scenario.specs.Text.{IsPlayed, Prints, BeginsToPrint, BeginsAtMost, IsFront, IsFrontAtMost}
-use Rattle.scenario.proofs.Carried.{Carries, Goes, goes_on, goes_started, goes_stopped, goes_moment}
+use Rattle.scenario.proofs.Carried.{Carries, Goes, goes_on, goes_started, goes_stopped, goes_moment, goes_halted}
 use Rattle.scenario.proofs.FiniteDisks.{finite_empty}
 use Rattle.scenario.proofs.Decided.{Decided, both, either, neither, each, up_to, listed, same_text, some_or_none}
 use Rattle.scenario.proofs.GivenAnswers.{IsGiven, next_given}
-use Rattle.scenario.proofs.Listings.{names_in, numbers_in}
+use Rattle.scenario.proofs.Listings.{names_in, numbers_in, numbers_named}
+use Rattle.scenario.proofs.LastingFiles.{lasting_empty}
+use Rattle.mem_fs.proofs.Survivors.{Lasts}
+use Rattle.call_fs.specs.Choices.{contents_by}
 use Rattle.scenario.proofs.ScriptLines.{first_opens, first_disk}
 use Rattle.scenario.proofs.ScriptSteps.{alive_waits}
 use Rattle.scenario.proofs.Showings.{safe_pending}
@@ -200,6 +203,10 @@ plays_line d h (line.Run a) so = let r = runs d h a so in (r.events, r.text, r.r
 plays_line d h (line.Stop a) so =
     let comes = stop_comes a ((after d h).actors a) in
     (added comes.0, printed a comes.0, (comes.0, comes.1, refl, refl))
+plays_line d h (line.Halt how) so =
+    let now = (after d h).disk in
+    let named = numbers_named now so.carries.finite in
+    (Halt how (contents_by how now named.0) ∷ [], [], (named.0, named.1, refl, refl))
 plays_line d h (line.Moment m) so =
     let now = (after d h).now in
     let comes = moment_comes now m in
@@ -255,6 +262,7 @@ HasMoment (line.Mail name message envelope) = Unit {0}
 HasMoment (line.Step a) = Unit {0}
 HasMoment (line.Run a) = Unit {0}
 HasMoment (line.Stop a) = Unit {0}
+HasMoment (line.Halt how) = Unit {0}
 HasMoment (line.Moment m) = IsMoment m
 HasMoment line.Trace = Unit {0}
 HasMoment (line.Cat path) = Unit {0}
@@ -269,6 +277,7 @@ has_moment text (line.Mail name message envelope) is = tt
 has_moment text (line.Step a) is = tt
 has_moment text (line.Run a) is = tt
 has_moment text (line.Stop a) is = tt
+has_moment text (line.Halt how) is = tt
 has_moment text (line.Moment m) is = is.1
 has_moment text line.Trace is = tt
 has_moment text (line.Cat path) is = tt
@@ -293,6 +302,8 @@ line_kept d h (line.Step a) events text so fits plays =
 line_kept d h (line.Run a) events text so fits plays = steps_kept d h a events so plays.are_steps
 line_kept d h (line.Stop a) events text so fits plays =
     same_events d h events (added plays.0) plays.2 (stop_kept d h a ((after d h).actors a) plays.0 so refl plays.1)
+line_kept d h (line.Halt how) events text so fits plays =
+    same_events d h events (Halt how (contents_by how (after d h).disk plays.0) ∷ []) plays.2 (goes_halted d h how plays.0 so)
 line_kept d h (line.Moment m) events text so fits plays =
     same_events d h events (added plays.0) plays.2 (moment_kept d h m plays.0 so fits plays.1)
 line_kept d h line.Trace events text so fits plays = same_events d h events [] plays.0 so
@@ -350,6 +361,7 @@ goes_first d first = record {
   legal = first_opens d first;
   carries = record {
     finite = finite_empty d first.empty first.shut;
+    lasting = λ n. subst Lasts (sym (first.fresh n)) (lasting_empty 0);
     needs = λ a x is lives. absurd (cc);
     in_order = λ a x is. absurd (cc);
   };

@@ -1,5 +1,5 @@
 -- How the injectors fare, by the events that a world kept.
-use Rattle.std.specs.Prelude.{ℕ, List, [], ◌∷◌, ◌++◌, length, take, Bool, true, false, codes, bytes_eq, if◌then◌else◌}
+use Rattle.std.specs.Prelude.{ℕ, List, [], ◌∷◌, ◌++◌, length, reverse, take, Bool, true, false, codes, bytes_eq, if◌then◌else◌}
 use Rattle.std.specs.Option.{unwrap_or}
 use Rattle.std.specs.Ordering.{nat_cmp}
 use Rattle.std.specs.BTreeMap.{get_by}
@@ -16,6 +16,7 @@ use Rattle.mail_world.specs.declared.event.Event.TheVariants as kept
 use Rattle.mail_world.specs.declared.event.Program.TheVariants.{Injector}
 use Rattle.mail_world.specs.History.{Life}
 use Rattle.mail_world.specs.History.Life.{Alive, Over, Stopped}
+use Rattle.mail_world.specs.World.{was_started}
 use Rattle.scenario.specs.declared.fates.Fate.{Fate}
 use Rattle.scenario.specs.declared.fates.Fates.{Fates}
 use Rattle.scenario.specs.declared.fates.Life.{Life as ToldLife}
@@ -47,18 +48,29 @@ accepted fate = record { life = fate.life; accepted = true }
 abbrev pub left_as : ToldLife → Fate → Fate
 left_as life fate = record { life = life; accepted = fate.accepted }
 
--- the fates after one event more
-abbrev pub fate_by : Kept → (List ℕ → Fate) → List ℕ → Fate
-fate_by (kept.Start a program) fates = fates
-fate_by (kept.Call a read ready call told) fates = if queues call told.answer then put_at fates a (accepted (fates a)) else fates
-fate_by (kept.End a read ready status) fates = put_at fates a (left_as (told.Ended status) (fates a))
-fate_by (kept.Stop a) fates = put_at fates a (left_as told.Stopped (fates a))
-fate_by (kept.Moment m) fates = fates
+-- the life that a machine stop leaves
+abbrev pub cut_off : ToldLife → ToldLife
+cut_off told.Alive = told.Stopped
+cut_off (told.Ended status) = told.Ended status
+cut_off told.Stopped = told.Stopped
+
+-- the fates that it leaves, where these events were before it
+abbrev pub all_cut_off : List Kept → (List ℕ → Fate) → List ℕ → Fate
+all_cut_off before fates name = if was_started before name then left_as (cut_off (fates name).life) (fates name) else fates name
+
+-- the fates after one event more, where these events were before it
+abbrev pub fate_by : Kept → List Kept → (List ℕ → Fate) → List ℕ → Fate
+fate_by (kept.Start a program) before fates = fates
+fate_by (kept.Call a read ready call told) before fates = if queues call told.answer then put_at fates a (accepted (fates a)) else fates
+fate_by (kept.End a read ready status) before fates = put_at fates a (left_as (told.Ended status) (fates a))
+fate_by (kept.Stop a) before fates = put_at fates a (left_as told.Stopped (fates a))
+fate_by (kept.Moment m) before fates = fates
+fate_by (kept.Halt how) before fates = all_cut_off before fates
 
 -- the fates after these events, the newest event first
 abbrev pub fate_in : List Kept → List ℕ → Fate
 fate_in [] = λ _. no_fate
-fate_in (event ∷ before) = fate_by event (fate_in before)
+fate_in (event ∷ before) = fate_by event (reverse before) (fate_in before)
 
 -- the lines of a mail that fares so
 abbrev pub fate_lines : List ℕ → Fate → Arguments → List ℕ
@@ -72,3 +84,4 @@ start_lines fates (kept.Call a read ready call told) = []
 start_lines fates (kept.End a read ready status) = []
 start_lines fates (kept.Stop a) = []
 start_lines fates (kept.Moment m) = []
+start_lines fates (kept.Halt how) = []

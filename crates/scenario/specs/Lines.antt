@@ -10,7 +10,9 @@ use Rattle.mail_world.specs.MailNames.{IsMailName, members}
 use Rattle.scenario.specs.declared.error.ScriptError.{ScriptError}
 use Rattle.scenario.specs.declared.error.ScriptError.TheVariants as fault
 use Rattle.scenario.specs.declared.line.Line.{Line}
-use Rattle.scenario.specs.declared.line.Line.TheVariants.{Mail, Step, Run, Stop, Moment, Trace, Cat, Show}
+use Rattle.scenario.specs.declared.line.Line.TheVariants.{Mail, Step, Run, Stop, Halt, Moment, Trace, Cat, Show}
+use Rattle.call_fs.specs.declared.crash_file_system.Survival.{Survival}
+use Rattle.call_fs.specs.declared.crash_file_system.Survival.TheVariants.{Keep, Lose, Junk}
 
 -- words, parted by one space: `step`, `a` are `step a`
 abbrev pub joined : List (List ℕ) → List ℕ
@@ -84,6 +86,21 @@ pub record IsRawLine (text name envelope body : List ℕ) : Type 0 where
 abbrev pub envelope_of : List ℕ → List (List ℕ) → List ℕ
 envelope_of sender recipients = records_of sender recipients ++ 0 ∷ []
 
+-- `keep`, `lose`, or `junk` and the seed
+abbrev pub survival_text : Survival → List ℕ
+survival_text Keep = codes "keep"
+survival_text Lose = codes "lose"
+survival_text (Junk seed) = codes "junk" ++ 32 ∷ digits seed
+
+-- the greatest seed of a script
+abbrev pub most_seed : ℕ
+most_seed = 65536
+
+abbrev pub IsSeeded : Survival → Type 0
+IsSeeded Keep = Unit {0}
+IsSeeded Lose = Unit {0}
+IsSeeded (Junk seed) = seed ≤ most_seed
+
 -- Which text is which line. A mail's message is its body; its envelope is that of its sender and recipients, or the
 -- one of a `raw` line. A moment is a decimal text without leading zeros.
 abbrev pub IsLine : List ℕ → Line → Type 0
@@ -93,6 +110,7 @@ IsLine text (Mail name message envelope) =
 IsLine text (Step actor) = (text ≡ joined (codes "step" ∷ actor ∷ [])) × IsActorName actor
 IsLine text (Run actor) = (text ≡ joined (codes "run" ∷ actor ∷ [])) × IsActorName actor
 IsLine text (Stop actor) = (text ≡ joined (codes "stop" ∷ actor ∷ [])) × IsActorName actor
+IsLine text (Halt how) = (text ≡ joined (codes "halt" ∷ survival_text how ∷ [])) × IsSeeded how
 IsLine text (Moment m) = (text ≡ joined (codes "moment" ∷ digits m ∷ [])) × IsMoment m
 IsLine text Trace = text ≡ codes "trace"
 IsLine text (Cat path) = (word : List ℕ) × (text ≡ joined (codes "cat" ∷ word ∷ [])) × StandsFor word path

@@ -9,6 +9,7 @@ use Rattle.call_fs.specs.declared.calls.Told.{Told}
 use Rattle.call_fs.specs.Apply.{Fits, IsReadBy, empty_file}
 use Rattle.call_fs.specs.Disk.{Disk}
 use Rattle.call_fs.specs.Steady.{IsSteadyAnswer}
+use Rattle.call_fs.specs.Choices.{AreNamed, contents_by}
 use Rattle.call_fs.specs.Program.{Due}
 use Rattle.mem_fs.specs.MemDisk.{bytes_at}
 use Rattle.queue_inject.specs.declared.injection.Arguments.{Arguments}
@@ -16,7 +17,7 @@ use Rattle.mail_world.specs.declared.error.WorldError.{WorldError}
 use Rattle.mail_world.specs.declared.error.WorldError.TheVariants as error
 use Rattle.mail_world.specs.declared.event.Program.TheVariants.{Injector}
 use Rattle.mail_world.specs.History.{Event, Life, State, Actor, next_of, after, is_start, queue_dirs}
-use Rattle.mail_world.specs.History.Event.{Start, Call, End, Stop, Moment}
+use Rattle.mail_world.specs.History.Event.{Start, Call, End, Stop, Moment, Halt}
 use Rattle.mail_world.specs.History.Life.{Alive, Over, Stopped}
 use Rattle.mail_world.specs.MailNames.{IsMailName}
 use Rattle.mail_world.specs.World.{input_ready, mail, pid_after}
@@ -173,6 +174,9 @@ Plays d h (line.Step actor) events text =
 Plays d h (line.Run actor) events text = IsRun d h actor events text
 Plays d h (line.Stop actor) events text =
     (outcome : Outcome) × StopComesTo actor ((after d h).actors actor) outcome × (events ≡ added outcome) × (text ≡ printed actor outcome)
+Plays d h (line.Halt how) events text =
+    let now = (after d h).disk in
+    (named : List ℕ) × AreNamed now named × (events ≡ Halt how (contents_by how now named) ∷ []) × (text ≡ [])
 Plays d h (line.Moment m) events text =
     (outcome : Outcome) × MomentComesTo (after d h).now m outcome × (events ≡ added outcome) × (text ≡ printed (digits (after d h).now) outcome)
 Plays d h line.Trace events text = (events ≡ []) × (text ≡ [])

@@ -4,7 +4,7 @@ use Rattle.call_fs.specs.declared.calls.Answer.{Answer}
 use Rattle.call_fs.specs.declared.calls.Answer.TheVariants.{Refused}
 use Rattle.call_fs.specs.declared.calls.FsError.TheVariants.{Memory}
 use Rattle.call_fs.specs.Disk.{Disk}
-use Rattle.mem_fs.specs.MemDisk.{Planned, disk_of}
+use Rattle.crash_fs.specs.Crash.{Crash, crash_disk, IsQuiet}
 use Rattle.mail_world.specs.declared.error.WorldError.{WorldError}
 use Rattle.mail_world.specs.declared.error.WorldError.TheVariants as error
 use Rattle.mail_world.specs.declared.event.Event.{Event as Kept}
@@ -29,12 +29,12 @@ lacked_memory (kept.Call a read ready call told) = is_memory told.answer
 lacked_memory (kept.End a read ready status) = false
 lacked_memory (kept.Stop a) = false
 lacked_memory (kept.Moment m) = false
+lacked_memory (kept.Halt how) = false
 
 -- The world began with this disk, this happened in it, and its disk doesn't fail.
-pub record IsPlaying (d : Disk) (w : Seen Planned) (h : List Event) : Type 0 where
-  pub is : IsHistory d (disk_of w.disk.held) w.events w.present h
-  pub picks : w.disk.picks ≡ []
-  pub plan : w.disk.plan ≡ []
+pub record IsPlaying (d : Disk) (w : Seen Crash) (h : List Event) : Type 0 where
+  pub is : IsHistory d (crash_disk w.disk) w.events w.present h
+  pub quiet : IsQuiet w.disk
 
 -- whether an actor is over after a step that answered so
 abbrev pub IsOverBy : Option ℕ → Disk → List ℕ → List Event → Type 0
@@ -42,7 +42,7 @@ IsOverBy (Some status) d a h = StepsTo (after d h) a (Is Gone)
 IsOverBy None d a h = IsLiving (after d h) a
 
 -- whatever happened before, a step of that actor happened then
-pub record HasStepped (d : Disk) (new : Seen Planned) (a : List ℕ) (ended : Option ℕ) (h : List Event) : Type 0 where
+pub record HasStepped (d : Disk) (new : Seen Crash) (a : List ℕ) (ended : Option ℕ) (h : List Event) : Type 0 where
   pub event : Event
   pub steps : StepsTo (after d h) a (Happens event)
   pub playing : IsPlaying d new (event ∷ h)
@@ -54,7 +54,7 @@ IsRefusedAs error.Memory d a h = Unit {0}
 IsRefusedAs why d a h = (refusal : Refusal) × IsRefusalOf why refusal × StepsTo (after d h) a (Is refusal)
 
 -- what a line added to the history, and to the text
-pub record HasPlayed (d : Disk) (new : Seen Planned) (line : Line) (before after : List ℕ) (h : List Event) : Type 0 where
+pub record HasPlayed (d : Disk) (new : Seen Crash) (line : Line) (before after : List ℕ) (h : List Event) : Type 0 where
   pub events : List Event
   pub own : List ℕ
   pub plays : Plays d h line events own
@@ -62,7 +62,7 @@ pub record HasPlayed (d : Disk) (new : Seen Planned) (line : Line) (before after
   pub text : after ≡ before ++ own
 
 -- what is printed of a line that was played: where events are traced, first those that it added
-pub record HasPrinted (d : Disk) (new : Seen Planned) (traced : Bool) (line : Line) (text : List ℕ) (h : List Event) : Type 0 where
+pub record HasPrinted (d : Disk) (new : Seen Crash) (traced : Bool) (line : Line) (text : List ℕ) (h : List Event) : Type 0 where
   pub own : List ℕ
   pub played : HasPlayed d new line [] own h
   pub text_is : text ≡ traced_text traced played.events ++ own

@@ -31,14 +31,19 @@ keyword_text keyword.Run = codes "run"
 keyword_text keyword.Stop = codes "stop"
 keyword_text keyword.Moment = codes "moment"
 keyword_text keyword.Cat = codes "cat"
+keyword_text keyword.Halt = codes "halt"
 
 abbrev pub keyword_texts : List (List ℕ)
 keyword_texts =
-    codes "mail" ∷ codes "raw" ∷ codes "step" ∷ codes "run" ∷ codes "stop" ∷ codes "moment" ∷ codes "cat" ∷ []
+    codes "mail" ∷ codes "raw" ∷ codes "step" ∷ codes "run" ∷ codes "stop" ∷ codes "moment" ∷ codes "cat" ∷ codes "halt" ∷ []
 
 -- the lines of one word
 abbrev pub lone_texts : List (List ℕ)
 lone_texts = codes "trace" ∷ codes "show" ∷ []
+
+-- the words for what survives a machine stop that have no seed
+abbrev pub survival_words : List (List ℕ)
+survival_words = codes "keep" ∷ codes "lose" ∷ []
 
 -- a word, and the text that it stands for
 pub record IsWritten (word text : List ℕ) : Type 0 where

@@ -80,7 +80,7 @@ is_accepted name ((Start a program) ∷ before) = is_accepted name before
 is_accepted name ((End a read ready status) ∷ before) = is_accepted name before
 is_accepted name ((Stop a) ∷ before) = is_accepted name before
 is_accepted name ((Moment m) ∷ before) = is_accepted name before
-is_accepted name ((Halt contents) ∷ before) = is_accepted name before
+is_accepted name ((Halt how contents) ∷ before) = is_accepted name before
 
 -- `NAME.k pending` for so many recipients, counted from k
 abbrev pub recipient_lines : List ℕ → ℕ → ℕ → List ℕ
@@ -101,7 +101,7 @@ mails_of ((Call a read ready call told wrote) ∷ before) = mails_of before
 mails_of ((End a read ready status) ∷ before) = mails_of before
 mails_of ((Stop a) ∷ before) = mails_of before
 mails_of ((Moment m) ∷ before) = mails_of before
-mails_of ((Halt contents) ∷ before) = mails_of before
+mails_of ((Halt how contents) ∷ before) = mails_of before
 
 abbrev pub all_mail_lines : State → List Event → List ℕ
 all_mail_lines s h = flat_map (λ mail. mail_lines s h mail.0 mail.1 (s.actors mail.0)) (mails_of h)

@@ -27,7 +27,7 @@ pub record Prints (script text : List ℕ) : Type 0 where
 
 -- a text begins with this front
 abbrev pub IsFront : List ℕ → List ℕ → Type 0
-IsFront text whole = (rest : List ℕ) × (whole ≡ text ++ rest)
+IsFront front text = (rest : List ℕ) × (text ≡ front ++ rest)
 
 -- Lines are played as far as they go: this is a front of what the first of them print.
 pub record IsBegun (lines : List Line) (text : List ℕ) : Type 0 where

@@ -9,6 +9,8 @@ use Rattle.call_fs.specs.declared.calls.CallData.{CallData}
 use Rattle.call_fs.specs.declared.calls.CallData.TheVariants.{CreateExcl, Open, ReadAt, WriteAt, Append, Truncate, Sync, Close, Link, Unlink, Stat, NextName}
 use Rattle.call_fs.specs.declared.calls.Answer.{Answer}
 use Rattle.call_fs.specs.declared.calls.Answer.TheVariants as answer
+use Rattle.call_fs.specs.declared.crash_file_system.Survival.{Survival}
+use Rattle.call_fs.specs.declared.crash_file_system.Survival.TheVariants.{Keep, Lose, Junk}
 use Rattle.mail_world.specs.History.{Event}
 use Rattle.mail_world.specs.History.Event.{Start, Call, End, Stop, Moment, Halt}
 use Rattle.scenario.specs.declared.line.Line.{Line}
@@ -65,15 +67,21 @@ answer_text (answer.Name name) = escaped name
 answer_text answer.NoName = codes "none"
 answer_text (answer.Refused why) = refusal_text why
 
--- The line of an event: `ACTOR start`, `ACTOR CALL = ANSWER`, `ACTOR end STATUS`, `ACTOR stop` or `world moment N`. No
--- line of a script halts the machine.
+-- the word for what survives a machine stop
+abbrev pub survival_word : Survival → List ℕ
+survival_word Keep = codes "keep"
+survival_word Lose = codes "lose"
+survival_word (Junk seed) = codes "junk"
+
+-- The line of an event: `ACTOR start`, `ACTOR CALL = ANSWER`, `ACTOR end STATUS`, `ACTOR stop`, `world moment N` or
+-- `world halt WORD`.
 abbrev pub event_line : Event → List ℕ
 event_line (Start a program) = line_of a (codes "start")
 event_line (Call a read ready call told wrote) = line_of a (call_text call told.answer ++ (codes " = " ++ answer_text told.answer))
 event_line (End a read ready status) = line_of a (codes "end " ++ digits status)
 event_line (Stop a) = line_of a (codes "stop")
 event_line (Moment m) = line_of (codes "world") (codes "moment " ++ digits m)
-event_line (Halt contents) = line_of (codes "world") (codes "halt")
+event_line (Halt how contents) = line_of (codes "world") (codes "halt " ++ survival_word how)
 
 -- where events are traced, the lines of these, which are given the newest first, from the oldest on
 abbrev pub traced_text : Bool → List Event → List ℕ
@@ -86,6 +94,7 @@ traced_after traced (line.Mail name message envelope) = traced
 traced_after traced (line.Step actor) = traced
 traced_after traced (line.Run actor) = traced
 traced_after traced (line.Stop actor) = traced
+traced_after traced (line.Halt how) = traced
 traced_after traced (line.Moment m) = traced
 traced_after traced line.Trace = true
 traced_after traced (line.Cat path) = traced

@@ -1,7 +1,7 @@
 // How the injectors of a history fare.
 ghost use Rattle.std.specs.Prelude.{◌≡◌, List, ℕ, IfOk, OnOk, reverse};
 ghost use Rattle.call_fs.specs.Maps.{put_at};
-ghost use Rattle.scenario.specs.Fates.{no_fate, fate_of, fate_in, fate_by, queues};
+ghost use Rattle.scenario.specs.Fates.{no_fate, fate_of, fate_in, fate_by, cut_off, all_cut_off, queues};
 
 use call_fs::{Answer, CallData, Told};
 use mail_bytes::Memory;
@@ -18,6 +18,18 @@ pub enum Life {
     Ended(u8),
     /// It was stopped from outside.
     Stopped,
+}
+
+impl Life {
+    /// The life that a machine stop leaves.
+    fn cut_off(self) -> Life
+        ensures { result ≡ cut_off self }
+    {
+        match self {
+            Life::Alive | Life::Stopped => Life::Stopped,
+            Life::Ended(status) => Life::Ended(status),
+        }
+    }
 }
 
 /// How an injector fares.
@@ -55,8 +67,8 @@ impl Fates {
         let mut fates = Fates {
             map: BTreeMap::new(alloc),
         };
-        for event in events {
-            fates.note(alloc, event)?;
+        for (index, event) in events.iter().enumerate() {
+            fates.note(alloc, event, &events[..index])?;
         }
         Ok(fates)
     }
@@ -71,9 +83,10 @@ impl Fates {
         }
     }
 
-    /// Takes one event more into account.
-    fn note(&mut self, alloc: Global, event: &Event) -> Result<(), Memory>
-        ensures { OnOk result ((name : List ℕ) → fate_of self.new name ≡ fate_by event.now (fate_of self.old) name) }
+    /// Takes one event more into account, where these were before it.
+    fn note(&mut self, alloc: Global, event: &Event, before: &[Event]) -> Result<(), Memory>
+        ensures { OnOk result ((name : List ℕ)
+            → fate_of self.new name ≡ fate_by event.now before.now (fate_of self.old) name) }
     {
         match event {
             Event::Call {
@@ -96,8 +109,24 @@ impl Fates {
                 fate.life = Life::Stopped;
                 self.put(alloc, actor.as_slice(), fate)
             }
+            Event::Halt { .. } => self.cut_off_all(alloc, before),
             Event::Start { .. } | Event::Call { .. } | Event::Moment { .. } => Ok(()),
         }
+    }
+
+    /// Takes a machine stop into account: each injector that these events started is over.
+    fn cut_off_all(&mut self, alloc: Global, before: &[Event]) -> Result<(), Memory>
+        ensures { OnOk result ((name : List ℕ)
+            → fate_of self.new name ≡ all_cut_off before.now (fate_of self.old) name) }
+    {
+        for event in before {
+            if let Event::Start { actor, .. } = event {
+                let mut fate = self.find(actor.as_slice());
+                fate.life = fate.life.cut_off();
+                self.put(alloc, actor.as_slice(), fate)?;
+            }
+        }
+        Ok(())
     }
 
     /// Changes the fate of the injector of this name.

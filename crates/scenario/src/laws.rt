@@ -2,7 +2,7 @@
 ghost use Rattle.std.specs.Prelude.{◌≡◌, List, ℕ};
 ghost use Rattle.scenario.specs.declared.line.Line.{Line};
 ghost use Rattle.scenario.specs.Lines.{IsScript};
-ghost use Rattle.scenario.specs.Text.{Prints, BeginsToPrint, IsFront};
+ghost use Rattle.scenario.specs.Text.{IsPlayed, Prints, BeginsToPrint, IsFront};
 
 /// Each script prints a text, and what it begins to print is a front of one.
 pub fn has_text()
@@ -12,8 +12,10 @@ pub fn has_text()
         → (whole : List ℕ) × Prints script whole × IsFront begun whole }
 {}
 
-/// A script prints one text, and what it begins to print is a front of that.
+/// Lines make one history, and a script prints one text; what it begins to print is a front of that.
 pub fn one_text()
+    ensures history { (lines : List Line) (t u : List ℕ) (p : IsPlayed lines t) (q : IsPlayed lines u)
+        → p.history ≡ q.history }
     ensures one { (script a b : List ℕ) → Prints script a → Prints script b → a ≡ b }
     ensures front { (script begun whole : List ℕ) → BeginsToPrint script begun → Prints script whole
         → IsFront begun whole }

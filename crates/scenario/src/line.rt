@@ -1,6 +1,7 @@
 // A line of a script.
 
 use crate::Moment;
+use call_fs::Survival;
 use mail_bytes::ByteText;
 use mail_world::ActorName;
 
@@ -22,6 +23,8 @@ pub enum Line {
     Run(ActorName),
     /// `stop`: ends this actor from outside.
     Stop(ActorName),
+    /// `halt`: the machine stops, and this survives of the files.
+    Halt(Survival),
     /// `moment`: sets the present moment, which never falls.
     Moment(Moment),
     /// `trace`: from then on each event is printed.

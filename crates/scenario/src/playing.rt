@@ -17,11 +17,11 @@ use crate::queue_dirs::first_disk;
 use crate::showing::{cat, show};
 use crate::tracing::{put_events_behind, traced_after};
 use crate::{Line, Moment, PlayError, Script};
-use call_fs::{Answer, FsError};
+use call_fs::{Answer, FsError, Survival};
+use crash_fs::CrashDisk;
 use mail_bytes::Memory;
 use mail_world::laws::headline;
 use mail_world::{ActorName, Event, History, World, WorldError};
-use mem_fs::MemFs;
 use outside::{Gave, Sink};
 use std::alloc::{AllocError, Global};
 
@@ -67,7 +67,7 @@ fn give<O: Sink>(out: &mut O, text: &[u8]) -> Result<(), PlayError>
 /// Plays one line, and gives what is printed of it: where events are traced those that it added, then its own text.
 fn printed(
     alloc: Global,
-    world: &mut World<MemFs>,
+    world: &mut World<CrashDisk>,
     traced: bool,
     line: &Line,
 ) -> Result<Vec<u8>, Memory>
@@ -89,7 +89,7 @@ fn printed(
 /// Plays one line, and puts what it prints at the end of a text.
 fn play_line(
     alloc: Global,
-    world: &mut World<MemFs>,
+    world: &mut World<CrashDisk>,
     line: &Line,
     text: &mut Vec<u8>,
 ) -> Result<(), Memory>
@@ -114,6 +114,7 @@ fn play_line(
             Ok(()) => Ok(()),
             Err(why) => refuse(text, why, actor),
         },
+        Line::Halt(how) => halt(alloc, world, *how),
         Line::Moment(moment) => set_moment(world, *moment, text),
         Line::Trace => Ok(()),
         Line::Cat(path) => cat(alloc, world.disk(), path.as_slice(), text),
@@ -125,7 +126,7 @@ fn play_line(
 /// play is over, since a script plays on ample memory.
 fn step(
     alloc: Global,
-    world: &mut World<MemFs>,
+    world: &mut World<CrashDisk>,
     actor: &ActorName,
 ) -> Result<Option<u8>, WorldError>
     ensures ok { IfOk result (λ ended. (d : Disk) (h : List Happening) → IsPlaying d world.old h
@@ -160,14 +161,14 @@ fn lacked_memory(event: &Event) -> bool
     match event {
         Event::Call { told, .. } => matches!(told.answer, Answer::Refused(FsError::Memory)),
         Event::Start { .. } | Event::End { .. } => false,
-        Event::Stop { .. } | Event::Moment { .. } => false,
+        Event::Stop { .. } | Event::Moment { .. } | Event::Halt { .. } => false,
     }
 }
 
 /// Makes steps of an actor until it ends or waits, and puts the line of a refusal at the end of a text.
 fn run(
     alloc: Global,
-    world: &mut World<MemFs>,
+    world: &mut World<CrashDisk>,
     actor: &ActorName,
     text: &mut Vec<u8>,
 ) -> Result<(), Memory>
@@ -185,8 +186,21 @@ fn run(
     put_refusal(text, b"steps", actor)
 }
 
+/// The machine stops. Nothing is printed.
+fn halt(alloc: Global, world: &mut World<CrashDisk>, how: Survival) -> Result<(), Memory>
+    ensures { OnOk result ((d : Disk) (h : List Happening) (text : List ℕ) → IsPlaying d world.old h
+        → HasPlayed d world.new (LineOf.Halt how) text text h) }
+{
+    world.halt(alloc, how)?;
+    Ok(())
+}
+
 /// Sets the moment, or puts the line of its refusal at the end of a text.
-fn set_moment(world: &mut World<MemFs>, moment: Moment, text: &mut Vec<u8>) -> Result<(), Memory>
+fn set_moment(
+    world: &mut World<CrashDisk>,
+    moment: Moment,
+    text: &mut Vec<u8>,
+) -> Result<(), Memory>
     ensures { OnOk result ((d : Disk) (h : List Happening) → IsPlaying d world.old h
         → HasPlayed d world.new (LineOf.Moment moment) text.old.items text.new.items h) }
 {

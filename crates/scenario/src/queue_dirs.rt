@@ -2,10 +2,12 @@
 ghost use Rattle.std.specs.Prelude.{◌≡◌, ◌++◌, ◌∷◌, [], IfOk, OnOk};
 ghost use Rattle.mail_bytes.specs.Decimal.{digits};
 ghost use Rattle.mem_fs.specs.MemDisk.{disk_of, with_held};
+ghost use Rattle.crash_fs.specs.Crash.{crash_disk, IsQuiet};
 ghost use Rattle.mail_world.specs.History.{queue_dirs, splits_of};
 ghost use Rattle.scenario.specs.Played.{IsFirstDisk, with_dirs};
 
 use crate::printing::put_number;
+use crash_fs::CrashDisk;
 use mail_bytes::Memory;
 use mem_fs::MemFs;
 use std::alloc::Global;
@@ -29,8 +31,16 @@ pub fn split_dir(alloc: Global, dir: &[u8], split: u64) -> Result<Vec<u8>, Memor
     Ok(name)
 }
 
-/// The disk that a script begins with.
-pub fn first_disk(alloc: Global) -> Result<MemFs, Memory>
+/// The disk that a script begins with. Nothing of it is chosen to fail.
+pub fn first_disk(alloc: Global) -> Result<CrashDisk, Memory>
+    ensures disk { IfOk result (λ disk. IsFirstDisk (crash_disk disk)) }
+    ensures steady { IfOk result IsQuiet }
+{
+    Ok(CrashDisk::new(memory_disk(alloc)?))
+}
+
+/// Its files and directories.
+fn memory_disk(alloc: Global) -> Result<MemFs, Memory>
     ensures disk { IfOk result (λ disk. IsFirstDisk (disk_of disk.held)) }
     ensures steady { IfOk result (λ disk. (disk.picks ≡ []) × (disk.plan ≡ [])) }
 {

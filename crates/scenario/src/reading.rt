@@ -1,17 +1,19 @@
 // Reading a script.
-ghost use Rattle.std.specs.Prelude.{◌≡◌, ◌≢◌, ◌++◌, ◌∷◌, [], List, ℕ, IfOk, IfErr, IsTrue, ◌↔◌, Contains, Ok, OnOk, OnErr, Some, IfSome, IfNone, codes, flat_map};
+ghost use Rattle.std.specs.Prelude.{◌≡◌, ◌≢◌, ◌++◌, ◌∷◌, [], List, ℕ, IfOk, IfErr, IsTrue, ◌≤◌, ◌↔◌, Contains, Ok, OnOk, OnErr, Some, IfSome, IfNone, codes, flat_map};
 ghost use Rattle.std.specs.Option.{option_copied};
 ghost use Rattle.mail_bytes.specs.Decimal.{digits};
 ghost use Rattle.mail_bytes.specs.Escape.{unescaped};
 ghost use Rattle.call_fs.specs.Disk.{IsMoment};
 ghost use Rattle.envelope_records.specs.Envelope.{record_of};
 ghost use Rattle.scenario.specs.declared.line.Line.{Line};
-ghost use Rattle.scenario.specs.Lines.{IsActorName, IsChildName, IsCount, child_kinds, is_remark, StandsFor, IsLine, IsInGrammar, IsScript, IsScriptFault};
+ghost use Rattle.call_fs.specs.declared.crash_file_system.Survival.{Survival as SurvivalOf};
+ghost use Rattle.scenario.specs.Lines.{IsActorName, IsChildName, IsCount, child_kinds, is_remark, survival_text, most_seed, IsSeeded, StandsFor, IsLine, IsInGrammar, IsScript, IsScriptFault};
 ghost use Rattle.mail_world.specs.MailNames.{IsMailName};
-ghost use Rattle.scenario.specs.Reading.{IsCut, keyword_text, keyword_texts, lone_texts, form_text, IsWritten, IsWrittenText, HasRecipients, HasEnvelope, HasRawEnvelope, HasEnvelopeAs, IsFirstLine, IsRead};
+ghost use Rattle.scenario.specs.Reading.{IsCut, keyword_text, keyword_texts, lone_texts, survival_words, form_text, IsWritten, IsWrittenText, HasRecipients, HasEnvelope, HasRawEnvelope, HasEnvelopeAs, IsFirstLine, IsRead};
 
 use crate::{Line, Moment, Script, ScriptError};
 use bstr::ByteSlice;
+use call_fs::Survival;
 use mail_bytes::{ByteText, EscapeError, decimals_are_exact, undec, unescape};
 use mail_world::{ActorName, is_mail_name, is_member};
 use std::alloc::{AllocError, AllocFailed, Global};
@@ -21,6 +23,9 @@ pub const MAX_SCRIPT: usize = 16_777_216;
 
 /// The most bytes that a line may have, its newline not counted.
 const MAX_LINE: usize = 65_535;
+
+/// The greatest seed of a machine stop.
+const MAX_SEED: u64 = 65_536;
 
 /// Reads a script. `Line(0)` exactly where it has over 16,777,216 bytes; else `Line(k)` for the first line that isn't in
 /// the grammar.
@@ -167,6 +172,7 @@ enum Keyword {
     Stop,
     Moment,
     Cat,
+    Halt,
 }
 
 /// The first word of a line that has more.
@@ -182,6 +188,7 @@ fn keyword_of(word: &[u8]) -> Option<Keyword>
         b"stop" => Some(Keyword::Stop),
         b"moment" => Some(Keyword::Moment),
         b"cat" => Some(Keyword::Cat),
+        b"halt" => Some(Keyword::Halt),
         _ => None,
     }
 }
@@ -199,6 +206,7 @@ fn read_words(alloc: Global, word: &[u8], rest: &[u8]) -> Result<Line, LineError
         Some(Keyword::Stop) => Ok(Line::Stop(read_actor(rest)?)),
         Some(Keyword::Moment) => Ok(Line::Moment(read_moment(rest)?)),
         Some(Keyword::Cat) => Ok(Line::Cat(read_path(alloc, rest)?)),
+        Some(Keyword::Halt) => Ok(Line::Halt(read_survival(rest)?)),
         None => Err(LineError::Malformed),
     }
 }
@@ -264,6 +272,60 @@ fn read_moment(word: &[u8]) -> Result<Moment, LineError>
     match Moment::new(seconds) {
         Some(moment) => Ok(moment),
         None => Err(LineError::Malformed),
+    }
+}
+
+/// Reads what survives a machine stop.
+fn read_survival(words: &[u8]) -> Result<Survival, LineError>
+    ensures ok { IfOk result (λ how. (words.now ≡ survival_text how) × IsSeeded how) }
+    ensures err { OnErr result ((how : SurvivalOf) → IsSeeded how → words.now ≢ survival_text how) }
+{
+    match survival_of(words) {
+        Some(how) => Ok(how),
+        None => Ok(Survival::Junk(read_junk(words)?)),
+    }
+}
+
+/// What survives, by the word for it; None exactly where it is no such word.
+fn survival_of(word: &[u8]) -> Option<Survival>
+    ensures some { IfSome result (λ how. (word.now ≡ survival_text how) × IsSeeded how) }
+    ensures none { IfNone result (¬ (Contains survival_words word.now)) }
+{
+    match word {
+        b"keep" => Some(Survival::Keep),
+        b"lose" => Some(Survival::Lose),
+        _ => None,
+    }
+}
+
+/// Reads `junk` and a seed.
+fn read_junk(words: &[u8]) -> Result<u32, LineError>
+    ensures ok { IfOk result (λ seed. (words.now ≡ codes "junk" ++ 32 ∷ digits seed) × (seed ≤ most_seed)) }
+    ensures err { OnErr result ((seed : ℕ) → seed ≤ most_seed → words.now ≢ codes "junk" ++ 32 ∷ digits seed) }
+{
+    let (word, seed) = first_word(words)?;
+    if !is_junk(word) {
+        return Err(LineError::Malformed);
+    }
+    read_seed(seed)
+}
+
+/// Whether it is the word before a seed.
+fn is_junk(word: &[u8]) -> bool
+    ensures { IsTrue result ↔ (word.now ≡ codes "junk") }
+{
+    matches!(word, b"junk")
+}
+
+/// Reads a seed.
+fn read_seed(word: &[u8]) -> Result<u32, LineError>
+    ensures ok { IfOk result (λ seed. (word.now ≡ digits seed) × (seed ≤ most_seed)) }
+    ensures err { OnErr result ((seed : ℕ) → seed ≤ most_seed → word.now ≢ digits seed) }
+{
+    decimals_are_exact();
+    match undec(word) {
+        Some(seed) if seed <= MAX_SEED => Ok(seed as u32),
+        _ => Err(LineError::Malformed),
     }
 }
 

@@ -2,7 +2,8 @@
 ghost use Rattle.std.specs.Prelude.{◌≡◌, ◌++◌, ◌∷◌, List, ℕ, length, OnOk, codes, flat_map};
 ghost use Rattle.mail_bytes.specs.Decimal.{digits};
 ghost use Rattle.call_fs.specs.Disk.{Disk};
-ghost use Rattle.mem_fs.specs.MemDisk.{disk_of, bytes_at};
+ghost use Rattle.mem_fs.specs.MemDisk.{bytes_at};
+ghost use Rattle.crash_fs.specs.Crash.{crash_disk};
 ghost use Rattle.queue_inject.specs.Texts.{recipients_of};
 ghost use Rattle.mail_world.specs.History.{Event as Happening};
 ghost use Rattle.mail_world.specs.World.{Happened};
@@ -13,11 +14,11 @@ ghost use Rattle.scenario.specs.Fates.{fate_of, life_of, fate_lines, start_lines
 use crate::fates::{Fate, Fates, Life};
 use crate::numbers::{names_of, numbers_of, state_on};
 use crate::printing::{put_escaped, put_line, put_number};
+use crash_fs::CrashDisk;
 use envelope_records::{EnvStep, EnvelopeReader};
 use mail_bytes::Memory;
 use mail_world::queue_states::State;
 use mail_world::{Event, Program, World};
-use mem_fs::MemFs;
 use queue_inject::Arguments;
 use std::alloc::Global;
 
@@ -26,9 +27,9 @@ const ENVELOPE_LIMIT: usize = 1_073_741_824;
 
 /// Puts at the end of a text how many names `pid/` has, the state of each number that isn't in S1, and how each mail
 /// fares. A recipient of an accepted mail is pending: nothing takes a mail out of todo yet.
-pub fn show(alloc: Global, world: &World<MemFs>, text: &mut Vec<u8>) -> Result<(), Memory>
+pub fn show(alloc: Global, world: &World<CrashDisk>, text: &mut Vec<u8>) -> Result<(), Memory>
     ensures { OnOk result ((own : List ℕ) × (text.new.items ≡ text.old.items ++ own)
-        × ((d : Disk) (h : List Happening) → Happened (λ m. Some (disk_of m.held)) d world.now h → IsShown d h own)) }
+        × ((d : Disk) (h : List Happening) → Happened (λ m. Some (crash_disk m)) d world.now h → IsShown d h own)) }
 {
     let pids = names_of(alloc, world.disk(), b"pid")?;
     put_pids(text, pids.len())?;
@@ -40,9 +41,9 @@ pub fn show(alloc: Global, world: &World<MemFs>, text: &mut Vec<u8>) -> Result<(
 }
 
 /// Puts the bytes of the file of a name, or that there is none, at the end of a text.
-pub fn cat(alloc: Global, disk: &MemFs, path: &[u8], text: &mut Vec<u8>) -> Result<(), Memory>
+pub fn cat(alloc: Global, disk: &CrashDisk, path: &[u8], text: &mut Vec<u8>) -> Result<(), Memory>
     ensures { OnOk result (text.new.items ≡ text.old.items
-        ++ cat_line path.now (bytes_at (disk_of disk.now.held) path.now)) }
+        ++ cat_line path.now (bytes_at (crash_disk disk.now) path.now)) }
 {
     put_escaped(alloc, text, path)?;
     let Some(bytes) = disk.bytes_of(path) else {
@@ -55,8 +56,8 @@ pub fn cat(alloc: Global, disk: &MemFs, path: &[u8], text: &mut Vec<u8>) -> Resu
 }
 
 /// Puts the line of each of these numbers at the end of a text.
-fn put_states(text: &mut Vec<u8>, disk: &MemFs, numbers: &[u64]) -> Result<(), Memory>
-    ensures { OnOk result (text.new.items ≡ text.old.items ++ flat_map (number_line (disk_of disk.now.held)) numbers.now) }
+fn put_states(text: &mut Vec<u8>, disk: &CrashDisk, numbers: &[u64]) -> Result<(), Memory>
+    ensures { OnOk result (text.new.items ≡ text.old.items ++ flat_map (number_line (crash_disk disk.now)) numbers.now) }
 {
     for number in numbers {
         put_state(text, *number, state_on(disk, *number))?;
@@ -89,7 +90,7 @@ fn put_mail(text: &mut Vec<u8>, fates: &Fates, event: &Event) -> Result<(), Memo
             arguments,
         ),
         Event::Call { .. } | Event::End { .. } => Ok(()),
-        Event::Stop { .. } | Event::Moment { .. } => Ok(()),
+        Event::Stop { .. } | Event::Moment { .. } | Event::Halt { .. } => Ok(()),
     }
 }
 

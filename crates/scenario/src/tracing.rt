@@ -5,11 +5,11 @@ ghost use Rattle.mail_bytes.specs.Decimal.{digits};
 ghost use Rattle.mail_world.specs.History.{Event as Happening};
 ghost use Rattle.mail_world.specs.World.{Tells};
 ghost use Rattle.scenario.specs.Shown.{line_of};
-ghost use Rattle.scenario.specs.Traced.{with_path, with_descriptor, with_count, call_text, answer_text, refusal_text, count_of, event_line, traced_after};
+ghost use Rattle.scenario.specs.Traced.{with_path, with_descriptor, with_count, call_text, answer_text, refusal_text, count_of, survival_word, event_line, traced_after};
 
 use crate::Line;
 use crate::printing::{put_escaped, put_line, put_number};
-use call_fs::{Answer, CallData, Fd, FsError};
+use call_fs::{Answer, CallData, Fd, FsError, Survival};
 use mail_bytes::Memory;
 use mail_world::{ActorName, Event};
 use std::alloc::Global;
@@ -22,7 +22,7 @@ pub fn traced_after(traced: bool, line: &Line) -> bool
         Line::Trace => true,
         Line::Mail { .. } => traced,
         Line::Step(_) | Line::Run(_) | Line::Stop(_) => traced,
-        Line::Moment(_) | Line::Cat(_) | Line::Show => traced,
+        Line::Halt(_) | Line::Moment(_) | Line::Cat(_) | Line::Show => traced,
     }
 }
 
@@ -70,6 +70,18 @@ fn put_event(alloc: Global, text: &mut Vec<u8>, event: &Event) -> Result<(), Mem
         Event::End { actor, status, .. } => put_end(text, actor, *status),
         Event::Stop { actor } => put_line(text, actor.as_slice(), b"stop"),
         Event::Moment { moment } => put_moment(text, *moment),
+        Event::Halt { how } => put_line(text, b"world", halt_words(*how)),
+    }
+}
+
+/// The words of a machine stop, by what survives it.
+fn halt_words(how: Survival) -> &'static [u8]
+    ensures { result.now ≡ codes "halt " ++ survival_word how }
+{
+    match how {
+        Survival::Keep => b"halt keep",
+        Survival::Lose => b"halt lose",
+        Survival::Junk(_) => b"halt junk",
     }
 }
 

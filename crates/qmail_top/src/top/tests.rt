@@ -1,3 +1,5 @@
+mod queue;
+
 use crate::qmail;
 use mail_bytes::ByteText;
 use mem_fs::MemFs;
@@ -148,6 +150,98 @@ fn scripts_print(rt: HostRuntime) -> Result<(), Fail> {
         assert_eq!(rt; outcome.status, *status, "{script}");
         assert!(rt; outcome.out.as_slice() == out.as_bytes(), "{script}");
         assert!(rt; outcome.log.is_empty());
+    }
+    Ok(())
+}
+
+#[test]
+fn machine_stops_leave_what_was_synced(rt: HostRuntime) -> Result<(), Fail> {
+    let table = [
+        (
+            "mail a a@x b@y : hi%0A\nrun a\nhalt junk 7\ncat todo/1\nshow\n",
+            0,
+            "todo/1 : u1000%00p77%00Fa@x%00Tb@y%00\npid 0\n1 S4\na 0\na.1 pending\n",
+        ),
+        (
+            "mail a a@x b@y : hi%0A\nstep a\nstep a\nstep a\nstep a\nhalt lose\nstep a\nshow\n",
+            0,
+            "refused gone a\npid 0\n1 S2\na stopped\n",
+        ),
+        // what wasn't synced is lost, or kept
+        (
+            "mail a a@x b@y :\nstep a\nstep a\nstep a\nstep a\nhalt keep\ncat mess/1/1\nhalt lose\ncat mess/1/1\n",
+            0,
+            "mess/1/1 : Received:%20(qmail%2077%20invoked%20by%20uid%201000);%201%20Jan%201970%2000:00:00%20-0000%0A\nmess/1/1 : Received:%20(qmail%2077%20invoked%20by%20uid%201000);%201%20Jan%201970%2000:00:00%20-0000%0A\n",
+        ),
+        (
+            "mail a a@x b@y :\nstep a\nstep a\nstep a\nstep a\nhalt lose\ncat mess/1/1\n",
+            0,
+            "mess/1/1 : \n",
+        ),
+        (
+            "trace\nmail a a@x b@y : hi\nhalt keep\nhalt lose\nhalt junk 65536\nmail b c@x d@y : ho\nrun a\nshow\n",
+            0,
+            "a start\nworld halt keep\nworld halt lose\nworld halt junk\nb start\nrefused gone a\npid 0\na stopped\nb alive\n",
+        ),
+        ("halt\n", 91, "script 1\n"),
+        ("halt keep x\n", 91, "script 1\n"),
+        ("halt junk\n", 91, "script 1\n"),
+        ("halt junk 01\n", 91, "script 1\n"),
+        ("halt junk 65537\n", 91, "script 1\n"),
+        ("halt keep 1\n", 91, "script 1\n"),
+    ];
+    for (script, status, out) in &table {
+        let outcome = play(&rt, script)?;
+        assert_eq!(rt; outcome.status, *status, "{script}");
+        assert!(rt; outcome.out.as_slice() == out.as_bytes(), "{script}");
+    }
+    Ok(())
+}
+
+/// The script that starts a mail, makes so many steps, halts, and shows.
+fn halted_after(rt: &HostRuntime, steps: u32, halt: &str) -> Result<Outcome, Fail> {
+    let alloc = rt.alloc();
+    let mut script = String::from_str(alloc, "mail a a@x b@y : hi%0A\n")?;
+    for _ in 0..steps {
+        script.push_str("step a\n")?;
+    }
+    script.push_str(halt)?;
+    script.push_str("\nshow\n")?;
+    play(rt, &script)
+}
+
+#[test]
+fn a_machine_stop_after_any_event_loses_no_accepted_mail(rt: HostRuntime) -> Result<(), Fail> {
+    let halts = [
+        "halt keep",
+        "halt lose",
+        "halt junk 1",
+        "halt junk 2",
+        "halt junk 3",
+        "halt junk 4",
+        "halt junk 5",
+        "halt junk 6",
+        "halt junk 7",
+        "halt junk 8",
+    ];
+    for halt in &halts {
+        for steps in 0..11 {
+            let outcome = halted_after(&rt, steps, halt)?;
+            let expected = match steps {
+                0 => "pid 0\na stopped\n",
+                1 => "pid 1\na stopped\n",
+                2 => "pid 1\n1 S2\na stopped\n",
+                3..=5 => "pid 0\n1 S2\na stopped\n",
+                6..=8 => "pid 0\n1 S3\na stopped\n",
+                9 => "pid 0\n1 S4\na stopped\na.1 pending\n",
+                _ => "pid 0\n1 S4\na 0\na.1 pending\n",
+            };
+            assert_eq!(rt; outcome.status, 0, "{halt} {steps}");
+            assert!(rt;
+                outcome.out.as_slice() == expected.as_bytes(),
+                "{halt} {steps}"
+            );
+        }
     }
     Ok(())
 }

@@ -1,4 +1,4 @@
-use Rattle.std.proofs.Common.{◌≡◌, [], ◌∷◌, List, length, refl, arith}
+use Rattle.std.proofs.Common.{◌≡◌, [], ◌∷◌, List, length, refl, ◌∙◌, arith}
 use Rattle.call_fs.specs.declared.calls.Fd.{Fd}
 use Rattle.mail_world.proofs.Descriptors.{close_told, may_close_last, rest_stays, closed_more, closed_all}
 use Rattle.mail_world.proofs.actor.close_all.Goals as goal
@@ -18,6 +18,7 @@ loop-fd-preserved g c =
     record {
       rest = rest_stays (g.D.CallFs.disk l.disk) (g.D.CallFs.disk c.close.new.self) l.descriptors.items rest c.in-Some.fd c.in-Some.ensures.items l.invariant.rest told;
       closed = closed_more (g.D.CallFs.disk c.args.disk.now) (g.D.CallFs.disk l.disk) (g.D.CallFs.disk c.close.new.self) c.args.descriptors.now.items l.descriptors.items rest c.in-Some.fd c.in-Some.ensures.items l.invariant.closed told;
+      plan = c.close.ensures.plan ∙ l.invariant.plan;
       steady = λ was. c.close.ensures.steady (l.invariant.steady was);
     }
 

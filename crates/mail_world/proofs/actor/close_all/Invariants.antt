@@ -8,6 +8,7 @@ abbrev pub invariant-loop-fd : goal.invariant-loop-fd
 invariant-loop-fd g l = record {
   rest : OnTold (g.D.CallFs.disk l.disk) (λ now. AreOpen now l.descriptors.items);
   closed : Meets (g.D.CallFs.disk l.initial.disk) (g.D.CallFs.disk l.disk) (λ before now. shut l.descriptors.items now ≡ shut l.initial.descriptors.items before);
+  plan : g.D.CallFs.plan l.disk ≡ g.D.CallFs.plan l.initial.disk;
   steady : g.D.CallFs.steady l.initial.disk → g.D.CallFs.steady l.disk;
 }
 

@@ -1,4 +1,4 @@
-use Rattle.scenario.proofs.OneText.{one_text, begins_front}
+use Rattle.scenario.proofs.OneText.{one_text, begins_front, one_history}
 use Rattle.scenario.proofs.laws.one_text.Goals as goal
 
 pub returns-clause-one : goal.returns-clause-one
@@ -6,3 +6,6 @@ returns-clause-one c = one_text
 
 pub returns-clause-front : goal.returns-clause-front
 returns-clause-front c = begins_front
+
+pub returns-clause-history : goal.returns-clause-history
+returns-clause-history c = one_history

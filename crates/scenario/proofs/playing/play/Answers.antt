@@ -1,7 +1,7 @@
 use Rattle.std.proofs.Common.{◌≡◌, ◌+◌, ◌++◌, ◌∷◌, [], List, take, drop, refl, sym, ap, ◌∙◌, subst, arith, append_assoc}
 use Rattle.std.proofs.lemmas.List.{append-nil, take-append-drop, take_all}
 use Rattle.std.proofs.lemmas.Result.{err_from_is_err_and}
-use Rattle.mem_fs.specs.MemDisk.{Planned, disk_of}
+use Rattle.crash_fs.specs.Crash.{Crash, crash_disk, IsQuiet}
 use Rattle.mem_fs.proofs.InTurn.{told_weaker}
 use Rattle.mail_world.specs.World.{Seen}
 use Rattle.scenario.specs.declared.line.Line.{Line}
@@ -20,13 +20,12 @@ pub loop-line-init : goal.loop-line-init
 loop-line-init g c =
     let world = c.in_ok-world.ensures.world in
     let first = c.in_ok-first_disk.ensures in
-    let playing : IsPlaying (disk_of c.in_ok-first_disk.field-0.held) c.in_ok-world.world [] = record {
-      is = c.in_ok-world.ensures.begun (first_opens (disk_of c.in_ok-first_disk.field-0.held) first.disk);
-      picks = ap (λ (w : Seen Planned). w.disk.picks) world ∙ first.steady.0;
-      plan = ap (λ (w : Seen Planned). w.disk.plan) world ∙ first.steady.1;
+    let playing : IsPlaying (crash_disk c.in_ok-first_disk.field-0) c.in_ok-world.world [] = record {
+      is = c.in_ok-world.ensures.begun (first_opens (crash_disk c.in_ok-first_disk.field-0) first.disk);
+      quiet = subst (λ (w : Seen Crash). IsQuiet w.disk) (sym world) first.steady;
     } in (
       omega arith,
-      nothing_played (disk_of c.in_ok-first_disk.field-0.held) c.in_ok-world.world first.disk playing,
+      nothing_played (crash_disk c.in_ok-first_disk.field-0) c.in_ok-world.world first.disk playing,
       took_none (g.O.Sink.taken c.args.out.now) _ (λ x. sym (append-nil x)),
     )
 

@@ -1,6 +1,7 @@
 use Rattle.std.proofs.Common.{◌∙◌, ◌++◌, Err, ap}
 use Rattle.std.proofs.lemmas.Result.{on_ok_weaker}
-use Rattle.mem_fs.specs.MemDisk.{Planned, disk_of, bytes_at}
+use Rattle.mem_fs.specs.MemDisk.{bytes_at}
+use Rattle.crash_fs.specs.Crash.{Crash, crash_disk}
 use Rattle.scenario.specs.Played.{cat_line, refused}
 use Rattle.mail_world.specs.World.{started_world}
 use Rattle.scenario.proofs.ScriptRuns.{no_memory_refused}
@@ -69,7 +70,13 @@ returns-in-Cat c =
     on_ok_weaker c.cat.result
     (λ told d h playing.
     let text = told
-    ∙ ap (λ p. c.args.text.now.items ++ cat_line p (bytes_at (disk_of c.disk.result.now.held) p)) c.as_slice-in-Cat.ensures
-    ∙ ap (λ (m : Planned). c.args.text.now.items ++ cat_line c.in-Cat.path (bytes_at (disk_of m.held) c.in-Cat.path)) c.disk.ensures in
+    ∙ ap (λ p. c.args.text.now.items ++ cat_line p (bytes_at (crash_disk c.disk.result.now) p)) c.as_slice-in-Cat.ensures
+    ∙ ap (λ (m : Crash). c.args.text.now.items ++ cat_line c.in-Cat.path (bytes_at (crash_disk m) c.in-Cat.path)) c.disk.ensures in
     rw c.in-Cat.is (cat_played d c.args.world.now c.in-Cat.path c.args.text.now.items c.cat.new.text.items h playing text))
     c.cat.ensures
+
+pub returns-in-Halt : goal.returns-in-Halt
+returns-in-Halt c =
+    on_ok_weaker c.halt.result
+    (λ told d h playing. rw c.in-Halt.is (told d h c.args.text.now.items playing))
+    c.halt.ensures

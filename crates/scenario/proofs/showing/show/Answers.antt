@@ -4,7 +4,7 @@ use Rattle.std.proofs.lemmas.List.{length-map}
 use Rattle.std.proofs.lemmas.Result.{on_ok_weaker}
 use Rattle.mail_bytes.specs.Decimal.{digits}
 use Rattle.call_fs.specs.Disk.{Disk}
-use Rattle.mem_fs.specs.MemDisk.{disk_of}
+use Rattle.crash_fs.specs.Crash.{crash_disk}
 use Rattle.mail_world.specs.declared.event.Event.{Event as Kept}
 use Rattle.scenario.specs.Fates.{fate_of, fate_in, start_lines}
 use Rattle.scenario.specs.Shown.{AreNamesIn, AreNumbersIn, line_of, pid_line, number_line}
@@ -15,7 +15,7 @@ pub returns : goal.returns
 returns c =
     let w = c.args.world.now in
     let text : List ℕ = c.args.text.now.items in
-    let now : Disk = disk_of w.disk.held in
+    let now : Disk = crash_disk w.disk in
     let bytes : Bor (List ℕ) → List ℕ = λ b. b.now in
     let pids : List (List ℕ) = map bytes c.in_ok-pids.pids.items in
     let numbers : List ℕ = c.in_ok-numbers.numbers.items in
@@ -27,10 +27,10 @@ returns c =
     c.in_ok-put_pids.ensures ∙ ap (λ n. text ++ line_of (codes "pid") (digits n)) count in
     let second : c.put_states.new.text.items ≡ c.put_pids.new.text.items ++ flat_map (number_line now) numbers =
     c.in_ok-put_states.ensures
-    ∙ ap (λ m. c.put_pids.new.text.items ++ flat_map (number_line (disk_of m.held)) c.deref.result.now) c.disk-3.ensures
+    ∙ ap (λ m. c.put_pids.new.text.items ++ flat_map (number_line (crash_disk m)) c.deref.result.now) c.disk-3.ensures
     ∙ ap (λ (ns : List ℕ). c.put_pids.new.text.items ++ flat_map (number_line now) ns) c.deref.ensures.value in
-    let are_pids : AreNamesIn now (codes "pid") pids = subst (λ m. AreNamesIn (disk_of m.held) (codes "pid") pids) c.disk.ensures c.in_ok-pids.ensures in
-    let are_numbers : AreNumbersIn now numbers = subst (λ m. AreNumbersIn (disk_of m.held) numbers) c.disk-2.ensures c.in_ok-numbers.ensures in
+    let are_pids : AreNamesIn now (codes "pid") pids = subst (λ m. AreNamesIn (crash_disk m) (codes "pid") pids) c.disk.ensures c.in_ok-pids.ensures in
+    let are_numbers : AreNumbersIn now numbers = subst (λ m. AreNumbersIn (crash_disk m) numbers) c.disk-2.ensures c.in_ok-numbers.ensures in
     on_ok_weaker c.put_mails.result
     (λ third. (
       pid_line pids ++ (flat_map (number_line now) numbers ++ flat_map (start_lines fates) w.events),

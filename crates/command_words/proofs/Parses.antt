@@ -1,0 +1,81 @@
+-- A parse by a simple clap command, and what it says of the words.
+use Rattle.std.proofs.Common.{◌≡◌, ◌≢◌, ◌&&◌, ℕ, Bool, true, false, List, [], ◌∷◌, Option, Some, None, Ok, Err, codes, cond, option_map, sym, ap, ◌∙◌, ⊎_elim, rules}
+use Rattle.clap.specs.Walk.{is_empty}
+use Rattle.clap.specs.Words.{App, FailsBy, HasMatchesOf, IsAmong, Kinds, Row, Text, fault_of, first_value, found_of, is_simple, is_simple_and_free, kind_of, matches_of, rows_of}
+use Rattle.clap.specs.declared.error.Error.{Error}
+use Rattle.clap.specs.declared.error.kind.ErrorKind.{ErrorKind}
+use Rattle.clap.specs.declared.error.kind.ErrorKind.TheVariants.{OutOfMemory}
+use Rattle.clap.specs.declared.parser.matches.ArgMatches.{ArgMatches}
+use Rattle.clap.specs.declared.parser.matches.Found.{Found}
+use Rattle.clap.proofs.WalkLemmas.{first_value-rows}
+use Rattle.command_words.specs.Lines.{play_line, queue_line, takes_words}
+use Rattle.command_words.specs.declared.command.Command.TheVariants.{Play, Queue}
+use Rattle.command_words.specs.declared.command.QueueWords.{QueueWords}
+use Rattle.command_words.specs.Reads.{env_of, is_on, play_words, queue_words, told, told_by, uid_of}
+
+-- an `Ok` says that no step failed
+pub taken : (a line : App) (words : List Text) (m : ArgMatches) → a ≡ line → is_simple_and_free line ≡ true → (is_simple_and_free a ≡ true → FailsBy (fault_of a words) (Ok m)) → takes_words line words ≡ true
+taken a line words m is simple kinds =
+    ap (λ b. b && is_empty (fault_of line words)) simple
+    ∙ ap is_empty (ap (λ (x : App). fault_of x words) (sym is) ∙ kinds (ap is_simple_and_free is ∙ simple))
+
+some_kind : (k : ErrorKind) (ks : Kinds) → IsAmong k ks → is_empty ks ≡ false
+some_kind k [] among = absurd among
+some_kind k (x ∷ ks) among = search rules
+
+-- an `Err` for another reason than memory says that a step failed
+pub refused : (a line : App) (words : List Text) (e : Error) → a ≡ line → is_simple_and_free line ≡ true → (is_simple_and_free a ≡ true → FailsBy {T = ArgMatches} (fault_of a words) (Err e))
+    → kind_of e ≢ OutOfMemory → takes_words line words ≡ false
+refused a line words e is simple kinds other =
+    ap (λ b. b && is_empty (fault_of line words)) simple
+    ∙ ap (λ (x : App). is_empty (fault_of x words)) (sym is)
+    ∙ ⊎_elim (λ memory. absurd (other memory)) (some_kind (kind_of e) (fault_of a words)) (kinds (ap is_simple_and_free is ∙ simple))
+
+-- what `queue` is told depends on four values alone
+told-same : (a b c d x y z w : Option Text) → a ≡ x → b ≡ y → c ≡ z → d ≡ w → told a b (uid_of c) (is_on d) ≡ told x y (uid_of z) (is_on w)
+told-same a b c d x y z w p q r s =
+    ap (λ v. told v b (uid_of c) (is_on d)) p
+    ∙ ap (λ v. told x v (uid_of c) (is_on d)) q
+    ∙ ap (λ v. told x y (uid_of v) (is_on d)) r
+    ∙ ap (λ v. told x y (uid_of z) (is_on v)) s
+
+-- what `queue` is told, by what the getters of the matches read
+pub told_by-found : (found : Found) (env dir uid bounce : Option Text) → env ≡ first_value found (codes "env") → dir ≡ first_value found (codes "dir") → uid ≡ first_value found (codes "uid")
+    → bounce ≡ first_value found (codes "bounce") → told_by (rows_of found) ≡ told env dir (uid_of uid) (is_on bounce)
+told_by-found found env dir uid bounce e d u b =
+    told-same _ _ _ _ env dir uid bounce
+    (sym (e ∙ first_value-rows found (codes "env")))
+    (sym (d ∙ first_value-rows found (codes "dir")))
+    (sym (u ∙ first_value-rows found (codes "uid")))
+    (sym (b ∙ first_value-rows found (codes "bounce")))
+
+-- the words of `play`, by whether clap takes them
+pub play_read : (words : List Text) (takes : Bool) → takes_words play_line words ≡ takes → play_words words ≡ cond takes (Some Play) None
+unfolding play_words
+play_read words takes is = ap (λ t. cond t (Some Play) None) is
+
+-- the words of `queue` that are taken tell it what clap found
+pub queue_read : (words : List Text) (rows : List Row) (queue : Option QueueWords) → takes_words queue_line words ≡ true → rows ≡ matches_of queue_line words → queue ≡ told_by rows
+    → queue_words words ≡ option_map Queue queue
+unfolding queue_words
+queue_read words rows queue takes is told =
+    ap (λ t. cond t (option_map Queue (told_by (matches_of queue_line words))) None) takes ∙ ap (λ x. option_map Queue (told_by x)) (sym is) ∙ ap (option_map Queue) (sym told)
+
+-- words that aren't taken are no command
+pub queue_refused : (words : List Text) → takes_words queue_line words ≡ false → queue_words words ≡ None
+unfolding queue_words
+queue_refused words refuses = ap (λ t. cond t (option_map Queue (told_by (matches_of queue_line words))) None) refuses
+
+-- the matches of a command are those of its words
+pub matched : (a line : App) (words : List Text) (m : ArgMatches) → a ≡ line → is_simple line ≡ true → HasMatchesOf a words m → rows_of (found_of m) ≡ matches_of line words
+matched a line words m is simple has = (has (ap is_simple is ∙ simple)).0 ∙ ap (λ (x : App). matches_of x words) is
+
+-- a word that is missing, or a user that is no number, tells nothing; else the four values are told
+pub told_all : (env dir : Text) (uid : ℕ) (bounce : Bool) (e : Option Text) (d : Text) (b : Bool) (number : Option ℕ) → e ≡ env_of env → d ≡ dir → b ≡ bounce → number ≡ Some uid
+    → told (Some env) (Some dir) number bounce ≡ Some (record { env = e; dir = d; uid = uid; bounce = b })
+told_all env dir uid bounce e d b number p q r s =
+    let queue : Option Text → Text → Bool → Option QueueWords = λ x y z. Some (record { env = x; dir = y; uid = uid; bounce = z }) in
+    ap (λ n. told (Some env) (Some dir) n bounce) s
+    ∙ ap (λ x. queue x dir bounce) (sym p)
+    ∙ ap (λ y. queue e y bounce) (sym q)
+    ∙ ap (λ z. queue e d z) (sym r)

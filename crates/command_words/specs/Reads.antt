@@ -1,0 +1,67 @@
+-- Which command words are.
+use Rattle.std.specs.Prelude.{◌≡◌, ◌≢◌, ◌^◌, ℕ, Bool, false, List, Option, Some, None, codes, if◌then◌else◌, nat_lt, slice_get, option_and_then, option_map}
+use Rattle.std.specs.Option.{option_map_or}
+use Rattle.std.specs.Str.{bytes_eq}
+use Rattle.mail_bytes.specs.Decimal.{number_of}
+use Rattle.clap.specs.Words.{Row, Text, first_of, matches_of}
+use Rattle.command_words.specs.declared.command.Command.{Command}
+use Rattle.command_words.specs.declared.command.Command.TheVariants.{Play, Queue}
+use Rattle.command_words.specs.declared.command.QueueWords.{QueueWords}
+use Rattle.command_words.specs.Lines.{play_line, queue_line, takes_words}
+
+-- the file of the envelope; `-` is none
+abbrev pub env_of : Text → Option Text
+env_of word = if bytes_eq word (codes "-") then None else Some word
+
+-- the number, where a u32 holds it
+abbrev pub as_u32 : ℕ → Option ℕ
+as_u32 n = if nat_lt n (2 ^ 32) then Some n else None
+
+-- the user of a decimal text; 0 where there is no text
+abbrev pub uid_of : Option Text → Option ℕ
+uid_of None = Some 0
+uid_of (Some text) = option_and_then as_u32 (number_of text)
+
+-- a flag that stands has the value `true`
+abbrev pub is_on : Option Text → Bool
+is_on value = option_map_or (bytes_eq (codes "true")) value false
+
+-- what `queue` is told, where both words stand and the user is a number
+abbrev pub told : Option Text → Option Text → Option ℕ → Bool → Option QueueWords
+told (Some env) (Some dir) (Some uid) bounce = Some (record { env = env_of env; dir = dir; uid = uid; bounce = bounce })
+told _ _ _ bounce = None
+
+-- the same, of what clap found
+abbrev pub told_by : List Row → Option QueueWords
+told_by rows =
+    told (first_of (codes "env") rows) (first_of (codes "dir") rows) (uid_of (first_of (codes "uid") rows)) (is_on (first_of (codes "bounce") rows))
+
+-- the words after the name `play`, whatever the first word is
+unfoldable pub play_words : List Text → Option Command
+play_words words = if takes_words play_line words then Some Play else None
+
+-- the words after the name `queue`, whatever the first word is
+unfoldable pub queue_words : List Text → Option Command
+queue_words words = if takes_words queue_line words then option_map Queue (told_by (matches_of queue_line words)) else None
+
+-- the command that the first word names
+abbrev pub command_named : Option Text → List Text → Option Command
+command_named None words = None
+command_named (Some name) words = if bytes_eq name (codes "play") then play_words words
+    else (if bytes_eq name (codes "queue") then queue_words words else None)
+
+-- the command that the words are, where they are one
+unfoldable pub command_of : List Text → Option Command
+command_of words = command_named (slice_get words 0) words
+
+-- the words are this command
+abbrev pub Reads : List Text → Command → Type 0
+Reads words command = command_of words ≡ Some command
+
+-- the words are no command
+abbrev pub IsNoCommand : List Text → Type 0
+IsNoCommand words = command_of words ≡ None
+
+-- a word that doesn't begin with `-` (45)
+abbrev pub IsNoOption : Text → Type 0
+IsNoOption word = slice_get word 0 ≢ Some 45

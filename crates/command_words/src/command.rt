@@ -1,0 +1,58 @@
+// A command with what it is told.
+
+use mail_bytes::ByteText;
+use std::alloc::AllocError;
+use thiserror::Error;
+
+/// What the words after the program's name say to do.
+#[derive(Debug, Drop)]
+pub enum Command {
+    /// `play`: plays a script.
+    Play,
+    /// `queue`: puts a message into a queue.
+    Queue(QueueWords),
+}
+
+/// What `queue` is told.
+#[derive(Debug, Drop)]
+pub struct QueueWords {
+    /// The file of the envelope; None for `-`, where the message source gives the message and the envelope.
+    pub env: Option<ByteText>,
+    /// The directory of the queue.
+    pub dir: ByteText,
+    /// The number of the user who sends; 0 where none is told.
+    pub uid: u32,
+    /// Whether the message is a bounce.
+    pub bounce: bool,
+}
+
+/// The file and the directory that a command is told.
+#[derive(Debug, Drop)]
+pub struct Places {
+    /// The file of the envelope, where there is one.
+    pub env: Option<ByteText>,
+    /// The directory of the queue, where there is one.
+    pub dir: Option<ByteText>,
+}
+
+/// Why words weren't read.
+#[derive(Clone, Copy, Debug, PartialEq, Eq, Error)]
+pub enum WordsError {
+    /// The words are no command.
+    #[error("usage")]
+    Usage,
+    /// Want of memory.
+    #[error("out of memory")]
+    Memory,
+}
+
+impl From<AllocError> for WordsError {
+    ghost use Rattle.std.specs.Prelude.{◌≡◌};
+    ghost use Rattle.command_words.specs.declared.command.WordsError.TheVariants.{Memory};
+
+    ghost from_gives = { λ _ why. why ≡ Memory };
+
+    fn from(_: AllocError) -> Self {
+        WordsError::Memory
+    }
+}

@@ -1,0 +1,23 @@
+//! The words of the command line: which command they are, and what it is told.
+//!
+//! The first word names the command; the words after it are its own, and are read by a simple `clap` command of that
+//! name. So an option may stand before or after the other words, `--uid=7` is `--uid 7`, after `--` no word is an
+//! option, and no option stands twice. The contract of this crate is one function, `command_of`: the command that words
+//! are, where they are one. To ask for help or for a version is no command.
+//!
+//! | Words | Command |
+//! |---|---|
+//! | `play` | plays a script |
+//! | `queue ENV DIR --uid N --bounce` | puts a message into the queue of DIR, as qmail-queue(8) |
+#![tactic(auto)]
+
+mod command;
+mod laws;
+mod lines;
+mod read;
+#[cfg(test)]
+mod tests;
+
+pub use command::{Command, Places, QueueWords, WordsError};
+pub use laws::{words_are_one_command, words_by_row, words_of_queue};
+pub use read::{places, read_words};

@@ -1,0 +1,32 @@
+// The simple `clap` commands.
+ghost use Rattle.std.specs.Prelude.{◌≡◌, IfOk};
+ghost use Rattle.clap.specs.Words.{app_of};
+ghost use Rattle.command_words.specs.Lines.{play_line, queue_line};
+
+use clap::{Arg, ArgAction, Command};
+use mail_bytes::Memory;
+use std::alloc::Global;
+
+/// The words of `play`: no more than its name.
+pub fn play_line<'a>(alloc: Global) -> Command<'a>
+    ensures { app_of result ≡ play_line }
+{
+    Command::new(alloc, "play")
+}
+
+/// The words of `queue`.
+pub fn queue_line<'a>(alloc: Global) -> Result<Command<'a>, Memory>
+    ensures { IfOk result (λ line. app_of line ≡ queue_line) }
+{
+    let env = Arg::new(alloc, "env").required(true);
+    let dir = Arg::new(alloc, "dir").required(true);
+    let uid = Arg::new(alloc, "uid").long("uid");
+    let bounce = Arg::new(alloc, "bounce")
+        .long("bounce")
+        .action(ArgAction::SetTrue);
+    Command::new(alloc, "queue")
+        .arg(env)?
+        .arg(dir)?
+        .arg(uid)?
+        .arg(bounce)
+}

@@ -1,0 +1,139 @@
+// Words are read.
+ghost use Rattle.std.specs.Prelude.{◌≡◌, ◌≢◌, Some, None, Err, true, false, IfOk, IfErr, map, string_bytes};
+ghost use Rattle.clap.specs.Words.{found_of, kind_of, rows_of};
+ghost use Rattle.clap.specs.declared.error.kind.ErrorKind.TheVariants.{OutOfMemory};
+ghost use Rattle.std.specs.Option.{option_map};
+ghost use Rattle.command_words.specs.Places.{places_of};
+ghost use Rattle.command_words.specs.Reads.{IsNoCommand, command_of, Reads, env_of, is_on, play_words, queue_words, told_by, uid_of};
+
+use crate::lines::{play_line, queue_line};
+use crate::{Command, Places, QueueWords, WordsError};
+use clap::ArgMatches;
+use clap::error::ErrorKind;
+use mail_bytes::{ByteText, Memory, undec};
+use std::alloc::{AllocError, Global};
+
+/// The command that the words after the program's name are. `Usage` only where they are none: the first word names no
+/// command, `clap` refuses the others, or a number isn't a decimal text without a leading zero, or isn't in its range.
+/// `Memory` may come.
+pub fn read_words(alloc: Global, words: &[String]) -> Result<Command, WordsError>
+    ensures ok { IfOk result (Reads (map string_bytes words.now)) }
+    ensures usage { result ≡ Err WordsError.Usage → IsNoCommand (map string_bytes words.now) }
+{
+    let Some(name) = words.first() else {
+        return Err(WordsError::Usage);
+    };
+    match name.as_str() {
+        "play" => read_play(alloc, words),
+        "queue" => read_queue(alloc, words),
+        _ => Err(WordsError::Usage),
+    }
+}
+
+/// The file and the directory that the words name, where they are a command that has them; else neither.
+pub fn places(alloc: Global, words: &[String]) -> Result<Places, Memory>
+    ensures { IfOk result (λ places. places ≡ places_of (command_of (map string_bytes words.now))) }
+{
+    match read_words(alloc, words) {
+        Ok(Command::Queue(queue)) => Ok(Places {
+            env: queue.env,
+            dir: Some(queue.dir),
+        }),
+        Ok(Command::Play) | Err(WordsError::Usage) => Ok(Places {
+            env: None,
+            dir: None,
+        }),
+        Err(WordsError::Memory) => Err(AllocError),
+    }
+}
+
+/// Reads the words after the name `play`.
+fn read_play(alloc: Global, words: &[String]) -> Result<Command, WordsError>
+    ensures ok { IfOk result (λ command. play_words (map string_bytes words.now) ≡ Some command) }
+    ensures usage { result ≡ Err WordsError.Usage → play_words (map string_bytes words.now) ≡ None }
+{
+    match play_line(alloc).try_get_matches_from(words) {
+        Ok(_) => Ok(Command::Play),
+        Err(why) => Err(refusal(&why)),
+    }
+}
+
+/// Reads the words after the name `queue`.
+fn read_queue(alloc: Global, words: &[String]) -> Result<Command, WordsError>
+    ensures ok { IfOk result (λ command. queue_words (map string_bytes words.now) ≡ Some command) }
+    ensures usage { result ≡ Err WordsError.Usage → queue_words (map string_bytes words.now) ≡ None }
+{
+    let matches = match queue_line(alloc)?.try_get_matches_from(words) {
+        Ok(matches) => matches,
+        Err(why) => return Err(refusal(&why)),
+    };
+    match told_by(alloc, &matches)? {
+        Some(queue) => Ok(Command::Queue(queue)),
+        None => Err(WordsError::Usage),
+    }
+}
+
+/// What `queue` is told by what `clap` found; None where a word is missing or the user is no number.
+fn told_by(alloc: Global, matches: &ArgMatches<'_>) -> Result<Option<QueueWords>, Memory>
+    ensures { IfOk result (λ queue. queue ≡ told_by (rows_of (found_of matches.now))) }
+{
+    let Some(env) = matches.get_str("env") else {
+        return Ok(None);
+    };
+    let Some(dir) = matches.get_str("dir") else {
+        return Ok(None);
+    };
+    let Some(uid) = uid_of(matches.get_str("uid")) else {
+        return Ok(None);
+    };
+    Ok(Some(QueueWords {
+        env: env_of(alloc, env)?,
+        dir: ByteText::from_slice(alloc, dir.as_bytes())?,
+        uid,
+        bounce: is_on(matches.get_str("bounce")),
+    }))
+}
+
+/// A refusal by `clap`.
+fn refusal(why: &clap::Error) -> WordsError
+    ensures { result ≡ WordsError.Usage → kind_of why.now ≢ OutOfMemory }
+{
+    match why.kind() {
+        ErrorKind::OutOfMemory => WordsError::Memory,
+        _ => WordsError::Usage,
+    }
+}
+
+/// The file of the envelope; None for `-`.
+fn env_of(alloc: Global, word: &str) -> Result<Option<ByteText>, Memory>
+    ensures { IfOk result (λ env. env ≡ env_of word.now) }
+{
+    if word == "-" {
+        return Ok(None);
+    }
+    Ok(Some(ByteText::from_slice(alloc, word.as_bytes())?))
+}
+
+/// The user's number, 0 where none is told. None exactly where the text is no decimal text of a u32.
+fn uid_of(text: Option<&str>) -> Option<u32>
+    ensures { result ≡ uid_of (option_map (λ s. s.now) text.entry) }
+{
+    let Some(text) = text else {
+        return Some(0);
+    };
+    let number = undec(text.as_bytes())?;
+    if number > u64::from(u32::MAX) {
+        return None;
+    }
+    Some(number as u32)
+}
+
+/// Whether a flag stands.
+fn is_on(value: Option<&str>) -> bool
+    ensures { result ≡ is_on (option_map (λ s. s.now) value.entry) }
+{
+    match value {
+        Some(value) => "true" == value,
+        None => false,
+    }
+}

@@ -1,0 +1,55 @@
+-- A disk in memory whose machine can be stopped.
+use Rattle.std.specs.Prelude.{◌≡◌, ◌≢◌, ℕ, ◌+◌, ◌-◌, ◌^◌, min, [], Option, Some, Result, IsErrOf}
+use Rattle.std.specs.Option.{option_map}
+use Rattle.call_fs.specs.declared.calls.FsError.{FsError}
+use Rattle.call_fs.specs.declared.calls.FsError.TheVariants.{Fault}
+use Rattle.call_fs.specs.Disk.{Disk}
+use Rattle.call_fs.specs.Plan.{Plan, no_plan, nearer}
+use Rattle.mem_fs.specs.MemDisk.{Planned, Held, disk_of, empty_plan, one_more, Counts, with_held}
+
+-- The disk below, which call fails next and which number the next new file takes, and how many calls have failed by that
+-- choice.
+pub record Crash : Type 0 where
+  pub below : Planned
+  pub plan : Plan
+  pub failed : ℕ
+
+-- what it holds
+abbrev pub crash_disk : Crash → Disk
+crash_disk c = disk_of c.below.held
+
+-- the sum of two counts, where a u64 has room for it
+abbrev pub both_faults : ℕ → ℕ → ℕ
+both_faults m n = min (m + n) (2 ^ 64 - 1)
+
+-- how many calls have failed, by either plan
+abbrev pub crash_faults : Crash → ℕ
+crash_faults c = both_faults c.below.faults c.failed
+
+-- what is chosen; where the disk below has a plan of its own, that isn't all
+abbrev pub crash_plan : Crash → Option Plan
+crash_plan c = option_map (λ none. c.plan) (empty_plan c.below.picks c.below.plan)
+
+-- neither disk has a plan
+pub record IsQuiet (c : Crash) : Type 0 where
+  pub picks : c.below.picks ≡ []
+  pub faults : c.below.plan ≡ []
+  pub chosen : c.plan ≡ no_plan
+
+-- A call was counted. Where it was the chosen one it failed, and the disk below wasn't asked; else that disk made it.
+pub record Passes {T : Type 0} (old new : Crash) (result : Result T FsError) : Type 0 where
+  pub nearer_is : new.plan.fault ≡ nearer old.plan.fault
+  pub due : old.plan.fault ≡ Some 1 → IsErrOf result Fault × (new.below ≡ old.below) × (new.failed ≡ one_more old.failed)
+  pub passed : old.plan.fault ≢ Some 1 → Counts old.below new.below result × (new.failed ≡ old.failed)
+
+-- nothing is chosen, and nothing has failed by a choice
+abbrev pub crash_over : Planned → Crash
+crash_over m = record { below = m; plan = no_plan; failed = 0 }
+
+-- only what the disk below holds changed
+abbrev pub with_below : Crash → Held → Crash
+with_below c h = record { below = with_held c.below h; plan = c.plan; failed = c.failed }
+
+-- only what is chosen changed
+abbrev pub with_plan : Crash → Plan → Crash
+with_plan c plan = record { below = c.below; plan = plan; failed = c.failed }

@@ -1,0 +1,15 @@
+//! Disks that are there to fail: one whose machine can be stopped, and one that fails from some call on.
+//!
+//! `CrashDisk` is a disk in memory that meets every clause of `CallFs`, fails at the call that is chosen, and after a
+//! machine stop holds what the named choice leaves of it. `Stopper` passes the first calls on to any disk, and fails at
+//! all later ones, as a disk does whose cable was pulled.
+#![tactic(auto)]
+
+mod chosen_fault;
+mod crash_disk;
+mod stopper;
+#[cfg(test)]
+mod tests;
+
+pub use crash_disk::CrashDisk;
+pub use stopper::Stopper;

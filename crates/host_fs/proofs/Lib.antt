@@ -1,0 +1,4 @@
+-- slots of a table
+pub mod Slots
+-- names and their parts
+pub mod Parts

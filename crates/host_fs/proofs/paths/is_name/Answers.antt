@@ -1,0 +1,14 @@
+use Rattle.std.proofs.Common.{◌==◌, ◌∙◌, rules, tests}
+use Rattle.std.proofs.lemmas.Iterator.{cases_from_all}
+use Rattle.std.proofs.lemmas.Iterator.Splits.{YieldsList-from_slice_split}
+use Rattle.host_fs.specs.Names.{IsPart, without_slash}
+use Rattle.host_fs.proofs.Parts.{decided_by_parts}
+use Rattle.host_fs.proofs.paths.is_name.Goals as goal
+
+pub returns : goal.returns
+returns c =
+    let name = without_slash c.args.name.now in
+    decided_by_parts c.all.result _
+    (cases_from_all _ _ c.all.result IsPart (λ part. ¬ (IsPart part)) c.all.ensures.ran
+    (YieldsList-from_slice_split _ (λ b. b == 47) name (c.split.ensures.rest ∙ c.without_slash.ensures) c.split.ensures.done c.split.ensures.closure (λ x r q k. search (rules, tests)))
+    (λ x q k. search (rules, tests)) (λ x q k. search (rules, tests)))

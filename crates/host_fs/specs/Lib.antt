@@ -1,0 +1,10 @@
+-- names, and the paths that are handed to the system
+pub mod Names
+-- what is open
+pub mod Held
+-- what refusals and moments of the system mean
+pub mod Refusals
+-- the next name of a listing
+pub mod Listing
+-- what an open file may be used for
+pub mod Modes

@@ -1,0 +1,32 @@
+-- What is open, and what it may be used for, as the disk relation says it.
+use Rattle.std.specs.Prelude.{◌≡◌, ◌≢◌, ℕ, List, Option, Some, None}
+use Rattle.std.specs.Option.{option_map}
+use Rattle.call_fs.specs.Disk.{Mode as made}
+use Rattle.host_fs.specs.declared.modes.Mode.{Mode}
+use Rattle.host_fs.specs.declared.modes.Mode.TheVariants.{Created, Opened}
+use Rattle.host_fs.specs.declared.modes.OpenFile.{OpenFile}
+use Rattle.host_fs.specs.Held.{held}
+
+-- how a descriptor came to be
+abbrev pub as_mode : Mode → made
+as_mode Created = made.Created
+as_mode (Opened how) = made.Opened how
+
+-- how the file of this number came to be open, where it is
+abbrev pub mode_at : List (Option OpenFile) → ℕ → Option made
+mode_at slots number = option_map (λ file. as_mode file.mode) (held slots number)
+
+-- The number wasn't open, and is now, in this way. What else is open stays so.
+pub record Opens (old new : List (Option OpenFile)) (number : ℕ) (mode : made) : Type 0 where
+  pub not_open : mode_at old number ≡ None
+  pub open_now : mode_at new number ≡ Some mode
+  pub others : (other : ℕ) → other ≢ number → mode_at new other ≡ mode_at old other
+
+-- The number isn't open any more. What else is open stays so.
+pub record Closes (old new : List (Option OpenFile)) (number : ℕ) : Type 0 where
+  pub not_open : mode_at new number ≡ None
+  pub others : (other : ℕ) → other ≢ number → mode_at new other ≡ mode_at old other
+
+-- what is open is as before
+abbrev pub OpensNone : List (Option OpenFile) → List (Option OpenFile) → Type 0
+OpensNone old new = (number : ℕ) → mode_at new number ≡ mode_at old number

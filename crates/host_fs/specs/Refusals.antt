@@ -1,0 +1,37 @@
+-- What the refusals and the moments of the system mean.
+use Rattle.std.specs.Prelude.{ℕ, ◌+◌, ◌-◌, ◌^◌, ℤ, pos, negsuc, min, Bool, true, false, Result, Ok, Err}
+use Rattle.std.specs.declared.io.ErrorKind.{ErrorKind}
+use Rattle.std.specs.declared.io.ErrorKind.TheVariants.{NotFound, NotADirectory, AlreadyExists}
+use Rattle.call_fs.specs.declared.calls.FsError.{FsError}
+use Rattle.call_fs.specs.declared.calls.FsError.TheVariants.{NotThere, Exists, Fault, Memory}
+
+-- of a call that needs a name, or a directory, that is there: a part on the way that is no directory is missing too
+abbrev pub missing_or_fault : ErrorKind → FsError
+missing_or_fault NotFound = NotThere
+missing_or_fault NotADirectory = NotThere
+missing_or_fault _ = Fault
+
+-- of a call that makes a name: what stands there already, unless it is a directory, which is no name
+abbrev pub refused : ErrorKind → Bool → FsError
+refused AlreadyExists false = Exists
+refused kind is_dir = missing_or_fault kind
+
+-- of a call that has no answer for want of memory
+abbrev pub without_memory : FsError → FsError
+without_memory Memory = Fault
+without_memory why = why
+
+-- the moment of so many seconds: the nearest one that a clock may tell
+abbrev pub moment_of : ℤ → ℕ
+moment_of (pos seconds) = min seconds 250000000000
+moment_of (negsuc _) = 0
+
+-- of a call that could be done, or failed
+abbrev pub done_or_fault : Bool → Result (Unit {0}) FsError
+done_or_fault true = Ok tt
+done_or_fault false = Err Fault
+
+-- how often it has failed, after an outcome; the count stands still at u64's last value
+abbrev pub count_after : {T : Type 0} → ℕ → Result T FsError → ℕ
+count_after before (Err Fault) = min (before + 1) (2 ^ 64 - 1)
+count_after before outcome = before

@@ -1,0 +1,76 @@
+// Taking more from a source than one call gives.
+ghost use Rattle.std.specs.Prelude.{◌≡◌, ◌≤◌, ◌++◌, [], List, ℕ, IfOk, length};
+ghost use Rattle.call_fs.specs.Told.{Meets, OnTold, Rose};
+
+use crate::source::{Source, Took};
+use mail_bytes::Memory;
+use std::alloc::Global;
+
+/// Why no more was taken of a source.
+#[derive(Clone, Copy, Debug, PartialEq, Eq)]
+pub enum Stopped {
+    /// The source has no more.
+    End,
+    /// As many bytes came as were asked for.
+    Full,
+    /// The source failed.
+    Failed,
+}
+
+/// Takes bytes of a source until so many have come, or it ends or fails; answers them, and why no more were taken. Fails
+/// only for want of memory; some bytes may then be lost.
+pub fn take_up_to<S: Source>(
+    alloc: Global,
+    source: &mut S,
+    most: usize,
+) -> Result<(Vec<u8>, Stopped), Memory>
+    ensures later { S.faults source.old ≤ S.faults source.new }
+    ensures front { Meets (S.left source.old) (S.left source.new)
+        (λ before after. (front : List ℕ) × (before ≡ front ++ after)) }
+    ensures taken { IfOk result (λ got. Meets (S.left source.old) (S.left source.new)
+        (λ before after. before ≡ got.0.items ++ after)) }
+    ensures fits { IfOk result (λ got. length got.0.items ≤ most) }
+    ensures end { IfOk result (λ got. got.1 ≡ Stopped.End → OnTold (S.left source.new) (λ after. after ≡ [])) }
+    ensures full { IfOk result (λ got. got.1 ≡ Stopped.Full → length got.0.items ≡ most) }
+    ensures failed { IfOk result (λ got. got.1 ≡ Stopped.Failed → Rose (S.faults source.old) (S.faults source.new)) }
+{
+    let mut bytes = Vec::new(alloc);
+    let mut piece = [0; 8192];
+    while bytes.len() < most {
+        let room = (most - bytes.len()).min(piece.len());
+        match source.take(&mut piece[..room]) {
+            Took::Got(count) => bytes.extend_from_slice(&piece[..count])?,
+            Took::End => return Ok((bytes, Stopped::End)),
+            Took::Failed => return Ok((bytes, Stopped::Failed)),
+        }
+    }
+    Ok((bytes, Stopped::Full))
+}
+
+#[cfg(test)]
+mod tests {
+    use super::*;
+    use crate::MemSource;
+    use mail_bytes::ByteText;
+    use std::test::Fail;
+
+    #[test]
+    fn whole_full_and_failed(rt: HostRuntime) -> Result<(), Fail> {
+        let alloc = rt.alloc();
+        let mut pieces = Vec::new(alloc);
+        for piece in [b"ab".as_slice(), b"cde", b"f"] {
+            pieces.push(ByteText::from_slice(alloc, piece)?)?;
+        }
+        let mut source = MemSource::new(pieces, vec![in alloc; 4u64]?);
+        let (bytes, why) = take_up_to(alloc, &mut source, 4)?;
+        assert_eq!(rt; bytes.as_slice(), b"abcd".as_slice());
+        assert_eq!(rt; why, Stopped::Full);
+        let (bytes, why) = take_up_to(alloc, &mut source, 4)?;
+        assert_eq!(rt; bytes.as_slice(), b"e".as_slice());
+        assert_eq!(rt; why, Stopped::Failed);
+        let (bytes, why) = take_up_to(alloc, &mut source, 4)?;
+        assert_eq!(rt; bytes.as_slice(), b"f".as_slice());
+        assert_eq!(rt; why, Stopped::End);
+        Ok(())
+    }
+}

@@ -1,0 +1,13 @@
+use Rattle.std.proofs.Common.{◌≡◌, ◌-◌, ◌++◌, ◌≤◌, vec_len}
+use Rattle.call_fs.specs.Told.{Meets}
+use Rattle.qmail_top.proofs.play_command.read_whole.Given as goal
+
+-- the count never falls, and what was taken is kept
+abbrev pub invariant-loop-piece : goal.invariant-loop-piece
+invariant-loop-piece g l = record {
+  later : g.M.Source.faults l.initial.message ≤ g.M.Source.faults l.message;
+  taken : Meets (g.M.Source.left l.initial.message) (g.M.Source.left l.message) (λ before after. before ≡ l.bytes.items ++ after);
+}
+
+abbrev pub decreases-loop-piece : goal.decreases-loop-piece
+decreases-loop-piece g l = 16777217 - vec_len l.bytes

@@ -1,0 +1,200 @@
+-- A message that finds all that it needs is queued, or memory is wanted.
+use Rattle.std.proofs.Common.{◌≡◌, ◌≢◌, ◌⊎◌, inl, inr, ⊎_elim, ℕ, ◌+◌, ◌-◌, List, [], ◌∷◌, ◌++◌, length, take, length-append, Bool, true, false, not, Option, Some, None, refl, sym, ap, ◌∙◌, subst, arith}
+use Rattle.std.specs.Prelude.{if◌then◌else◌, ◌==◌, nat_lt, nat_le, Contains, codes, slice_get}
+use Rattle.std.specs.List.{AllByRecursion, suffix_len}
+use Rattle.std.specs.Option.{option_or}
+use Rattle.std.proofs.lemmas.Bool.{cases_lt, le-ltb}
+use Rattle.std.proofs.lemmas.Bool.Decides.{eqb_tells}
+use Rattle.std.proofs.lemmas.List.{get_or-append_right}
+use Rattle.std.proofs.lemmas.List.Elements.{All-from_recursion}
+use Rattle.std.proofs.lemmas.List.Sums.{suffix_len_is}
+use Rattle.mail_bytes.specs.Decimal.{digits, IsDigit}
+use Rattle.mail_bytes.proofs.Digits.{digits_only}
+use Rattle.call_fs.specs.declared.calls.FsError.{FsError}
+use Rattle.call_fs.specs.declared.calls.FsError.TheVariants.{NotThere, Exists, Fault, Memory}
+use Rattle.call_fs.specs.declared.calls.CallData.{CallData}
+use Rattle.call_fs.specs.declared.calls.CallData.TheVariants.{CreateExcl}
+use Rattle.call_fs.specs.declared.calls.Answer.{Answer}
+use Rattle.call_fs.specs.declared.calls.Answer.TheVariants.{Created, Done, Refused}
+use Rattle.call_fs.specs.Disk.{Disk, dir_of}
+use Rattle.call_fs.specs.Apply.{Apply, Fits, effect}
+use Rattle.call_fs.specs.Told.{Meets}
+use Rattle.call_fs.specs.Program.{Due, Did, Own}
+use Rattle.call_fs.specs.Program.Did.{Called}
+use Rattle.envelope_records.specs.Envelope.{Reading}
+use Rattle.envelope_records.proofs.Envelopes.{read_whole}
+use Rattle.queue_paths.specs.Names.{path}
+use Rattle.queue_paths.specs.Names.Part.{Intd}
+use Rattle.queue_inject.specs.declared.injection.Arguments.{Arguments}
+use Rattle.queue_inject.specs.declared.row.Cause.TheVariants.{Status, Envelope}
+use Rattle.queue_inject.specs.declared.row.Row.{Row}
+use Rattle.queue_inject.specs.declared.row.Row.TheVariants as at
+use Rattle.queue_inject.specs.Texts.{Text, limit, message_end, envelope_text, message_text, intd_text, envelope_of}
+use Rattle.queue_inject.specs.Table.{work_of, piece_size, past_piece, in_message, in_todo, settled, moved, row_after, after_own, call_of, in_time}
+use Rattle.queue_inject.proofs.Known.{either, past_by}
+use Rattle.queue_inject.proofs.Runs.{timely}
+use Rattle.queue_inject.specs.Run.{IsDue, IsRun, HoldsOf, HasCall}
+use Rattle.queue_inject.specs.Causes.{first_fault, pid_name, IsTry, IsTaken, IsFailure, IsCausedBy}
+use Rattle.queue_inject.proofs.Failures.{pid_is_no_part}
+use Rattle.queue_command.specs.Runs.{LeadsTo, Makes, IsFault}
+use Rattle.queue_command.specs.Injected.{IsHomeless, HasPidName, IsOutOfPlace, MayBeQueued}
+
+-- The pid names lie in one directory
+
+abbrev HasNoSlash : List ℕ → Type 0
+HasNoSlash text = AllByRecursion (λ b. not (b == 47) ≡ true) text
+
+no_slash-digits : (text : List ℕ) → AllByRecursion IsDigit text → HasNoSlash text
+no_slash-digits [] only = tt
+no_slash-digits (b ∷ text) only =
+    let first = only.0 in
+    (⊎_elim (λ w. let is = w.1 in absurd (omega arith)) (λ w. ap not w.0) (eqb_tells b 47), no_slash-digits text only.1)
+
+no_slash-append : (front back : List ℕ) → HasNoSlash front → HasNoSlash back → HasNoSlash (front ++ back)
+no_slash-append [] back h k = k
+no_slash-append (b ∷ front) back h k = (h.0, no_slash-append front back h.1 k)
+
+dir_pid : (rest : List ℕ) → HasNoSlash rest → dir_of (codes "pid/" ++ rest) ≡ codes "pid"
+dir_pid rest plain =
+    let name : List ℕ = codes "pid/" ++ rest in
+    let long = length-append (codes "pid/") rest in
+    let behind : suffix_len (λ b. not (b == 47)) name ≡ length name - 4 =
+    suffix_len_is (λ b. not (b == 47)) name 4 0 (omega arith)
+    (λ k from to. ap (λ b. not (b == 47)) (get_or-append_right (codes "pid/") rest 4 k 0 refl from) ∙ All-from_recursion (λ b. not (b == 47) ≡ true) rest plain (k - 4) 0 (omega arith))
+    (λ some. refl) in
+    let at : length name - suffix_len (λ b. not (b == 47)) name - 1 ≡ 3 = omega arith in
+    ap (λ n. take n name) at
+
+dir_pid_name : (args : Arguments) (k : ℕ) → dir_of (pid_name args k) ≡ codes "pid"
+unfolding path
+dir_pid_name args k =
+    let plain : (n : ℕ) → HasNoSlash (digits n) = λ n. no_slash-digits (digits n) (digits_only n) in
+    dir_pid (digits args.pid ++ 46 ∷ (digits args.start ++ 46 ∷ digits k))
+    (no_slash-append (digits args.pid) (46 ∷ (digits args.start ++ 46 ∷ digits k)) (plain args.pid)
+    (refl, no_slash-append (digits args.start) (46 ∷ digits k) (plain args.start) (refl, plain k)))
+
+-- The disk is the first one as long as pid names are tried
+
+abbrev Still : Disk → Disk → Row → Type 0
+Still first last (at.Create k) = last ≡ first
+Still first last row = Unit {0}
+
+module _ (first last : Disk) where
+  message_still : (text : Text) (n fd done : ℕ) → Still first last (in_message text n fd done)
+  message_still text n fd done =
+      past_by (Still first last) text.bytes text.fault done (at.AppendMess n (record { 0 = fd }) done) (at.SyncMess n (record { 0 = fd })) (λ status. at.CleanMess n (Status status)) tt tt (λ status. tt)
+
+  todo_still : (text : Text) (n fd done : ℕ) → Still first last (in_todo text n fd done)
+  todo_still text n fd done =
+      past_by (Still first last) text.bytes text.fault done (at.AppendTodo n (record { 0 = fd }) done) (at.SyncTodo n (record { 0 = fd })) (λ status. at.CleanIntd n Envelope) tt tt (λ status. tt)
+
+moves_still : (args : Arguments) (first mid last : Disk) (read : ℕ) (row : Row) (call : CallData) (answer : Answer)
+    → call_of args row ≡ Due.File call → Still first mid row → Apply mid read call answer last → Still first last (moved args row answer)
+moves_still args first mid last read (at.Create k) call (Refused Exists) due here applied =
+    let same : call ≡ CreateExcl (pid_name args k) = cc in
+    either (λ row. Still first last (settled (work_of args) row)) (nat_lt k 9) (at.Create (k + 1)) (at.Failed (Status 63))
+    (applied.2 ∙ ap (λ c. effect mid read c (Refused Exists) applied.0) same ∙ here) tt
+moves_still args first mid last read (at.LinkMess k n fd) call Done due here applied = tt
+moves_still args first mid last read (at.UnlinkPid k n fd) call Done due here applied = message_still first last (message_text args) n fd.0 0
+moves_still args first mid last read (at.AppendMess n fd done) call Done due here applied = message_still first last (message_text args) n fd.0 (done + piece_size)
+moves_still args first mid last read (at.SyncMess n fd) call Done due here applied = tt
+moves_still args first mid last read (at.CreateIntd n) call (Created fd i) due here applied = todo_still first last (intd_text args) n fd.0 0
+moves_still args first mid last read (at.AppendTodo n fd done) call Done due here applied = todo_still first last (intd_text args) n fd.0 (done + piece_size)
+moves_still args first mid last read (at.SyncTodo n fd) call Done due here applied = tt
+moves_still args first mid last read (at.LinkTodo n) call Done due here applied = tt
+moves_still args first mid last read (at.CleanIntd n cause) call (Refused NotThere) due here applied = tt
+moves_still args first mid last read row call answer due here applied = tt
+
+still_at : (args : Arguments) (first last : Disk) (past : List Own) → IsRun args past → LeadsTo first past last → Still first last (row_after args past)
+still_at args first last [] run led = led
+still_at args first last (event ∷ before) (run, due) (mid, led, made) = newest (still_at args first mid before run led) event.did due made where
+  newest : Still first mid (row_after args before) → (did : Did) → IsDue args before event.read event.ready did → Makes mid event.read did last
+      → Still first last (after_own args (row_after args before) did)
+  newest here (Called call answer bytes) due made = moves_still args first mid last event.read (row_after args before) call answer (timely _ _ _ call due.0) here made.0
+
+-- a pid name is tried on the first disk
+tried_first : (args : Arguments) (first mid : Disk) (row : Row) (k : ℕ) → call_of args row ≡ Due.File (CreateExcl (pid_name args k)) → Still first mid row → mid ≡ first
+tried_first args first mid (at.Create i) k due here = here
+tried_first args first mid (at.CreateIntd n) k due here = absurd (pid_is_no_part args k n Intd (created _ _ (sym due))) where
+  created : (a b : List ℕ) → ◌≡◌ {A = Due} (Due.File (CreateExcl a)) (Due.File (CreateExcl b)) → a ≡ b
+  created a b e = cc
+tried_first args first mid row k due here = absurd (cc)
+
+-- What the first disk tells of a try, by its answer
+module _ (args : Arguments) (first : Disk) (P : CallData → Answer → Type 0) (R : Type 0)
+    (by : (call : CallData) (answer : Answer) → P call answer
+    → (k : ℕ) × (why : FsError) × (call ≡ CreateExcl (pid_name args k)) × (answer ≡ Refused why) × ((wrote : ℕ) → Fits first (CreateExcl (pid_name args k)) (Refused why) wrote → R)) where
+  tells : (last : Disk) (past : List Own) → IsRun args past → LeadsTo first past last → HasCall past P → R
+  tells last [] run led h = absurd h
+  tells last (event ∷ before) (run, due) (mid, led, made) h = ⊎_elim (newest event.did due made) (tells mid before run led) h where
+    newest : (did : Did) → IsDue args before event.read event.ready did → Makes mid event.read did last → HoldsOf P did → R
+    newest (Called call answer bytes) due made h =
+        let t = by call answer h in
+        let same : mid ≡ first = tried_first args first mid (row_after args before) t.0 (timely _ _ _ call due.0 ∙ ap Due.File t.2) (still_at args first mid before run led) in
+        let applied = made.0 in
+        t.4 applied.0
+        (subst (λ d. Fits d (CreateExcl (pid_name args t.0)) (Refused t.1) applied.0) same
+        (subst (λ a. Fits mid (CreateExcl (pid_name args t.0)) a applied.0) t.3
+        (subst (λ c. Fits mid c answer applied.0) t.2 applied.1)))
+
+-- No try fails where a pid name is free
+
+free_fails_none : (args : Arguments) (old new : Option Disk) (past : List Own) (last status : ℕ)
+    → IsRun args past → Meets old new (λ before after. LeadsTo before past after) → IsCausedBy args past last status → HasPidName args old past
+    → (¬ (HasCall past (IsHomeless args))) × (¬ (HasCall past (IsTaken args 9)))
+free_fails_none args None new past last status run led caused (home, k, try, free) = (home, λ h. free (caused.tried h k try))
+free_fails_none args (Some d) None past last status run led caused has = absurd led
+free_fails_none args (Some d) (Some e) past last status run led caused (dir, k, try, free) = (
+  tells args d (IsHomeless args) ⊥
+      (λ call answer h. (h.0, NotThere, h.2, h.3, λ wrote none. none (subst (λ (name : List ℕ). Contains d.dirs name) (dir_pid_name args 1 ∙ sym (dir_pid_name args h.0)) dir)))
+      e past run led,
+  λ h. tells args d (IsTaken args k) ⊥
+      (λ call answer h. (k, Exists, h.0, h.1, λ wrote there. let some = there.1 in cc))
+      e past run led (caused.tried h k try),
+)
+
+-- No call fails but for want of memory
+
+fails_none : (args : Arguments) (call : CallData) (answer : Answer) (why : FsError) → answer ≡ Refused why → IsFailure args call answer → answer ≢ Refused Memory
+    → ¬ (IsFault call answer) → ¬ (IsOutOfPlace args call answer) → ¬ (IsHomeless args call answer) → ¬ (IsTaken args 9 call answer) → ⊥
+fails_none args call answer Memory is failure other calm placed home free = other is
+fails_none args call answer Fault is failure other calm placed home free = calm is
+fails_none args call answer NotThere is failure other calm placed home free =
+    placed (record { refused = inr is; other = λ k try same. home (k, try, same, is); needed = failure.needed })
+fails_none args call answer Exists is failure other calm placed home free =
+    placed (record { refused = inl is; other = λ k try same. ninth k try same; needed = failure.needed }) where
+      ninth : (k : ℕ) → IsTry k → call ≢ CreateExcl (pid_name args k)
+      ninth k try same = ⊎_elim
+          (λ small. failure.last k small (same, is))
+          (λ large. let high = try.1 in let nine : k ≡ 9 = omega arith in free (subst (λ j. IsTaken args j call answer) nine (same, is)))
+          (cases_lt k 9)
+
+none_fails : (args : Arguments) (past : List Own)
+    → ¬ (HasCall past IsFault) → ¬ (HasCall past (IsOutOfPlace args)) → ¬ (HasCall past (IsHomeless args)) → ¬ (HasCall past (IsTaken args 9))
+    → ¬ (HasCall past (λ call answer. IsFailure args call answer × (answer ≢ Refused Memory)))
+none_fails args [] calm placed home free h = h
+none_fails args (event ∷ before) calm placed home free h = ⊎_elim
+    (newest event.did (λ x. calm (inl x)) (λ x. placed (inl x)) (λ x. home (inl x)) (λ x. free (inl x)))
+    (none_fails args before (λ x. calm (inr x)) (λ x. placed (inr x)) (λ x. home (inr x)) (λ x. free (inr x)))
+    h where
+      newest : (did : Did) → ¬ (HoldsOf IsFault did) → ¬ (HoldsOf (IsOutOfPlace args) did) → ¬ (HoldsOf (IsHomeless args) did) → ¬ (HoldsOf (IsTaken args 9) did)
+          → ¬ (HoldsOf (λ call answer. IsFailure args call answer × (answer ≢ Refused Memory)) did)
+      newest (Called call answer bytes) calm placed home free (failure, other) = fails_none args call answer failure.why failure.refused failure other calm placed home free
+
+-- The input has no fault
+
+no_fault : (args : Arguments) (old : Option Disk) (past : List Own) (last : ℕ) → MayBeQueued args old past last → first_fault args ≡ None
+unfolding message_text intd_text envelope_of
+no_fault args old past last may =
+    let message : (message_text args).fault ≡ None
+    = ap (λ t. if t then Some 31 else message_end args.message_end) (le-ltb limit (length args.message) may.message_short) ∙ ap message_end may.message_whole in
+    let envelope : (intd_text args).fault ≡ None
+    = ap (λ (r : Reading). (envelope_text r args.envelope_end (slice_get args.envelope limit)).fault) (read_whole (take limit args.envelope) may.sender may.recipients may.envelope) in
+    ap (λ fault. option_or fault (intd_text args).fault) message ∙ envelope
+
+pub may_be_queued : (args : Arguments) (old new : Option Disk) (past : List Own) (last status : ℕ)
+    → IsRun args past → Meets old new (λ before after. LeadsTo before past after) → IsCausedBy args past last status
+    → MayBeQueued args old past last → (status ≡ 0) ⊎ (status ≡ 51)
+may_be_queued args old new past last status run led caused may =
+    let none = free_fails_none args old new past last status run led caused may.pid_name_free in
+    caused.complete (no_fault args old past last may) may.in_time (none_fails args past may.calm may.in_place none.0 none.1)
