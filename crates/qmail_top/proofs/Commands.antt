@@ -2,7 +2,7 @@
 use Rattle.std.proofs.Common.{◌≡◌, ◌≢◌, ◌⊎◌, ℕ, List, [], ◌++◌, length, Option, Some, None, Result, Err, inl, inr, refl, sym, ◌∙◌, ap, subst, ⊎_elim, arith, length-append, ◌<◌}
 use Rattle.std.proofs.lemmas.List.{append-nil}
 use Rattle.call_fs.specs.Told.{Rose, Meets, OnTold}
-use Rattle.scenario.specs.declared.line.Line.{Line}
+use Rattle.scenario.specs.Contents.{Content}
 use Rattle.qmail_top.specs.declared.play_command.Failure.{Failure}
 use Rattle.qmail_top.specs.declared.play_command.Failure.TheVariants.{Memory, Output, Input, Malformed}
 use Rattle.scenario.specs.Lines.{IsScript, IsBadLine, IsRefused, most_bytes}
@@ -13,22 +13,22 @@ use Rattle.scenario.proofs.Scripts.{no_refusal}
 use Rattle.scenario.proofs.WholePlays.{front_at_most}
 
 -- a script that was read is all that its source had
-reading-script : (before after bytes : List ℕ) (lines : List Line) → IsReading before after bytes → IsScript bytes lines → ¬ (IsRefused before)
-reading-script before after bytes lines reading script =
+reading-script : (before after bytes : List ℕ) (content : Content) → IsReading before after bytes → IsScript bytes content → ¬ (IsRefused before)
+reading-script before after bytes content reading script =
     let all : before ≡ bytes = ⊎_elim
     (λ end. reading.taken ∙ ap (λ t. bytes ++ t) end ∙ append-nil bytes)
     (λ over. let most = script.short in absurd (omega arith))
     reading.enough in
-    subst (λ (t : List ℕ). ¬ (IsRefused t)) (sym all) (no_refusal bytes lines script)
+    subst (λ (t : List ℕ). ¬ (IsRefused t)) (sym all) (no_refusal bytes content script)
 
 -- so it is none that is refused
-pub checked_script : (before after : Option (List ℕ)) (bytes : List ℕ) (lines : List Line) (result : Result (Unit {0}) Failure) → Meets before after (λ old new. IsReading old new bytes) → IsScript bytes lines → (result ≡ Err Malformed → ⊥) → OnTold before (λ old. IsChecked old result)
-checked_script (Some before) (Some after) bytes lines result reading script other = record {
+pub checked_script : (before after : Option (List ℕ)) (bytes : List ℕ) (content : Content) (result : Result (Unit {0}) Failure) → Meets before after (λ old new. IsReading old new bytes) → IsScript bytes content → (result ≡ Err Malformed → ⊥) → OnTold before (λ old. IsChecked old result)
+checked_script (Some before) (Some after) bytes content result reading script other = record {
   refused = λ malformed. absurd (other malformed);
-  played = λ past. reading-script before after bytes lines reading script;
+  played = λ past. reading-script before after bytes content reading script;
 }
-checked_script (Some before) None bytes lines result reading script other = absurd reading
-checked_script None after bytes lines result reading script other = tt
+checked_script (Some before) None bytes content result reading script other = absurd reading
+checked_script None after bytes content result reading script other = tt
 
 -- a script was refused
 abbrev pub IsMalformed : Result (Unit {0}) Failure → Type 0
@@ -68,11 +68,11 @@ bad_line_printed P None after old new bytes number Failed reading bad took = tt
 
 -- A script that was read, with no failure, is played or lacks memory.
 pub completes : (why : Failure) (left : Option (List ℕ)) (source sink : Counted) → HasCause why source sink → OnTold left (λ script. IsChecked script (Err why))
-    → OnTold left (λ script. (lines : List Line) → IsScript script lines → ¬ (Rose source.before source.after) → ¬ (Rose sink.before sink.after) → (status_of why ≡ 0) ⊎ (status_of why ≡ 51))
-completes Memory (Some script) source sink cause checked = λ lines is calm quiet. inr refl
-completes Output (Some script) source sink cause checked = λ lines is calm quiet. absurd (quiet cause)
-completes Input (Some script) source sink cause checked = λ lines is calm quiet. absurd (calm cause)
-completes Malformed (Some script) source sink cause checked = λ lines is calm quiet. absurd (no_refusal script lines is (checked.refused refl))
+    → OnTold left (λ script. (content : Content) → IsScript script content → ¬ (Rose source.before source.after) → ¬ (Rose sink.before sink.after) → (status_of why ≡ 0) ⊎ (status_of why ≡ 51))
+completes Memory (Some script) source sink cause checked = λ content is calm quiet. inr refl
+completes Output (Some script) source sink cause checked = λ content is calm quiet. absurd (quiet cause)
+completes Input (Some script) source sink cause checked = λ content is calm quiet. absurd (calm cause)
+completes Malformed (Some script) source sink cause checked = λ content is calm quiet. absurd (no_refusal script content is (checked.refused refl))
 completes why None source sink cause checked = tt
 
 -- what was taken of a script that wasn't played to its end is a front of its text

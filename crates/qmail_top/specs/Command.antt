@@ -1,5 +1,5 @@
 -- The words of the top call, and why a command fails.
-use Rattle.std.specs.Prelude.{◌≡◌, ◌⊎◌, ℕ, ◌<◌, List, [], ◌∷◌, ◌++◌, length, map, Option, Some, None, if◌then◌else◌, String, string_bytes, Result, Ok, Err}
+use Rattle.std.specs.Prelude.{◌≡◌, ◌⊎◌, ℕ, ◌<◌, List, [], ◌∷◌, ◌++◌, length, map, codes, Option, Some, None, if◌then◌else◌, String, string_bytes, Result, Ok, Err}
 use Rattle.std.specs.declared.alloc.Global.{Global}
 use Rattle.call_fs.specs.Told.{Rose}
 use Rattle.command_words.specs.declared.command.Command.TheVariants.{Play, Queue}
@@ -31,6 +31,10 @@ invoked_by queue = if queue.bounce then Bounce else Uid queue.uid
 abbrev pub form_of : Option (List ℕ) → Form
 form_of (Some file) = Beside
 form_of None = Netstrings
+
+-- the line that the log gets of words that are no command
+abbrev pub usage_line : List ℕ
+usage_line = codes "usage" ++ 10 ∷ []
 
 -- The command `queue` was done by this process.
 abbrev pub HasQueued : QueueWords → ℕ → Stream → Stream → Outside → Outside → ℕ → Type 0

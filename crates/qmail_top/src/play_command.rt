@@ -1,7 +1,7 @@
 // The command `play`: reads a script, checks it and plays it.
 ghost use Rattle.std.specs.Prelude.{◌≡◌, ◌≢◌, ◌⊎◌, ◌++◌, ◌∷◌, [], List, ℕ, IsOk, IfOk, IfErr, OnOk, Contains, Err, length, ◌<◌};
 ghost use Rattle.call_fs.specs.Told.{Rose, Meets, OnTold};
-ghost use Rattle.scenario.specs.declared.line.Line.{Line};
+ghost use Rattle.scenario.specs.Contents.{Content};
 ghost use Rattle.scenario.specs.Lines.{IsScript, IsRefused, most_bytes};
 ghost use Rattle.scenario.specs.Text.{Prints, BeginsAtMost, IsFrontAtMost, PrintsBadLine};
 ghost use Rattle.qmail_top.specs.Command.{IsReading, IsChecked, HasCause, IsBeforeOutput, status_of};
@@ -20,7 +20,7 @@ pub fn play_script<M: Source, O: Sink>(alloc: Global, message: &mut M, out: &mut
     ensures malformed { OnTold (M.left message.old) (λ script. result ≡ MALFORMED → IsRefused script) }
     ensures checked { OnTold (M.left message.old) (λ script. (result ≡ DONE) ⊎ (result ≡ OUTPUT) → ¬ (IsRefused script)) }
     ensures known { Contains (DONE ∷ MEMORY ∷ OUTPUT ∷ INPUT ∷ MALFORMED ∷ []) result }
-    ensures complete { OnTold (M.left message.old) (λ script. (lines : List Line) → IsScript script lines
+    ensures complete { OnTold (M.left message.old) (λ script. (content : Content) → IsScript script content
         → ¬ (Rose (M.faults message.old) (M.faults message.new)) → ¬ (Rose (O.faults out.old) (O.faults out.new))
         → (result ≡ DONE) ⊎ (result ≡ MEMORY)) }
 

@@ -3,10 +3,10 @@ ghost use Rattle.std.specs.Prelude.{◌≡◌, ◌≢◌, ◌⊎◌, ◌++◌, �
 ghost use Rattle.call_fs.specs.Told.{Rose, Meets, OnTold};
 ghost use Rattle.command_words.specs.declared.command.QueueWords.{QueueWords as Wanted};
 ghost use Rattle.command_words.specs.Reads.{IsNoCommand};
-ghost use Rattle.scenario.specs.declared.line.Line.{Line};
+ghost use Rattle.scenario.specs.Contents.{Content};
 ghost use Rattle.scenario.specs.Lines.{IsScript, IsRefused, most_bytes};
-ghost use Rattle.scenario.specs.Text.{Prints, IsFrontAtMost, PrintsBadLine};
-ghost use Rattle.qmail_top.specs.Command.{IsPlay, IsQueue, HasQueued};
+ghost use Rattle.scenario.specs.Text.{Prints, IsFrontAtMost, IsTaken, PrintsBadLine};
+ghost use Rattle.qmail_top.specs.Command.{IsPlay, IsQueue, HasQueued, usage_line};
 
 use crate::play_command::play_script;
 use crate::status::{DONE, INPUT, MALFORMED, MEMORY, OUTPUT, USAGE};
@@ -56,6 +56,11 @@ pub fn qmail<
     ensures usage { result ≡ USAGE → IsNoCommand (map string_bytes words.now) }
     ensures no_command { IsNoCommand (map string_bytes words.now) → (result ≡ USAGE) ⊎ (result ≡ MEMORY) }
 
+    // then the log took the line `usage`, or a front of it where it failed
+    ensures usage_line { result ≡ USAGE → Meets (L.taken log.old) (L.taken log.new)
+        (λ before after. (text : List ℕ) × IsTaken usage_line text (Rose (L.faults log.old) (L.faults log.new))
+        × (after ≡ before ++ text)) }
+
     // `queue`: each file call, each reading of the clock, and why it ended so
     ensures queue { (q : Wanted) → IsQueue words.now q → HasQueued q (K.pid clock.old)
         (record { old = M.left message.old; new = M.left message.new; faults_old = M.faults message.old; faults_new = M.faults message.new })
@@ -71,7 +76,7 @@ pub fn qmail<
     ensures checked { IsPlay words.now → OnTold (M.left message.old)
         (λ script. (result ≡ DONE) ⊎ (result ≡ OUTPUT) → ¬ (IsRefused script)) }
     ensures known { IsPlay words.now → Contains (DONE ∷ MEMORY ∷ OUTPUT ∷ INPUT ∷ MALFORMED ∷ []) result }
-    ensures complete { IsPlay words.now → OnTold (M.left message.old) (λ script. (lines : List Line) → IsScript script lines
+    ensures complete { IsPlay words.now → OnTold (M.left message.old) (λ script. (content : Content) → IsScript script content
         → ¬ (Rose (M.faults message.old) (M.faults message.new)) → ¬ (Rose (O.faults out.old) (O.faults out.new))
         → (result ≡ DONE) ⊎ (result ≡ MEMORY)) }
 
@@ -95,14 +100,14 @@ pub fn qmail<
         (λ script rest. result ≡ DONE → rest ≡ []) }
 
     // what stays untouched
-    ensures unread { result ≡ USAGE → message.new ≡ message.old }
-    ensures unwritten { (result ≡ USAGE) ⊎ (IsPlay words.now × (result ≡ INPUT)) → out.new ≡ out.old }
+    ensures unread { IsNoCommand (map string_bytes words.now) → message.new ≡ message.old }
+    ensures unwritten { IsNoCommand (map string_bytes words.now) ⊎ (IsPlay words.now × (result ≡ INPUT)) → out.new ≡ out.old }
     ensures unprinted { (q : Wanted) → IsQueue words.now q → out.new ≡ out.old }
-    ensures unlogged { ¬ (IsNoCommand (map string_bytes words.now)) → log.new ≡ log.old }
-    ensures disk { (result ≡ USAGE) ⊎ IsPlay words.now → disk.new ≡ disk.old }
-    ensures envelope { (result ≡ USAGE) ⊎ IsPlay words.now → envelope.new ≡ envelope.old }
+    ensures unlogged { result ≢ USAGE → log.new ≡ log.old }
+    ensures disk { IsNoCommand (map string_bytes words.now) ⊎ IsPlay words.now → disk.new ≡ disk.old }
+    ensures envelope { IsNoCommand (map string_bytes words.now) ⊎ IsPlay words.now → envelope.new ≡ envelope.old }
     ensures beside { (q : Wanted) → IsQueue words.now q → q.env ≡ None → envelope.new ≡ envelope.old }
-    ensures clock { (result ≡ USAGE) ⊎ IsPlay words.now → clock.new ≡ clock.old }
+    ensures clock { IsNoCommand (map string_bytes words.now) ⊎ IsPlay words.now → clock.new ≡ clock.old }
     ensures posts { posts.new ≡ posts.old }
     ensures spawn { spawn.new ≡ spawn.old }
 {

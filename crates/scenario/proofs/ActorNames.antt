@@ -1,5 +1,5 @@
 -- Names of actors.
-use Rattle.std.proofs.Common.{ℕ, ◌<◌, ◌≤◌, ◌^◌, List, [], ◌∷◌, length, Contains, Some, None, refl, sym, ◌∙◌, ap, subst, ⊎_elim, arith, length-append}
+use Rattle.std.proofs.Common.{ℕ, ◌<◌, ◌≤◌, ◌^◌, List, [], ◌∷◌, length, Contains, Some, refl, sym, ◌∙◌, ap, subst, ⊎_elim, arith, length-append}
 use Rattle.std.proofs.lemmas.List.{length-map}
 use Rattle.std.specs.Prelude.{codes}
 use Rattle.std.proofs.lemmas.List.Elements.{All-nil, All-cons, All-contains}
@@ -7,9 +7,10 @@ use Rattle.std.proofs.lemmas.Int.Digits.{length-digits_of-le}
 use Rattle.std.proofs.lemmas.Bool.Decides.{eqb_tells}
 use Rattle.mail_bytes.specs.Decimal.{digits}
 use Rattle.mail_world.specs.MailNames.{IsMailName, members}
-use Rattle.scenario.specs.Lines.{IsActorName, IsChildName, IsCount, child_kinds}
-use Rattle.scenario.specs.Reading.{IsCut}
-use Rattle.scenario.proofs.Cuts.{lacks, same-cut, not-cut}
+use Rattle.script_words.specs.Words.{IsCount}
+use Rattle.script_words.specs.Reading.{IsCut}
+use Rattle.script_words.proofs.Cuts.{lacks, same-cut}
+use Rattle.scenario.specs.Lines.{IsActorName, IsChildName, child_kinds}
 
 -- no kind of a child has a dot
 kind_lacks : (kind : List ℕ) → Contains child_kinds kind → ¬ (Contains kind 46)
@@ -23,10 +24,6 @@ child_parts word kind count cut h =
     let same = same-cut h.kind h.count kind count 46 (kind_lacks h.kind h.is_kind) cut.without (sym h.is_word ∙ cut.parts) in
     (subst (Contains child_kinds) same.0 h.is_kind, subst IsCount same.1 h.is_count)
 
--- a name without a dot is none of a child
-pub no_child : (word kind : List ℕ) → IsCut word 46 kind None → ¬ (IsChildName word)
-no_child word kind cut h = not-cut h.kind h.count kind 46 cut.without (sym h.is_word ∙ cut.parts)
-
 -- a u64 has at most 20 digits
 digits_short : (n : ℕ) → n < 2 ^ 64 → length (digits n) ≤ 20
 unfolding digits
@@ -36,9 +33,6 @@ digits_short n fits = ⊎_elim
     (eqb_tells n 0)
 
 -- a name fits into 24 bytes
-Short : List ℕ → Type 0
-Short word = length word ≤ 24
-
 mail_short : (word : List ℕ) → IsMailName word → length word ≤ 24
 mail_short [] is = absurd is
 mail_short (first ∷ rest) is = let few = is.2 in omega arith
@@ -60,7 +54,7 @@ kind_short kind is =
 child_short : (word : List ℕ) → IsChildName word → length word ≤ 24
 child_short word h =
     let kind = kind_short h.kind h.is_kind in
-    let count = digits_short h.is_count.count h.is_count.fits in
+    let count = digits_short h.is_count.count h.is_count.counted.1 in
     let text = ap length h.is_count.is_text in
     let whole = ap length h.is_word ∙ length-append h.kind (46 ∷ h.count) in
     omega arith

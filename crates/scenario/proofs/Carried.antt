@@ -27,6 +27,7 @@ use Rattle.scenario.proofs.FiniteDisks.{IsFinite, finite_after, finite_shut, fin
 use Rattle.scenario.proofs.LastingFiles.{AreLasting, lasting_after, lasting_halted, halt_survives}
 use Rattle.call_fs.specs.declared.crash_file_system.Survival.{Survival}
 use Rattle.call_fs.specs.Choices.{contents_by}
+use Rattle.call_fs.specs.Plan.{Plan}
 use Rattle.mail_world.proofs.Halts.{never_alive}
 use Rattle.mail_world.proofs.Looks.{mapped_some}
 
@@ -38,54 +39,54 @@ pub record Carries (s : State) : Type 0 where
   pub in_order : (a : List ℕ) (x : Actor) → s.actors a ≡ Some x → latest x.program x.past ≤ s.now
 
 -- A step of a living actor: a call with an answer, or its end.
-abbrev pub HasCalled : State → List ℕ → Actor → Event → Type 0
-HasCalled s a x e =
+abbrev pub HasCalled : Plan → State → List ℕ → Actor → Event → Type 0
+HasCalled plan s a x e =
     (c : CallData) × (got : Told) × (next_of x.program x.past s.now input_ready ≡ Due.File c)
-    × Answers s.disk c got × (e ≡ Call a s.now input_ready c got 0)
+    × Answers plan s.disk c got × (e ≡ Call a s.now input_ready c got 0)
 
 abbrev pub HasEnded : State → List ℕ → Actor → Event → Type 0
 HasEnded s a x e =
     (status : ℕ) × (next_of x.program x.past s.now input_ready ≡ Due.Ended status)
     × (e ≡ End a s.now input_ready status)
 
-pub record HasStepped (s : State) (a : List ℕ) (e : Event) : Type 0 where
+pub record HasStepped (plan : Plan) (s : State) (a : List ℕ) (e : Event) : Type 0 where
   pub actor : Actor
   pub is : s.actors a ≡ Some actor
   pub alive : actor.life ≡ Alive
-  pub did : HasCalled s a actor e ⊎ HasEnded s a actor e
+  pub did : HasCalled plan s a actor e ⊎ HasEnded s a actor e
 
 same_event : (e f : Event) → Happens e ≡ Happens f → e ≡ f
 same_event e f h = cc
 
-stepped_due : (s : State) (a : List ℕ) (x : Actor) (due : Due) (e : Event)
-    → next_of x.program x.past s.now input_ready ≡ due → DoesNext s a due (Happens e)
-    → HasCalled s a x e ⊎ HasEnded s a x e
-stepped_due s a x (Due.File c) e next h = inl (c, h.0, next, h.1, same_event e _ h.2)
-stepped_due s a x (Due.Ended status) e next h = inr (status, next, same_event e _ h)
-stepped_due s a x (Due.Take port) e next h = absurd (cc)
-stepped_due s a x (Due.Give port bytes) e next h = absurd (cc)
-stepped_due s a x (Due.Start child) e next h = absurd (cc)
-stepped_due s a x (Due.Command bytes) e next h = absurd (cc)
-stepped_due s a x Due.Wait e next h = absurd (cc)
+stepped_due : (plan : Plan) (s : State) (a : List ℕ) (x : Actor) (due : Due) (e : Event)
+    → next_of x.program x.past s.now input_ready ≡ due → DoesNext plan s a due (Happens e)
+    → HasCalled plan s a x e ⊎ HasEnded s a x e
+stepped_due plan s a x (Due.File c) e next h = inl (c, h.0, next, h.1, same_event e _ h.2)
+stepped_due plan s a x (Due.Ended status) e next h = inr (status, next, same_event e _ h)
+stepped_due plan s a x (Due.Take port) e next h = absurd (cc)
+stepped_due plan s a x (Due.Give port bytes) e next h = absurd (cc)
+stepped_due plan s a x (Due.Start child) e next h = absurd (cc)
+stepped_due plan s a x (Due.Command bytes) e next h = absurd (cc)
+stepped_due plan s a x Due.Wait e next h = absurd (cc)
 
-stepped_life : (s : State) (a : List ℕ) (x : Actor) (life : Life) (e : Event) → s.actors a ≡ Some x → x.life ≡ life
-    → DoesAlive s a x life (Happens e) → HasStepped s a e
-stepped_life s a x Alive e is alive h = record {
+stepped_life : (plan : Plan) (s : State) (a : List ℕ) (x : Actor) (life : Life) (e : Event) → s.actors a ≡ Some x → x.life ≡ life
+    → DoesAlive plan s a x life (Happens e) → HasStepped plan s a e
+stepped_life plan s a x Alive e is alive h = record {
   actor = x;
   is = is;
   alive = alive;
-  did = stepped_due s a x (next_of x.program x.past s.now input_ready) e refl h;
+  did = stepped_due plan s a x (next_of x.program x.past s.now input_ready) e refl h;
 }
-stepped_life s a x (Over status) e is over h = absurd (cc)
-stepped_life s a x Stopped e is over h = absurd (cc)
+stepped_life plan s a x (Over status) e is over h = absurd (cc)
+stepped_life plan s a x Stopped e is over h = absurd (cc)
 
-stepped_by : (s : State) (a : List ℕ) (o : Option Actor) (e : Event) → s.actors a ≡ o → DoesStep s a o (Happens e)
-    → HasStepped s a e
-stepped_by s a None e is h = absurd (cc)
-stepped_by s a (Some x) e is h = stepped_life s a x x.life e is refl h
+stepped_by : (plan : Plan) (s : State) (a : List ℕ) (o : Option Actor) (e : Event) → s.actors a ≡ o → DoesStep plan s a o (Happens e)
+    → HasStepped plan s a e
+stepped_by plan s a None e is h = absurd (cc)
+stepped_by plan s a (Some x) e is h = stepped_life plan s a x x.life e is refl h
 
-pub has_stepped : (s : State) (a : List ℕ) (e : Event) → StepsTo s a (Happens e) → HasStepped s a e
-has_stepped s a e h = stepped_by s a (s.actors a) e refl h
+pub has_stepped : (plan : Plan) (s : State) (a : List ℕ) (e : Event) → StepsTo plan s a (Happens e) → HasStepped plan s a e
+has_stepped plan s a e h = stepped_by plan s a (s.actors a) e refl h
 
 -- An actor that was put at a name, or another one.
 put_actor : (actors : List ℕ → Option Actor) (a b : List ℕ) (x y : Actor) → put_at actors a (Some x) b ≡ Some y
@@ -207,10 +208,10 @@ may_read s a x carries is alive = record {
   no_stall = omega arith;
 }
 
-goes_step : (d : Disk) (h : List Event) (a : List ℕ) (e : Event) (x : Actor) → Goes d h
+goes_step : (d : Disk) (h : List Event) (plan : Plan) (a : List ℕ) (e : Event) (x : Actor) → Goes d h
     → (after d h).actors a ≡ Some x → x.life ≡ Alive
-    → HasCalled (after d h) a x e ⊎ HasEnded (after d h) a x e → Goes d (e ∷ h)
-goes_step d h a e x so is alive (inl (c, got, due, given, same)) =
+    → HasCalled plan (after d h) a x e ⊎ HasEnded (after d h) a x e → Goes d (e ∷ h)
+goes_step d h plan a e x so is alive (inl (c, got, due, given, same)) =
     let s = after d h in
     let carries = so.carries in
     let f : Event = Call a s.now input_ready c got 0 in
@@ -232,7 +233,7 @@ goes_step d h a e x so is alive (inl (c, got, due, given, same)) =
           subst (λ (o : Option Actor). Carries (called s a s.now input_ready c got 0 o)) (sym is)
           (called_carries s a x carries is input_ready c got alive may.1 given.fits);
     })
-goes_step d h a e x so is alive (inr (status, due, same)) =
+goes_step d h plan a e x so is alive (inr (status, due, same)) =
     let s = after d h in
     let carries = so.carries in
     subst (λ (e : Event). Goes d (e ∷ h)) (sym same) (record {
@@ -243,11 +244,11 @@ goes_step d h a e x so is alive (inr (status, due, same)) =
     })
 
 -- each step keeps it
-pub goes_on : (d : Disk) (h : List Event) (a : List ℕ) (e : Event) → Goes d h → StepsTo (after d h) a (Happens e)
+pub goes_on : (d : Disk) (h : List Event) (plan : Plan) (a : List ℕ) (e : Event) → Goes d h → StepsTo plan (after d h) a (Happens e)
     → Goes d (e ∷ h)
-goes_on d h a e so steps =
-    let one = has_stepped (after d h) a e steps in
-    goes_step d h a e one.actor so one.is one.alive one.did
+goes_on d h plan a e so steps =
+    let one = has_stepped plan (after d h) a e steps in
+    goes_step d h plan a e one.actor so one.is one.alive one.did
 
 -- and each start
 pub goes_started : (d : Disk) (h : List Event) (a : List ℕ) (program : Program) → Goes d h

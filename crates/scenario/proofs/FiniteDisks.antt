@@ -119,6 +119,16 @@ finite_made d files name fd n f =
     (λ h. let lower = f.within q o (sym h.1 ∙ is) in omega arith)
     (put_cases d.opens fd made q))
 
+-- and so does a file under a name
+pub finite_placed : (d : Disk) (files : ℕ → File) (name : List ℕ) (n : ℕ) → IsFinite d
+    → IsFinite (record { dirs = d.dirs; names = put_at d.names name (Some n); files = files; opens = d.opens })
+finite_placed d files name n f =
+    named_too d files d.opens name (Some n) f
+    (suc n + f.numbers)
+    (λ m e. let same : n ≡ m = cc in omega arith)
+    (λ fd o is. let lower = f.behind fd o is in omega arith)
+    f.descriptors f.within
+
 -- what is open of the file of a name
 abbrev opened : How → ℕ → Open
 opened how n = record { number = n; mode = Mode.Opened how }

@@ -1,5 +1,5 @@
 -- What each file reads as is among what a machine stop may leave, and stays so through each call.
-use Rattle.std.proofs.Common.{◌≡◌, ⊎_elim, ℕ, List, [], Option, Some, None, sym, subst}
+use Rattle.std.proofs.Common.{⊎_elim, ℕ, List, [], Option, Some, None, sym, subst}
 use Rattle.call_fs.specs.declared.crash_file_system.Survival.{Survival}
 use Rattle.call_fs.specs.declared.crash_file_system.Survival.TheVariants.{Keep, Lose, Junk}
 use Rattle.call_fs.specs.declared.calls.FsError.TheVariants.{Fault}
@@ -24,7 +24,7 @@ AreLasting d = (n : ℕ) → Lasts (d.files n)
 pub lasting_empty : (moment : ℕ) → Lasts (empty_file moment)
 lasting_empty moment = lasts-settled [] (empty_file moment)
 
-lasting_put : (files : ℕ → File) (m : ℕ) (f : File) → ((n : ℕ) → Lasts (files n)) → Lasts f → (n : ℕ) → Lasts (put files m f n)
+pub lasting_put : (files : ℕ → File) (m : ℕ) (f : File) → ((n : ℕ) → Lasts (files n)) → Lasts f → (n : ℕ) → Lasts (put files m f n)
 lasting_put files m f all one n = ⊎_elim
     (λ h. subst Lasts (sym h.1) one)
     (λ h. subst Lasts (sym h.1) (all n))

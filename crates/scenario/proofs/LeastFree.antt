@@ -79,7 +79,7 @@ held_or_not d n (suc k) = ⊎_elim
         (λ far. inr (λ h. far (let same : x ≡ h.0 = (let e = h.1 in cc) in ap (λ (o : Open). o.number) same ∙ h.2)))
         (cases_eq x.number n)
 
-is_unused : (d : Disk) → IsFinite d → (n : ℕ) → Decided (IsUnused d n)
+pub is_unused : (d : Disk) → IsFinite d → (n : ℕ) → Decided (IsUnused d n)
 is_unused d f n = ⊎_elim
     (λ found. inr (λ u. u.unnamed found.0 found.1))
     (λ unnamed. ⊎_elim

@@ -1,21 +1,23 @@
--- texts cut at a byte
-pub mod Cuts
--- words, and the parts of a mail's line
-pub mod Words
 -- names of actors
 pub mod ActorNames
 -- lines that start a mail
 pub mod MailLines
 -- how lines begin
 pub mod LineHeads
--- the lines of a script
+-- lists cut in two, and what stands beside them
+pub mod Divisions
+-- texts that are the entries and lines of a script
+pub mod ContentTexts
+-- the texts of a script
 pub mod Scripts
 -- the names of a directory, one after the other
 pub mod NamesAfter
 -- what is printed
 pub mod Printed
--- the directories of a disk
+-- the directories of each script's disk
 pub mod Dirs
+-- directories that are made where they are missing, and entries
+pub mod MadeDirs
 -- a step of a world, as a step of a script
 pub mod ScriptSteps
 -- the steps of a run
@@ -46,7 +48,7 @@ pub mod OneAnswer
 pub mod OneStep
 -- what is shown is one text
 pub mod OneShown
--- a text is one line, and bytes are one script
+-- a text is one line, and bytes are one list of texts
 pub mod OneLine
 -- a script prints one text
 pub mod OneText
@@ -56,16 +58,28 @@ pub mod InOrder
 pub mod Decided
 -- disks with finitely many names and open descriptors
 pub mod FiniteDisks
+-- writes that failed
+pub mod HalfWritten
+-- calls by a plan
+pub mod CountedCalls
 -- what each file reads as may survive
 pub mod LastingFiles
 -- the least free number and descriptor
 pub mod LeastFree
--- the answers of a disk that doesn't fail
+-- the answers of a disk that fails only where it is chosen
 pub mod GivenAnswers
 -- the names of a directory and the numbers in use, listed
 pub mod Listings
 -- what a script's history keeps beside being legal
 pub mod Carried
+-- entries make a disk
+pub mod FirstDisks
+-- and make one disk
+pub mod OneFirstDisk
+-- a history may begin with it
+pub mod Openings
+-- what bytes say as a script
+pub mod SaidContents
 -- each script has a text
 pub mod WholePlays
 -- what a sink took of a line

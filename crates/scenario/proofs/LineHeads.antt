@@ -1,18 +1,22 @@
 -- How lines begin.
-use Rattle.std.proofs.Common.{◌≡◌, ◌≢◌, ◌⊎◌, ℕ, ◌≤◌, List, [], ◌∷◌, ◌++◌, Contains, false, inl, inr, refl, sym, ◌∙◌, subst, arith}
-use Rattle.std.specs.Prelude.{codes}
+use Rattle.std.proofs.Common.{◌≡◌, ◌≢◌, ◌⊎◌, ℕ, List, [], ◌∷◌, ◌++◌, Contains, true, false, inl, inr, refl, sym, ap, ◌∙◌, subst, arith}
+use Rattle.std.specs.Prelude.{codes, not, slice_index_or}
+use Rattle.std.specs.List.{list_all}
+use Rattle.std.proofs.lemmas.List.Sums.{AllPass-from_list_all}
 use Rattle.std.specs.Str.{bytes_eq}
 use Rattle.std.proofs.lemmas.Bool.{false≢true}
 use Rattle.std.proofs.lemmas.Slice.Eq.{bytes_eq-Decides}
 use Rattle.mail_bytes.specs.Decimal.{digits}
 use Rattle.call_fs.specs.Disk.{IsMoment}
+use Rattle.script_words.specs.declared.entry.Entry.{Entry}
+use Rattle.script_words.specs.declared.entry.Entry.TheVariants.{File, Dir}
+use Rattle.script_words.specs.Entries.{IsEntry}
 use Rattle.scenario.specs.declared.line.Line.{Line}
-use Rattle.scenario.specs.declared.line.Line.TheVariants.{Mail, Step, Run, Stop, Halt, Moment, Trace, Cat, Show}
-use Rattle.call_fs.specs.declared.crash_file_system.Survival.{Survival}
-use Rattle.call_fs.specs.declared.crash_file_system.Survival.TheVariants.{Keep, Lose, Junk}
-use Rattle.scenario.specs.Lines.{joined, IsActorName, StandsFor, survival_text, most_seed, IsSeeded, IsLine}
-use Rattle.scenario.specs.Reading.{keyword_texts, lone_texts, survival_words}
-use Rattle.scenario.proofs.Cuts.{not-cut, same-cut, lacks}
+use Rattle.scenario.specs.declared.line.Line.TheVariants.{Mail, Step, Run, Stop, Halt, Fault, Number, Moment, Trace, Cat, Show}
+use Rattle.script_words.specs.Words.{joined, StandsFor, survival_text, IsSeeded, IsCounted}
+use Rattle.script_words.proofs.Cuts.{not-cut, same-cut, lacks}
+use Rattle.scenario.specs.Lines.{IsActorName, IsLine}
+use Rattle.scenario.specs.Reading.{keyword_texts, lone_texts}
 
 -- the first word of a line with more, and what follows it
 abbrev pub Begins : List ℕ → List ℕ → Line → Type 0
@@ -21,6 +25,8 @@ Begins word rest (Step actor) = (word ≡ codes "step") × (rest ≡ actor) × I
 Begins word rest (Run actor) = (word ≡ codes "run") × (rest ≡ actor) × IsActorName actor
 Begins word rest (Stop actor) = (word ≡ codes "stop") × (rest ≡ actor) × IsActorName actor
 Begins word rest (Halt how) = (word ≡ codes "halt") × (rest ≡ survival_text how) × IsSeeded how
+Begins word rest (Fault k) = (word ≡ codes "fault") × (rest ≡ digits k) × IsCounted k
+Begins word rest (Number n) = (word ≡ codes "number") × (rest ≡ digits n) × IsCounted n
 Begins word rest (Moment m) = (word ≡ codes "moment") × (rest ≡ digits m) × IsMoment m
 Begins word rest Trace = ⊥
 Begins word rest (Cat path) = (word ≡ codes "cat") × StandsFor rest path
@@ -39,6 +45,10 @@ begins word rest (Stop actor) whole h =
     let same = same-cut word rest (codes "stop") actor 32 whole (lacks (codes "stop") 32 refl) h.0 in (same.0, same.1, h.1)
 begins word rest (Halt how) whole h =
     let same = same-cut word rest (codes "halt") (survival_text how) 32 whole (lacks (codes "halt") 32 refl) h.0 in (same.0, same.1, h.1)
+begins word rest (Fault k) whole h =
+    let same = same-cut word rest (codes "fault") (digits k) 32 whole (lacks (codes "fault") 32 refl) h.0 in (same.0, same.1, h.1)
+begins word rest (Number n) whole h =
+    let same = same-cut word rest (codes "number") (digits n) 32 whole (lacks (codes "number") 32 refl) h.0 in (same.0, same.1, h.1)
 begins word rest (Moment m) whole h =
     let same = same-cut word rest (codes "moment") (digits m) 32 whole (lacks (codes "moment") 32 refl) h.0 in (same.0, same.1, h.1)
 begins word rest Trace whole h = not-cut word rest (codes "trace") 32 (lacks (codes "trace") 32 refl) h
@@ -55,6 +65,8 @@ is_keyword word rest (Step actor) h = (2, omega arith, sym h.0)
 is_keyword word rest (Run actor) h = (3, omega arith, sym h.0)
 is_keyword word rest (Stop actor) h = (4, omega arith, sym h.0)
 is_keyword word rest (Halt how) h = (7, omega arith, sym h.0)
+is_keyword word rest (Fault k) h = (8, omega arith, sym h.0)
+is_keyword word rest (Number n) h = (9, omega arith, sym h.0)
 is_keyword word rest (Moment m) h = (5, omega arith, sym h.0)
 is_keyword word rest Trace h = absurd h
 is_keyword word rest (Cat path) h = (6, omega arith, sym h.0)
@@ -72,6 +84,8 @@ steps_actor word rest (Step actor) is h = subst IsActorName (sym h.1) h.2
 steps_actor word rest (Run actor) is h = absurd (apart (codes "step") (codes "run") refl (sym is ∙ h.0))
 steps_actor word rest (Stop actor) is h = absurd (apart (codes "step") (codes "stop") refl (sym is ∙ h.0))
 steps_actor word rest (Halt how) is h = absurd (apart (codes "step") (codes "halt") refl (sym is ∙ h.0))
+steps_actor word rest (Fault k) is h = absurd (apart (codes "step") (codes "fault") refl (sym is ∙ h.0))
+steps_actor word rest (Number n) is h = absurd (apart (codes "step") (codes "number") refl (sym is ∙ h.0))
 steps_actor word rest (Moment m) is h = absurd (apart (codes "step") (codes "moment") refl (sym is ∙ h.0))
 steps_actor word rest Trace is h = absurd h
 steps_actor word rest (Cat path) is h = absurd (apart (codes "step") (codes "cat") refl (sym is ∙ h.0))
@@ -84,6 +98,8 @@ runs_actor word rest (Step actor) is h = absurd (apart (codes "run") (codes "ste
 runs_actor word rest (Run actor) is h = subst IsActorName (sym h.1) h.2
 runs_actor word rest (Stop actor) is h = absurd (apart (codes "run") (codes "stop") refl (sym is ∙ h.0))
 runs_actor word rest (Halt how) is h = absurd (apart (codes "run") (codes "halt") refl (sym is ∙ h.0))
+runs_actor word rest (Fault k) is h = absurd (apart (codes "run") (codes "fault") refl (sym is ∙ h.0))
+runs_actor word rest (Number n) is h = absurd (apart (codes "run") (codes "number") refl (sym is ∙ h.0))
 runs_actor word rest (Moment m) is h = absurd (apart (codes "run") (codes "moment") refl (sym is ∙ h.0))
 runs_actor word rest Trace is h = absurd h
 runs_actor word rest (Cat path) is h = absurd (apart (codes "run") (codes "cat") refl (sym is ∙ h.0))
@@ -96,6 +112,8 @@ stops_actor word rest (Step actor) is h = absurd (apart (codes "stop") (codes "s
 stops_actor word rest (Run actor) is h = absurd (apart (codes "stop") (codes "run") refl (sym is ∙ h.0))
 stops_actor word rest (Stop actor) is h = subst IsActorName (sym h.1) h.2
 stops_actor word rest (Halt how) is h = absurd (apart (codes "stop") (codes "halt") refl (sym is ∙ h.0))
+stops_actor word rest (Fault k) is h = absurd (apart (codes "stop") (codes "fault") refl (sym is ∙ h.0))
+stops_actor word rest (Number n) is h = absurd (apart (codes "stop") (codes "number") refl (sym is ∙ h.0))
 stops_actor word rest (Moment m) is h = absurd (apart (codes "stop") (codes "moment") refl (sym is ∙ h.0))
 stops_actor word rest Trace is h = absurd h
 stops_actor word rest (Cat path) is h = absurd (apart (codes "stop") (codes "cat") refl (sym is ∙ h.0))
@@ -111,27 +129,24 @@ only_lone text (Step actor) whole h = absurd (not-cut (codes "step") actor text 
 only_lone text (Run actor) whole h = absurd (not-cut (codes "run") actor text 32 whole (sym h.0))
 only_lone text (Stop actor) whole h = absurd (not-cut (codes "stop") actor text 32 whole (sym h.0))
 only_lone text (Halt how) whole h = absurd (not-cut (codes "halt") (survival_text how) text 32 whole (sym h.0))
+only_lone text (Fault k) whole h = absurd (not-cut (codes "fault") (digits k) text 32 whole (sym h.0))
+only_lone text (Number n) whole h = absurd (not-cut (codes "number") (digits n) text 32 whole (sym h.0))
 only_lone text (Moment m) whole h = absurd (not-cut (codes "moment") (digits m) text 32 whole (sym h.0))
 only_lone text Trace whole h = (0, omega arith, sym h)
 only_lone text (Cat path) whole h = absurd (not-cut (codes "cat") h.0 text 32 whole (sym h.1))
 only_lone text Show whole h = (1, omega arith, sym h)
 
--- a line that begins with `halt` says what survives
-pub halts_so : (word rest : List ℕ) (line : Line) → word ≡ codes "halt" → Begins word rest line → (how : Survival) × IsSeeded how × (rest ≡ survival_text how)
-halts_so word rest (Mail name message envelope) is (inl h) = absurd (apart (codes "halt") (codes "mail") refl (sym is ∙ h))
-halts_so word rest (Mail name message envelope) is (inr h) = absurd (apart (codes "halt") (codes "raw") refl (sym is ∙ h))
-halts_so word rest (Step actor) is h = absurd (apart (codes "halt") (codes "step") refl (sym is ∙ h.0))
-halts_so word rest (Run actor) is h = absurd (apart (codes "halt") (codes "run") refl (sym is ∙ h.0))
-halts_so word rest (Stop actor) is h = absurd (apart (codes "halt") (codes "stop") refl (sym is ∙ h.0))
-halts_so word rest (Halt how) is h = (how, h.2, h.1)
-halts_so word rest (Moment m) is h = absurd (apart (codes "halt") (codes "moment") refl (sym is ∙ h.0))
-halts_so word rest Trace is h = absurd h
-halts_so word rest (Cat path) is h = absurd (apart (codes "halt") (codes "cat") refl (sym is ∙ h.0))
-halts_so word rest Show is h = absurd h
+-- a key that is no keyword
+no_keyword : (key : List ℕ) → list_all (λ k. not (bytes_eq k key)) keyword_texts ≡ true → ¬ (Contains keyword_texts key)
+no_keyword key none here =
+    let other : not (bytes_eq (slice_index_or keyword_texts here.0 key) key) ≡ true = AllPass-from_list_all (λ k. not (bytes_eq k key)) keyword_texts none here.0 key here.1 in
+    let same : bytes_eq (slice_index_or keyword_texts here.0 key) key ≡ true = (bytes_eq-Decides (slice_index_or keyword_texts here.0 key) key).1 here.2 in
+    false≢true (ap not (sym same) ∙ other)
 
--- what is neither of the two words nor `junk` and a seed says nothing
-pub says_nothing : (words : List ℕ) → ¬ (Contains survival_words words) → ((seed : ℕ) → seed ≤ most_seed → words ≢ codes "junk" ++ 32 ∷ digits seed)
-    → (how : Survival) → IsSeeded how → words ≢ survival_text how
-says_nothing words none junk Keep seeded is = none (0, omega arith, sym is)
-says_nothing words none junk Lose seeded is = none (1, omega arith, sym is)
-says_nothing words none junk (Junk seed) seeded is = junk seed seeded is
+-- a text of an entry is none of a line
+pub no_entry_line : (text : List ℕ) (entry : Entry) (line : Line) → IsEntry text entry → ¬ (IsLine text line)
+no_entry_line text (File path bytes) line h is =
+    let rest : List ℕ = (h.word ++ 32 ∷ codes ":") ++ h.rest in
+    no_keyword (codes "file") refl (is_keyword (codes "file") rest line (begins (codes "file") rest line (lacks (codes "file") 32 refl) (subst (λ (t : List ℕ). IsLine t line) h.words is)))
+no_entry_line text (Dir path) line h is =
+    no_keyword (codes "dir") refl (is_keyword (codes "dir") h.word line (begins (codes "dir") h.word line (lacks (codes "dir") 32 refl) (subst (λ (t : List ℕ). IsLine t line) h.words is)))

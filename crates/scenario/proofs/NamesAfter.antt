@@ -5,11 +5,10 @@ use Rattle.std.specs.List.{AllPairs}
 use Rattle.std.specs.Ordering.{is_lt, is_gt, is_eq}
 use Rattle.std.proofs.lemmas.Map.Text.{is_eq-slice_cmp}
 use Rattle.std.proofs.lemmas.Cmp.{nat_list_cmp_total, tied_itself}
-use Rattle.std.proofs.lemmas.List.Elements.{All-nil, All-push, All-weaker, All-contains, Contains-push, Contains-append_left}
+use Rattle.std.proofs.lemmas.List.Elements.{All-push, All-weaker, Contains-push, Contains-append_left}
 use Rattle.std.proofs.lemmas.List.Quantifiers.{all_pairs_push}
 use Rattle.call_fs.specs.Disk.{Disk}
-use Rattle.call_fs.specs.Apply.{StandsAfter, IsNextName, IsLastName}
-use Rattle.scenario.specs.Shown.{AreNamesIn}
+use Rattle.call_fs.specs.Apply.{StandsAfter, IsNextName}
 use Rattle.std.proofs.lemmas.Bool.{false≢true}
 use Rattle.std.proofs.lemmas.Slice.Eq.{bytes_eq-Decides}
 use Rattle.mem_fs.specs.Tables.{at_name}
@@ -89,14 +88,6 @@ pub record Found (d : Disk) (dir : List ℕ) (names : List (List ℕ)) (last : L
   pub up_to : All (λ name. UpTo name last) names
   pub others : (name : List ℕ) → StandsAfter d dir [] name → Contains names name ⊎ StandsAfter d dir last name
 
-abbrev pub found_none : (d : Disk) (dir : List ℕ) → Found d dir [] []
-found_none d dir = record {
-  each = All-nil (StandsAfter d dir []);
-  rising = λ i j e low high. absurd (omega arith);
-  up_to = All-nil (λ name. UpTo name []);
-  others = λ name stands. inr stands;
-}
-
 -- a later name isn't empty
 not-first : (low text : List ℕ) → Below low text → Below [] text
 not-first low [] less = absurd (nothing-below low less)
@@ -139,9 +130,3 @@ found_more d dir names last name found next =
           (λ later. next-or-later (slice_cmp nat_cmp name other) d dir names name other refl (next.least other later) stands)
           (found.others other stands);
     }
-
-pub found_all : (d : Disk) (dir : List ℕ) (names : List (List ℕ)) (last : List ℕ) → Found d dir names last → IsLastName d dir last → AreNamesIn d dir names
-found_all d dir names last found end = record {
-  each = λ name. ((λ here. All-contains (StandsAfter d dir []) names name found.each here), (λ stands. ⊎_elim (λ here. here) (λ later. absurd (end name later)) (found.others name stands)));
-  rising = found.rising;
-}

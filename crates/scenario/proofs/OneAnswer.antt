@@ -1,5 +1,5 @@
--- A disk that doesn't fail and has memory gives a call one answer.
-use Rattle.std.proofs.Common.{◌≡◌, ◌≢◌, ◌⊎◌, ℕ, ◌≤◌, min, List, length, Option, Some, None, IsSome, Contains, true, false, is_gt, refl, sym, ap, ◌∙◌, inl, inr}
+-- A disk that fails only where it is chosen, and has memory, gives a call one answer.
+use Rattle.std.proofs.Common.{◌≡◌, ◌≢◌, ◌⊎◌, ℕ, ◌≤◌, min, List, length, Option, Some, None, IsSome, Contains, true, false, is_gt, refl, sym, ap, ◌∙◌, inl, inr, ⊎_elim}
 use Rattle.std.specs.Ordering.{nat_cmp, ordering_reverse}
 use Rattle.std.specs.Cmp.Lexicographic.{slice_cmp}
 use Rattle.std.specs.declared.cmp.Ordering.{Ordering}
@@ -16,15 +16,17 @@ use Rattle.call_fs.specs.declared.calls.Answer.{Answer}
 use Rattle.call_fs.specs.declared.calls.Answer.TheVariants as answer
 use Rattle.call_fs.specs.declared.calls.Told.{Told}
 use Rattle.call_fs.specs.Disk.{Disk, HasDir}
-use Rattle.call_fs.specs.Steady.{IsFree, IsLeastFree, IsNextDescriptor, TakesLeast}
+use Rattle.call_fs.specs.Steady.{IsFree, IsLeastFree, IsNextDescriptor}
+use Rattle.call_fs.specs.Plan.{Plan, Takes, TakesNumber}
 use Rattle.call_fs.specs.Apply.{Fits, IsReadBy, read_by, from_place, IsNew, IsOpenable, IsLinkable, IsStat, IsNextName, IsLastName}
 use Rattle.scenario.specs.Played.{Answers}
+use Rattle.scenario.proofs.CountedCalls.{fail_both}
 use Rattle.scenario.proofs.OneOrder.{one_least}
 
--- the answer of such a disk, without the bytes of a read
-record Gets (d : Disk) (call : CallData) (a : Answer) : Type 0 where
+-- an answer of such a disk that is no failure, without the bytes of a read
+record Gets (d : Disk) (pick : Option ℕ) (call : CallData) (a : Answer) : Type 0 where
   pub fits : Fits d call a 0
-  pub least : TakesLeast d a
+  pub least : Takes d pick a
   pub no_fault : a ≢ answer.Refused Fault
   pub no_memory : a ≢ answer.Refused Memory
 
@@ -44,12 +46,20 @@ one_number d a b p q = one_least (IsFree d) a b p.free q.free p.least q.least
 
 -- `CreateExcl`
 
-abbrev IsCreated : Disk → List ℕ → Answer → Type 0
-IsCreated d name a =
-    ((fd : Fd) × (n : ℕ) × IsNew d name fd.0 n × IsNextDescriptor d fd.0 × IsLeastFree d n × (a ≡ answer.Created fd n))
+-- the number that a new file takes is one
+one_taken : (d : Disk) (pick : Option ℕ) (a b : ℕ) → TakesNumber d pick a → TakesNumber d pick b → a ≡ b
+one_taken d None a b p q = one_number d a b p q
+one_taken d (Some n) a b (inl p) (inl q) = p.1 ∙ sym q.1
+one_taken d (Some n) a b (inl p) (inr q) = absurd (q.0 p.0)
+one_taken d (Some n) a b (inr p) (inl q) = absurd (p.0 q.0)
+one_taken d (Some n) a b (inr p) (inr q) = one_number d a b p.1 q.1
+
+abbrev IsCreated : Disk → Option ℕ → List ℕ → Answer → Type 0
+IsCreated d pick name a =
+    ((fd : Fd) × (n : ℕ) × IsNew d name fd.0 n × IsNextDescriptor d fd.0 × TakesNumber d pick n × (a ≡ answer.Created fd n))
     ⊎ (((¬ (HasDir d name)) × (a ≡ answer.Refused NotThere)) ⊎ (HasDir d name × IsSome (d.names name) × (a ≡ answer.Refused Exists)))
 
-is-created : (d : Disk) (name : List ℕ) (a : Answer) → Gets d (CreateExcl name) a → IsCreated d name a
+is-created : {pick : Option ℕ} (d : Disk) (name : List ℕ) (a : Answer) → Gets d pick (CreateExcl name) a → IsCreated d pick name a
 is-created d name (answer.Created fd n) h = inl (fd, n, h.fits, h.least.0, h.least.1, refl)
 is-created d name (answer.Refused NotThere) h = inr (inl (h.fits, refl))
 is-created d name (answer.Refused Exists) h = inr (inr (h.fits.0, h.fits.1, refl))
@@ -57,19 +67,19 @@ is-created d name (answer.Refused Fault) h = absurd (h.no_fault refl)
 is-created d name (answer.Refused Memory) h = absurd (h.no_memory refl)
 is-created d name other h = absurd h.fits
 
-one-created : (d : Disk) (name : List ℕ) (a b : Answer) → IsCreated d name a → IsCreated d name b → a ≡ b
-one-created d name a b (inl p) (inl q) =
-    let n = one_number d p.1 q.1 p.4 q.4 in
+one-created : (d : Disk) (pick : Option ℕ) (name : List ℕ) (a b : Answer) → IsCreated d pick name a → IsCreated d pick name b → a ≡ b
+one-created d pick name a b (inl p) (inl q) =
+    let n = one_taken d pick p.1 q.1 p.4 q.4 in
     let fd = one_descriptor d p.0.0 q.0.0 p.3 q.3 in
     p.5 ∙ ap (λ (k : ℕ). let fd : Fd = record { 0 = k } in answer.Created fd p.1) fd ∙ ap (answer.Created q.0) n ∙ sym q.5
-one-created d name a b (inl p) (inr (inl q)) = absurd (q.0 p.2.dir)
-one-created d name a b (inl p) (inr (inr q)) = absurd (none-some (d.names name) p.2.free q.1)
-one-created d name a b (inr (inl p)) (inl q) = absurd (p.0 q.2.dir)
-one-created d name a b (inr (inl p)) (inr (inl q)) = p.1 ∙ sym q.1
-one-created d name a b (inr (inl p)) (inr (inr q)) = absurd (p.0 q.0)
-one-created d name a b (inr (inr p)) (inl q) = absurd (none-some (d.names name) q.2.free p.1)
-one-created d name a b (inr (inr p)) (inr (inl q)) = absurd (q.0 p.0)
-one-created d name a b (inr (inr p)) (inr (inr q)) = p.2 ∙ sym q.2
+one-created d pick name a b (inl p) (inr (inl q)) = absurd (q.0 p.2.dir)
+one-created d pick name a b (inl p) (inr (inr q)) = absurd (none-some (d.names name) p.2.free q.1)
+one-created d pick name a b (inr (inl p)) (inl q) = absurd (p.0 q.2.dir)
+one-created d pick name a b (inr (inl p)) (inr (inl q)) = p.1 ∙ sym q.1
+one-created d pick name a b (inr (inl p)) (inr (inr q)) = absurd (p.0 q.0)
+one-created d pick name a b (inr (inr p)) (inl q) = absurd (none-some (d.names name) q.2.free p.1)
+one-created d pick name a b (inr (inr p)) (inr (inl q)) = absurd (q.0 p.0)
+one-created d pick name a b (inr (inr p)) (inr (inr q)) = p.2 ∙ sym q.2
 
 -- `Open`
 
@@ -78,7 +88,7 @@ IsOpened d name a =
     ((fd : Fd) × IsOpenable d name fd.0 × IsNextDescriptor d fd.0 × (a ≡ answer.Opened fd))
     ⊎ ((d.names name ≡ None) × (a ≡ answer.Refused NotThere))
 
-is-opened : (d : Disk) (name : List ℕ) (how : How) (a : Answer) → Gets d (Open name how) a → IsOpened d name a
+is-opened : {pick : Option ℕ} (d : Disk) (name : List ℕ) (how : How) (a : Answer) → Gets d pick (Open name how) a → IsOpened d name a
 is-opened d name how (answer.Opened fd) h = inl (fd, h.fits, h.least, refl)
 is-opened d name how (answer.Refused NotThere) h = inr (h.fits, refl)
 is-opened d name how (answer.Refused Exists) h = absurd h.fits
@@ -95,7 +105,7 @@ one-opened d name a b (inr p) (inr q) = p.1 ∙ sym q.1
 
 -- `ReadAt`
 
-was-read : (d : Disk) (fd : Fd) (place len : ℕ) (a : Answer) → Gets d (ReadAt fd place len) a
+was-read : {pick : Option ℕ} (d : Disk) (fd : Fd) (place len : ℕ) (a : Answer) → Gets d pick (ReadAt fd place len) a
     → a ≡ answer.Count (min len (length (from_place d (d.opens fd.0) place)))
 was-read d fd place len (answer.Count count) h = ap answer.Count h.fits.1
 was-read d fd place len (answer.Refused NotThere) h = absurd h.fits
@@ -106,7 +116,7 @@ was-read d fd place len other h = absurd h.fits
 
 -- `WriteAt`, `Append`, `Truncate`, `Sync`, `Close`: done
 
-overwrote : (d : Disk) (fd : Fd) (place : ℕ) (bytes : List ℕ) (a : Answer) → Gets d (WriteAt fd place bytes) a → a ≡ answer.Done
+overwrote : {pick : Option ℕ} (d : Disk) (fd : Fd) (place : ℕ) (bytes : List ℕ) (a : Answer) → Gets d pick (WriteAt fd place bytes) a → a ≡ answer.Done
 overwrote d fd place bytes answer.Done h = refl
 overwrote d fd place bytes (answer.Refused NotThere) h = absurd h.fits
 overwrote d fd place bytes (answer.Refused Exists) h = absurd h.fits
@@ -114,7 +124,7 @@ overwrote d fd place bytes (answer.Refused Fault) h = absurd (h.no_fault refl)
 overwrote d fd place bytes (answer.Refused Memory) h = absurd (h.no_memory refl)
 overwrote d fd place bytes other h = absurd h.fits
 
-was-cut : (d : Disk) (fd : Fd) (len : ℕ) (a : Answer) → Gets d (Truncate fd len) a → a ≡ answer.Done
+was-cut : {pick : Option ℕ} (d : Disk) (fd : Fd) (len : ℕ) (a : Answer) → Gets d pick (Truncate fd len) a → a ≡ answer.Done
 was-cut d fd len answer.Done h = refl
 was-cut d fd len (answer.Refused NotThere) h = absurd h.fits
 was-cut d fd len (answer.Refused Exists) h = absurd h.fits
@@ -122,7 +132,7 @@ was-cut d fd len (answer.Refused Fault) h = absurd (h.no_fault refl)
 was-cut d fd len (answer.Refused Memory) h = absurd h.fits
 was-cut d fd len other h = absurd h.fits
 
-appended : (d : Disk) (fd : Fd) (bytes : List ℕ) (a : Answer) → Gets d (Append fd bytes) a → a ≡ answer.Done
+appended : {pick : Option ℕ} (d : Disk) (fd : Fd) (bytes : List ℕ) (a : Answer) → Gets d pick (Append fd bytes) a → a ≡ answer.Done
 appended d fd bytes answer.Done h = refl
 appended d fd bytes (answer.Refused NotThere) h = absurd h.fits
 appended d fd bytes (answer.Refused Exists) h = absurd h.fits
@@ -130,7 +140,7 @@ appended d fd bytes (answer.Refused Fault) h = absurd (h.no_fault refl)
 appended d fd bytes (answer.Refused Memory) h = absurd (h.no_memory refl)
 appended d fd bytes other h = absurd h.fits
 
-was-synced : (d : Disk) (fd : Fd) (a : Answer) → Gets d (Sync fd) a → a ≡ answer.Done
+was-synced : {pick : Option ℕ} (d : Disk) (fd : Fd) (a : Answer) → Gets d pick (Sync fd) a → a ≡ answer.Done
 was-synced d fd answer.Done h = refl
 was-synced d fd (answer.Refused NotThere) h = absurd h.fits
 was-synced d fd (answer.Refused Exists) h = absurd h.fits
@@ -138,7 +148,7 @@ was-synced d fd (answer.Refused Fault) h = absurd (h.no_fault refl)
 was-synced d fd (answer.Refused Memory) h = absurd h.fits
 was-synced d fd other h = absurd h.fits
 
-was-closed : (d : Disk) (fd : Fd) (a : Answer) → Gets d (Close fd) a → a ≡ answer.Done
+was-closed : {pick : Option ℕ} (d : Disk) (fd : Fd) (a : Answer) → Gets d pick (Close fd) a → a ≡ answer.Done
 was-closed d fd answer.Done h = refl
 was-closed d fd other h = absurd h.fits
 
@@ -149,7 +159,7 @@ IsLinked d old new a =
     (IsLinkable d old new × (a ≡ answer.Done))
     ⊎ ((((d.names old ≡ None) ⊎ (¬ (HasDir d new))) × (a ≡ answer.Refused NotThere)) ⊎ (IsSome (d.names old) × HasDir d new × IsSome (d.names new) × (a ≡ answer.Refused Exists)))
 
-is-linked : (d : Disk) (old new : List ℕ) (a : Answer) → Gets d (Link old new) a → IsLinked d old new a
+is-linked : {pick : Option ℕ} (d : Disk) (old new : List ℕ) (a : Answer) → Gets d pick (Link old new) a → IsLinked d old new a
 is-linked d old new answer.Done h = inl (h.fits, refl)
 is-linked d old new (answer.Refused NotThere) h = inr (inl (h.fits, refl))
 is-linked d old new (answer.Refused Exists) h = inr (inr (h.fits.0, h.fits.1, h.fits.2, refl))
@@ -178,7 +188,7 @@ one-linked d old new a b (inr (inr p)) (inr (inr q)) = p.3 ∙ sym q.3
 abbrev IsUnlinked : Disk → List ℕ → Answer → Type 0
 IsUnlinked d name a = (IsSome (d.names name) × (a ≡ answer.Done)) ⊎ ((d.names name ≡ None) × (a ≡ answer.Refused NotThere))
 
-is-unlinked : (d : Disk) (name : List ℕ) (a : Answer) → Gets d (Unlink name) a → IsUnlinked d name a
+is-unlinked : {pick : Option ℕ} (d : Disk) (name : List ℕ) (a : Answer) → Gets d pick (Unlink name) a → IsUnlinked d name a
 is-unlinked d name answer.Done h = inl (h.fits, refl)
 is-unlinked d name (answer.Refused NotThere) h = inr (h.fits, refl)
 is-unlinked d name (answer.Refused Exists) h = absurd h.fits
@@ -197,7 +207,7 @@ one-unlinked d name a b (inr p) (inr q) = p.1 ∙ sym q.1
 abbrev IsTold : Disk → List ℕ → Answer → Type 0
 IsTold d name a = ((stat : StatOf) × IsStat d name stat × (a ≡ answer.Stat stat)) ⊎ ((d.names name ≡ None) × (a ≡ answer.Refused NotThere))
 
-is-told : (d : Disk) (name : List ℕ) (a : Answer) → Gets d (Stat name) a → IsTold d name a
+is-told : {pick : Option ℕ} (d : Disk) (name : List ℕ) (a : Answer) → Gets d pick (Stat name) a → IsTold d name a
 is-told d name (answer.Stat stat) h = inl (stat, h.fits, refl)
 is-told d name (answer.Refused NotThere) h = inr (h.fits, refl)
 is-told d name (answer.Refused Exists) h = absurd h.fits
@@ -227,7 +237,7 @@ IsNamed d dir after a =
     (Contains d.dirs dir × (name : List ℕ) × IsNextName d dir after name × (a ≡ answer.Name name))
     ⊎ ((Contains d.dirs dir × IsLastName d dir after × (a ≡ answer.NoName)) ⊎ ((¬ (Contains d.dirs dir)) × (a ≡ answer.Refused NotThere)))
 
-is-named : (d : Disk) (dir after : List ℕ) (a : Answer) → Gets d (NextName dir after) a → IsNamed d dir after a
+is-named : {pick : Option ℕ} (d : Disk) (dir after : List ℕ) (a : Answer) → Gets d pick (NextName dir after) a → IsNamed d dir after a
 is-named d dir after (answer.Name name) h = inl (h.fits.0, name, h.fits.1, refl)
 is-named d dir after answer.NoName h = inr (inl (h.fits.0, h.fits.1, refl))
 is-named d dir after (answer.Refused NotThere) h = inr (inr (h.fits, refl))
@@ -259,8 +269,8 @@ one-named d dir after a b (inr (inr p)) (inr (inr q)) = p.1 ∙ sym q.1
 
 -- Each call
 
-gets_one : (d : Disk) (call : CallData) (a b : Answer) → Gets d call a → Gets d call b → a ≡ b
-gets_one d (CreateExcl name) a b p q = one-created d name a b (is-created d name a p) (is-created d name b q)
+gets_one : {pick : Option ℕ} (d : Disk) (call : CallData) (a b : Answer) → Gets d pick call a → Gets d pick call b → a ≡ b
+gets_one {pick} d (CreateExcl name) a b p q = one-created d pick name a b (is-created d name a p) (is-created d name b q)
 gets_one d (Open name how) a b p q = one-opened d name a b (is-opened d name how a p) (is-opened d name how b q)
 gets_one d (ReadAt fd place len) a b p q = was-read d fd place len a p ∙ sym (was-read d fd place len b q)
 gets_one d (WriteAt fd place bytes) a b p q = overwrote d fd place bytes a p ∙ sym (overwrote d fd place bytes b q)
@@ -288,11 +298,14 @@ reads_one d (Unlink name) t u same p q = p ∙ sym q
 reads_one d (Stat name) t u same p q = p ∙ sym q
 reads_one d (NextName dir after) t u same p q = p ∙ sym q
 
-got : (d : Disk) (call : CallData) (t : Told) → Answers d call t → Gets d call t.answer
-got d call t h = record { fits = h.fits; least = h.steady.least; no_fault = h.steady.no_fault; no_memory = h.no_memory }
+got : (plan : Plan) (d : Disk) (call : CallData) (t : Told) → t.answer ≢ answer.Refused Fault → Answers plan d call t → Gets d plan.pick call t.answer
+got plan d call t other h = record { fits = h.fits; least = h.takes; no_fault = other; no_memory = h.no_memory }
 
-pub one_answer : (d : Disk) (call : CallData) (t u : Told) → Answers d call t → Answers d call u → t ≡ u
-one_answer d call t u p q =
-    let same = gets_one d call t.answer u.answer (got d call t p) (got d call u q) in
+pub one_answer : (plan : Plan) (d : Disk) (call : CallData) (t u : Told) → Answers plan d call t → Answers plan d call u → t ≡ u
+one_answer plan d call t u p q =
+    let same : t.answer ≡ u.answer = ⊎_elim
+    (λ failed. failed.0 ∙ sym failed.1)
+    (λ other. gets_one d call t.answer u.answer (got plan d call t other.0 p) (got plan d call u other.1 q))
+    (fail_both call plan t.answer u.answer p.fails q.fails) in
     ap (λ (a : Answer). let x : Told = record { answer = a; bytes = t.bytes } in x) same
     ∙ ap (λ (b : List ℕ). let x : Told = record { answer = u.answer; bytes = b } in x) (reads_one d call t u same p.bytes q.bytes)

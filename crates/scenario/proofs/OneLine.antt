@@ -1,5 +1,5 @@
--- A text is one line, and bytes are one script.
-use Rattle.std.proofs.Common.{◌≡◌, ℕ, List, [], ◌∷◌, ◌++◌, get_or, All, Contains, Ok, inl, inr, refl, sym, ap, ◌∙◌, subst, arith, append_assoc}
+-- A text is one line, and bytes are one list of texts.
+use Rattle.std.proofs.Common.{◌≡◌, ℕ, List, [], ◌∷◌, ◌++◌, All, Contains, Ok, inl, inr, refl, sym, ap, ◌∙◌, subst, arith, append_assoc}
 use Rattle.std.specs.Prelude.{codes, cond, ◌==◌, bytes_eq, true, false}
 use Rattle.std.specs.List.{AllZip}
 use Rattle.std.proofs.lemmas.List.{append_cancel_left}
@@ -9,28 +9,24 @@ use Rattle.mail_bytes.specs.Escape.{unescaped}
 use Rattle.mail_bytes.proofs.Digits.{digits_injective}
 use Rattle.mail_world.proofs.Tests.{same_text}
 use Rattle.scenario.specs.declared.line.Line.{Line}
-use Rattle.scenario.specs.declared.line.Line.TheVariants.{Mail, Step, Run, Stop, Halt, Moment, Trace, Cat, Show}
+use Rattle.scenario.specs.declared.line.Line.TheVariants.{Mail, Step, Run, Stop, Halt, Fault, Number, Moment, Trace, Cat, Show}
 use Rattle.call_fs.specs.declared.crash_file_system.Survival.{Survival}
 use Rattle.call_fs.specs.declared.crash_file_system.Survival.TheVariants.{Keep, Lose, Junk}
-use Rattle.scenario.specs.Lines.{survival_text, joined, StandsFor, StandsForText, HasBody, IsMailLine, IsRawLine, envelope_of, IsLine, kept, IsScript, IsUnbroken, ended}
-use Rattle.scenario.proofs.Cuts.{same-cut, not-cut}
-use Rattle.scenario.proofs.Words.{front, joined-front, colon-alone, Ends}
-use Rattle.scenario.proofs.MailLines.{name_lacks, text_lacks, joined-more, body-ends}
+use Rattle.script_words.specs.Words.{joined, StandsFor, StandsForText, HasBody, envelope_of, survival_text}
+use Rattle.script_words.proofs.Cuts.{same-cut, not-cut}
+use Rattle.script_words.proofs.WordLists.{front, joined-front, joined-more, colon-alone, Ends}
+use Rattle.script_words.proofs.Envelopes.{text_lacks, body-ends}
+use Rattle.script_words.proofs.EntryTexts.{read_one, one_message, other_first}
+use Rattle.scenario.specs.Lines.{IsMailLine, IsRawLine, IsLine, IsUnbroken, ended}
+use Rattle.scenario.proofs.MailLines.{name_lacks}
 
 -- What words and a rest stand for
-
-read-one : (word a b : List ℕ) → unescaped word ≡ Ok a → unescaped word ≡ Ok b → a ≡ b
-read-one word a b p q = let same = sym p ∙ q in cc
 
 one_sender : (word a b : List ℕ) → StandsForText word a → StandsForText word b → a ≡ b
 one_sender word a b (inl p) (inl q) = p.1 ∙ sym q.1
 one_sender word a b (inl p) (inr q) = absurd (q.0 p.0)
 one_sender word a b (inr p) (inl q) = absurd (p.0 q.0)
-one_sender word a b (inr p) (inr q) = read-one word a b p.1.bytes q.1.bytes
-
-one_message : (rest a b : List ℕ) → HasBody rest a → HasBody rest b → a ≡ b
-one_message [] a b p q = p ∙ sym q
-one_message (first ∷ text) a b p q = read-one text a b p.1 q.1
+one_sender word a b (inr p) (inr q) = read_one word a b p.1.bytes q.1.bytes
 
 -- words before `:` are one list, and stand for one list
 one_list : (to xs to' ys : List (List ℕ)) (tail tail' body body' : List ℕ) → AllZip StandsFor to xs → AllZip StandsFor to' ys → Ends tail body → Ends tail' body'
@@ -45,7 +41,7 @@ one_list (w ∷ to) (x ∷ xs) [] [] tail tail' body body' p q ends ends' e =
 one_list (w ∷ to) (x ∷ xs) (v ∷ to') (y ∷ ys) tail tail' body body' p q ends ends' e =
     let same = same-cut w (front to ++ (codes ":" ++ tail)) v (front to' ++ (codes ":" ++ tail')) 32 p.0.is_word.whole q.0.is_word.whole
     (sym (append_assoc w (32 ∷ front to) (codes ":" ++ tail)) ∙ e ∙ append_assoc v (32 ∷ front to') (codes ":" ++ tail')) in
-    let first : x ≡ y = read-one w x y p.0.bytes (subst (λ (word : List ℕ). unescaped word ≡ Ok y) (sym same.0) q.0.bytes) in
+    let first : x ≡ y = read_one w x y p.0.bytes (subst (λ (word : List ℕ). unescaped word ≡ Ok y) (sym same.0) q.0.bytes) in
     let rest = one_list to xs to' ys tail tail' body body' p.1 q.1 ends ends' same.1 in
     (ap (λ (b : List ℕ). b ∷ xs) first ∙ ap (λ (l : List (List ℕ)). y ∷ l) rest.0, rest.1)
 one_list [] (x ∷ xs) to' ys tail tail' body body' p q ends ends' e = absurd p
@@ -118,6 +114,8 @@ word_of text (Step actor) h = codes "step"
 word_of text (Run actor) h = codes "run"
 word_of text (Stop actor) h = codes "stop"
 word_of text (Halt how) h = codes "halt"
+word_of text (Fault k) h = codes "fault"
+word_of text (Number n) h = codes "number"
 word_of text (Moment m) h = codes "moment"
 word_of text Trace h = codes "trace"
 word_of text (Cat path) h = codes "cat"
@@ -130,6 +128,8 @@ begins_so text (Step actor) h = ap first_word h.0
 begins_so text (Run actor) h = ap first_word h.0
 begins_so text (Stop actor) h = ap first_word h.0
 begins_so text (Halt how) h = ap first_word h.0
+begins_so text (Fault k) h = ap first_word h.0
+begins_so text (Number n) h = ap first_word h.0
 begins_so text (Moment m) h = ap first_word h.0
 begins_so text Trace h = ap first_word h
 begins_so text (Cat path) h = ap first_word h.1
@@ -141,10 +141,6 @@ same_word text l m h k = sym (begins_so text l h) ∙ begins_so text m k
 other_word : (text : List ℕ) (l m : Line) (h : IsLine text l) (k : IsLine text m) → bytes_eq (word_of text l h) (word_of text m k) ≡ false → ⊥
 other_word text l m h k apart =
     let both : true ≡ false = sym (same_text (word_of text l h)) ∙ ap (bytes_eq (word_of text l h)) (same_word text l m h k) ∙ apart in absurd (cc)
-
--- two texts that begin with other bytes
-other_first : (a b : List ℕ) (m n : ℕ) → get_or a 0 0 ≡ m → get_or b 0 0 ≡ n → (m ≡ n → ⊥) → a ≡ b → ⊥
-other_first a b m n is is' apart e = apart (sym is ∙ ap (λ (l : List ℕ). get_or l 0 0) e ∙ is')
 
 one_survival : (a b : Survival) → survival_text a ≡ survival_text b → a ≡ b
 one_survival Keep Keep e = refl
@@ -165,11 +161,13 @@ one_line text (Step actor) (Step actor') h k = ap Step (append_cancel_left (code
 one_line text (Run actor) (Run actor') h k = ap Run (append_cancel_left (codes "run ") actor actor' (sym h.0 ∙ k.0))
 one_line text (Stop actor) (Stop actor') h k = ap Stop (append_cancel_left (codes "stop ") actor actor' (sym h.0 ∙ k.0))
 one_line text (Halt how) (Halt how') h k = ap Halt (one_survival how how' (append_cancel_left (codes "halt ") (survival_text how) (survival_text how') (sym h.0 ∙ k.0)))
+one_line text (Fault m) (Fault m') h k = ap Fault (digits_injective m m' (append_cancel_left (codes "fault ") (digits m) (digits m') (sym h.0 ∙ k.0)))
+one_line text (Number m) (Number m') h k = ap Number (digits_injective m m' (append_cancel_left (codes "number ") (digits m) (digits m') (sym h.0 ∙ k.0)))
 one_line text (Moment m) (Moment m') h k = ap Moment (digits_injective m m' (append_cancel_left (codes "moment ") (digits m) (digits m') (sym h.0 ∙ k.0)))
 one_line text Trace Trace h k = refl
 one_line text (Cat path) (Cat path') h k =
     let same : h.0 ≡ k.0 = append_cancel_left (codes "cat ") h.0 k.0 (sym h.1 ∙ k.1) in
-    ap Cat (read-one k.0 path path' (subst (λ (w : List ℕ). unescaped w ≡ Ok path) same h.2.bytes) k.2.bytes)
+    ap Cat (read_one k.0 path path' (subst (λ (w : List ℕ). unescaped w ≡ Ok path) same h.2.bytes) k.2.bytes)
 one_line text Show Show h k = refl
 one_line text (Mail name message envelope) m (inl h) k = absurd (other_word text (Mail name message envelope) m (inl h) k refl)
 one_line text (Mail name message envelope) m (inr h) k = absurd (other_word text (Mail name message envelope) m (inr h) k refl)
@@ -179,7 +177,7 @@ one_line text l m h k = absurd (other_word text l m h k refl)
 
 -- The lines of a script
 
-one_zip : (texts : List (List ℕ)) (ls ms : List Line) → AllZip IsLine texts ls → AllZip IsLine texts ms → ls ≡ ms
+pub one_zip : (texts : List (List ℕ)) (ls ms : List Line) → AllZip IsLine texts ls → AllZip IsLine texts ms → ls ≡ ms
 one_zip [] [] [] p q = refl
 one_zip [] (l ∷ ls) ms p q = absurd p
 one_zip [] [] (m ∷ ms) p q = absurd q
@@ -192,7 +190,7 @@ one_zip (t ∷ texts) (l ∷ ls) (m ∷ ms) p q =
 no-end : (t texts : List ℕ) → t ++ 10 ∷ texts ≡ [] → ⊥
 no-end t texts e = not-cut t texts [] 10 (λ here. let within = here.1 in omega arith) e
 
-one_ended : (ts us : List (List ℕ)) → All IsUnbroken ts → All IsUnbroken us → ended ts ≡ ended us → ts ≡ us
+pub one_ended : (ts us : List (List ℕ)) → All IsUnbroken ts → All IsUnbroken us → ended ts ≡ ended us → ts ≡ us
 one_ended [] [] p q e = refl
 one_ended [] (u ∷ us) p q e = absurd (no-end u (ended us) (sym (append_assoc u (10 ∷ []) (ended us)) ∙ sym e))
 one_ended (t ∷ ts) [] p q e = absurd (no-end t (ended ts) (sym (append_assoc t (10 ∷ []) (ended ts)) ∙ e))
@@ -200,8 +198,3 @@ one_ended (t ∷ ts) (u ∷ us) p q e =
     let same = same-cut t (ended ts) u (ended us) 10 (All-head IsUnbroken t ts p) (All-head IsUnbroken u us q)
     (sym (append_assoc t (10 ∷ []) (ended ts)) ∙ e ∙ append_assoc u (10 ∷ []) (ended us)) in
     ap (λ (x : List ℕ). x ∷ ts) same.0 ∙ ap (λ (l : List (List ℕ)). u ∷ l) (one_ended ts us (All-tail IsUnbroken t ts p) (All-tail IsUnbroken u us q) same.1)
-
-pub one_script : (bytes : List ℕ) (ls ms : List Line) → IsScript bytes ls → IsScript bytes ms → ls ≡ ms
-one_script bytes ls ms p q =
-    let same = one_ended p.texts q.texts p.each q.each (sym p.whole ∙ q.whole) in
-    one_zip (kept q.texts) ls ms (subst (λ (l : List (List ℕ)). AllZip IsLine (kept l) ls) same p.are_lines) q.are_lines

@@ -1,30 +1,27 @@
 -- A script prints one text.
 use Rattle.std.proofs.Common.{◌≡◌, ℕ, ◌<◌, List, [], ◌∷◌, ◌++◌, Bool, false, Option, Some, None, sym, ap, ◌∙◌, subst, inl, inr, arith, append_assoc}
-use mathlib.Core.Path.{fun_ext}
-use Rattle.call_fs.specs.Disk.{Disk, File, Open}
+use Rattle.call_fs.specs.Disk.{Disk}
 use Rattle.mail_bytes.specs.Decimal.{digits}
 use Rattle.call_fs.specs.Choices.{AreNamed, contents_by}
+use Rattle.call_fs.specs.Plan.{Plan, no_plan}
 use Rattle.std.proofs.lemmas.List.Kept.{AllPairs-from_increasing}
 use Rattle.mail_world.specs.History.{Event, Actor, Life, after}
 use Rattle.mail_world.specs.History.Event.{Halt}
 use Rattle.mail_world.specs.History.Life.{Alive, Over, Stopped}
 use Rattle.mail_world.specs.World.{mail}
+use Rattle.script_words.specs.declared.entry.Entry.{Entry}
 use Rattle.scenario.specs.declared.line.Line.{Line}
 use Rattle.scenario.specs.declared.line.Line.TheVariants as line
-use Rattle.scenario.specs.Played.{IsFirstDisk, Outcome, StopsAlive, StopComesTo, MomentComesTo, added, printed, next_pid, Plays, PlaysAll}
+use Rattle.scenario.specs.Contents.{Content}
+use Rattle.scenario.specs.FirstDisk.{IsFirstDisk}
+use Rattle.scenario.specs.Played.{Outcome, StopsAlive, StopComesTo, MomentComesTo, NumberComesTo, plan_after, added, printed, next_pid, Plays, PlaysAll}
 use Rattle.scenario.specs.Traced.{traced_after, traced_text}
 use Rattle.scenario.specs.Text.{IsPlayed, Prints, IsBegun, BeginsToPrint, IsFront}
 use Rattle.scenario.proofs.OneStep.{one_step, one_start, one_run}
 use Rattle.scenario.proofs.OneShown.{one_shown}
 use Rattle.scenario.proofs.OneOrder.{one_order}
-use Rattle.scenario.proofs.OneLine.{one_script}
-
-one_disk : (d e : Disk) → IsFirstDisk d → IsFirstDisk e → d ≡ e
-one_disk d e p q =
-    ap (λ (dirs : List (List ℕ)). let x : Disk = record { dirs = dirs; names = d.names; files = d.files; opens = d.opens } in x) (p.dirs ∙ sym q.dirs)
-    ∙ ap (λ (names : List ℕ → Option ℕ). let x : Disk = record { dirs = e.dirs; names = names; files = d.files; opens = d.opens } in x) (fun_ext (λ name. p.empty name ∙ sym (q.empty name)))
-    ∙ ap (λ (files : ℕ → File). let x : Disk = record { dirs = e.dirs; names = e.names; files = files; opens = d.opens } in x) (fun_ext (λ n. p.fresh n ∙ sym (q.fresh n)))
-    ∙ ap (λ (opens : ℕ → Option Open). let x : Disk = record { dirs = e.dirs; names = e.names; files = e.files; opens = opens } in x) (fun_ext (λ fd. p.shut fd ∙ sym (q.shut fd)))
+use Rattle.scenario.proofs.OneFirstDisk.{one_disk}
+use Rattle.scenario.proofs.SaidContents.{one_script}
 
 -- the named numbers are one list
 one_named : (d : Disk) (xs ys : List ℕ) → AreNamed d xs → AreNamed d ys → xs ≡ ys
@@ -53,36 +50,51 @@ one_moment now m o p (inl h) (inr k) = let later = h.0 in let early = k.0 in abs
 one_moment now m o p (inr h) (inl k) = let later = k.0 in let early = h.0 in absurd (omega arith)
 one_moment now m o p (inr h) (inr k) = h.1 ∙ sym k.1
 
-one_play : (d : Disk) (h : List Event) (l : Line) (e f : List Event) (t u : List ℕ) → Plays d h l e t → Plays d h l f u → (e ≡ f) × (t ≡ u)
-one_play d h (line.Mail name message envelope) e f t u p q =
+one_number_text : (d : Disk) (n : ℕ) (t u : List ℕ) → NumberComesTo d n t → NumberComesTo d n u → t ≡ u
+one_number_text d n t u (inl p) (inl q) = p.1 ∙ sym q.1
+one_number_text d n t u (inl p) (inr q) = absurd (q.0 p.0)
+one_number_text d n t u (inr p) (inl q) = absurd (p.0 q.0)
+one_number_text d n t u (inr p) (inr q) = p.1 ∙ sym q.1
+
+one_play : (d : Disk) (h : List Event) (plan : Plan) (l : Line) (e f : List Event) (t u : List ℕ) → Plays d h plan l e t → Plays d h plan l f u → (e ≡ f) × (t ≡ u)
+one_play d h plan (line.Mail name message envelope) e f t u p q =
     by_outcome name p.0 q.0 e f t u (one_start (after d h) name (mail (next_pid h) (after d h).now message envelope) p.0 q.0 p.1 q.1) p.2 q.2 p.3 q.3
-one_play d h (line.Step actor) e f t u p q = by_outcome actor p.0 q.0 e f t u (one_step (after d h) actor p.0 q.0 p.1 q.1) p.2 q.2 p.3 q.3
-one_play d h (line.Run actor) e f t u p q = one_run d h actor e f t u p q
-one_play d h (line.Stop actor) e f t u p q =
+one_play d h plan (line.Step actor) e f t u p q = by_outcome actor p.0 q.0 e f t u (one_step plan (after d h) actor p.0 q.0 p.1 q.1) p.2 q.2 p.3 q.3
+one_play d h plan (line.Run actor) e f t u p q = one_run d h plan actor e f t u p q
+one_play d h plan (line.Stop actor) e f t u p q =
     by_outcome actor p.0 q.0 e f t u (one_stop actor ((after d h).actors actor) p.0 q.0 p.1 q.1) p.2 q.2 p.3 q.3
-one_play d h (line.Halt how) e f t u p q =
+one_play d h plan (line.Halt how) e f t u p q =
     let now = (after d h).disk in
     let same : p.0 ≡ q.0 = one_named now p.0 q.0 p.1 q.1 in
     (p.2 ∙ ap (λ (named : List ℕ). Halt how (contents_by how now named) ∷ []) same ∙ sym q.2, p.3 ∙ sym q.3)
-one_play d h (line.Moment m) e f t u p q =
+one_play d h plan (line.Fault k) e f t u p q = (p.0 ∙ sym q.0, p.1 ∙ sym q.1)
+one_play d h plan (line.Number n) e f t u p q = (p.0 ∙ sym q.0, one_number_text (after d h).disk n t u p.1 q.1)
+one_play d h plan (line.Moment m) e f t u p q =
     by_outcome (digits (after d h).now) p.0 q.0 e f t u (one_moment (after d h).now m p.0 q.0 p.1 q.1) p.2 q.2 p.3 q.3
-one_play d h line.Trace e f t u p q = (p.0 ∙ sym q.0, p.1 ∙ sym q.1)
-one_play d h (line.Cat path) e f t u p q = (p.0 ∙ sym q.0, p.1 ∙ sym q.1)
-one_play d h line.Show e f t u p q = (p.0 ∙ sym q.0, one_shown d h t u p.1 q.1)
+one_play d h plan line.Trace e f t u p q = (p.0 ∙ sym q.0, p.1 ∙ sym q.1)
+one_play d h plan (line.Cat path) e f t u p q = (p.0 ∙ sym q.0, p.1 ∙ sym q.1)
+one_play d h plan line.Show e f t u p q = (p.0 ∙ sym q.0, one_shown d h t u p.1 q.1)
 
 -- what a line prints, of the events that it adds and of itself
 same_print : (traced : Bool) (e f : List Event) (t u : List ℕ) → (e ≡ f) × (t ≡ u) → traced_text traced e ++ t ≡ traced_text traced f ++ u
 same_print traced e f t u same = ap (λ (l : List Event). traced_text traced l ++ t) same.0 ∙ ap (λ w. traced_text traced f ++ w) same.1
 
+-- the rest is played from what the one line left, or the other
+same_rest : (d : Disk) (h : List Event) (plan : Plan) (traced : Bool) (l : Line) (lines : List Line) (e f : List Event) (t u : List ℕ) (mid : List Event) (left : Plan) (rest : List ℕ)
+    → (e ≡ f) × (t ≡ u) → PlaysAll d (e ++ h) (plan_after plan l e t) traced lines mid left rest → PlaysAll d (f ++ h) (plan_after plan l f u) traced lines mid left rest
+same_rest d h plan traced l lines e f t u mid left rest same plays =
+    subst (λ (t : List ℕ). PlaysAll d (f ++ h) (plan_after plan l f t) traced lines mid left rest) same.1
+    (subst (λ (e : List Event). PlaysAll d (e ++ h) (plan_after plan l e t) traced lines mid left rest) same.0 plays)
+
 -- What the first of some lines print is a front of what all of them print.
-play_front : (d : Disk) (h : List Event) (traced : Bool) (first later : List Line) (mid end : List Event) (text whole : List ℕ)
-    → PlaysAll d h traced first mid text → PlaysAll d h traced (first ++ later) end whole → IsFront text whole
-play_front d h traced [] later mid end text whole p q = (whole, ap (λ t. t ++ whole) (sym p.1))
-play_front d h traced (l ∷ first) later mid end text whole p q =
-    let one = one_play d h l p.0 q.0 p.1 q.1 p.3 q.3 in
+play_front : (d : Disk) (h : List Event) (plan : Plan) (traced : Bool) (first later : List Line) (mid end : List Event) (left last : Plan) (text whole : List ℕ)
+    → PlaysAll d h plan traced first mid left text → PlaysAll d h plan traced (first ++ later) end last whole → IsFront text whole
+play_front d h plan traced [] later mid end left last text whole p q = (whole, ap (λ t. t ++ whole) (sym p.2))
+play_front d h plan traced (l ∷ first) later mid end left last text whole p q =
+    let one = one_play d h plan l p.0 q.0 p.1 q.1 p.3 q.3 in
     let own = traced_text traced p.0 ++ p.1 in
-    let rest = play_front d (q.0 ++ h) (traced_after traced l) first later mid end p.2 q.2
-    (subst (λ (e : List Event). PlaysAll d (e ++ h) (traced_after traced l) first mid p.2) one.0 p.4) q.4 in (
+    let rest = play_front d (q.0 ++ h) (plan_after plan l q.0 q.1) (traced_after traced l) first later mid end left last p.2 q.2
+    (same_rest d h plan (traced_after traced l) l first p.0 q.0 p.1 q.1 mid left p.2 one p.4) q.4 in (
       rest.0,
       q.5
           ∙ ap (λ t. (traced_text traced q.0 ++ q.1) ++ t) rest.1
@@ -91,49 +103,52 @@ play_front d h traced (l ∷ first) later mid end text whole p q =
           ∙ ap (λ t. t ++ rest.0) (sym p.5),
     )
 
-one_play_all : (d : Disk) (h : List Event) (traced : Bool) (lines : List Line) (mid end : List Event) (t u : List ℕ)
-    → PlaysAll d h traced lines mid t → PlaysAll d h traced lines end u → t ≡ u
-one_play_all d h traced [] mid end t u p q = p.1 ∙ sym q.1
-one_play_all d h traced (l ∷ lines) mid end t u p q =
-    let one = one_play d h l p.0 q.0 p.1 q.1 p.3 q.3 in
-    let rest = one_play_all d (q.0 ++ h) (traced_after traced l) lines mid end p.2 q.2
-    (subst (λ (e : List Event). PlaysAll d (e ++ h) (traced_after traced l) lines mid p.2) one.0 p.4) q.4 in
+one_play_all : (d : Disk) (h : List Event) (plan : Plan) (traced : Bool) (lines : List Line) (mid end : List Event) (left last : Plan) (t u : List ℕ)
+    → PlaysAll d h plan traced lines mid left t → PlaysAll d h plan traced lines end last u → t ≡ u
+one_play_all d h plan traced [] mid end left last t u p q = p.2 ∙ sym q.2
+one_play_all d h plan traced (l ∷ lines) mid end left last t u p q =
+    let one = one_play d h plan l p.0 q.0 p.1 q.1 p.3 q.3 in
+    let rest = one_play_all d (q.0 ++ h) (plan_after plan l q.0 q.1) (traced_after traced l) lines mid end left last p.2 q.2
+    (same_rest d h plan (traced_after traced l) l lines p.0 q.0 p.1 q.1 mid left p.2 one p.4) q.4 in
     p.5 ∙ ap (λ t. t ++ p.2) (same_print traced p.0 q.0 p.1 q.1 one) ∙ ap (λ t. (traced_text traced q.0 ++ q.1) ++ t) rest ∙ sym q.5
 
-one_end : (d : Disk) (h : List Event) (traced : Bool) (lines : List Line) (mid end : List Event) (t u : List ℕ)
-    → PlaysAll d h traced lines mid t → PlaysAll d h traced lines end u → mid ≡ end
-one_end d h traced [] mid end t u p q = p.0 ∙ sym q.0
-one_end d h traced (l ∷ lines) mid end t u p q =
-    let one = one_play d h l p.0 q.0 p.1 q.1 p.3 q.3 in
-    one_end d (q.0 ++ h) (traced_after traced l) lines mid end p.2 q.2
-    (subst (λ (e : List Event). PlaysAll d (e ++ h) (traced_after traced l) lines mid p.2) one.0 p.4) q.4
+one_end : (d : Disk) (h : List Event) (plan : Plan) (traced : Bool) (lines : List Line) (mid end : List Event) (left last : Plan) (t u : List ℕ)
+    → PlaysAll d h plan traced lines mid left t → PlaysAll d h plan traced lines end last u → mid ≡ end
+one_end d h plan traced [] mid end left last t u p q = p.0 ∙ sym q.0
+one_end d h plan traced (l ∷ lines) mid end left last t u p q =
+    let one = one_play d h plan l p.0 q.0 p.1 q.1 p.3 q.3 in
+    one_end d (q.0 ++ h) (plan_after plan l q.0 q.1) (traced_after traced l) lines mid end left last p.2 q.2
+    (same_rest d h plan (traced_after traced l) l lines p.0 q.0 p.1 q.1 mid left p.2 one p.4) q.4
 
 -- from one disk
-all_from : (d e : Disk) (lines : List Line) (end : List Event) (t : List ℕ) → IsFirstDisk d → IsFirstDisk e → PlaysAll d [] false lines end t → PlaysAll e [] false lines end t
-all_from d e lines end t p q plays = subst (λ (x : Disk). PlaysAll x [] false lines end t) (one_disk d e p q) plays
+all_from : (opening : List Entry) (d e : Disk) (lines : List Line) (end : List Event) (left : Plan) (t : List ℕ) → IsFirstDisk opening d → IsFirstDisk opening e
+    → PlaysAll d [] no_plan false lines end left t → PlaysAll e [] no_plan false lines end left t
+all_from opening d e lines end left t p q plays = subst (λ (x : Disk). PlaysAll x [] no_plan false lines end left t) (one_disk opening d e p q) plays
 
-one_played : (lines : List Line) (t u : List ℕ) → IsPlayed lines t → IsPlayed lines u → t ≡ u
-one_played lines t u p q =
-    one_play_all q.disk [] false lines p.history q.history t u (all_from p.disk q.disk lines p.history t p.is_first q.is_first p.plays) q.plays
+one_played : (opening : List Entry) (lines : List Line) (t u : List ℕ) → IsPlayed opening lines t → IsPlayed opening lines u → t ≡ u
+one_played opening lines t u p q =
+    one_play_all q.disk [] no_plan false lines p.history q.history p.left q.left t u (all_from opening p.disk q.disk lines p.history p.left t p.is_first q.is_first p.plays) q.plays
 
 -- lines make one history
-pub one_history : (lines : List Line) (t u : List ℕ) (p : IsPlayed lines t) (q : IsPlayed lines u) → p.history ≡ q.history
-one_history lines t u p q =
-    one_end q.disk [] false lines p.history q.history t u (all_from p.disk q.disk lines p.history t p.is_first q.is_first p.plays) q.plays
+pub one_history : (opening : List Entry) (lines : List Line) (t u : List ℕ) (p : IsPlayed opening lines t) (q : IsPlayed opening lines u) → p.history ≡ q.history
+one_history opening lines t u p q =
+    one_end q.disk [] no_plan false lines p.history q.history p.left q.left t u (all_from opening p.disk q.disk lines p.history p.left t p.is_first q.is_first p.plays) q.plays
 
 -- Scripts
 
 pub one_text : (script a b : List ℕ) → Prints script a → Prints script b → a ≡ b
 one_text script a b p q =
-    one_played q.lines a b (subst (λ (l : List Line). IsPlayed l a) (one_script script p.lines q.lines p.is_script q.is_script) p.played) q.played
+    one_played q.content.opening q.content.lines a b
+    (subst (λ (c : Content). IsPlayed c.opening c.lines a) (one_script script p.content q.content p.says q.says) p.played) q.played
 
-begun_front : (lines : List Line) (begun whole : List ℕ) → IsBegun lines begun → IsPlayed lines whole → IsFront begun whole
-begun_front lines begun whole p q =
-    let front = play_front q.disk [] false p.first p.later p.played.history q.history p.printed whole
-    (all_from p.played.disk q.disk p.first p.played.history p.printed p.played.is_first q.is_first p.played.plays)
-    (subst (λ (l : List Line). PlaysAll q.disk [] false l q.history whole) p.lines_are q.plays) in
+begun_front : (opening : List Entry) (lines : List Line) (begun whole : List ℕ) → IsBegun opening lines begun → IsPlayed opening lines whole → IsFront begun whole
+begun_front opening lines begun whole p q =
+    let front = play_front q.disk [] no_plan false p.first p.later p.played.history q.history p.played.left q.left p.printed whole
+    (all_from opening p.played.disk q.disk p.first p.played.history p.played.left p.printed p.played.is_first q.is_first p.played.plays)
+    (subst (λ (l : List Line). PlaysAll q.disk [] no_plan false l q.history q.left whole) p.lines_are q.plays) in
     (p.rest ++ front.0, front.1 ∙ ap (λ t. t ++ front.0) p.text_is ∙ append_assoc begun p.rest front.0)
 
 pub begins_front : (script begun whole : List ℕ) → BeginsToPrint script begun → Prints script whole → IsFront begun whole
 begins_front script begun whole p q =
-    begun_front q.lines begun whole (subst (λ (l : List Line). IsBegun l begun) (one_script script p.lines q.lines p.is_script q.is_script) p.played) q.played
+    begun_front q.content.opening q.content.lines begun whole
+    (subst (λ (c : Content). IsBegun c.opening c.lines begun) (one_script script p.content q.content p.says q.says) p.played) q.played

@@ -1,42 +1,44 @@
 -- The lines of a script as they are played, one after the other.
 use Rattle.std.proofs.Common.{◌≡◌, ◌⊎◌, inl, inr, ℕ, ◌+◌, ◌<◌, List, [], ◌∷◌, ◌++◌, length, take, get_or, Bool, true, false, Option, Some, None, refl, sym, ap, ◌∙◌, subst, ⊎_elim, append_assoc}
-use Rattle.std.specs.Prelude.{codes, Contains}
+use Rattle.std.specs.Prelude.{◌^◌}
 use Rattle.std.proofs.lemmas.List.{append-nil, take_more}
-use Rattle.std.proofs.lemmas.List.Elements.{Contains-append_right}
-use Rattle.queue_paths.specs.Names.{path}
-use Rattle.queue_paths.specs.Names.Name.{Of}
-use Rattle.call_fs.specs.Apply.{empty_file}
 use Rattle.call_fs.specs.Disk.{Disk}
 use Rattle.call_fs.specs.Told.{Meets}
 use Rattle.mem_fs.specs.MemDisk.{bytes_at}
-use Rattle.crash_fs.specs.Crash.{Crash, crash_disk, IsQuiet}
+use Rattle.crash_fs.specs.Crash.{Crash, crash_disk, crash_plan}
+use Rattle.call_fs.specs.Plan.{Plan, no_plan}
 use Rattle.mail_world.specs.declared.error.WorldError.{WorldError}
 use Rattle.mail_world.specs.declared.error.WorldError.TheVariants as error
 use Rattle.mail_world.specs.declared.event.Event.{Event as Kept}
 use Rattle.mail_world.specs.declared.event.Event.TheVariants as kept
 use Rattle.mail_world.specs.declared.event.Program.TheVariants.{Injector}
-use Rattle.mail_world.specs.History.{Event, Legal, Opening, after, queue_dirs}
+use Rattle.mail_world.specs.History.{Event, Legal, after}
 use Rattle.mail_world.specs.History.Event.{Start}
 use Rattle.mail_world.specs.Headline.{Headline}
 use Rattle.mail_world.specs.MailNames.{IsMailName}
 use Rattle.mail_world.specs.World.{Seen, IsHistory, GoesOn, was_started, started_world, mail, next_pid as kept_pid, pid_after}
 use Rattle.mail_world.proofs.Lives.{started_is, starts_is}
+use Rattle.script_words.specs.declared.entry.Entry.{Entry}
 use Rattle.scenario.specs.declared.line.Line.{Line}
 use Rattle.scenario.specs.declared.line.Line.TheVariants as line
-use Rattle.scenario.specs.Played.{IsFirstDisk, Refusal, IsRefusalOf, Plays, PlaysAll, cat_line, refused, next_pid}
+use Rattle.scenario.specs.Contents.{HaveEntryPaths}
+use Rattle.scenario.specs.FirstDisk.{IsFirstDisk}
+use Rattle.scenario.specs.Played.{plan_after, Refusal, IsRefusalOf, Plays, PlaysAll, cat_line, refused, next_pid}
 use Rattle.scenario.specs.Played.Outcome.{Happens, Is}
 use Rattle.scenario.specs.Playing.{IsPlaying, HasStepped, HasPlayed, HasPrinted, IsRefusedAs}
 use Rattle.scenario.specs.Shown.{IsShown}
 use Rattle.scenario.specs.Text.{IsPlayed, IsBegun}
 use Rattle.scenario.specs.Traced.{traced_after, traced_text}
+use Rattle.scenario.proofs.FirstDisks.{first_disk}
+use Rattle.scenario.proofs.Openings.{first_opens}
 use Rattle.scenario.proofs.ScriptSteps.{last_told, start_told, moved, tells}
 use Rattle.scenario.proofs.ScriptRuns.{refused_with}
 
 -- `step`
 
-abbrev pub step_played : (d : Disk) (new : Seen Crash) (a : List ℕ) (ended : Option ℕ) (text : List ℕ) (h : List Event) → HasStepped d new a ended h
-    → HasPlayed d new (line.Step a) text text h
-step_played d new a ended text h step = record {
+abbrev pub step_played : (d : Disk) (new : Seen Crash) (plan : Plan) (a : List ℕ) (ended : Option ℕ) (text : List ℕ) (h : List Event) → HasStepped d new a ended plan h
+    → HasPlayed d new (line.Step a) text text plan h
+step_played d new plan a ended text h step = record {
   events = step.event ∷ [];
   own = [];
   plays = (Happens step.event, step.steps, refl, refl);
@@ -44,21 +46,21 @@ step_played d new a ended text h step = record {
   text = sym (append-nil text);
 }
 
-abbrev pub step_refused : (d : Disk) (w : Seen Crash) (a : List ℕ) (text : List ℕ) (why : WorldError) (r : Refusal) (h : List Event) → IsPlaying d w h
-    → IsRefusedAs why d a h → IsRefusalOf why r → HasPlayed d w (line.Step a) text (text ++ refused r a) h
-step_refused d w a text why r h playing seen is = record {
+abbrev pub step_refused : (d : Disk) (w : Seen Crash) (plan : Plan) (a : List ℕ) (text : List ℕ) (why : WorldError) (r : Refusal) (h : List Event) → IsPlaying d w plan h
+    → IsRefusedAs why d plan a h → IsRefusalOf why r → HasPlayed d w (line.Step a) text (text ++ refused r a) plan h
+step_refused d w plan a text why r h playing seen is = record {
   events = [];
   own = refused r a;
-  plays = (Is r, refused_with why r d a h seen is, refl, refl);
+  plays = (Is r, refused_with why r d plan a h seen is, refl, refl);
   playing = playing;
   text = refl;
 }
 
 -- `show`
 
-abbrev pub show_played : (d : Disk) (w : Seen Crash) (text own after_text : List ℕ) (h : List Event) → IsPlaying d w h → IsShown d h own → after_text ≡ text ++ own
-    → HasPlayed d w line.Show text after_text h
-show_played d w text own after_text h playing shown is = record { events = []; own = own; plays = (refl, shown); playing = playing; text = is }
+abbrev pub show_played : (d : Disk) (w : Seen Crash) (plan : Plan) (text own after_text : List ℕ) (h : List Event) → IsPlaying d w plan h → IsShown d h own → after_text ≡ text ++ own
+    → HasPlayed d w line.Show text after_text plan h
+show_played d w plan text own after_text h playing shown is = record { events = []; own = own; plays = (refl, shown); playing = playing; text = is }
 
 -- `mail`
 
@@ -71,9 +73,9 @@ only_taken error.Taken r one is = (refl, is)
 only_taken (error.Past now) r one is = ⊎_elim (λ e. absurd (cc)) (λ e. absurd (cc)) one
 only_taken error.Memory r one is = absurd is
 
-abbrev pub mail_refused : (d : Disk) (w : Seen Crash) (name message envelope text : List ℕ) (h : List Event) → IsPlaying d w h
-    → (was_started w.events name ≡ true) ⊎ (¬ (IsMailName name)) → HasPlayed d w (line.Mail name message envelope) text (text ++ refused Refusal.Taken name) h
-mail_refused d w name message envelope text h playing why = record {
+abbrev pub mail_refused : (d : Disk) (w : Seen Crash) (plan : Plan) (name message envelope text : List ℕ) (h : List Event) → IsPlaying d w plan h
+    → (was_started w.events name ≡ true) ⊎ (¬ (IsMailName name)) → HasPlayed d w (line.Mail name message envelope) text (text ++ refused Refusal.Taken name) plan h
+mail_refused d w plan name message envelope text h playing why = record {
   events = [];
   own = refused Refusal.Taken name;
   plays = (
@@ -86,9 +88,9 @@ mail_refused d w name message envelope text h playing why = record {
   text = refl;
 }
 
-abbrev pub mail_started : (d : Disk) (old new : Seen Crash) (name message envelope text : List ℕ) (h : List Event) → IsPlaying d old h → IsMailName name
-    → new ≡ started_world old name message envelope → GoesOn tells old new → HasPlayed d new (line.Mail name message envelope) text text h
-mail_started d old new name message envelope text h playing good started goes =
+abbrev pub mail_started : (d : Disk) (old new : Seen Crash) (plan : Plan) (name message envelope text : List ℕ) (h : List Event) → IsPlaying d old plan h → IsMailName name
+    → new ≡ started_world old name message envelope → GoesOn tells old new → HasPlayed d new (line.Mail name message envelope) text text plan h
+mail_started d old new plan name message envelope text h playing good started goes =
     let args = mail (kept_pid old.events) old.present message envelope in
     let k : Kept = kept.Start name (Injector args) in
     let events : new.events ≡ old.events ++ k ∷ [] = ap (λ (w : Seen Crash). w.events) started in
@@ -107,19 +109,19 @@ mail_started d old new name message envelope text h playing good started goes =
       plays = (Happens (Start name (Injector args)), inl (good, now.legal.1.new, ap (λ args. Happens (Start name (Injector args))) same), refl, refl);
       playing = record {
         is = now;
-        quiet = subst IsQuiet (sym disk) playing.quiet;
+        planned = ap crash_plan disk ∙ playing.planned;
       };
       text = sym (append-nil text);
     }
 
 -- `trace` and `cat`
 
-abbrev pub trace_played : (d : Disk) (w : Seen Crash) (text : List ℕ) (h : List Event) → IsPlaying d w h → HasPlayed d w line.Trace text text h
-trace_played d w text h playing = record { events = []; own = []; plays = (refl, refl); playing = playing; text = sym (append-nil text) }
+abbrev pub trace_played : (d : Disk) (w : Seen Crash) (plan : Plan) (text : List ℕ) (h : List Event) → IsPlaying d w plan h → HasPlayed d w line.Trace text text plan h
+trace_played d w plan text h playing = record { events = []; own = []; plays = (refl, refl); playing = playing; text = sym (append-nil text) }
 
-abbrev pub cat_played : (d : Disk) (w : Seen Crash) (path text after_text : List ℕ) (h : List Event) → IsPlaying d w h
-    → after_text ≡ text ++ cat_line path (bytes_at (crash_disk w.disk) path) → HasPlayed d w (line.Cat path) text after_text h
-cat_played d w path text after_text h playing is = record {
+abbrev pub cat_played : (d : Disk) (w : Seen Crash) (plan : Plan) (path text after_text : List ℕ) (h : List Event) → IsPlaying d w plan h
+    → after_text ≡ text ++ cat_line path (bytes_at (crash_disk w.disk) path) → HasPlayed d w (line.Cat path) text after_text plan h
+cat_played d w plan path text after_text h playing is = record {
   events = [];
   own = cat_line path (bytes_at (crash_disk w.disk) path);
   plays = (refl, ap (λ (now : Disk). cat_line path (bytes_at now path)) (sym playing.is.disk));
@@ -138,97 +140,85 @@ pub traced_push : (traced : Bool) (lines : List Line) (one : Line) → traced_th
 traced_push traced [] one = refl
 traced_push traced (first ∷ lines) one = traced_push (traced_after traced first) lines one
 
-pub plays_push : (d : Disk) (h mid : List Event) (traced : Bool) (lines : List Line) (one : Line) (text own : List ℕ) (events : List Event)
-    → PlaysAll d h traced lines mid text → Plays d mid one events own
-    → PlaysAll d h traced (lines ++ one ∷ []) (events ++ mid) (text ++ (traced_text (traced_through traced lines) events ++ own))
-plays_push d h mid traced [] one text own events all plays =
+pub plays_push : (d : Disk) (h mid : List Event) (plan left : Plan) (traced : Bool) (lines : List Line) (one : Line) (text own : List ℕ) (events : List Event)
+    → PlaysAll d h plan traced lines mid left text → Plays d mid left one events own
+    → PlaysAll d h plan traced (lines ++ one ∷ []) (events ++ mid) (plan_after left one events own) (text ++ (traced_text (traced_through traced lines) events ++ own))
+plays_push d h mid plan left traced [] one text own events all plays =
     let more = traced_text traced events ++ own in (
       events,
       own,
       [],
-      subst (λ (h : List Event). Plays d h one events own) all.0 plays,
-      (ap (λ (h : List Event). events ++ h) all.0, refl),
-      ap (λ t. t ++ more) all.1 ∙ sym (append-nil more),
+      subst (λ (plan : Plan). Plays d h plan one events own) all.1 (subst (λ (h : List Event). Plays d h left one events own) all.0 plays),
+      (ap (λ (h : List Event). events ++ h) all.0, ap (λ (plan : Plan). plan_after plan one events own) all.1, refl),
+      ap (λ t. t ++ more) all.2 ∙ sym (append-nil more),
     )
-plays_push d h mid traced (first ∷ lines) one text own events all plays =
+plays_push d h mid plan left traced (first ∷ lines) one text own events all plays =
     let more = traced_text (traced_through traced (first ∷ lines)) events ++ own in (
       all.0,
       all.1,
       all.2 ++ more,
       all.3,
-      plays_push d (all.0 ++ h) mid (traced_after traced first) lines one all.2 own events all.4 plays,
+      plays_push d (all.0 ++ h) mid (plan_after plan first all.0 all.1) left (traced_after traced first) lines one all.2 own events all.4 plays,
       ap (λ t. t ++ more) all.5 ∙ append_assoc (traced_text traced all.0 ++ all.1) all.2 more,
     )
 
--- These lines were played, and print this.
-pub record HavePlayed (lines : List Line) (w : Seen Crash) (traced : Bool) : Type 0 where
+-- These lines were played from the disk with these entries, and print this.
+pub record HavePlayed (opening : List Entry) (lines : List Line) (w : Seen Crash) (traced : Bool) : Type 0 where
   pub disk : Disk
-  pub is_first : IsFirstDisk disk
+  pub is_first : IsFirstDisk opening disk
   pub history : List Event
+  pub left : Plan
   pub text : List ℕ
-  pub plays : PlaysAll disk [] false lines history text
-  pub playing : IsPlaying disk w history
+  pub plays : PlaysAll disk [] no_plan false lines history left text
+  pub playing : IsPlaying disk w left history
   pub tracing : traced ≡ traced_through false lines
 
 -- what is printed of a line, as `PlaysAll` says it
-pub printed_text : (d : Disk) (v : Seen Crash) (traced through : Bool) (one : Line) (text : List ℕ) (h : List Event) (printed : HasPrinted d v traced one text h)
+pub printed_text : (d : Disk) (v : Seen Crash) (traced through : Bool) (one : Line) (text : List ℕ) (plan : Plan) (h : List Event) (printed : HasPrinted d v traced one text plan h)
     → traced ≡ through → traced_text through printed.played.events ++ printed.played.own ≡ text
-printed_text d v traced through one text h printed same =
+printed_text d v traced through one text plan h printed same =
     ap (λ t. traced_text t printed.played.events ++ printed.played.own) (sym same)
     ∙ ap (λ own. traced_text traced printed.played.events ++ own) (sym printed.played.text)
     ∙ sym printed.text_is
 
-abbrev pub play_goes_on : (lines all : List Line) (one : Line) (w v : Seen Crash) (traced after : Bool) (text : List ℕ) (so : HavePlayed lines w traced)
-    → HasPrinted so.disk v traced one text so.history → all ≡ lines ++ one ∷ [] → after ≡ traced_after traced one → HavePlayed all v after
-play_goes_on lines all one w v traced after text so printed is behind = record {
+abbrev pub play_goes_on : (opening : List Entry) (lines all : List Line) (one : Line) (w v : Seen Crash) (traced after : Bool) (text : List ℕ) (so : HavePlayed opening lines w traced)
+    → HasPrinted so.disk v traced one text so.left so.history → all ≡ lines ++ one ∷ [] → after ≡ traced_after traced one → HavePlayed opening all v after
+play_goes_on opening lines all one w v traced after text so printed is behind = record {
   disk = so.disk;
   is_first = so.is_first;
   history = printed.played.events ++ so.history;
+  left = plan_after so.left one printed.played.events printed.played.own;
   text = so.text ++ text;
-  plays = subst (λ (l : List Line). PlaysAll so.disk [] false l (printed.played.events ++ so.history) (so.text ++ text)) (sym is)
-      (subst (λ t. PlaysAll so.disk [] false (lines ++ one ∷ []) (printed.played.events ++ so.history) (so.text ++ t))
-      (printed_text so.disk v traced (traced_through false lines) one text so.history printed so.tracing)
-      (plays_push so.disk [] so.history false lines one so.text printed.played.own printed.played.events so.plays printed.played.plays));
+  plays =
+      let left = plan_after so.left one printed.played.events printed.played.own in
+      subst (λ (l : List Line). PlaysAll so.disk [] no_plan false l (printed.played.events ++ so.history) left (so.text ++ text)) (sym is)
+      (subst (λ t. PlaysAll so.disk [] no_plan false (lines ++ one ∷ []) (printed.played.events ++ so.history) left (so.text ++ t))
+      (printed_text so.disk v traced (traced_through false lines) one text so.left so.history printed so.tracing)
+      (plays_push so.disk [] so.history no_plan so.left false lines one so.text printed.played.own printed.played.events so.plays printed.played.plays));
   playing = printed.played.playing;
   tracing = behind ∙ ap (λ t. traced_after t one) so.tracing ∙ sym (traced_push false lines one) ∙ ap (traced_through false) (sym is);
 }
 
 -- the history of a play is legal and safe
-abbrev pub is_played : Headline → (lines : List Line) (w : Seen Crash) (traced : Bool) (so : HavePlayed lines w traced) → IsPlayed lines so.text
-is_played law lines w traced so = record {
+abbrev pub is_played : Headline → (opening : List Entry) (lines : List Line) (w : Seen Crash) (traced : Bool) (so : HavePlayed opening lines w traced) → IsPlayed opening lines so.text
+is_played law opening lines w traced so = record {
   disk = so.disk;
   history = so.history;
+  left = so.left;
   is_first = so.is_first;
   plays = so.plays;
   legal = so.playing.is.legal;
   safe = λ later before is. law so.disk later before (subst (λ (h : List Event). Legal so.disk h) (sym is) so.playing.is.legal);
 }
 
-abbrev pub is_begun : (lines first later : List Line) (text rest printed : List ℕ) → lines ≡ first ++ later → IsPlayed first printed → printed ≡ text ++ rest → IsBegun lines text
-is_begun lines first later text rest printed is played cut = record { first = first; later = later; lines_are = is; printed = printed; rest = rest; played = played; text_is = cut }
-
--- The disk that a script begins with
-
-pub first_opens : (d : Disk) → IsFirstDisk d → Opening d
-first_opens d first = record {
-  dirs = λ dir there. subst (λ (l : List (List ℕ)). Contains l dir) (sym first.dirs) (Contains-append_right (codes "control" ∷ codes "users" ∷ codes "home" ∷ []) queue_dirs dir there);
-  empty = λ part n. first.empty (path (Of part n));
-  shut = first.shut;
-  settled = λ name n is. let none = sym (first.empty name) ∙ is in absurd (cc);
-}
-
-abbrev pub first_disk : Disk
-first_disk = record {
-  dirs = (codes "control" ∷ codes "users" ∷ codes "home" ∷ []) ++ queue_dirs;
-  names = λ name. None;
-  files = λ n. empty_file 0;
-  opens = λ fd. None;
-}
+abbrev pub is_begun : (opening : List Entry) (lines first later : List Line) (text rest printed : List ℕ) → lines ≡ first ++ later → IsPlayed opening first printed → printed ≡ text ++ rest → IsBegun opening lines text
+is_begun opening lines first later text rest printed is played cut = record { first = first; later = later; lines_are = is; printed = printed; rest = rest; played = played; text_is = cut }
 
 -- nothing was played yet
-abbrev pub nothing_begun : Headline → (lines : List Line) → IsBegun lines []
-nothing_begun law lines =
-    let first : IsFirstDisk first_disk = record { dirs = refl; empty = λ name. refl; fresh = λ n. refl; shut = λ fd. refl } in
+abbrev pub nothing_begun : Headline → (opening : List Entry) (lines : List Line) → HaveEntryPaths opening → length opening < 2 ^ 64 → IsBegun opening lines []
+nothing_begun law opening lines paths few =
+    let d = first_disk opening few in
+    let opens = first_opens opening d.0 paths d.1 in
     record {
       first = [];
       later = lines;
@@ -236,18 +226,19 @@ nothing_begun law lines =
       printed = [];
       rest = [];
       played = record {
-        disk = first_disk;
+        disk = d.0;
         history = [];
-        is_first = first;
-        plays = (refl, refl);
-        legal = first_opens first_disk first;
-        safe = λ later before is. law first_disk later before (subst (λ (h : List Event). Legal first_disk h) (sym is) (first_opens first_disk first));
+        left = no_plan;
+        is_first = d.1;
+        plays = (refl, refl, refl);
+        legal = opens;
+        safe = λ later before is. law d.0 later before (subst (λ (h : List Event). Legal d.0 h) (sym is) opens);
       };
       text_is = refl;
     }
 
-abbrev pub nothing_played : (d : Disk) (w : Seen Crash) → IsFirstDisk d → IsPlaying d w [] → HavePlayed [] w false
-nothing_played d w first playing = record { disk = d; is_first = first; history = []; text = []; plays = (refl, refl); playing = playing; tracing = refl }
+abbrev pub nothing_played : (opening : List Entry) (d : Disk) (w : Seen Crash) → IsFirstDisk opening d → IsPlaying d w no_plan [] → HavePlayed opening [] w false
+nothing_played opening d w first playing = record { disk = d; is_first = first; history = []; left = no_plan; text = []; plays = (refl, refl, refl); playing = playing; tracing = refl }
 
 -- what an output took so far, and more
 pub took_more : (a b c : Option (List ℕ)) (text : List ℕ) {Q : List ℕ → List ℕ → Type 0} (R : List ℕ → List ℕ → Type 0)

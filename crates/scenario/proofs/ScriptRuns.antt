@@ -2,13 +2,14 @@
 use Rattle.std.proofs.Common.{◌≡◌, ◌≢◌, ◌⊎◌, inl, inr, ℕ, zero, suc, ◌+◌, ◌<◌, ◌≤◌, List, [], ◌∷◌, ◌++◌, length, Some, None, refl, sym, ◌∙◌, subst, ⊎_elim, arith}
 use Rattle.std.proofs.lemmas.List.{append-nil}
 use Rattle.call_fs.specs.Disk.{Disk}
+use Rattle.call_fs.specs.Plan.{Plan}
 use Rattle.crash_fs.specs.Crash.{Crash}
 use Rattle.mail_world.specs.declared.error.WorldError.{WorldError}
 use Rattle.mail_world.specs.declared.error.WorldError.TheVariants as error
 use Rattle.mail_world.specs.History.{Event, IsLiving, after}
 use Rattle.mail_world.specs.World.{Seen}
 use Rattle.scenario.specs.declared.line.Line.TheVariants as line
-use Rattle.scenario.specs.Played.{Refusal, IsRefusalOf, StepsTo, AreSteps, most_steps, stop_text, refused}
+use Rattle.scenario.specs.Played.{Refusal, IsRefusalOf, StepsTo, AreSteps, plan_through, most_steps, stop_text, refused}
 use Rattle.scenario.specs.Played.Outcome.{Is}
 use Rattle.scenario.specs.Playing.{IsPlaying, HasStepped, HasPlayed, IsRefusedAs}
 use Rattle.scenario.proofs.ScriptSteps.{alive_waits}
@@ -23,13 +24,13 @@ same_refusal (error.Past now) r s one other = one ∙ sym other
 same_refusal error.Memory r s one other = absurd one
 
 -- a refusal of the world as one of the script
-pub refused_with : (why : WorldError) (r : Refusal) (d : Disk) (a : List ℕ) (h : List Event) → IsRefusedAs why d a h → IsRefusalOf why r → StepsTo (after d h) a (Is r)
-refused_with (error.Gone name at) r d a h seen is = subst (λ r. StepsTo (after d h) a (Is r)) (same_refusal (error.Gone name at) seen.0 r seen.1 is) seen.2
-refused_with (error.NotWaiting name) r d a h seen is = subst (λ r. StepsTo (after d h) a (Is r)) (same_refusal (error.NotWaiting name) seen.0 r seen.1 is) seen.2
-refused_with error.Unknown r d a h seen is = subst (λ r. StepsTo (after d h) a (Is r)) (same_refusal error.Unknown seen.0 r seen.1 is) seen.2
-refused_with error.Taken r d a h seen is = subst (λ r. StepsTo (after d h) a (Is r)) (same_refusal error.Taken seen.0 r seen.1 is) seen.2
-refused_with (error.Past now) r d a h seen is = subst (λ r. StepsTo (after d h) a (Is r)) (same_refusal (error.Past now) seen.0 r seen.1 is) seen.2
-refused_with error.Memory r d a h seen is = absurd is
+pub refused_with : (why : WorldError) (r : Refusal) (d : Disk) (plan : Plan) (a : List ℕ) (h : List Event) → IsRefusedAs why d plan a h → IsRefusalOf why r → StepsTo plan (after d h) a (Is r)
+refused_with (error.Gone name at) r d plan a h seen is = subst (λ r. StepsTo plan (after d h) a (Is r)) (same_refusal (error.Gone name at) seen.0 r seen.1 is) seen.2
+refused_with (error.NotWaiting name) r d plan a h seen is = subst (λ r. StepsTo plan (after d h) a (Is r)) (same_refusal (error.NotWaiting name) seen.0 r seen.1 is) seen.2
+refused_with error.Unknown r d plan a h seen is = subst (λ r. StepsTo plan (after d h) a (Is r)) (same_refusal error.Unknown seen.0 r seen.1 is) seen.2
+refused_with error.Taken r d plan a h seen is = subst (λ r. StepsTo plan (after d h) a (Is r)) (same_refusal error.Taken seen.0 r seen.1 is) seen.2
+refused_with (error.Past now) r d plan a h seen is = subst (λ r. StepsTo plan (after d h) a (Is r)) (same_refusal (error.Past now) seen.0 r seen.1 is) seen.2
+refused_with error.Memory r d plan a h seen is = absurd is
 
 pub no_memory_refused : (why : WorldError) (r : Refusal) → IsRefusalOf why r → why ≢ error.Memory
 no_memory_refused (error.Gone name at) r is e = absurd (cc)
@@ -49,18 +50,18 @@ doesn't_wait (error.Past now) r is waits e = let both = sym is ∙ e in absurd (
 doesn't_wait error.Memory r is waits e = absurd is
 
 -- So many steps were made, and the actor lives.
-pub record HasRun (d : Disk) (h : List Event) (a : List ℕ) (w : Seen Crash) (steps : ℕ) : Type 0 where
+pub record HasRun (d : Disk) (h : List Event) (plan : Plan) (a : List ℕ) (w : Seen Crash) (steps : ℕ) : Type 0 where
   pub events : List Event
-  pub are_steps : AreSteps d h a events
+  pub are_steps : AreSteps d h plan a events
   pub count : length events ≡ steps
-  pub playing : IsPlaying d w (events ++ h)
+  pub playing : IsPlaying d w (plan_through plan events) (events ++ h)
   pub living : (steps ≡ 0) ⊎ IsLiving (after d (events ++ h)) a
 
-abbrev pub run_begins : (d : Disk) (h : List Event) (a : List ℕ) (w : Seen Crash) → IsPlaying d w h → HasRun d h a w 0
-run_begins d h a w playing = record { events = []; are_steps = tt; count = refl; playing = playing; living = inl refl }
+abbrev pub run_begins : (d : Disk) (h : List Event) (plan : Plan) (a : List ℕ) (w : Seen Crash) → IsPlaying d w plan h → HasRun d h plan a w 0
+run_begins d h plan a w playing = record { events = []; are_steps = tt; count = refl; playing = playing; living = inl refl }
 
-abbrev pub run_goes_on : (d : Disk) (h : List Event) (a : List ℕ) (w v : Seen Crash) (n : ℕ) (run : HasRun d h a w n) → HasStepped d v a None (run.events ++ h) → HasRun d h a v (n + 1)
-run_goes_on d h a w v n run step = record {
+abbrev pub run_goes_on : (d : Disk) (h : List Event) (plan : Plan) (a : List ℕ) (w v : Seen Crash) (n : ℕ) (run : HasRun d h plan a w n) → HasStepped d v a None (plan_through plan run.events) (run.events ++ h) → HasRun d h plan a v (n + 1)
+run_goes_on d h plan a w v n run step = record {
   events = step.event ∷ run.events;
   are_steps = (run.are_steps, step.steps);
   count = let same = run.count in omega arith;
@@ -74,9 +75,9 @@ over_text : (n : ℕ) (a : List ℕ) → 1 ≤ n → [] ≡ stop_text n Refusal.
 over_text zero a some = absurd (omega arith)
 over_text (suc n) a some = refl
 
-pub run_ends : (d : Disk) (h : List Event) (a : List ℕ) (w v : Seen Crash) (n : ℕ) (text : List ℕ) (status : ℕ) (run : HasRun d h a w n) → n < most_steps
-    → HasStepped d v a (Some status) (run.events ++ h) → HasPlayed d v (line.Run a) text text h
-run_ends d h a w v n text status run within step = record {
+pub run_ends : (d : Disk) (h : List Event) (plan : Plan) (a : List ℕ) (w v : Seen Crash) (n : ℕ) (text : List ℕ) (status : ℕ) (run : HasRun d h plan a w n) → n < most_steps
+    → HasStepped d v a (Some status) (plan_through plan run.events) (run.events ++ h) → HasPlayed d v (line.Run a) text text plan h
+run_ends d h plan a w v n text status run within step = record {
   events = step.event ∷ run.events;
   own = [];
   plays = record {
@@ -97,12 +98,13 @@ refusal_text zero Refusal.Past a none other = refl
 refusal_text zero Refusal.Steps a none other = refl
 refusal_text (suc n) r a none other = absurd (omega arith)
 
-pub run_refused : (d : Disk) (h : List Event) (a : List ℕ) (w : Seen Crash) (n : ℕ) (text : List ℕ) (why : WorldError) (r : Refusal) (run : HasRun d h a w n) → n < most_steps
-    → IsRefusedAs why d a (run.events ++ h) → IsRefusalOf why r → ((name : List ℕ) → why ≢ error.NotWaiting name) → HasPlayed d w (line.Run a) text (text ++ refused r a) h
-run_refused d h a w n text why r run within seen is waits =
-    let refuses : StepsTo (after d (run.events ++ h)) a (Is r) = refused_with why r d a (run.events ++ h) seen is in
+pub run_refused : (d : Disk) (h : List Event) (plan : Plan) (a : List ℕ) (w : Seen Crash) (n : ℕ) (text : List ℕ) (why : WorldError) (r : Refusal) (run : HasRun d h plan a w n) → n < most_steps
+    → IsRefusedAs why d (plan_through plan run.events) a (run.events ++ h) → IsRefusalOf why r → ((name : List ℕ) → why ≢ error.NotWaiting name) → HasPlayed d w (line.Run a) text (text ++ refused r a) plan h
+run_refused d h plan a w n text why r run within seen is waits =
+    let now = plan_through plan run.events in
+    let refuses : StepsTo now (after d (run.events ++ h)) a (Is r) = refused_with why r d now a (run.events ++ h) seen is in
     let other = doesn't_wait why r is waits in
-    let none : n ≡ 0 = ⊎_elim (λ e. e) (λ living. absurd (other (alive_waits (after d (run.events ++ h)) a living.actor r living.is living.alive refuses))) run.living in
+    let none : n ≡ 0 = ⊎_elim (λ e. e) (λ living. absurd (other (alive_waits (plan_through plan run.events) (after d (run.events ++ h)) a living.actor r living.is living.alive refuses))) run.living in
     record {
       events = run.events;
       own = refused r a;
@@ -118,9 +120,9 @@ run_refused d h a w n text why r run within seen is waits =
 not_gone : Refusal.Gone ≢ Refusal.NotWaiting
 not_gone e = absurd (cc)
 
-pub run_full : (d : Disk) (h : List Event) (a : List ℕ) (w : Seen Crash) (n : ℕ) (text : List ℕ) (run : HasRun d h a w n) → n ≡ most_steps
-    → HasPlayed d w (line.Run a) text (text ++ refused Refusal.Steps a) h
-run_full d h a w n text run full = record {
+pub run_full : (d : Disk) (h : List Event) (plan : Plan) (a : List ℕ) (w : Seen Crash) (n : ℕ) (text : List ℕ) (run : HasRun d h plan a w n) → n ≡ most_steps
+    → HasPlayed d w (line.Run a) text (text ++ refused Refusal.Steps a) plan h
+run_full d h plan a w n text run full = record {
   events = run.events;
   own = refused Refusal.Steps a;
   plays = record {
@@ -128,7 +130,7 @@ run_full d h a w n text run full = record {
     within = let same = run.count in omega arith;
     stops = inr (
       run.count ∙ full,
-      (λ gone. ⊎_elim (λ none. absurd (omega arith)) (λ living. not_gone (alive_waits (after d (run.events ++ h)) a living.actor Refusal.Gone living.is living.alive gone)) run.living),
+      (λ gone. ⊎_elim (λ none. absurd (omega arith)) (λ living. not_gone (alive_waits (plan_through plan run.events) (after d (run.events ++ h)) a living.actor Refusal.Gone living.is living.alive gone)) run.living),
       refl,
     );
   };

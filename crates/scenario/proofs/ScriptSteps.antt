@@ -10,8 +10,9 @@ use Rattle.call_fs.specs.declared.calls.Told.{Told}
 use Rattle.call_fs.specs.declared.program.Ready.{Ready}
 use Rattle.call_fs.specs.Disk.{Disk}
 use Rattle.call_fs.specs.Program.{Due}
-use Rattle.call_fs.specs.Steady.{IsSteadyAnswer}
-use Rattle.crash_fs.specs.Crash.{Crash, crash_disk, IsQuiet}
+use Rattle.call_fs.specs.Plan.{Plan, Takes, CallKeepsPlan}
+use Rattle.call_fs.specs.Apply.{effect}
+use Rattle.crash_fs.specs.Crash.{Crash, crash_disk, crash_plan}
 use Rattle.call_fs.proofs.Maps.{put_at_same}
 use Rattle.mail_world.specs.declared.event.Event.{Event as Kept}
 use Rattle.mail_world.specs.declared.event.Event.TheVariants as kept
@@ -19,10 +20,11 @@ use Rattle.mail_world.specs.declared.event.Program.{Program}
 use Rattle.mail_world.specs.History.{Event, Actor, Life, State, next_of, IsLiving, called, finished, after}
 use Rattle.mail_world.specs.History.Event.{Start, Call, End, Stop, Moment, Halt}
 use Rattle.mail_world.specs.History.Life.{Alive, Over, Stopped}
-use Rattle.mail_world.specs.World.{Seen, Tells, IsHistory, GoesOn, IsStep, EndsAt, was_started, input_ready, StaysSteady}
+use Rattle.mail_world.specs.World.{Seen, Tells, IsHistory, GoesOn, IsStep, EndsAt, was_started, input_ready, GoesByPlan}
 use Rattle.mail_world.proofs.Lives.{started_is, ended_is}
-use Rattle.mail_world.proofs.Unwritten.{call_wrote_nothing}
-use Rattle.scenario.specs.Played.{Outcome, Refusal, DoesNext, DoesAlive, DoesStep, StepsTo}
+use Rattle.scenario.proofs.CountedCalls.{done_by}
+use Rattle.scenario.proofs.HalfWritten.{call_wrote_none}
+use Rattle.scenario.specs.Played.{Outcome, Refusal, plan_by, DoesNext, DoesAlive, DoesStep, StepsTo}
 use Rattle.scenario.specs.Played.Outcome.{Happens, Is}
 use Rattle.scenario.specs.Played.Refusal.{Gone, Unknown}
 use Rattle.scenario.specs.Playing.{IsPlaying, HasStepped, IsRefusedAs, lacked_memory, is_memory}
@@ -82,27 +84,27 @@ moment_told m (Halt how contents) told = absurd (cc)
 
 -- What a living actor does next
 
-does : (s : State) (a : List ℕ) (p : ℕ) (x : Actor) (due : Due) (outcome : Outcome) → s.actors a ≡ Some x → x.life ≡ Alive → s.now ≡ p
-    → next_of x.program x.past p input_ready ≡ due → DoesNext s a due outcome → StepsTo s a outcome
-does s a p x due outcome is alive now next h =
-    subst (λ (o : Option Actor). DoesStep s a o outcome) (sym is)
-    (subst (λ (life : Life). DoesAlive s a x life outcome) (sym alive)
-    (subst (λ (due : Due). DoesNext s a due outcome) (sym (ap (λ q. next_of x.program x.past q input_ready) now ∙ next)) h))
+does : (plan : Plan) (s : State) (a : List ℕ) (p : ℕ) (x : Actor) (due : Due) (outcome : Outcome) → s.actors a ≡ Some x → x.life ≡ Alive → s.now ≡ p
+    → next_of x.program x.past p input_ready ≡ due → DoesNext plan s a due outcome → StepsTo plan s a outcome
+does plan s a p x due outcome is alive now next h =
+    subst (λ (o : Option Actor). DoesStep plan s a o outcome) (sym is)
+    (subst (λ (life : Life). DoesAlive plan s a x life outcome) (sym alive)
+    (subst (λ (due : Due). DoesNext plan s a due outcome) (sym (ap (λ q. next_of x.program x.past q input_ready) now ∙ next)) h))
 
 -- a living one isn't refused as gone, or as unknown
-next_not : (s : State) (a : List ℕ) (due : Due) (why : Refusal) → DoesNext s a due (Is why) → why ≡ Refusal.NotWaiting
-next_not s a (Due.File call) why h = let e = h.2 in absurd (cc)
-next_not s a (Due.Take port) why h = cc
-next_not s a (Due.Give port bytes) why h = cc
-next_not s a (Due.Start child) why h = cc
-next_not s a (Due.Command bytes) why h = cc
-next_not s a Due.Wait why h = cc
-next_not s a (Due.Ended status) why h = absurd (cc)
+next_not : (plan : Plan) (s : State) (a : List ℕ) (due : Due) (why : Refusal) → DoesNext plan s a due (Is why) → why ≡ Refusal.NotWaiting
+next_not plan s a (Due.File call) why h = let e = h.2 in absurd (cc)
+next_not plan s a (Due.Take port) why h = cc
+next_not plan s a (Due.Give port bytes) why h = cc
+next_not plan s a (Due.Start child) why h = cc
+next_not plan s a (Due.Command bytes) why h = cc
+next_not plan s a Due.Wait why h = cc
+next_not plan s a (Due.Ended status) why h = absurd (cc)
 
-pub alive_waits : (s : State) (a : List ℕ) (x : Actor) (why : Refusal) → s.actors a ≡ Some x → x.life ≡ Alive → StepsTo s a (Is why) → why ≡ Refusal.NotWaiting
-alive_waits s a x why is alive h =
-    next_not s a (next_of x.program x.past s.now input_ready) why
-    (subst (λ (life : Life). DoesAlive s a x life (Is why)) alive (subst (λ (o : Option Actor). DoesStep s a o (Is why)) is h))
+pub alive_waits : (plan : Plan) (s : State) (a : List ℕ) (x : Actor) (why : Refusal) → s.actors a ≡ Some x → x.life ≡ Alive → StepsTo plan s a (Is why) → why ≡ Refusal.NotWaiting
+alive_waits plan s a x why is alive h =
+    next_not plan s a (next_of x.program x.past s.now input_ready) why
+    (subst (λ (life : Life). DoesAlive plan s a x life (Is why)) alive (subst (λ (o : Option Actor). DoesStep plan s a o (Is why)) is h))
 
 -- Calls
 
@@ -113,29 +115,44 @@ call_actor s a read ready call got w x is =
     (_, put_at_same s.actors a _, refl)
 
 -- one event more, by a step of that actor
-record Stepped (o d : Disk) (events : List Kept) (p : ℕ) (a : List ℕ) (h : List Event) : Type 0 where
+record Stepped (o d : Disk) (plan : Plan) (left : Option Plan) (events : List Kept) (p : ℕ) (a : List ℕ) (h : List Event) : Type 0 where
   pub event : Event
-  pub steps : StepsTo (after o h) a (Happens event)
+  pub steps : StepsTo plan (after o h) a (Happens event)
+  pub planned : left ≡ Some (plan_by event plan)
   pub is : IsHistory o d events p (event ∷ h)
 
-call_steps : (o d d' : Disk) (events : List Kept) (p : ℕ) (h : List Event) (a : List ℕ) (call : CallData) (got : Told) (e : Event)
-    → IsHistory o d events p h → got.answer ≢ Refused Memory → IsSteadyAnswer d got.answer
+call_steps : (o d d' : Disk) (plan : Plan) (left : Option Plan) (events : List Kept) (p : ℕ) (h : List Event) (a : List ℕ) (call : CallData) (got : Told) (e : Event)
+    → IsHistory o d events p h → got.answer ≢ Refused Memory → CallKeepsPlan call (Some plan) left (Some d) (Some d') got.answer
     → IsHistory o d' (events ++ kept.Call a p input_ready call got ∷ []) p (e ∷ h)
-    → (done : Stepped o d' (events ++ kept.Call a p input_ready call got ∷ []) p a h) × IsLiving (after o (done.event ∷ h)) a
-call_steps o d d' events p h a call got e was memory steady is =
+    → (done : Stepped o d' plan left (events ++ kept.Call a p input_ready call got ∷ []) p a h) × IsLiving (after o (done.event ∷ h)) a
+call_steps o d d' plan left events p h a call got e was memory keeps is =
     let s = after o h in
     let k : Kept = kept.Call a p input_ready call got in
     let told = call_told a p input_ready call got e (last_told events k e h is.told) in
     let w = told.0 in
     let at_w : IsHistory o d' (events ++ k ∷ []) p (Call a p input_ready call got w ∷ h) = subst (λ (e : Event). IsHistory o d' (events ++ k ∷ []) p (e ∷ h)) told.1 is in
-    let zero = call_wrote_nothing s a p input_ready call got w steady.no_fault at_w.legal.1 in
+    let made = at_w.legal.1 in
+    let by = done_by call s.disk plan left d d' got.answer w made.fits keeps in
+    let left_disk : effect s.disk p call got.answer w ≡ d' =
+    subst (λ (m : Option Actor). effect s.disk p call got.answer w ≡ (called s a p input_ready call got w m).disk) (sym made.reads.is) refl ∙ at_w.disk in
+    let zero = call_wrote_none s a p input_ready call got w (λ fault. left_disk ∙ by.nothing_done fault ∙ sym was.disk) made in
     let may = zero.0 in
     let f : Event = Call a p input_ready call got 0 in
     let living = call_actor s a p input_ready call got 0 may.actor may.reads.is in (
       record {
         event = f;
-        steps = does s a p may.actor (Due.File call) (Happens f) may.reads.is may.reads.alive was.moment may.due
-            (got, record { fits = may.fits; bytes = may.bytes; steady = subst (λ (d : Disk). IsSteadyAnswer d got.answer) (sym was.disk) steady; no_memory = memory }, ap (λ q. Happens (Call a q input_ready call got 0)) (sym was.moment));
+        steps = does plan s a p may.actor (Due.File call) (Happens f) may.reads.is may.reads.alive was.moment may.due (
+          got,
+          record {
+            fits = may.fits;
+            bytes = may.bytes;
+            fails = by.fails;
+            takes = subst (λ (d : Disk). Takes d plan.pick got.answer) (sym was.disk) by.takes;
+            no_memory = memory;
+          },
+          ap (λ q. Happens (Call a q input_ready call got 0)) (sym was.moment),
+        );
+        planned = by.planned;
         is = record {
           legal = (was.legal, may);
           told = told_by events k (Call a p input_ready call got w) f h refl at_w.told;
@@ -156,17 +173,17 @@ end_actor s a life x is =
     (_, put_at_same s.actors a _, refl)
 
 -- one that lives no more is gone
-over_gone : (s : State) (a : List ℕ) (x : Actor) → s.actors a ≡ Some x → x.life ≢ Alive → StepsTo s a (Is Gone)
-over_gone s a x is over = subst (λ (o : Option Actor). DoesStep s a o (Is Gone)) (sym is) (by_life x.life over) where
-  by_life : (life : Life) → life ≢ Alive → DoesAlive s a x life (Is Gone)
+over_gone : (plan : Plan) (s : State) (a : List ℕ) (x : Actor) → s.actors a ≡ Some x → x.life ≢ Alive → StepsTo plan s a (Is Gone)
+over_gone plan s a x is over = subst (λ (o : Option Actor). DoesStep plan s a o (Is Gone)) (sym is) (by_life x.life over) where
+  by_life : (life : Life) → life ≢ Alive → DoesAlive plan s a x life (Is Gone)
   by_life Alive over = absurd (over refl)
   by_life (Over status) over = refl
   by_life Stopped over = refl
 
-end_steps : (o d d' : Disk) (events : List Kept) (p : ℕ) (h : List Event) (a : List ℕ) (status : ℕ) (e : Event)
-    → IsHistory o d events p h → IsHistory o d' (events ++ kept.End a p input_ready status ∷ []) p (e ∷ h)
-    → (done : Stepped o d' (events ++ kept.End a p input_ready status ∷ []) p a h) × StepsTo (after o (done.event ∷ h)) a (Is Gone)
-end_steps o d d' events p h a status e was is =
+end_steps : (o d d' : Disk) (plan : Plan) (left : Option Plan) (events : List Kept) (p : ℕ) (h : List Event) (a : List ℕ) (status : ℕ) (e : Event)
+    → left ≡ Some plan → IsHistory o d events p h → IsHistory o d' (events ++ kept.End a p input_ready status ∷ []) p (e ∷ h)
+    → (done : Stepped o d' plan left (events ++ kept.End a p input_ready status ∷ []) p a h) × StepsTo (plan_by done.event plan) (after o (done.event ∷ h)) a (Is Gone)
+end_steps o d d' plan left events p h a status e planned was is =
     let s = after o h in
     let k : Kept = kept.End a p input_ready status in
     let same = end_told a p input_ready status e (last_told events k e h is.told) in
@@ -176,10 +193,11 @@ end_steps o d d' events p h a status e was is =
     let over = end_actor s a (Over status) may.actor may.reads.is in (
       record {
         event = f;
-        steps = does s a p may.actor (Due.Ended status) (Happens f) may.reads.is may.reads.alive was.moment may.due (ap (λ q. Happens (End a q input_ready status)) (sym was.moment));
+        steps = does plan s a p may.actor (Due.Ended status) (Happens f) may.reads.is may.reads.alive was.moment may.due (ap (λ q. Happens (End a q input_ready status)) (sym was.moment));
+        planned = planned;
         is = now;
       },
-      over_gone (after o (f ∷ h)) a over.0 over.1 (λ e. let both = sym over.2 ∙ e in absurd (cc)),
+      over_gone plan (after o (f ∷ h)) a over.0 over.1 (λ e. let both = sym over.2 ∙ e in absurd (cc)),
     )
 
 -- Refusals
@@ -191,27 +209,27 @@ none_of (Some x) e = let h = e in absurd (cc)
 pub never_started : (o d : Disk) (events : List Kept) (p : ℕ) (h : List Event) (a : List ℕ) → IsHistory o d events p h → was_started events a ≡ false → (after o h).actors a ≡ None
 never_started o d events p h a was new = none_of ((after o h).actors a) (sym (started_is o h events a was.told) ∙ new)
 
-unknown_steps : (o d : Disk) (events : List Kept) (p : ℕ) (h : List Event) (a : List ℕ) → IsHistory o d events p h → was_started events a ≡ false → StepsTo (after o h) a (Is Unknown)
-unknown_steps o d events p h a was new = subst (λ (m : Option Actor). DoesStep (after o h) a m (Is Unknown)) (sym (never_started o d events p h a was new)) refl
+unknown_steps : (plan : Plan) (o d : Disk) (events : List Kept) (p : ℕ) (h : List Event) (a : List ℕ) → IsHistory o d events p h → was_started events a ≡ false → StepsTo plan (after o h) a (Is Unknown)
+unknown_steps plan o d events p h a was new = subst (λ (m : Option Actor). DoesStep plan (after o h) a m (Is Unknown)) (sym (never_started o d events p h a was new)) refl
 
-gone_steps : (o d : Disk) (events : List Kept) (p : ℕ) (h : List Event) (a : List ℕ) (at : ℕ) → IsHistory o d events p h → EndsAt events a at → StepsTo (after o h) a (Is Gone)
-gone_steps o d events p h a at was ends =
+gone_steps : (plan : Plan) (o d : Disk) (events : List Kept) (p : ℕ) (h : List Event) (a : List ℕ) (at : ℕ) → IsHistory o d events p h → EndsAt events a at → StepsTo plan (after o h) a (Is Gone)
+gone_steps plan o d events p h a at was ends =
     let x = ended_is o h events a at was.legal was.told ends in
-    over_gone (after o h) a x.0 x.1 x.2
+    over_gone plan (after o h) a x.0 x.1 x.2
 
-pub refused_as : {T : Type 0} (r : Result T WorldError) (why : WorldError) (o : Disk) (old : Seen Crash) (a : List ℕ) (h : List Event)
-    → IsPlaying o old h → r ≡ Err why → (r ≡ Err error.Unknown → was_started old.events a ≡ false)
+pub refused_as : {T : Type 0} (r : Result T WorldError) (why : WorldError) (o : Disk) (old : Seen Crash) (plan : Plan) (a : List ℕ) (h : List Event)
+    → IsPlaying o old plan h → r ≡ Err why → (r ≡ Err error.Unknown → was_started old.events a ≡ false)
     → ((name : List ℕ) (at : ℕ) → r ≡ Err (error.Gone name at) → (name ≡ a) × EndsAt old.events a at)
     → ((name : List ℕ) → r ≢ Err (error.NotWaiting name)) → r ≢ Err error.Taken → ((now : ℕ) → r ≢ Err (error.Past now))
-    → IsRefusedAs why o a h
-refused_as r (error.Gone name at) o old a h playing is unknown gone waits taken past =
-    (Gone, refl, gone_steps o (crash_disk old.disk) old.events old.present h a at playing.is (gone name at is).1)
-refused_as r (error.NotWaiting name) o old a h playing is unknown gone waits taken past = absurd (waits name is)
-refused_as r error.Unknown o old a h playing is unknown gone waits taken past =
-    (Unknown, refl, unknown_steps o (crash_disk old.disk) old.events old.present h a playing.is (unknown is))
-refused_as r error.Taken o old a h playing is unknown gone waits taken past = absurd (taken is)
-refused_as r (error.Past now) o old a h playing is unknown gone waits taken past = absurd (past now is)
-refused_as r error.Memory o old a h playing is unknown gone waits taken past = tt
+    → IsRefusedAs why o plan a h
+refused_as r (error.Gone name at) o old plan a h playing is unknown gone waits taken past =
+    (Gone, refl, gone_steps plan o (crash_disk old.disk) old.events old.present h a at playing.is (gone name at is).1)
+refused_as r (error.NotWaiting name) o old plan a h playing is unknown gone waits taken past = absurd (waits name is)
+refused_as r error.Unknown o old plan a h playing is unknown gone waits taken past =
+    (Unknown, refl, unknown_steps plan o (crash_disk old.disk) old.events old.present h a playing.is (unknown is))
+refused_as r error.Taken o old plan a h playing is unknown gone waits taken past = absurd (taken is)
+refused_as r (error.Past now) o old plan a h playing is unknown gone waits taken past = absurd (past now is)
+refused_as r error.Memory o old plan a h playing is unknown gone waits taken past = tt
 
 -- What a step of the world comes to
 
@@ -224,44 +242,40 @@ not_memory answer is e = let both : true ≡ false = sym (ap is_memory e) ∙ is
 abbrev pub tells : Crash → Option Disk
 tells m = Some (crash_disk m)
 
-abbrev pub is_steady : Crash → Type 0
-is_steady m = IsQuiet m
-
-pub stepped : (o : Disk) (old new : Seen Crash) (a : List ℕ) (ended : Option ℕ) (h : List Event) → IsPlaying o old h
+pub stepped : (o : Disk) (old new : Seen Crash) (plan : Plan) (a : List ℕ) (ended : Option ℕ) (h : List Event) → IsPlaying o old plan h
     → IsStep a ended old new → new.present ≡ old.present → GoesOn tells old new
-    → StaysSteady is_steady tells old.disk new.disk old.events new.events
+    → GoesByPlan crash_plan tells old.disk new.disk old.events new.events
     → ((before : List Kept) (newest : Kept) → new.events ≡ before ++ newest ∷ [] → false ≡ lacked_memory newest)
-    → HasStepped o new a ended h
-stepped o old new a None h playing step same goes steady memory =
+    → HasStepped o new a ended plan h
+stepped o old new plan a None h playing step same goes by memory =
     let call = step.0 in
     let got = step.1 in
     let k : Kept = kept.Call a old.present input_ready call got in
     let next = goes o h playing.is in
-    let stays = steady playing.quiet in
-    let done = call_steps o (crash_disk old.disk) (crash_disk new.disk) old.events old.present h a call got next.0 playing.is
-    (not_memory got.answer (sym (memory old.events k step.2))) (stays.1 k step.2)
+    let keeps = subst (λ (was : Option Plan). CallKeepsPlan call was (crash_plan new.disk) (Some (crash_disk old.disk)) (Some (crash_disk new.disk)) got.answer) playing.planned (by k step.2) in
+    let done = call_steps o (crash_disk old.disk) (crash_disk new.disk) plan (crash_plan new.disk) old.events old.present h a call got next.0 playing.is
+    (not_memory got.answer (sym (memory old.events k step.2))) keeps
     (moved o (crash_disk new.disk) new.events (old.events ++ k ∷ []) new.present old.present (next.0 ∷ h) step.2 same next.1) in
     record {
       event = done.0.event;
       steps = done.0.steps;
       playing = record {
         is = moved o (crash_disk new.disk) (old.events ++ k ∷ []) new.events old.present new.present (done.0.event ∷ h) (sym step.2) (sym same) done.0.is;
-        quiet = stays.0;
+        planned = done.0.planned;
       };
       over = done.1;
     }
-stepped o old new a (Some status) h playing step same goes steady memory =
+stepped o old new plan a (Some status) h playing step same goes by memory =
     let k : Kept = kept.End a old.present input_ready status in
     let next = goes o h playing.is in
-    let stays = steady playing.quiet in
-    let done = end_steps o (crash_disk old.disk) (crash_disk new.disk) old.events old.present h a status next.0 playing.is
+    let done = end_steps o (crash_disk old.disk) (crash_disk new.disk) plan (crash_plan new.disk) old.events old.present h a status next.0 (by k step ∙ playing.planned) playing.is
     (moved o (crash_disk new.disk) new.events (old.events ++ k ∷ []) new.present old.present (next.0 ∷ h) step same next.1) in
     record {
       event = done.0.event;
       steps = done.0.steps;
       playing = record {
         is = moved o (crash_disk new.disk) (old.events ++ k ∷ []) new.events old.present new.present (done.0.event ∷ h) (sym step) (sym same) done.0.is;
-        quiet = stays.0;
+        planned = done.0.planned;
       };
       over = done.1;
     }

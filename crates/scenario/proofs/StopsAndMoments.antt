@@ -1,10 +1,12 @@
 -- `stop` and `moment`.
-use Rattle.std.proofs.Common.{◌≡◌, ◌≢◌, ◌⊎◌, inl, inr, ℕ, ◌<◌, List, [], ◌∷◌, ◌++◌, false, Option, Some, refl, sym, ap, subst}
+use Rattle.std.proofs.Common.{◌≡◌, ◌≢◌, ◌⊎◌, inl, inr, ℕ, ◌<◌, List, [], ◌∷◌, ◌++◌, false, Option, Some, None, refl, sym, ap, ◌∙◌, subst}
 use Rattle.std.proofs.lemmas.List.{append-nil}
 use Rattle.mail_bytes.specs.Decimal.{digits}
 use Rattle.call_fs.specs.declared.crash_file_system.Survival.{Survival}
-use Rattle.call_fs.specs.Disk.{Disk}
-use Rattle.crash_fs.specs.Crash.{Crash, crash_disk}
+use Rattle.call_fs.specs.Disk.{Disk, IsUnused}
+use Rattle.call_fs.specs.Plan.{Plan, with_fault, with_pick}
+use Rattle.call_fs.specs.Told.{Meets}
+use Rattle.crash_fs.specs.Crash.{Crash, crash_disk, crash_plan}
 use Rattle.mail_world.specs.declared.error.WorldError.{WorldError}
 use Rattle.mail_world.specs.declared.error.WorldError.TheVariants as error
 use Rattle.mail_world.specs.declared.event.Event.{Event as Kept}
@@ -12,28 +14,44 @@ use Rattle.mail_world.specs.declared.event.Event.TheVariants as kept
 use Rattle.mail_world.specs.History.{Event, Actor, Life, after}
 use Rattle.mail_world.specs.History.Event.{Stop, Moment, Halt}
 use Rattle.mail_world.specs.History.Life.{Alive, Over, Stopped}
-use Rattle.mail_world.specs.World.{Seen, IsHistory, GoesOn, GoesOnWith, IsStop, Tells, EndsAt, StaysSteady, moment_world, was_started}
+use Rattle.mail_world.specs.World.{Seen, IsHistory, GoesOn, GoesOnWith, IsStop, Tells, EndsAt, GoesByPlan, IsHalt, moment_world, was_started}
 use Rattle.mail_world.proofs.Lives.{ended_is}
 use Rattle.scenario.specs.declared.line.Line.TheVariants as line
 use Rattle.scenario.specs.Played.{Refusal, IsRefusalOf, StopsAlive, StopComesTo, refused}
 use Rattle.scenario.specs.Played.Outcome.{Happens, Is}
 use Rattle.scenario.specs.Playing.{IsPlaying, HasPlayed}
-use Rattle.scenario.proofs.ScriptSteps.{last_told, stop_told, moment_told, moved, never_started, tells, is_steady}
+use Rattle.scenario.proofs.ScriptSteps.{last_told, stop_told, moment_told, moved, never_started, tells}
 
 -- one event more in the world, told by the one that was kept
-abbrev pub one_more : (d : Disk) (old new : Seen Crash) (k : Kept) (e : Event) (p : ℕ) (h : List Event) → IsPlaying d old h → GoesOn tells old new
-    → StaysSteady is_steady tells old.disk new.disk old.events new.events → new.events ≡ old.events ++ k ∷ [] → new.present ≡ p
-    → ((f : Event) → Tells k f → f ≡ e) → IsPlaying d new (e ∷ h)
-one_more d old new k e p h playing goes steady events present told =
+abbrev pub one_more : (d : Disk) (old new : Seen Crash) (plan : Plan) (k : Kept) (e : Event) (p : ℕ) (h : List Event) → IsPlaying d old plan h → GoesOn tells old new
+    → crash_plan new.disk ≡ crash_plan old.disk → new.events ≡ old.events ++ k ∷ [] → new.present ≡ p
+    → ((f : Event) → Tells k f → f ≡ e) → IsPlaying d new plan (e ∷ h)
+one_more d old new plan k e p h playing goes same_plan events present told =
     let next = goes d h playing.is in
-    let stays = steady playing.quiet in
     let is : IsHistory d (crash_disk new.disk) (old.events ++ k ∷ []) p (next.0 ∷ h) =
     moved d (crash_disk new.disk) new.events (old.events ++ k ∷ []) new.present p (next.0 ∷ h) events present next.1 in
     let same : next.0 ≡ e = told next.0 (last_told old.events k next.0 h is.told) in
     record {
       is = subst (λ (e : Event). IsHistory d (crash_disk new.disk) new.events new.present (e ∷ h)) same next.1;
-      quiet = stays.0;
+      planned = same_plan ∙ playing.planned;
     }
+
+-- no event, but another plan
+replanned : (d : Disk) (old new : Seen Crash) (plan left : Plan) (h : List Event) → IsPlaying d old plan h → tells new.disk ≡ tells old.disk
+    → new.events ≡ old.events → new.present ≡ old.present → crash_plan new.disk ≡ Some left → IsPlaying d new left h
+replanned d old new plan left h playing disk events present planned =
+    let same : crash_disk old.disk ≡ crash_disk new.disk = cc in
+    record {
+      is = moved d (crash_disk new.disk) old.events new.events old.present new.present h (sym events) (sym present)
+          (subst (λ (now : Disk). IsHistory d now old.events old.present h) same playing.is);
+      planned = planned;
+    }
+
+left_by : (o n : Option Plan) (plan : Plan) (change : Plan → Plan) → Meets o n (λ before after. after ≡ change before) → o ≡ Some plan → n ≡ Some (change plan)
+left_by (Some b) (Some a) plan change met is = let same : b ≡ plan = cc in ap Some (met ∙ ap change same)
+left_by (Some b) None plan change met is = absurd met
+left_by None (Some a) plan change met is = absurd met
+left_by None None plan change met is = absurd (cc)
 
 -- Stops
 
@@ -50,10 +68,10 @@ is_gone a o x is over = subst (λ (o : Option Actor). StopComesTo a o (Is Refusa
   by_life (Over status) over = refl
   by_life Stopped over = refl
 
-pub stop_played : (d : Disk) (old new : Seen Crash) (a text : List ℕ) (h : List Event) → IsPlaying d old h → IsStop a old new → GoesOn tells old new
-    → StaysSteady is_steady tells old.disk new.disk old.events new.events → HasPlayed d new (line.Stop a) text text h
-stop_played d old new a text h playing stop goes steady =
-    let now : IsPlaying d new (Stop a ∷ h) = one_more d old new (kept.Stop a) (Stop a) old.present h playing goes steady stop.0 stop.1 (stop_told a) in
+pub stop_played : (d : Disk) (old new : Seen Crash) (plan : Plan) (a text : List ℕ) (h : List Event) → IsPlaying d old plan h → IsStop a old new → GoesOn tells old new
+    → GoesByPlan crash_plan tells old.disk new.disk old.events new.events → HasPlayed d new (line.Stop a) text text plan h
+stop_played d old new plan a text h playing stop goes by =
+    let now : IsPlaying d new plan (Stop a ∷ h) = one_more d old new plan (kept.Stop a) (Stop a) old.present h playing goes (by (kept.Stop a) stop.0) stop.0 stop.1 (stop_told a) in
     let living = now.is.legal.1 in
     record {
       events = Stop a ∷ [];
@@ -64,50 +82,86 @@ stop_played d old new a text h playing stop goes steady =
     }
 
 -- what a refused stop comes to
-stop_comes : (d : Disk) (w : Seen Crash) (a : List ℕ) (why : WorldError) (r : Refusal) (h : List Event) → IsPlaying d w h → IsRefusalOf why r
+stop_comes : (d : Disk) (w : Seen Crash) (plan : Plan) (a : List ℕ) (why : WorldError) (r : Refusal) (h : List Event) → IsPlaying d w plan h → IsRefusalOf why r
     → (why ≡ error.Unknown → was_started w.events a ≡ false) → ((name : List ℕ) (at : ℕ) → why ≡ error.Gone name at → EndsAt w.events a at)
     → (why ≡ error.Unknown) ⊎ ((name : List ℕ) × (at : ℕ) × (why ≡ error.Gone name at)) → StopComesTo a ((after d h).actors a) (Is r)
-stop_comes d w a why r h playing is unknown gone (inl e) =
+stop_comes d w plan a why r h playing is unknown gone (inl e) =
     subst (λ r. StopComesTo a ((after d h).actors a) (Is r)) (sym (subst (λ why. IsRefusalOf why r) e is))
     (subst (λ (o : Option Actor). StopComesTo a o (Is Refusal.Unknown)) (sym (never_started d (crash_disk w.disk) w.events w.present h a playing.is (unknown e))) refl)
-stop_comes d w a why r h playing is unknown gone (inr e) =
+stop_comes d w plan a why r h playing is unknown gone (inr e) =
     let x = ended_is d h w.events a e.1 playing.is.legal playing.is.told (gone e.0 e.1 e.2) in
     subst (λ r. StopComesTo a ((after d h).actors a) (Is r)) (sym (subst (λ why. IsRefusalOf why r) e.2 is))
     (is_gone a ((after d h).actors a) x.0 x.1 x.2)
 
-pub stop_refused : (d : Disk) (w : Seen Crash) (a text : List ℕ) (why : WorldError) (r : Refusal) (h : List Event) → IsPlaying d w h → IsRefusalOf why r
+pub stop_refused : (d : Disk) (w : Seen Crash) (plan : Plan) (a text : List ℕ) (why : WorldError) (r : Refusal) (h : List Event) → IsPlaying d w plan h → IsRefusalOf why r
     → (why ≡ error.Unknown → was_started w.events a ≡ false) → ((name : List ℕ) (at : ℕ) → why ≡ error.Gone name at → EndsAt w.events a at)
-    → (why ≡ error.Unknown) ⊎ ((name : List ℕ) × (at : ℕ) × (why ≡ error.Gone name at)) → HasPlayed d w (line.Stop a) text (text ++ refused r a) h
-stop_refused d w a text why r h playing is unknown gone only = record {
+    → (why ≡ error.Unknown) ⊎ ((name : List ℕ) × (at : ℕ) × (why ≡ error.Gone name at)) → HasPlayed d w (line.Stop a) text (text ++ refused r a) plan h
+stop_refused d w plan a text why r h playing is unknown gone only = record {
   events = [];
   own = refused r a;
-  plays = (Is r, stop_comes d w a why r h playing is unknown gone only, refl, refl);
+  plays = (Is r, stop_comes d w plan a why r h playing is unknown gone only, refl, refl);
   playing = playing;
   text = refl;
 }
 
 -- Machine stops
 
-pub halt_played : (d : Disk) (old new : Seen Crash) (how : Survival) (text : List ℕ) (h : List Event) → IsPlaying d old h → GoesOnWith tells how old new
-    → StaysSteady is_steady tells old.disk new.disk old.events new.events → HasPlayed d new (line.Halt how) text text h
-halt_played d old new how text h playing goes steady =
+pub halt_played : (d : Disk) (old new : Seen Crash) (plan : Plan) (how : Survival) (text : List ℕ) (h : List Event) → IsPlaying d old plan h → IsHalt how old new → GoesOnWith tells how old new
+    → GoesByPlan crash_plan tells old.disk new.disk old.events new.events → HasPlayed d new (line.Halt how) text text plan h
+halt_played d old new plan how text h playing halt goes by =
     let next = goes d h playing.is in
     let named = next.1.named.1 in
     record {
       events = Halt how next.0 ∷ [];
       own = [];
       plays = (named.0, named.1, ap (λ (contents : ℕ → List ℕ). Halt how contents ∷ []) named.2, refl);
-      playing = record { is = next.1; quiet = (steady playing.quiet).0 };
+      playing = record { is = next.1; planned = by (kept.Halt how) halt.0 ∙ playing.planned };
       text = sym (append-nil text);
     }
 
+-- Calls that fail, and numbers
+
+pub fault_played : (d : Disk) (old new : Seen Crash) (plan : Plan) (k : ℕ) (text : List ℕ) (h : List Event) → IsPlaying d old plan h
+    → Meets (crash_plan old.disk) (crash_plan new.disk) (λ before after. after ≡ with_fault k before)
+    → tells new.disk ≡ tells old.disk → new.events ≡ old.events → new.present ≡ old.present → HasPlayed d new (line.Fault k) text text plan h
+fault_played d old new plan k text h playing met disk events present = record {
+  events = [];
+  own = [];
+  plays = (refl, refl);
+  playing = replanned d old new plan (with_fault k plan) h playing disk events present (left_by (crash_plan old.disk) (crash_plan new.disk) plan (with_fault k) met playing.planned);
+  text = sym (append-nil text);
+}
+
+pub number_played : (d : Disk) (old new : Seen Crash) (plan : Plan) (n : ℕ) (text : List ℕ) (h : List Event) → IsPlaying d old plan h
+    → Meets (crash_plan old.disk) (crash_plan new.disk) (λ before after. after ≡ with_pick n before) → IsUnused (crash_disk old.disk) n
+    → tells new.disk ≡ tells old.disk → new.events ≡ old.events → new.present ≡ old.present → HasPlayed d new (line.Number n) text text plan h
+number_played d old new plan n text h playing met unused disk events present = record {
+  events = [];
+  own = [];
+  plays = (refl, inl (subst (λ (now : Disk). IsUnused now n) (sym playing.is.disk) unused, refl));
+  playing = replanned d old new plan (with_pick n plan) h playing disk events present (left_by (crash_plan old.disk) (crash_plan new.disk) plan (with_pick n) met playing.planned);
+  text = sym (append-nil text);
+}
+
+pub number_refused : (d : Disk) (old new : Seen Crash) (plan : Plan) (n : ℕ) (text : List ℕ) (h : List Event) → IsPlaying d old plan h
+    → crash_plan new.disk ≡ crash_plan old.disk → (¬ (IsUnused (crash_disk old.disk) n))
+    → tells new.disk ≡ tells old.disk → new.events ≡ old.events → new.present ≡ old.present
+    → HasPlayed d new (line.Number n) text (text ++ refused Refusal.Taken (digits n)) plan h
+number_refused d old new plan n text h playing same_plan used disk events present = record {
+  events = [];
+  own = refused Refusal.Taken (digits n);
+  plays = (refl, inr (subst (λ (now : Disk). ¬ (IsUnused now n)) (sym playing.is.disk) used, refl));
+  playing = replanned d old new plan plan h playing disk events present (same_plan ∙ playing.planned);
+  text = refl;
+}
+
 -- Moments
 
-pub moment_came : (d : Disk) (old new : Seen Crash) (m : ℕ) (text : List ℕ) (h : List Event) → IsPlaying d old h → new ≡ moment_world old m → GoesOn tells old new
-    → StaysSteady is_steady tells old.disk new.disk old.events new.events → HasPlayed d new (line.Moment m) text text h
-moment_came d old new m text h playing came goes steady =
-    let now : IsPlaying d new (Moment m ∷ h) =
-    one_more d old new (kept.Moment m) (Moment m) m h playing goes steady (ap (λ (w : Seen Crash). w.events) came) (ap (λ (w : Seen Crash). w.present) came) (moment_told m) in
+pub moment_came : (d : Disk) (old new : Seen Crash) (plan : Plan) (m : ℕ) (text : List ℕ) (h : List Event) → IsPlaying d old plan h → new ≡ moment_world old m → GoesOn tells old new
+    → GoesByPlan crash_plan tells old.disk new.disk old.events new.events → HasPlayed d new (line.Moment m) text text plan h
+moment_came d old new plan m text h playing came goes by =
+    let now : IsPlaying d new plan (Moment m ∷ h) =
+    one_more d old new plan (kept.Moment m) (Moment m) m h playing goes (by (kept.Moment m) (ap (λ (w : Seen Crash). w.events) came)) (ap (λ (w : Seen Crash). w.events) came) (ap (λ (w : Seen Crash). w.present) came) (moment_told m) in
     record {
       events = Moment m ∷ [];
       own = [];
@@ -116,9 +170,9 @@ moment_came d old new m text h playing came goes steady =
       text = sym (append-nil text);
     }
 
-pub moment_refused : (d : Disk) (w : Seen Crash) (m : ℕ) (text : List ℕ) (h : List Event) → IsPlaying d w h → m < w.present
-    → HasPlayed d w (line.Moment m) text (text ++ refused Refusal.Past (digits w.present)) h
-moment_refused d w m text h playing earlier =
+pub moment_refused : (d : Disk) (w : Seen Crash) (plan : Plan) (m : ℕ) (text : List ℕ) (h : List Event) → IsPlaying d w plan h → m < w.present
+    → HasPlayed d w (line.Moment m) text (text ++ refused Refusal.Past (digits w.present)) plan h
+moment_refused d w plan m text h playing earlier =
     let present = playing.is.moment in
     record {
       events = [];

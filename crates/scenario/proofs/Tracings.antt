@@ -1,10 +1,12 @@
 -- The events that a line adds, as the world kept them.
-use Rattle.std.proofs.Common.{◌≡◌, ◌≤◌, ◌<◌, ◌+◌, ℕ, suc, List, [], ◌∷◌, ◌++◌, length, get_or, take, drop, reverse, true, refl, sym, ap, ◌∙◌, subst, arith, append_assoc, length-append}
+use Rattle.std.proofs.Common.{◌≡◌, ◌≤◌, ◌<◌, ◌+◌, ℕ, List, [], ◌∷◌, ◌++◌, length, get_or, take, drop, reverse, true, refl, sym, ap, ◌∙◌, subst, arith, append_assoc, length-append}
 use Rattle.std.specs.Prelude.{flat_map}
 use Rattle.std.specs.List.{AllZip}
 use Rattle.std.proofs.lemmas.List.{length-reverse, reverse-append, reverse-reverse, append-nil, take_more}
 use Rattle.std.proofs.lemmas.Grind.{flat_map-append}
+use Rattle.std.proofs.lemmas.Slice.Zip.{AllZip-long}
 use Rattle.call_fs.specs.Disk.{Disk}
+use Rattle.call_fs.specs.Plan.{Plan}
 use Rattle.crash_fs.specs.Crash.{Crash}
 use Rattle.mail_world.specs.declared.event.Event.{Event as Kept}
 use Rattle.mail_world.specs.History.{Event}
@@ -33,15 +35,9 @@ zip_drop R xs [] vs a = a
 zip_drop R [] (u ∷ us) vs a = absurd a
 zip_drop R (x ∷ xs) (u ∷ us) vs a = zip_drop R xs us vs a.1
 
-zip_length : {A B : Type 0} (R : A → B → Type 0) (xs : List A) (ys : List B) → AllZip R xs ys → length xs ≡ length ys
-zip_length R [] [] a = refl
-zip_length R [] (y ∷ ys) a = absurd a
-zip_length R (x ∷ xs) [] a = absurd a
-zip_length R (x ∷ xs) (y ∷ ys) a = ap (λ n. suc n) (zip_length R xs ys a.1)
-
 -- a list is as long as what it tells, the one from the oldest on and the other from the newest
 told_length : (events : List Kept) (h : List Event) → AllZip Tells (reverse events) h → length events ≡ length h
-told_length events h told = sym (length-reverse events) ∙ zip_length Tells (reverse events) h told
+told_length events h told = sym (length-reverse events) ∙ sym (AllZip-long Tells (reverse events) h told)
 
 -- the kept events behind those from before tell what was added
 pub added_told : (old new : List Kept) (h added : List Event) → AllZip Tells (reverse old) h → AllZip Tells (reverse new) (added ++ h)
@@ -89,10 +85,10 @@ lines_more events i event start old new inside is before one happened told =
     ∙ ap (λ t. start ++ t) (sym lines)
 
 -- what is printed of a line where events are traced
-abbrev pub traced_lines : (d : Disk) (old new : Seen Crash) (line : Line) (own text : List ℕ) (h : List Event) → IsPlaying d old h → HasPlayed d new line [] own h
+abbrev pub traced_lines : (d : Disk) (old new : Seen Crash) (line : Line) (own text : List ℕ) (plan : Plan) (h : List Event) → IsPlaying d old plan h → HasPlayed d new line [] own plan h
     → ((added : List Event) → length old.events ≤ length new.events → AllZip Tells (drop (length old.events) new.events) added → text ≡ flat_map event_line added ++ own)
-    → HasPrinted d new true line text h
-traced_lines d old new line own text h playing played lines = record {
+    → HasPrinted d new true line text plan h
+traced_lines d old new line own text plan h playing played lines = record {
   own = own;
   played = played;
   text_is = lines (reverse played.events)

@@ -1,6 +1,6 @@
 -- Each line plays, so all lines do: a script has a text, and what was begun of it is a front of its text.
 use Rattle.std.proofs.Common.{◌≡◌, ◌⊎◌, inl, inr, ⊎_elim, ℕ, zero, suc, ◌+◌, ◌<◌, List, [], ◌∷◌, ◌++◌, length, Bool, false, Option, Some, None, refl, sym, ap, ◌∙◌, subst, arith, append_assoc}
-use Rattle.std.specs.Prelude.{flat_map, codes}
+use Rattle.std.specs.Prelude.{◌^◌, flat_map, codes}
 use Rattle.std.specs.List.{AllZip}
 use Rattle.mail_bytes.specs.Decimal.{digits}
 use Rattle.call_fs.specs.Disk.{Disk, IsMoment}
@@ -15,75 +15,81 @@ use Rattle.mail_world.specs.MailNames.{IsMailName, IsLetter, IsLetterOrDigit, me
 use Rattle.mail_world.specs.World.{input_ready, mail}
 use Rattle.mail_world.proofs.Headline.{headline}
 use Rattle.mail_world.proofs.Opens.{MayDo, next_may}
+use Rattle.script_words.specs.declared.entry.Entry.{Entry}
 use Rattle.scenario.specs.declared.line.Line.{Line}
 use Rattle.scenario.specs.declared.line.Line.TheVariants as line
-use Rattle.scenario.specs.Lines.{IsLine, kept, IsScript}
-use Rattle.scenario.specs.Played.{IsFirstDisk, Outcome, DoesNext, DoesAlive, DoesStep, StepsTo, MailComesTo, AreSteps, IsRun, StopsAlive, StopComesTo, MomentComesTo, Plays, PlaysAll, added, cat_line, printed, refused, stop_text, most_steps, next_pid}
+use Rattle.scenario.specs.Contents.{Content, HaveEntryPaths}
+use Rattle.scenario.specs.Lines.{IsScript}
+use Rattle.scenario.specs.FirstDisk.{IsFirstDisk}
+use Rattle.scenario.specs.Lines.{IsLine}
+use Rattle.scenario.specs.Played.{Outcome, DoesNext, DoesAlive, DoesStep, StepsTo, MailComesTo, AreSteps, IsRun, StopsAlive, StopComesTo, MomentComesTo, NumberComesTo, plan_through, plan_after, Plays, PlaysAll, added, cat_line, printed, refused, stop_text, most_steps, next_pid}
 use Rattle.scenario.specs.Played.Outcome.{Happens, Is}
 use Rattle.scenario.specs.Played.Refusal.{Unknown, Gone, NotWaiting, Taken, Past, Steps}
 use Rattle.scenario.specs.Shown.{IsShown, pid_line, number_line, all_mail_lines}
 use Rattle.scenario.specs.Traced.{traced_after, traced_text}
-use Rattle.scenario.specs.Text.{IsPlayed, Prints, BeginsToPrint, BeginsAtMost, IsFront, IsFrontAtMost}
+use Rattle.scenario.specs.Text.{IsPlayed, IsBegun, Prints, BeginsToPrint, BeginsAtMost, IsFront, IsFrontAtMost}
 use Rattle.scenario.proofs.Carried.{Carries, Goes, goes_on, goes_started, goes_stopped, goes_moment, goes_halted}
-use Rattle.scenario.proofs.FiniteDisks.{finite_empty}
+use Rattle.scenario.proofs.FiniteDisks.{IsFinite}
+use Rattle.scenario.proofs.FirstDisks.{first_disk}
 use Rattle.scenario.proofs.Decided.{Decided, both, either, neither, each, up_to, listed, same_text, some_or_none}
 use Rattle.scenario.proofs.GivenAnswers.{IsGiven, next_given}
 use Rattle.scenario.proofs.Listings.{names_in, numbers_in, numbers_named}
-use Rattle.scenario.proofs.LastingFiles.{lasting_empty}
-use Rattle.mem_fs.proofs.Survivors.{Lasts}
 use Rattle.call_fs.specs.Choices.{contents_by}
-use Rattle.scenario.proofs.ScriptLines.{first_opens, first_disk}
+use Rattle.call_fs.specs.Plan.{Plan, no_plan}
+use Rattle.scenario.proofs.LeastFree.{is_unused}
+use Rattle.scenario.proofs.Openings.{first_opens, is_ready}
+use Rattle.scenario.proofs.SaidContents.{said_paths, said_few}
 use Rattle.scenario.proofs.ScriptSteps.{alive_waits}
 use Rattle.scenario.proofs.Showings.{safe_pending}
 
 -- Steps
 
-step_due : (s : State) (a : List ℕ) (due : Due) → MayDo s.disk due → IsGiven s.disk due
-    → (outcome : Outcome) × DoesNext s a due outcome
-step_due s a (Due.File c) may given =
+step_due : (plan : Plan) (s : State) (a : List ℕ) (due : Due) → MayDo s.disk due → IsGiven plan s.disk due
+    → (outcome : Outcome) × DoesNext plan s a due outcome
+step_due plan s a (Due.File c) may given =
     let got = given may.0 in
     (Happens (Call a s.now input_ready c got.0 0), (got.0, got.1, refl))
-step_due s a (Due.Ended status) may given = (Happens (End a s.now input_ready status), refl)
-step_due s a (Due.Take port) may given = (Is NotWaiting, refl)
-step_due s a (Due.Give port bytes) may given = (Is NotWaiting, refl)
-step_due s a (Due.Start child) may given = (Is NotWaiting, refl)
-step_due s a (Due.Command bytes) may given = (Is NotWaiting, refl)
-step_due s a Due.Wait may given = (Is NotWaiting, refl)
+step_due plan s a (Due.Ended status) may given = (Happens (End a s.now input_ready status), refl)
+step_due plan s a (Due.Take port) may given = (Is NotWaiting, refl)
+step_due plan s a (Due.Give port bytes) may given = (Is NotWaiting, refl)
+step_due plan s a (Due.Start child) may given = (Is NotWaiting, refl)
+step_due plan s a (Due.Command bytes) may given = (Is NotWaiting, refl)
+step_due plan s a Due.Wait may given = (Is NotWaiting, refl)
 
-step_life : (s : State) (a : List ℕ) (x : Actor) (life : Life) → Carries s → s.actors a ≡ Some x → x.life ≡ life
-    → (outcome : Outcome) × DoesAlive s a x life outcome
-step_life s a x Alive carries is alive =
-    step_due s a (next_of x.program x.past s.now input_ready)
+step_life : (plan : Plan) (s : State) (a : List ℕ) (x : Actor) (life : Life) → Carries s → s.actors a ≡ Some x → x.life ≡ life
+    → (outcome : Outcome) × DoesAlive plan s a x life outcome
+step_life plan s a x Alive carries is alive =
+    step_due plan s a (next_of x.program x.past s.now input_ready)
     (next_may s.disk s.holder a x.program x.past s.now input_ready (carries.needs a x is alive))
-    (next_given s.disk x.program x.past s.now input_ready carries.finite)
-step_life s a x (Over status) carries is over = (Is Gone, refl)
-step_life s a x Stopped carries is over = (Is Gone, refl)
+    (next_given plan s.disk x.program x.past s.now input_ready carries.finite)
+step_life plan s a x (Over status) carries is over = (Is Gone, refl)
+step_life plan s a x Stopped carries is over = (Is Gone, refl)
 
-step_actor : (s : State) (a : List ℕ) (o : Option Actor) → Carries s → s.actors a ≡ o
-    → (outcome : Outcome) × DoesStep s a o outcome
-step_actor s a None carries is = (Is Unknown, refl)
-step_actor s a (Some x) carries is = step_life s a x x.life carries is refl
+step_actor : (plan : Plan) (s : State) (a : List ℕ) (o : Option Actor) → Carries s → s.actors a ≡ o
+    → (outcome : Outcome) × DoesStep plan s a o outcome
+step_actor plan s a None carries is = (Is Unknown, refl)
+step_actor plan s a (Some x) carries is = step_life plan s a x x.life carries is refl
 
 -- a step always comes to something
-pub step_comes : (s : State) (a : List ℕ) → Carries s → (outcome : Outcome) × StepsTo s a outcome
-step_comes s a carries = step_actor s a (s.actors a) carries refl
+pub step_comes : (plan : Plan) (s : State) (a : List ℕ) → Carries s → (outcome : Outcome) × StepsTo plan s a outcome
+step_comes plan s a carries = step_actor plan s a (s.actors a) carries refl
 
-gone_by : (s : State) (a : List ℕ) (x : Actor) (life : Life) → s.actors a ≡ Some x → x.life ≡ life
-    → DoesAlive s a x life (Is Gone) ⊎ (¬ (StepsTo s a (Is Gone)))
-gone_by s a x Alive is alive = inr (λ gone. let waits = alive_waits s a x Gone is alive gone in absurd (cc))
-gone_by s a x (Over status) is over = inl refl
-gone_by s a x Stopped is over = inl refl
+gone_by : (plan : Plan) (s : State) (a : List ℕ) (x : Actor) (life : Life) → s.actors a ≡ Some x → x.life ≡ life
+    → DoesAlive plan s a x life (Is Gone) ⊎ (¬ (StepsTo plan s a (Is Gone)))
+gone_by plan s a x Alive is alive = inr (λ gone. let waits = alive_waits plan s a x Gone is alive gone in absurd (cc))
+gone_by plan s a x (Over status) is over = inl refl
+gone_by plan s a x Stopped is over = inl refl
 
-gone_actor : (s : State) (a : List ℕ) (o : Option Actor) → s.actors a ≡ o
-    → DoesStep s a o (Is Gone) ⊎ (¬ (StepsTo s a (Is Gone)))
-gone_actor s a None is =
+gone_actor : (plan : Plan) (s : State) (a : List ℕ) (o : Option Actor) → s.actors a ≡ o
+    → DoesStep plan s a o (Is Gone) ⊎ (¬ (StepsTo plan s a (Is Gone)))
+gone_actor plan s a None is =
     inr (λ gone.
-    let other : Is Gone ≡ Is Unknown = subst (λ (o : Option Actor). DoesStep s a o (Is Gone)) is gone in
+    let other : Is Gone ≡ Is Unknown = subst (λ (o : Option Actor). DoesStep plan s a o (Is Gone)) is gone in
     absurd (cc))
-gone_actor s a (Some x) is = gone_by s a x x.life is refl
+gone_actor plan s a (Some x) is = gone_by plan s a x x.life is refl
 
-is_gone : (s : State) (a : List ℕ) → Decided (StepsTo s a (Is Gone))
-is_gone s a = gone_actor s a (s.actors a) refl
+is_gone : (plan : Plan) (s : State) (a : List ℕ) → Decided (StepsTo plan s a (Is Gone))
+is_gone plan s a = gone_actor plan s a (s.actors a) refl
 
 -- Starts
 
@@ -112,27 +118,27 @@ mail_comes s name args = ⊎_elim
 
 -- Runs
 
-record Runs (d : Disk) (h : List Event) (a : List ℕ) : Type 0 where
+record Runs (d : Disk) (h : List Event) (plan : Plan) (a : List ℕ) : Type 0 where
   events : List Event
   text : List ℕ
-  run : IsRun d h a events text
+  run : IsRun d h plan a events text
 
 -- a run stops at a refusal, or goes on
-run_by : (d : Disk) (h : List Event) (a : List ℕ) (events : List Event) → AreSteps d h a events
+run_by : (d : Disk) (h : List Event) (plan : Plan) (a : List ℕ) (events : List Event) → AreSteps d h plan a events
     → length events < most_steps
-    → ((e : Event) → StepsTo (after d (events ++ h)) a (Happens e) → Runs d h a)
-    → (outcome : Outcome) → StepsTo (after d (events ++ h)) a outcome → Runs d h a
-run_by d h a events steps low more (Happens e) next = more e next
-run_by d h a events steps low more (Is why) next = record {
+    → ((e : Event) → StepsTo (plan_through plan events) (after d (events ++ h)) a (Happens e) → Runs d h plan a)
+    → (outcome : Outcome) → StepsTo (plan_through plan events) (after d (events ++ h)) a outcome → Runs d h plan a
+run_by d h plan a events steps low more (Happens e) next = more e next
+run_by d h plan a events steps low more (Is why) next = record {
   events = events;
   text = stop_text (length events) why a;
   run = record { are_steps = steps; within = omega arith; stops = inl (why, next, inl low, refl) };
 }
 
 -- so many steps may still come
-run_on : (fuel : ℕ) (d : Disk) (h : List Event) (a : List ℕ) (events : List Event) → Goes d (events ++ h)
-    → AreSteps d h a events → length events + fuel ≡ most_steps → Runs d h a
-run_on zero d h a events so steps count = ⊎_elim
+run_on : (fuel : ℕ) (d : Disk) (h : List Event) (plan : Plan) (a : List ℕ) (events : List Event) → Goes d (events ++ h)
+    → AreSteps d h plan a events → length events + fuel ≡ most_steps → Runs d h plan a
+run_on zero d h plan a events so steps count = ⊎_elim
     (λ gone. record {
       events = events;
       text = stop_text (length events) Gone a;
@@ -143,15 +149,15 @@ run_on zero d h a events so steps count = ⊎_elim
       text = refused Steps a;
       run = record { are_steps = steps; within = omega arith; stops = inr (omega arith, lives, refl) };
     })
-    (is_gone (after d (events ++ h)) a)
-run_on (suc fuel) d h a events so steps count =
-    let next = step_comes (after d (events ++ h)) a so.carries in
-    run_by d h a events steps (omega arith)
-    (λ e is. run_on fuel d h a (e ∷ events) (goes_on d (events ++ h) a e so is) (steps, is) (omega arith))
+    (is_gone (plan_through plan events) (after d (events ++ h)) a)
+run_on (suc fuel) d h plan a events so steps count =
+    let next = step_comes (plan_through plan events) (after d (events ++ h)) a so.carries in
+    run_by d h plan a events steps (omega arith)
+    (λ e is. run_on fuel d h plan a (e ∷ events) (goes_on d (events ++ h) (plan_through plan events) a e so is) (steps, is) (omega arith))
     next.0 next.1
 
-runs : (d : Disk) (h : List Event) (a : List ℕ) → Goes d h → Runs d h a
-runs d h a so = run_on most_steps d h a [] so tt refl
+runs : (d : Disk) (h : List Event) (plan : Plan) (a : List ℕ) → Goes d h → Runs d h plan a
+runs d h plan a so = run_on most_steps d h plan a [] so tt refl
 
 -- `show`
 
@@ -188,40 +194,50 @@ moment_comes now m = ⊎_elim
     (λ early. (Is Past, inr (omega arith, refl)))
     (up_to now m)
 
+number_comes : (d : Disk) (n : ℕ) → IsFinite d → (text : List ℕ) × NumberComesTo d n text
+number_comes d n f = ⊎_elim
+    (λ unused. ([], inl (unused, refl)))
+    (λ used. (refused Taken (digits n), inr (used, refl)))
+    (is_unused d f n)
+
 -- Lines
 
-plays_line : (d : Disk) (h : List Event) (one : Line) → Goes d h
-    → (events : List Event) × (text : List ℕ) × Plays d h one events text
-plays_line d h (line.Mail name message envelope) so =
+plays_line : (d : Disk) (h : List Event) (plan : Plan) (one : Line) → Goes d h
+    → (events : List Event) × (text : List ℕ) × Plays d h plan one events text
+plays_line d h plan (line.Mail name message envelope) so =
     let s = after d h in
     let comes = mail_comes s name (mail (next_pid h) s.now message envelope) in
     (added comes.0, printed name comes.0, (comes.0, comes.1, refl, refl))
-plays_line d h (line.Step a) so =
-    let comes = step_comes (after d h) a so.carries in
+plays_line d h plan (line.Step a) so =
+    let comes = step_comes plan (after d h) a so.carries in
     (added comes.0, printed a comes.0, (comes.0, comes.1, refl, refl))
-plays_line d h (line.Run a) so = let r = runs d h a so in (r.events, r.text, r.run)
-plays_line d h (line.Stop a) so =
+plays_line d h plan (line.Run a) so = let r = runs d h plan a so in (r.events, r.text, r.run)
+plays_line d h plan (line.Stop a) so =
     let comes = stop_comes a ((after d h).actors a) in
     (added comes.0, printed a comes.0, (comes.0, comes.1, refl, refl))
-plays_line d h (line.Halt how) so =
+plays_line d h plan (line.Halt how) so =
     let now = (after d h).disk in
     let named = numbers_named now so.carries.finite in
     (Halt how (contents_by how now named.0) ∷ [], [], (named.0, named.1, refl, refl))
-plays_line d h (line.Moment m) so =
+plays_line d h plan (line.Fault k) so = ([], [], (refl, refl))
+plays_line d h plan (line.Number n) so =
+    let comes = number_comes (after d h).disk n so.carries.finite in
+    ([], comes.0, (refl, comes.1))
+plays_line d h plan (line.Moment m) so =
     let now = (after d h).now in
     let comes = moment_comes now m in
     (added comes.0, printed (digits now) comes.0, (comes.0, comes.1, refl, refl))
-plays_line d h line.Trace so = ([], [], (refl, refl))
-plays_line d h (line.Cat path) so = ([], cat_line path (bytes_at (after d h).disk path), (refl, refl))
-plays_line d h line.Show so = let shown = shows d h so in ([], shown.0, (refl, shown.1))
+plays_line d h plan line.Trace so = ([], [], (refl, refl))
+plays_line d h plan (line.Cat path) so = ([], cat_line path (bytes_at (after d h).disk path), (refl, refl))
+plays_line d h plan line.Show so = let shown = shows d h so in ([], shown.0, (refl, shown.1))
 
 same_events : (d : Disk) (h events new : List Event) → events ≡ new → Goes d (new ++ h) → Goes d (events ++ h)
 same_events d h events new is so = subst (λ (l : List Event). Goes d (l ++ h)) (sym is) so
 
-outcome_kept : (d : Disk) (h : List Event) (a : List ℕ) (outcome : Outcome) → Goes d h → StepsTo (after d h) a outcome
+outcome_kept : (d : Disk) (h : List Event) (plan : Plan) (a : List ℕ) (outcome : Outcome) → Goes d h → StepsTo plan (after d h) a outcome
     → Goes d (added outcome ++ h)
-outcome_kept d h a (Happens e) so steps = goes_on d h a e so steps
-outcome_kept d h a (Is why) so steps = so
+outcome_kept d h plan a (Happens e) so steps = goes_on d h plan a e so steps
+outcome_kept d h plan a (Is why) so steps = so
 
 start_kept : (d : Disk) (h : List Event) (name message envelope : List ℕ) (outcome : Outcome) → Goes d h
     → MailComesTo (after d h) name (mail (next_pid h) (after d h).now message envelope) outcome
@@ -232,10 +248,10 @@ start_kept d h name message envelope outcome so comes = ⊎_elim
     (λ bad. subst (λ (o : Outcome). Goes d (added o ++ h)) (sym bad.1) so)
     comes
 
-steps_kept : (d : Disk) (h : List Event) (a : List ℕ) (events : List Event) → Goes d h → AreSteps d h a events
+steps_kept : (d : Disk) (h : List Event) (plan : Plan) (a : List ℕ) (events : List Event) → Goes d h → AreSteps d h plan a events
     → Goes d (events ++ h)
-steps_kept d h a [] so steps = so
-steps_kept d h a (e ∷ events) so steps = goes_on d (events ++ h) a e (steps_kept d h a events so steps.0) steps.1
+steps_kept d h plan a [] so steps = so
+steps_kept d h plan a (e ∷ events) so steps = goes_on d (events ++ h) (plan_through plan events) a e (steps_kept d h plan a events so steps.0) steps.1
 
 stop_kept_life : (d : Disk) (h : List Event) (a : List ℕ) (x : Actor) (life : Life) (outcome : Outcome) → Goes d h
     → (after d h).actors a ≡ Some x → x.life ≡ life → StopsAlive a life outcome → Goes d (added outcome ++ h)
@@ -263,6 +279,8 @@ HasMoment (line.Step a) = Unit {0}
 HasMoment (line.Run a) = Unit {0}
 HasMoment (line.Stop a) = Unit {0}
 HasMoment (line.Halt how) = Unit {0}
+HasMoment (line.Fault k) = Unit {0}
+HasMoment (line.Number n) = Unit {0}
 HasMoment (line.Moment m) = IsMoment m
 HasMoment line.Trace = Unit {0}
 HasMoment (line.Cat path) = Unit {0}
@@ -278,6 +296,8 @@ has_moment text (line.Step a) is = tt
 has_moment text (line.Run a) is = tt
 has_moment text (line.Stop a) is = tt
 has_moment text (line.Halt how) is = tt
+has_moment text (line.Fault k) is = tt
+has_moment text (line.Number n) is = tt
 has_moment text (line.Moment m) is = is.1
 has_moment text line.Trace is = tt
 has_moment text (line.Cat path) is = tt
@@ -293,131 +313,142 @@ moments_in : (first later : List Line) → HaveMoments (first ++ later) → Have
 moments_in [] later have = (tt, have)
 moments_in (one ∷ first) later have = let rest = moments_in first later have.1 in ((have.0, rest.0), rest.1)
 
-line_kept : (d : Disk) (h : List Event) (one : Line) (events : List Event) (text : List ℕ) → Goes d h → HasMoment one
-    → Plays d h one events text → Goes d (events ++ h)
-line_kept d h (line.Mail name message envelope) events text so fits plays =
+line_kept : (d : Disk) (h : List Event) (plan : Plan) (one : Line) (events : List Event) (text : List ℕ) → Goes d h → HasMoment one
+    → Plays d h plan one events text → Goes d (events ++ h)
+line_kept d h plan (line.Mail name message envelope) events text so fits plays =
     same_events d h events (added plays.0) plays.2 (start_kept d h name message envelope plays.0 so plays.1)
-line_kept d h (line.Step a) events text so fits plays =
-    same_events d h events (added plays.0) plays.2 (outcome_kept d h a plays.0 so plays.1)
-line_kept d h (line.Run a) events text so fits plays = steps_kept d h a events so plays.are_steps
-line_kept d h (line.Stop a) events text so fits plays =
+line_kept d h plan (line.Step a) events text so fits plays =
+    same_events d h events (added plays.0) plays.2 (outcome_kept d h plan a plays.0 so plays.1)
+line_kept d h plan (line.Run a) events text so fits plays = steps_kept d h plan a events so plays.are_steps
+line_kept d h plan (line.Stop a) events text so fits plays =
     same_events d h events (added plays.0) plays.2 (stop_kept d h a ((after d h).actors a) plays.0 so refl plays.1)
-line_kept d h (line.Halt how) events text so fits plays =
+line_kept d h plan (line.Halt how) events text so fits plays =
     same_events d h events (Halt how (contents_by how (after d h).disk plays.0) ∷ []) plays.2 (goes_halted d h how plays.0 so)
-line_kept d h (line.Moment m) events text so fits plays =
+line_kept d h plan (line.Fault k) events text so fits plays = same_events d h events [] plays.0 so
+line_kept d h plan (line.Number n) events text so fits plays = same_events d h events [] plays.0 so
+line_kept d h plan (line.Moment m) events text so fits plays =
     same_events d h events (added plays.0) plays.2 (moment_kept d h m plays.0 so fits plays.1)
-line_kept d h line.Trace events text so fits plays = same_events d h events [] plays.0 so
-line_kept d h (line.Cat path) events text so fits plays = same_events d h events [] plays.0 so
-line_kept d h line.Show events text so fits plays = same_events d h events [] plays.0 so
+line_kept d h plan line.Trace events text so fits plays = same_events d h events [] plays.0 so
+line_kept d h plan (line.Cat path) events text so fits plays = same_events d h events [] plays.0 so
+line_kept d h plan line.Show events text so fits plays = same_events d h events [] plays.0 so
 
 -- All lines
 
-record PlaysOn (d : Disk) (h : List Event) (traced : Bool) (lines : List Line) : Type 0 where
+record PlaysOn (d : Disk) (h : List Event) (plan : Plan) (traced : Bool) (lines : List Line) : Type 0 where
   end : List Event
+  left : Plan
   text : List ℕ
-  plays : PlaysAll d h traced lines end text
+  plays : PlaysAll d h plan traced lines end left text
 
-plays_on : (d : Disk) (h : List Event) (traced : Bool) (lines : List Line) → Goes d h → HaveMoments lines
-    → PlaysOn d h traced lines
-plays_on d h traced [] so fit = record { end = h; text = []; plays = (refl, refl) }
-plays_on d h traced (first ∷ lines) so fit =
-    let one = plays_line d h first so in
-    let rest = plays_on d (one.0 ++ h) (traced_after traced first) lines (line_kept d h first one.0 one.1 so fit.0 one.2) fit.1 in
+plays_on : (d : Disk) (h : List Event) (plan : Plan) (traced : Bool) (lines : List Line) → Goes d h → HaveMoments lines
+    → PlaysOn d h plan traced lines
+plays_on d h plan traced [] so fit = record { end = h; left = plan; text = []; plays = (refl, refl, refl) }
+plays_on d h plan traced (first ∷ lines) so fit =
+    let one = plays_line d h plan first so in
+    let rest = plays_on d (one.0 ++ h) (plan_after plan first one.0 one.1) (traced_after traced first) lines (line_kept d h plan first one.0 one.1 so fit.0 one.2) fit.1 in
     record {
       end = rest.end;
+      left = rest.left;
       text = (traced_text traced one.0 ++ one.1) ++ rest.text;
       plays = (one.0, one.1, rest.text, one.2, rest.plays, refl);
     }
 
-all_kept : (d : Disk) (h : List Event) (traced : Bool) (lines : List Line) (end : List Event) (text : List ℕ) → Goes d h
-    → HaveMoments lines → PlaysAll d h traced lines end text → Goes d end
-all_kept d h traced [] end text so fit plays = subst (λ (l : List Event). Goes d l) (sym plays.0) so
-all_kept d h traced (first ∷ lines) end text so fit plays =
-    all_kept d (plays.0 ++ h) (traced_after traced first) lines end plays.2
-    (line_kept d h first plays.0 plays.1 so fit.0 plays.3) fit.1 plays.4
+all_kept : (d : Disk) (h : List Event) (plan : Plan) (traced : Bool) (lines : List Line) (end : List Event) (left : Plan) (text : List ℕ) → Goes d h
+    → HaveMoments lines → PlaysAll d h plan traced lines end left text → Goes d end
+all_kept d h plan traced [] end left text so fit plays = subst (λ (l : List Event). Goes d l) (sym plays.0) so
+all_kept d h plan traced (first ∷ lines) end left text so fit plays =
+    all_kept d (plays.0 ++ h) (plan_after plan first plays.0 plays.1) (traced_after traced first) lines end left plays.2
+    (line_kept d h plan first plays.0 plays.1 so fit.0 plays.3) fit.1 plays.4
 
 -- whether events are traced behind lines
 abbrev traced_behind : Bool → List Line → Bool
 traced_behind traced [] = traced
 traced_behind traced (first ∷ lines) = traced_behind (traced_after traced first) lines
 
-one_after_other : (d : Disk) (h : List Event) (traced : Bool) (first later : List Line) (mid end : List Event)
-    (text more : List ℕ) → PlaysAll d h traced first mid text → PlaysAll d mid (traced_behind traced first) later end more
-    → PlaysAll d h traced (first ++ later) end (text ++ more)
-one_after_other d h traced [] later mid end text more before behind =
-    subst (λ (t : List ℕ). PlaysAll d h traced later end (t ++ more)) (sym before.1)
-    (subst (λ (l : List Event). PlaysAll d l traced later end more) before.0 behind)
-one_after_other d h traced (one ∷ first) later mid end text more before behind = (
+one_after_other : (d : Disk) (h : List Event) (plan : Plan) (traced : Bool) (first later : List Line) (mid end : List Event) (left last : Plan)
+    (text more : List ℕ) → PlaysAll d h plan traced first mid left text → PlaysAll d mid left (traced_behind traced first) later end last more
+    → PlaysAll d h plan traced (first ++ later) end last (text ++ more)
+one_after_other d h plan traced [] later mid end left last text more before behind =
+    subst (λ (t : List ℕ). PlaysAll d h plan traced later end last (t ++ more)) (sym before.2)
+    (subst (λ (p : Plan). PlaysAll d h p traced later end last more) before.1
+    (subst (λ (l : List Event). PlaysAll d l left traced later end last more) before.0 behind))
+one_after_other d h plan traced (one ∷ first) later mid end left last text more before behind = (
   before.0,
   before.1,
   before.2 ++ more,
   before.3,
-  one_after_other d (before.0 ++ h) (traced_after traced one) first later mid end before.2 more before.4 behind,
+  one_after_other d (before.0 ++ h) (plan_after plan one before.0 before.1) (traced_after traced one) first later mid end left last before.2 more before.4 behind,
   ap (λ (t : List ℕ). t ++ more) before.5 ∙ append_assoc (traced_text traced before.0 ++ before.1) before.2 more,
 )
 
-goes_first : (d : Disk) → IsFirstDisk d → Goes d []
-goes_first d first = record {
-  legal = first_opens d first;
-  carries = record {
-    finite = finite_empty d first.empty first.shut;
-    lasting = λ n. subst Lasts (sym (first.fresh n)) (lasting_empty 0);
-    needs = λ a x is lives. absurd (cc);
-    in_order = λ a x is. absurd (cc);
-  };
-}
+goes_first : (opening : List Entry) (d : Disk) → HaveEntryPaths opening → IsFirstDisk opening d → Goes d []
+goes_first opening d paths first =
+    let ready = is_ready opening d paths first in
+    record {
+      legal = first_opens opening d paths first;
+      carries = record {
+        finite = ready.finite;
+        lasting = ready.lasting;
+        needs = λ a x is lives. absurd (cc);
+        in_order = λ a x is. absurd (cc);
+      };
+    }
 
-is_played : (d : Disk) (lines : List Line) (end : List Event) (text : List ℕ) → IsFirstDisk d
-    → PlaysAll d [] false lines end text → Goes d end → IsPlayed lines text
-is_played d lines end text first plays so = record {
+is_played : (opening : List Entry) (d : Disk) (lines : List Line) (end : List Event) (left : Plan) (text : List ℕ) → IsFirstDisk opening d
+    → PlaysAll d [] no_plan false lines end left text → Goes d end → IsPlayed opening lines text
+is_played opening d lines end left text first plays so = record {
   disk = d;
   history = end;
+  left = left;
   is_first = first;
   plays = plays;
   legal = so.legal;
   safe = λ later before is. headline d later before (subst (λ (h : List Event). Legal d h) (sym is) so.legal);
 }
 
--- each script has a text
-pub has_text : (script : List ℕ) (lines : List Line) → IsScript script lines → (text : List ℕ) × Prints script text
-has_text script lines is =
-    let first : IsFirstDisk first_disk = record { dirs = refl; empty = λ name. refl; fresh = λ n. refl; shut = λ fd. refl } in
-    let so = goes_first first_disk first in
-    let fit = have_moments (kept is.texts) lines is.are_lines in
-    let all = plays_on first_disk [] false lines so fit in
-    let end = all_kept first_disk [] false lines all.end all.text so fit all.plays in (
-      all.text,
-      record {
-        lines = lines;
-        is_script = is;
-        played = is_played first_disk lines all.end all.text first all.plays end;
-      },
+-- entries and lines have a text, where they are fewer entries than numbers
+has_played : (opening : List Entry) (lines : List Line) → HaveEntryPaths opening → length opening < 2 ^ 64 → HaveMoments lines → (text : List ℕ) × IsPlayed opening lines text
+has_played opening lines paths few fit =
+    let d = first_disk opening few in
+    let so = goes_first opening d.0 paths d.1 in
+    let all = plays_on d.0 [] no_plan false lines so fit in
+    let end = all_kept d.0 [] no_plan false lines all.end all.left all.text so fit all.plays in
+    (all.text, is_played opening d.0 lines all.end all.left all.text d.1 all.plays end)
+
+-- what was begun is a front of the text
+has_whole_play : (opening : List Entry) (lines : List Line) (begun : List ℕ) → HaveEntryPaths opening → HaveMoments lines → IsBegun opening lines begun
+    → (whole : List ℕ) × IsPlayed opening lines whole × IsFront begun whole
+has_whole_play opening lines begun paths have cut =
+    let some = cut.played in
+    let fit = moments_in cut.first cut.later (subst HaveMoments cut.lines_are have) in
+    let so = all_kept some.disk [] no_plan false cut.first some.history some.left cut.printed (goes_first opening some.disk paths some.is_first) fit.0 some.plays in
+    let traced = traced_behind false cut.first in
+    let more = plays_on some.disk some.history some.left traced cut.later so fit.1 in
+    let whole : List ℕ = cut.printed ++ more.text in
+    let plays = subst (λ (l : List Line). PlaysAll some.disk [] no_plan false l more.end more.left whole) (sym cut.lines_are)
+    (one_after_other some.disk [] no_plan false cut.first cut.later some.history more.end some.left more.left cut.printed more.text
+    some.plays more.plays) in
+    let end = all_kept some.disk some.history some.left traced cut.later more.end more.left more.text so fit.1 more.plays in (
+      whole,
+      is_played opening some.disk lines more.end more.left whole some.is_first plays end,
+      (cut.rest ++ more.text, ap (λ (t : List ℕ). t ++ more.text) cut.text_is ∙ append_assoc begun cut.rest more.text),
     )
+
+said_moments : (script : List ℕ) (content : Content) → IsScript script content → HaveMoments content.lines
+said_moments script content says = have_moments says.are.later content.lines says.are.are_lines
+
+-- each script has a text
+pub has_text : (script : List ℕ) (content : Content) → IsScript script content → (text : List ℕ) × Prints script text
+has_text script content says =
+    let all = has_played content.opening content.lines (said_paths script content says) (said_few script content says) (said_moments script content says) in
+    (all.0, record { content = content; says = says; played = all.1 })
 
 -- what was begun is a front of it
 pub has_whole : (script begun : List ℕ) → BeginsToPrint script begun
     → (whole : List ℕ) × Prints script whole × IsFront begun whole
 has_whole script begun prints =
-    let cut = prints.played in
-    let some = cut.played in
-    let all = have_moments (kept prints.is_script.texts) prints.lines prints.is_script.are_lines in
-    let fit = moments_in cut.first cut.later (subst HaveMoments cut.lines_are all) in
-    let so = all_kept some.disk [] false cut.first some.history cut.printed (goes_first some.disk some.is_first) fit.0 some.plays in
-    let traced = traced_behind false cut.first in
-    let more = plays_on some.disk some.history traced cut.later so fit.1 in
-    let whole : List ℕ = cut.printed ++ more.text in
-    let plays = subst (λ (l : List Line). PlaysAll some.disk [] false l more.end whole) (sym cut.lines_are)
-    (one_after_other some.disk [] false cut.first cut.later some.history more.end cut.printed more.text
-    some.plays more.plays) in
-    let end = all_kept some.disk some.history traced cut.later more.end more.text so fit.1 more.plays in (
-      whole,
-      record {
-        lines = prints.lines;
-        is_script = prints.is_script;
-        played = is_played some.disk prints.lines more.end whole some.is_first plays end;
-      },
-      (cut.rest ++ more.text, ap (λ (t : List ℕ). t ++ more.text) cut.text_is ∙ append_assoc begun cut.rest more.text),
-    )
+    let all = has_whole_play prints.content.opening prints.content.lines begun (said_paths script prints.content prints.says) (said_moments script prints.content prints.says) prints.played in
+    (all.0, record { content = prints.content; says = prints.says; played = all.1 }, all.2)
 
 pub front_at_most : (script text : List ℕ) → BeginsAtMost script text → IsFrontAtMost script text
 front_at_most script text begins = ⊎_elim (λ none. inl none) (λ some. inr (has_whole script text some)) begins

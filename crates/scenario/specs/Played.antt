@@ -1,14 +1,16 @@
--- The history that a script plays, and what each of its lines prints. Nothing fails while a script is played.
-use Rattle.std.specs.Prelude.{◌≡◌, ◌≢◌, ◌⊎◌, ℕ, zero, suc, ◌<◌, ◌≤◌, List, [], ◌∷◌, ◌++◌, length, Bool, Option, Some, None, IsSome, count_by, codes}
+-- The history that a script plays, and what each of its lines prints. A call fails where the script says so, and only there.
+use Rattle.std.specs.Prelude.{◌≡◌, ◌≢◌, ◌⊎◌, ◌↔◌, ℕ, zero, suc, ◌<◌, ◌≤◌, List, [], ◌∷◌, ◌++◌, length, Bool, Option, Some, None, IsSome, count_by, codes}
 use Rattle.mail_bytes.specs.Decimal.{digits}
 use Rattle.mail_bytes.specs.Escape.{escaped}
 use Rattle.call_fs.specs.declared.calls.CallData.{CallData}
+use Rattle.call_fs.specs.declared.calls.CallData.TheVariants.{Close}
+use Rattle.call_fs.specs.declared.calls.Answer.{Answer}
 use Rattle.call_fs.specs.declared.calls.Answer.TheVariants.{Refused}
-use Rattle.call_fs.specs.declared.calls.FsError.TheVariants.{Memory}
+use Rattle.call_fs.specs.declared.calls.FsError.TheVariants.{Fault, Memory}
 use Rattle.call_fs.specs.declared.calls.Told.{Told}
-use Rattle.call_fs.specs.Apply.{Fits, IsReadBy, empty_file}
-use Rattle.call_fs.specs.Disk.{Disk}
-use Rattle.call_fs.specs.Steady.{IsSteadyAnswer}
+use Rattle.call_fs.specs.Apply.{Fits, IsReadBy}
+use Rattle.call_fs.specs.Disk.{Disk, IsUnused}
+use Rattle.call_fs.specs.Plan.{Plan, Takes, plan_left, with_fault, with_pick}
 use Rattle.call_fs.specs.Choices.{AreNamed, contents_by}
 use Rattle.call_fs.specs.Program.{Due}
 use Rattle.mem_fs.specs.MemDisk.{bytes_at}
@@ -16,7 +18,7 @@ use Rattle.queue_inject.specs.declared.injection.Arguments.{Arguments}
 use Rattle.mail_world.specs.declared.error.WorldError.{WorldError}
 use Rattle.mail_world.specs.declared.error.WorldError.TheVariants as error
 use Rattle.mail_world.specs.declared.event.Program.TheVariants.{Injector}
-use Rattle.mail_world.specs.History.{Event, Life, State, Actor, next_of, after, is_start, queue_dirs}
+use Rattle.mail_world.specs.History.{Event, Life, State, Actor, next_of, after, is_start}
 use Rattle.mail_world.specs.History.Event.{Start, Call, End, Stop, Moment, Halt}
 use Rattle.mail_world.specs.History.Life.{Alive, Over, Stopped}
 use Rattle.mail_world.specs.MailNames.{IsMailName}
@@ -26,23 +28,22 @@ use Rattle.scenario.specs.declared.line.Line.TheVariants as line
 use Rattle.scenario.specs.Shown.{line_of, IsShown}
 use Rattle.scenario.specs.Traced.{traced_after, traced_text}
 
--- more directories
-abbrev pub with_dirs : Disk → List (List ℕ) → Disk
-with_dirs d more = record { dirs = d.dirs ++ more; names = d.names; files = d.files; opens = d.opens }
+-- whether a call fails by this plan: `close` never does
+abbrev pub FailsBy : CallData → Plan → Answer → Type 0
+FailsBy (Close fd) plan answer = answer ≢ Refused Fault
+FailsBy call plan answer = (answer ≡ Refused Fault) ↔ (plan.fault ≡ Some 1)
 
--- The disk that a script begins with: three directories and the queue's, no file, nothing open. No number has had a
--- file yet: each stands for the empty one of moment 0.
-pub record IsFirstDisk (d : Disk) : Type 0 where
-  pub dirs : d.dirs ≡ (codes "control" ∷ codes "users" ∷ codes "home" ∷ []) ++ queue_dirs
-  pub empty : (name : List ℕ) → d.names name ≡ None
-  pub fresh : (n : ℕ) → d.files n ≡ empty_file 0
-  pub shut : (fd : ℕ) → d.opens fd ≡ None
+-- what is left of a plan after a call: `close` isn't counted
+abbrev pub plan_left_by : CallData → Plan → Answer → Plan
+plan_left_by (Close fd) plan answer = plan
+plan_left_by call plan answer = plan_left plan answer
 
--- what a disk answers that doesn't fail and has memory
-pub record Answers (d : Disk) (call : CallData) (told : Told) : Type 0 where
+-- What a disk answers by this plan, which has memory. A failed write has written nothing.
+pub record Answers (plan : Plan) (d : Disk) (call : CallData) (told : Told) : Type 0 where
   pub fits : Fits d call told.answer 0
   pub bytes : IsReadBy d call told
-  pub steady : IsSteadyAnswer d told.answer
+  pub fails : FailsBy call plan told.answer
+  pub takes : Takes d plan.pick told.answer
   pub no_memory : told.answer ≢ Refused Memory
 
 -- why a line is refused
@@ -81,22 +82,22 @@ pub data Outcome : Type 0 where
   Is : Refusal → Outcome
 
 -- by what the actor must do next, whether it lives, and whether it was started
-abbrev pub DoesNext : State → List ℕ → Due → Outcome → Type 0
-DoesNext s a (Due.File call) outcome = (told : Told) × Answers s.disk call told × (outcome ≡ Happens (Call a s.now input_ready call told 0))
-DoesNext s a (Due.Ended status) outcome = outcome ≡ Happens (End a s.now input_ready status)
-DoesNext s a due outcome = outcome ≡ Is NotWaiting
+abbrev pub DoesNext : Plan → State → List ℕ → Due → Outcome → Type 0
+DoesNext plan s a (Due.File call) outcome = (told : Told) × Answers plan s.disk call told × (outcome ≡ Happens (Call a s.now input_ready call told 0))
+DoesNext plan s a (Due.Ended status) outcome = outcome ≡ Happens (End a s.now input_ready status)
+DoesNext plan s a due outcome = outcome ≡ Is NotWaiting
 
-abbrev pub DoesAlive : State → List ℕ → Actor → Life → Outcome → Type 0
-DoesAlive s a x Alive outcome = DoesNext s a (next_of x.program x.past s.now input_ready) outcome
-DoesAlive s a x life outcome = outcome ≡ Is Gone
+abbrev pub DoesAlive : Plan → State → List ℕ → Actor → Life → Outcome → Type 0
+DoesAlive plan s a x Alive outcome = DoesNext plan s a (next_of x.program x.past s.now input_ready) outcome
+DoesAlive plan s a x life outcome = outcome ≡ Is Gone
 
-abbrev pub DoesStep : State → List ℕ → Option Actor → Outcome → Type 0
-DoesStep s a None outcome = outcome ≡ Is Unknown
-DoesStep s a (Some x) outcome = DoesAlive s a x x.life outcome
+abbrev pub DoesStep : Plan → State → List ℕ → Option Actor → Outcome → Type 0
+DoesStep plan s a None outcome = outcome ≡ Is Unknown
+DoesStep plan s a (Some x) outcome = DoesAlive plan s a x x.life outcome
 
--- what a step of the actor of this name comes to
-abbrev pub StepsTo : State → List ℕ → Outcome → Type 0
-StepsTo s a outcome = DoesStep s a (s.actors a) outcome
+-- what a step of the actor of this name comes to, by what is chosen of the disk
+abbrev pub StepsTo : Plan → State → List ℕ → Outcome → Type 0
+StepsTo plan s a outcome = DoesStep plan s a (s.actors a) outcome
 
 -- the process number of the next mail
 abbrev pub next_pid : List Event → ℕ
@@ -117,10 +118,24 @@ abbrev pub printed : List ℕ → Outcome → List ℕ
 printed name (Happens event) = []
 printed name (Is why) = refused why name
 
+-- what is left of a plan after an event; only a call uses it up
+abbrev pub plan_by : Event → Plan → Plan
+plan_by (Start a program) plan = plan
+plan_by (Call a read ready call told wrote) plan = plan_left_by call plan told.answer
+plan_by (End a read ready status) plan = plan
+plan_by (Stop a) plan = plan
+plan_by (Moment m) plan = plan
+plan_by (Halt how contents) plan = plan
+
+-- after these events, newest first
+abbrev pub plan_through : Plan → List Event → Plan
+plan_through plan [] = plan
+plan_through plan (event ∷ before) = plan_by event (plan_through plan before)
+
 -- these events, newest first, are steps of that actor one after the other
-abbrev pub AreSteps : Disk → List Event → List ℕ → List Event → Type 0
-AreSteps d h a [] = Unit {0}
-AreSteps d h a (event ∷ before) = AreSteps d h a before × StepsTo (after d (before ++ h)) a (Happens event)
+abbrev pub AreSteps : Disk → List Event → Plan → List ℕ → List Event → Type 0
+AreSteps d h plan a [] = Unit {0}
+AreSteps d h plan a (event ∷ before) = AreSteps d h plan a before × StepsTo (plan_through plan before) (after d (before ++ h)) a (Happens event)
 
 -- the most steps of one run
 abbrev pub most_steps : ℕ
@@ -134,16 +149,16 @@ stop_text zero why a = refused why a
 stop_text (suc steps) why a = []
 
 -- A run stops where its next step is refused, or where it has made the most steps and the actor hasn't ended.
-abbrev pub Stops : State → List ℕ → ℕ → List ℕ → Type 0
-Stops s a steps text =
-    ((why : Refusal) × StepsTo s a (Is why) × ((steps < most_steps) ⊎ (why ≡ Gone)) × (text ≡ stop_text steps why a))
-    ⊎ ((steps ≡ most_steps) × (¬ (StepsTo s a (Is Gone))) × (text ≡ refused Steps a))
+abbrev pub Stops : Plan → State → List ℕ → ℕ → List ℕ → Type 0
+Stops plan s a steps text =
+    ((why : Refusal) × StepsTo plan s a (Is why) × ((steps < most_steps) ⊎ (why ≡ Gone)) × (text ≡ stop_text steps why a))
+    ⊎ ((steps ≡ most_steps) × (¬ (StepsTo plan s a (Is Gone))) × (text ≡ refused Steps a))
 
 -- these events, newest first, are what a run adds, and this is what it prints
-pub record IsRun (d : Disk) (h : List Event) (a : List ℕ) (events : List Event) (text : List ℕ) : Type 0 where
-  pub are_steps : AreSteps d h a events
+pub record IsRun (d : Disk) (h : List Event) (plan : Plan) (a : List ℕ) (events : List Event) (text : List ℕ) : Type 0 where
+  pub are_steps : AreSteps d h plan a events
   pub within : length events ≤ most_steps
-  pub stops : Stops (after d (events ++ h)) a (length events) text
+  pub stops : Stops (plan_through plan events) (after d (events ++ h)) a (length events) text
 
 -- What a stop of an actor comes to, by whether it lives, and whether it was started.
 abbrev pub StopsAlive : List ℕ → Life → Outcome → Type 0
@@ -164,29 +179,44 @@ abbrev pub cat_line : List ℕ → Option (List ℕ) → List ℕ
 cat_line path (Some bytes) = line_of (escaped path) (codes ": " ++ escaped bytes)
 cat_line path None = line_of (escaped path) (codes "none")
 
+-- what the pick of a number comes to: it is refused where a name or an open descriptor uses it
+abbrev pub NumberComesTo : Disk → ℕ → List ℕ → Type 0
+NumberComesTo d n text = (IsUnused d n × (text ≡ [])) ⊎ ((¬ (IsUnused d n)) × (text ≡ refused Taken (digits n)))
+
 -- What a line adds to a history, newest event first, and what it prints.
-abbrev pub Plays : Disk → List Event → Line → List Event → List ℕ → Type 0
-Plays d h (line.Mail name message envelope) events text =
+abbrev pub Plays : Disk → List Event → Plan → Line → List Event → List ℕ → Type 0
+Plays d h plan (line.Mail name message envelope) events text =
     (outcome : Outcome) × MailComesTo (after d h) name (mail (next_pid h) (after d h).now message envelope) outcome
     × (events ≡ added outcome) × (text ≡ printed name outcome)
-Plays d h (line.Step actor) events text =
-    (outcome : Outcome) × StepsTo (after d h) actor outcome × (events ≡ added outcome) × (text ≡ printed actor outcome)
-Plays d h (line.Run actor) events text = IsRun d h actor events text
-Plays d h (line.Stop actor) events text =
+Plays d h plan (line.Step actor) events text =
+    (outcome : Outcome) × StepsTo plan (after d h) actor outcome × (events ≡ added outcome) × (text ≡ printed actor outcome)
+Plays d h plan (line.Run actor) events text = IsRun d h plan actor events text
+Plays d h plan (line.Stop actor) events text =
     (outcome : Outcome) × StopComesTo actor ((after d h).actors actor) outcome × (events ≡ added outcome) × (text ≡ printed actor outcome)
-Plays d h (line.Halt how) events text =
+Plays d h plan (line.Halt how) events text =
     let now = (after d h).disk in
     (named : List ℕ) × AreNamed now named × (events ≡ Halt how (contents_by how now named) ∷ []) × (text ≡ [])
-Plays d h (line.Moment m) events text =
+Plays d h plan (line.Fault k) events text = (events ≡ []) × (text ≡ [])
+Plays d h plan (line.Number n) events text = (events ≡ []) × NumberComesTo (after d h).disk n text
+Plays d h plan (line.Moment m) events text =
     (outcome : Outcome) × MomentComesTo (after d h).now m outcome × (events ≡ added outcome) × (text ≡ printed (digits (after d h).now) outcome)
-Plays d h line.Trace events text = (events ≡ []) × (text ≡ [])
-Plays d h (line.Cat path) events text = (events ≡ []) × (text ≡ cat_line path (bytes_at (after d h).disk path))
-Plays d h line.Show events text = (events ≡ []) × IsShown d h text
+Plays d h plan line.Trace events text = (events ≡ []) × (text ≡ [])
+Plays d h plan (line.Cat path) events text = (events ≡ []) × (text ≡ cat_line path (bytes_at (after d h).disk path))
+Plays d h plan line.Show events text = (events ≡ []) × IsShown d h text
 
--- The history after these lines, from that one on, and what they print; where events are traced, a line first prints
--- the events that it adds.
-abbrev pub PlaysAll : Disk → List Event → Bool → List Line → List Event → List ℕ → Type 0
-PlaysAll d h traced [] end text = (end ≡ h) × (text ≡ [])
-PlaysAll d h traced (first ∷ lines) end text =
-    (events : List Event) × (own rest : List ℕ) × Plays d h first events own × PlaysAll d (events ++ h) (traced_after traced first) lines end rest
+-- What is chosen of the disk behind a line that added these events and printed this: another call that is to fail, another
+-- number, where it wasn't refused, or what the events left.
+abbrev pub plan_after : Plan → Line → List Event → List ℕ → Plan
+plan_after plan (line.Fault k) events text = with_fault k plan
+plan_after plan (line.Number n) events [] = with_pick n plan
+plan_after plan (line.Number n) events (b ∷ text) = plan
+plan_after plan other events text = plan_through plan events
+
+-- The history after these lines, from that one on, what is chosen of the disk then, and what they print; where events are
+-- traced, a line first prints the events that it adds.
+abbrev pub PlaysAll : Disk → List Event → Plan → Bool → List Line → List Event → Plan → List ℕ → Type 0
+PlaysAll d h plan traced [] end left text = (end ≡ h) × (left ≡ plan) × (text ≡ [])
+PlaysAll d h plan traced (first ∷ lines) end left text =
+    (events : List Event) × (own rest : List ℕ) × Plays d h plan first events own
+    × PlaysAll d (events ++ h) (plan_after plan first events own) (traced_after traced first) lines end left rest
     × (text ≡ (traced_text traced events ++ own) ++ rest)

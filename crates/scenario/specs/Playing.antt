@@ -4,7 +4,8 @@ use Rattle.call_fs.specs.declared.calls.Answer.{Answer}
 use Rattle.call_fs.specs.declared.calls.Answer.TheVariants.{Refused}
 use Rattle.call_fs.specs.declared.calls.FsError.TheVariants.{Memory}
 use Rattle.call_fs.specs.Disk.{Disk}
-use Rattle.crash_fs.specs.Crash.{Crash, crash_disk, IsQuiet}
+use Rattle.crash_fs.specs.Crash.{Crash, crash_disk, crash_plan}
+use Rattle.call_fs.specs.Plan.{Plan}
 use Rattle.mail_world.specs.declared.error.WorldError.{WorldError}
 use Rattle.mail_world.specs.declared.error.WorldError.TheVariants as error
 use Rattle.mail_world.specs.declared.event.Event.{Event as Kept}
@@ -12,7 +13,7 @@ use Rattle.mail_world.specs.declared.event.Event.TheVariants as kept
 use Rattle.mail_world.specs.History.{Event, IsLiving, after}
 use Rattle.mail_world.specs.World.{Seen, IsHistory}
 use Rattle.scenario.specs.declared.line.Line.{Line}
-use Rattle.scenario.specs.Played.{Refusal, IsRefusalOf, StepsTo, Plays}
+use Rattle.scenario.specs.Played.{Refusal, IsRefusalOf, StepsTo, Plays, plan_by, plan_after}
 use Rattle.scenario.specs.Played.Outcome.{Happens, Is}
 use Rattle.scenario.specs.Played.Refusal.{Gone}
 use Rattle.scenario.specs.Traced.{traced_text}
@@ -31,38 +32,38 @@ lacked_memory (kept.Stop a) = false
 lacked_memory (kept.Moment m) = false
 lacked_memory (kept.Halt how) = false
 
--- The world began with this disk, this happened in it, and its disk doesn't fail.
-pub record IsPlaying (d : Disk) (w : Seen Crash) (h : List Event) : Type 0 where
+-- The world began with this disk, this happened in it, and its disk tells this plan.
+pub record IsPlaying (d : Disk) (w : Seen Crash) (plan : Plan) (h : List Event) : Type 0 where
   pub is : IsHistory d (crash_disk w.disk) w.events w.present h
-  pub quiet : IsQuiet w.disk
+  pub planned : crash_plan w.disk ≡ Some plan
 
 -- whether an actor is over after a step that answered so
-abbrev pub IsOverBy : Option ℕ → Disk → List ℕ → List Event → Type 0
-IsOverBy (Some status) d a h = StepsTo (after d h) a (Is Gone)
-IsOverBy None d a h = IsLiving (after d h) a
+abbrev pub IsOverBy : Option ℕ → Disk → Plan → List ℕ → List Event → Type 0
+IsOverBy (Some status) d plan a h = StepsTo plan (after d h) a (Is Gone)
+IsOverBy None d plan a h = IsLiving (after d h) a
 
 -- whatever happened before, a step of that actor happened then
-pub record HasStepped (d : Disk) (new : Seen Crash) (a : List ℕ) (ended : Option ℕ) (h : List Event) : Type 0 where
+pub record HasStepped (d : Disk) (new : Seen Crash) (a : List ℕ) (ended : Option ℕ) (plan : Plan) (h : List Event) : Type 0 where
   pub event : Event
-  pub steps : StepsTo (after d h) a (Happens event)
-  pub playing : IsPlaying d new (event ∷ h)
-  pub over : IsOverBy ended d a (event ∷ h)
+  pub steps : StepsTo plan (after d h) a (Happens event)
+  pub playing : IsPlaying d new (plan_by event plan) (event ∷ h)
+  pub over : IsOverBy ended d (plan_by event plan) a (event ∷ h)
 
 -- a step was refused
-abbrev pub IsRefusedAs : WorldError → Disk → List ℕ → List Event → Type 0
-IsRefusedAs error.Memory d a h = Unit {0}
-IsRefusedAs why d a h = (refusal : Refusal) × IsRefusalOf why refusal × StepsTo (after d h) a (Is refusal)
+abbrev pub IsRefusedAs : WorldError → Disk → Plan → List ℕ → List Event → Type 0
+IsRefusedAs error.Memory d plan a h = Unit {0}
+IsRefusedAs why d plan a h = (refusal : Refusal) × IsRefusalOf why refusal × StepsTo plan (after d h) a (Is refusal)
 
 -- what a line added to the history, and to the text
-pub record HasPlayed (d : Disk) (new : Seen Crash) (line : Line) (before after : List ℕ) (h : List Event) : Type 0 where
+pub record HasPlayed (d : Disk) (new : Seen Crash) (line : Line) (before after : List ℕ) (plan : Plan) (h : List Event) : Type 0 where
   pub events : List Event
   pub own : List ℕ
-  pub plays : Plays d h line events own
-  pub playing : IsPlaying d new (events ++ h)
+  pub plays : Plays d h plan line events own
+  pub playing : IsPlaying d new (plan_after plan line events own) (events ++ h)
   pub text : after ≡ before ++ own
 
 -- what is printed of a line that was played: where events are traced, first those that it added
-pub record HasPrinted (d : Disk) (new : Seen Crash) (traced : Bool) (line : Line) (text : List ℕ) (h : List Event) : Type 0 where
+pub record HasPrinted (d : Disk) (new : Seen Crash) (traced : Bool) (line : Line) (text : List ℕ) (plan : Plan) (h : List Event) : Type 0 where
   pub own : List ℕ
-  pub played : HasPlayed d new line [] own h
+  pub played : HasPlayed d new line [] own plan h
   pub text_is : text ≡ traced_text traced played.events ++ own

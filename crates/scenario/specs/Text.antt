@@ -2,48 +2,53 @@
 use Rattle.std.specs.Prelude.{◌≡◌, ◌⊎◌, ℕ, List, [], ◌++◌, false, codes}
 use Rattle.mail_bytes.specs.Decimal.{digits}
 use Rattle.call_fs.specs.Disk.{Disk}
+use Rattle.call_fs.specs.Plan.{Plan, no_plan}
 use Rattle.mail_world.specs.History.{Event, Legal}
 use Rattle.mail_world.specs.World.{EachSafe}
+use Rattle.script_words.specs.declared.entry.Entry.{Entry}
 use Rattle.scenario.specs.declared.line.Line.{Line}
+use Rattle.scenario.specs.Contents.{Content}
+use Rattle.scenario.specs.FirstDisk.{IsFirstDisk}
 use Rattle.scenario.specs.Lines.{IsScript, IsBadLine}
-use Rattle.scenario.specs.Played.{IsFirstDisk, PlaysAll}
+use Rattle.scenario.specs.Played.{PlaysAll}
 use Rattle.scenario.specs.Shown.{line_of}
 
--- These lines are played from a disk with no file, and print this. The history that they make is legal, and the queue
--- is safe at each prefix of it.
-pub record IsPlayed (lines : List Line) (text : List ℕ) : Type 0 where
+-- These lines are played from the disk with these entries, and print this. The history that they make is legal, and the
+-- queue is safe at each prefix of it.
+pub record IsPlayed (opening : List Entry) (lines : List Line) (text : List ℕ) : Type 0 where
   pub disk : Disk
   pub history : List Event
-  pub is_first : IsFirstDisk disk
-  pub plays : PlaysAll disk [] false lines history text
+  pub left : Plan
+  pub is_first : IsFirstDisk opening disk
+  pub plays : PlaysAll disk [] no_plan false lines history left text
   pub legal : Legal disk history
   pub safe : EachSafe disk history
 
 -- the script with these bytes prints this
 pub record Prints (script text : List ℕ) : Type 0 where
-  pub lines : List Line
-  pub is_script : IsScript script lines
-  pub played : IsPlayed lines text
+  pub content : Content
+  pub says : IsScript script content
+  pub played : IsPlayed content.opening content.lines text
 
 -- a text begins with this front
 abbrev pub IsFront : List ℕ → List ℕ → Type 0
 IsFront front text = (rest : List ℕ) × (text ≡ front ++ rest)
 
--- Lines are played as far as they go: this is a front of what the first of them print.
-pub record IsBegun (lines : List Line) (text : List ℕ) : Type 0 where
+-- Lines are played from the disk with these entries as far as they go: this is a front of what the first of them print.
+pub record IsBegun (opening : List Entry) (lines : List Line) (text : List ℕ) : Type 0 where
   pub first : List Line
   pub later : List Line
   pub lines_are : lines ≡ first ++ later
   pub printed : List ℕ
   pub rest : List ℕ
-  pub played : IsPlayed first printed
+  pub played : IsPlayed opening first printed
   pub text_is : printed ≡ text ++ rest
 
 -- the script with these bytes begins to print this
 pub record BeginsToPrint (script text : List ℕ) : Type 0 where
-  pub lines : List Line
-  pub is_script : IsScript script lines
-  pub played : IsBegun lines text
+  pub content : Content
+  pub says : IsScript script content
+  pub played : IsBegun content.opening content.lines text
 
 -- nothing, or that
 abbrev pub BeginsAtMost : List ℕ → List ℕ → Type 0

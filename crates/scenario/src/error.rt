@@ -1,6 +1,6 @@
 // Why a script can't be read or played.
 
-use std::alloc::{AllocError, AllocFailed};
+use std::alloc::AllocError;
 use thiserror::Error;
 
 /// Why bytes are no script.
@@ -12,28 +12,6 @@ pub enum ScriptError {
     /// Want of memory.
     #[error("out of memory")]
     Memory,
-}
-
-impl From<AllocError> for ScriptError {
-    ghost use Rattle.std.specs.Prelude.{◌≡◌};
-    ghost use Rattle.scenario.specs.declared.error.ScriptError.TheVariants.{Memory};
-
-    ghost from_gives = { λ _ why. why ≡ Memory };
-
-    fn from(_: AllocError) -> Self {
-        ScriptError::Memory
-    }
-}
-
-impl<T: Drop> From<AllocFailed<T>> for ScriptError {
-    ghost use Rattle.std.specs.Prelude.{◌≡◌};
-    ghost use Rattle.scenario.specs.declared.error.ScriptError.TheVariants.{Memory};
-
-    ghost from_gives = { λ _ why. why ≡ Memory };
-
-    fn from(_: AllocFailed<T>) -> Self {
-        ScriptError::Memory
-    }
 }
 
 /// Why a script wasn't played to its end.

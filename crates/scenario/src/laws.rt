@@ -1,21 +1,32 @@
 //! Laws of scripts. Each is the contract of a function that does nothing.
-ghost use Rattle.std.specs.Prelude.{◌≡◌, List, ℕ};
+ghost use Rattle.std.specs.Prelude.{◌≡◌, ◌<◌, ◌^◌, List, ℕ, length};
+ghost use Rattle.call_fs.specs.Disk.{Disk};
+ghost use Rattle.script_words.specs.declared.entry.Entry.{Entry};
 ghost use Rattle.scenario.specs.declared.line.Line.{Line};
+ghost use Rattle.scenario.specs.Contents.{Content};
 ghost use Rattle.scenario.specs.Lines.{IsScript};
+ghost use Rattle.scenario.specs.FirstDisk.{IsFirstDisk};
 ghost use Rattle.scenario.specs.Text.{IsPlayed, Prints, BeginsToPrint, IsFront};
+
+/// Entries make one disk, where they are fewer than the numbers of files.
+pub fn one_disk()
+    ensures some { (opening : List Entry) → length opening < 2 ^ 64 → (d : Disk) × IsFirstDisk opening d }
+    ensures one { (opening : List Entry) (d e : Disk) → IsFirstDisk opening d → IsFirstDisk opening e → d ≡ e }
+{}
 
 /// Each script prints a text, and what it begins to print is a front of one.
 pub fn has_text()
-    ensures text { (script : List ℕ) (lines : List Line) → IsScript script lines
+    ensures text { (script : List ℕ) (content : Content) → IsScript script content
         → (text : List ℕ) × Prints script text }
     ensures whole { (script begun : List ℕ) → BeginsToPrint script begun
         → (whole : List ℕ) × Prints script whole × IsFront begun whole }
 {}
 
-/// Lines make one history, and a script prints one text; what it begins to print is a front of that.
+/// Lines that are played from the disk with some entries make one history, and a script prints one text; what it begins
+/// to print is a front of that.
 pub fn one_text()
-    ensures history { (lines : List Line) (t u : List ℕ) (p : IsPlayed lines t) (q : IsPlayed lines u)
-        → p.history ≡ q.history }
+    ensures history { (opening : List Entry) (lines : List Line) (t u : List ℕ)
+        (p : IsPlayed opening lines t) (q : IsPlayed opening lines u) → p.history ≡ q.history }
     ensures one { (script a b : List ℕ) → Prints script a → Prints script b → a ≡ b }
     ensures front { (script begun whole : List ℕ) → BeginsToPrint script begun → Prints script whole
         → IsFront begun whole }

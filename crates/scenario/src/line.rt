@@ -1,9 +1,9 @@
 // A line of a script.
 
-use crate::Moment;
 use call_fs::Survival;
 use mail_bytes::ByteText;
 use mail_world::ActorName;
+use script_words::{Count, Moment};
 
 /// A line of a script.
 #[derive(Debug, Drop)]
@@ -25,6 +25,10 @@ pub enum Line {
     Stop(ActorName),
     /// `halt`: the machine stops, and this survives of the files.
     Halt(Survival),
+    /// `fault`: the call of this place from then on fails, counted from 1, `close` not counted.
+    Fault(Count),
+    /// `number`: the next new file takes this number.
+    Number(Count),
     /// `moment`: sets the present moment, which never falls.
     Moment(Moment),
     /// `trace`: from then on each event is printed.

@@ -2,6 +2,7 @@
 ghost use Rattle.std.specs.Prelude.{◌≡◌, ◌≢◌, ◌≤◌, ◌++◌, ◌∷◌, [], List, ℕ, take, IfOk, IfErr, OnOk, OnErr, Err, codes};
 ghost use Rattle.mail_bytes.specs.Decimal.{digits};
 ghost use Rattle.call_fs.specs.Disk.{Disk};
+ghost use Rattle.call_fs.specs.Plan.{Plan};
 ghost use Rattle.call_fs.specs.Told.{Rose, Meets};
 ghost use Rattle.mail_world.specs.declared.event.Event.{Event as Kept};
 ghost use Rattle.mail_world.specs.History.{Event as Happening};
@@ -12,35 +13,36 @@ ghost use Rattle.scenario.specs.Playing.{IsPlaying, HasStepped, HasPlayed, HasPr
 ghost use Rattle.scenario.specs.Text.{IsPlayed, IsBegun};
 ghost use Rattle.scenario.specs.Shown.{line_of};
 
+use crate::opening_disk::first_disk;
 use crate::printing::{put_line, put_number};
-use crate::queue_dirs::first_disk;
 use crate::showing::{cat, show};
 use crate::tracing::{put_events_behind, traced_after};
-use crate::{Line, Moment, PlayError, Script};
-use call_fs::{Answer, FsError, Survival};
+use crate::{Line, PlayError, Script};
+use call_fs::{Answer, FsError, Survival, Taken};
 use crash_fs::CrashDisk;
 use mail_bytes::Memory;
 use mail_world::laws::headline;
 use mail_world::{ActorName, Event, History, World, WorldError};
 use outside::{Gave, Sink};
+use script_words::{Count, Moment};
 use std::alloc::{AllocError, Global};
 
 /// The most steps that `run` makes.
 const MOST_STEPS: u32 = 1_000_000;
 
-/// Plays a script over a new disk in memory, and gives the sink what its lines print, one line of the script after the
-/// other. `Failed` only where the sink's count of failures rose; it has then taken a prefix of the text. After `Memory`
-/// it has taken a front of the text of the first lines.
+/// Plays a script over a new disk in memory that holds its entries, and gives the sink what its lines print, one line
+/// after the other. `Failed` only where the sink's count of failures rose; it has then taken a prefix of the text.
+/// After `Memory` it has taken a front of the text of the first lines.
 pub fn play<O: Sink>(alloc: Global, script: Script, out: &mut O) -> Result<(), PlayError>
     ensures cause { IfErr result (λ why. why ≡ PlayError.Failed → Rose (O.faults out.old) (O.faults out.new)) }
     ensures played { OnOk result (Meets (O.taken out.old) (O.taken out.new)
-        (λ before after. (text : List ℕ) × IsPlayed script text × (after ≡ before ++ text))) }
+        (λ before after. (text : List ℕ) × IsPlayed script.opening script.lines text × (after ≡ before ++ text))) }
     ensures begun { OnErr result (Meets (O.taken out.old) (O.taken out.new)
-        (λ before after. (text : List ℕ) × IsBegun script text × (after ≡ before ++ text))) }
+        (λ before after. (text : List ℕ) × IsBegun script.opening script.lines text × (after ≡ before ++ text))) }
 {
     // the history that is played is safe
     headline();
-    let mut world = World::new(alloc, first_disk(alloc)?)?;
+    let mut world = World::new(alloc, first_disk(alloc, script.opening())?)?;
     let mut traced = false;
     for line in script.lines() {
         let text = printed(alloc, &mut world, traced, line)?;
@@ -71,8 +73,8 @@ fn printed(
     traced: bool,
     line: &Line,
 ) -> Result<Vec<u8>, Memory>
-    ensures { IfOk result (λ text. (d : Disk) (h : List Happening) → IsPlaying d world.old h
-        → HasPrinted d world.new traced line.now text.items h) }
+    ensures { IfOk result (λ text. (d : Disk) (plan : Plan) (h : List Happening) → IsPlaying d world.old plan h
+        → HasPrinted d world.new traced line.now text.items plan h) }
 {
     let before = world.history().len();
     let mut own = Vec::new(alloc);
@@ -93,8 +95,8 @@ fn play_line(
     line: &Line,
     text: &mut Vec<u8>,
 ) -> Result<(), Memory>
-    ensures { OnOk result ((d : Disk) (h : List Happening) → IsPlaying d world.old h
-        → HasPlayed d world.new line.now text.old.items text.new.items h) }
+    ensures { OnOk result ((d : Disk) (plan : Plan) (h : List Happening) → IsPlaying d world.old plan h
+        → HasPlayed d world.new line.now text.old.items text.new.items plan h) }
 {
     match line {
         Line::Mail {
@@ -115,6 +117,11 @@ fn play_line(
             Err(why) => refuse(text, why, actor),
         },
         Line::Halt(how) => halt(alloc, world, *how),
+        Line::Fault(k) => {
+            fail_in(world, *k);
+            Ok(())
+        }
+        Line::Number(number) => pick(world, *number, text),
         Line::Moment(moment) => set_moment(world, *moment, text),
         Line::Trace => Ok(()),
         Line::Cat(path) => cat(alloc, world.disk(), path.as_slice(), text),
@@ -129,10 +136,10 @@ fn step(
     world: &mut World<CrashDisk>,
     actor: &ActorName,
 ) -> Result<Option<u8>, WorldError>
-    ensures ok { IfOk result (λ ended. (d : Disk) (h : List Happening) → IsPlaying d world.old h
-        → HasStepped d world.new actor.now ended h) }
-    ensures err { IfErr result (λ why. (d : Disk) (h : List Happening) → IsPlaying d world.old h
-        → IsRefusedAs why d actor.now h) }
+    ensures ok { IfOk result (λ ended. (d : Disk) (plan : Plan) (h : List Happening) → IsPlaying d world.old plan h
+        → HasStepped d world.new actor.now ended plan h) }
+    ensures err { IfErr result (λ why. (d : Disk) (plan : Plan) (h : List Happening) → IsPlaying d world.old plan h
+        → IsRefusedAs why d plan actor.now h) }
     ensures same { IfErr result (λ why. why ≢ WorldError.Memory → world.new ≡ world.old) }
     ensures waits { (name : List ℕ) → result ≢ Err (WorldError.NotWaiting name) }
 {
@@ -172,8 +179,8 @@ fn run(
     actor: &ActorName,
     text: &mut Vec<u8>,
 ) -> Result<(), Memory>
-    ensures { OnOk result ((d : Disk) (h : List Happening) → IsPlaying d world.old h
-        → HasPlayed d world.new (LineOf.Run actor.now) text.old.items text.new.items h) }
+    ensures { OnOk result ((d : Disk) (plan : Plan) (h : List Happening) → IsPlaying d world.old plan h
+        → HasPlayed d world.new (LineOf.Run actor.now) text.old.items text.new.items plan h) }
 {
     for _ in 0..MOST_STEPS {
         match step(alloc, world, actor) {
@@ -188,10 +195,39 @@ fn run(
 
 /// The machine stops. Nothing is printed.
 fn halt(alloc: Global, world: &mut World<CrashDisk>, how: Survival) -> Result<(), Memory>
-    ensures { OnOk result ((d : Disk) (h : List Happening) (text : List ℕ) → IsPlaying d world.old h
-        → HasPlayed d world.new (LineOf.Halt how) text text h) }
+    ensures { OnOk result ((d : Disk) (plan : Plan) (h : List Happening) (text : List ℕ) → IsPlaying d world.old plan h
+        → HasPlayed d world.new (LineOf.Halt how) text text plan h) }
 {
     world.halt(alloc, how)?;
+    Ok(())
+}
+
+/// The call of this place from now on fails. Nothing is printed.
+fn fail_in(world: &mut World<CrashDisk>, k: Count)
+    ensures { (d : Disk) (plan : Plan) (h : List Happening) (text : List ℕ) → IsPlaying d world.old plan h
+        → HasPlayed d world.new (LineOf.Fault k) text text plan h }
+{
+    world.fault_in(k.number());
+}
+
+/// Picks the number of the next new file, or puts the line of its refusal at the end of a text.
+fn pick(world: &mut World<CrashDisk>, number: Count, text: &mut Vec<u8>) -> Result<(), Memory>
+    ensures { OnOk result ((d : Disk) (plan : Plan) (h : List Happening) → IsPlaying d world.old plan h
+        → HasPlayed d world.new (LineOf.Number number) text.old.items text.new.items plan h) }
+{
+    match world.pick(number.number()) {
+        Ok(()) => Ok(()),
+        Err(Taken) => put_taken(text, number.number()),
+    }
+}
+
+/// Puts the line of a number that is in use at the end of a text.
+fn put_taken(text: &mut Vec<u8>, number: u64) -> Result<(), Memory>
+    ensures { OnOk result (text.new.items ≡ text.old.items ++ refused Refusal.Taken (digits number)) }
+{
+    text.extend_from_slice(b"refused taken ")?;
+    put_number(text, number)?;
+    text.push(b'\n')?;
     Ok(())
 }
 
@@ -201,8 +237,8 @@ fn set_moment(
     moment: Moment,
     text: &mut Vec<u8>,
 ) -> Result<(), Memory>
-    ensures { OnOk result ((d : Disk) (h : List Happening) → IsPlaying d world.old h
-        → HasPlayed d world.new (LineOf.Moment moment) text.old.items text.new.items h) }
+    ensures { OnOk result ((d : Disk) (plan : Plan) (h : List Happening) → IsPlaying d world.old plan h
+        → HasPlayed d world.new (LineOf.Moment moment) text.old.items text.new.items plan h) }
 {
     match world.moment(moment.seconds()) {
         Ok(()) => Ok(()),

@@ -1,5 +1,5 @@
 // Putting text together.
-ghost use Rattle.std.specs.Prelude.{◌≡◌, ◌++◌, ◌∷◌, OnOk, codes};
+ghost use Rattle.std.specs.Prelude.{◌≡◌, ◌++◌, OnOk};
 ghost use Rattle.mail_bytes.specs.Decimal.{digits};
 ghost use Rattle.mail_bytes.specs.Escape.{escaped};
 ghost use Rattle.scenario.specs.Shown.{line_of};

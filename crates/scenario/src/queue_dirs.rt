@@ -1,15 +1,11 @@
-// The directories of a script's disk.
+// The directories of each script's disk.
 ghost use Rattle.std.specs.Prelude.{◌≡◌, ◌++◌, ◌∷◌, [], IfOk, OnOk};
 ghost use Rattle.mail_bytes.specs.Decimal.{digits};
-ghost use Rattle.mem_fs.specs.MemDisk.{disk_of, with_held};
-ghost use Rattle.crash_fs.specs.Crash.{crash_disk, IsQuiet};
 ghost use Rattle.mail_world.specs.History.{queue_dirs, splits_of};
-ghost use Rattle.scenario.specs.Played.{IsFirstDisk, with_dirs};
+ghost use Rattle.scenario.specs.FirstDisk.{bare_dirs};
 
 use crate::printing::put_number;
-use crash_fs::CrashDisk;
-use mail_bytes::Memory;
-use mem_fs::MemFs;
+use mail_bytes::{ByteText, Memory};
 use std::alloc::Global;
 
 /// The directories of the queue that hold files of a message themselves.
@@ -31,52 +27,49 @@ pub fn split_dir(alloc: Global, dir: &[u8], split: u64) -> Result<Vec<u8>, Memor
     Ok(name)
 }
 
-/// The disk that a script begins with. Nothing of it is chosen to fail.
-pub fn first_disk(alloc: Global) -> Result<CrashDisk, Memory>
-    ensures disk { IfOk result (λ disk. IsFirstDisk (crash_disk disk)) }
-    ensures steady { IfOk result IsQuiet }
+/// The directories of each script's disk.
+pub fn bare_dirs(alloc: Global) -> Result<Vec<ByteText>, Memory>
+    ensures { IfOk result (λ dirs. dirs.items ≡ bare_dirs) }
 {
-    Ok(CrashDisk::new(memory_disk(alloc)?))
+    let mut dirs = Vec::new(alloc);
+    put_dir(alloc, &mut dirs, b"control")?;
+    put_dir(alloc, &mut dirs, b"users")?;
+    put_dir(alloc, &mut dirs, b"home")?;
+    put_queue_dirs(alloc, &mut dirs)?;
+    Ok(dirs)
 }
 
-/// Its files and directories.
-fn memory_disk(alloc: Global) -> Result<MemFs, Memory>
-    ensures disk { IfOk result (λ disk. IsFirstDisk (disk_of disk.held)) }
-    ensures steady { IfOk result (λ disk. (disk.picks ≡ []) × (disk.plan ≡ [])) }
+/// Puts the queue's directories behind others.
+fn put_queue_dirs(alloc: Global, dirs: &mut Vec<ByteText>) -> Result<(), Memory>
+    ensures { OnOk result (dirs.new.items ≡ dirs.old.items ++ queue_dirs) }
 {
-    let mut disk = MemFs::new(alloc, Vec::new(alloc), Vec::new(alloc))?;
-    disk.dir(alloc, b"control")?;
-    disk.dir(alloc, b"users")?;
-    disk.dir(alloc, b"home")?;
-    make_queue(alloc, &mut disk)?;
-    Ok(disk)
+    put_dir(alloc, dirs, b"pid")?;
+    put_dir(alloc, dirs, b"intd")?;
+    put_dir(alloc, dirs, b"todo")?;
+    put_dir(alloc, dirs, b"bounce")?;
+    put_splits(alloc, dirs, b"mess")?;
+    put_splits(alloc, dirs, b"info")?;
+    put_splits(alloc, dirs, b"local")?;
+    put_splits(alloc, dirs, b"remote")
 }
 
-/// Makes the queue's directories.
-fn make_queue(alloc: Global, disk: &mut MemFs) -> Result<(), Memory>
-    ensures dirs { OnOk result (disk_of disk.new.held ≡ with_dirs (disk_of disk.old.held) queue_dirs) }
-    ensures rest { disk.new ≡ with_held disk.old disk.new.held }
-{
-    disk.dir(alloc, b"pid")?;
-    disk.dir(alloc, b"intd")?;
-    disk.dir(alloc, b"todo")?;
-    disk.dir(alloc, b"bounce")?;
-    make_splits(alloc, b"mess", disk)?;
-    make_splits(alloc, b"info", disk)?;
-    make_splits(alloc, b"local", disk)?;
-    make_splits(alloc, b"remote", disk)
-}
-
-/// Makes the directories of the splits, from the last to the first.
-fn make_splits(alloc: Global, dir: &[u8], disk: &mut MemFs) -> Result<(), Memory>
-    ensures dirs { OnOk result (disk_of disk.new.held ≡ with_dirs (disk_of disk.old.held) (splits_of dir.now 23)) }
-    ensures rest { disk.new ≡ with_held disk.old disk.new.held }
+/// Puts the directories of the splits behind others, from the last to the first.
+fn put_splits(alloc: Global, dirs: &mut Vec<ByteText>, dir: &[u8]) -> Result<(), Memory>
+    ensures { OnOk result (dirs.new.items ≡ dirs.old.items ++ splits_of dir.now 23) }
 {
     let mut split = SPLITS;
     while split > 0 {
         split -= 1;
         let name = split_dir(alloc, dir, split)?;
-        disk.dir(alloc, &name)?;
+        put_dir(alloc, dirs, &name)?;
     }
+    Ok(())
+}
+
+/// Puts a directory behind others.
+pub fn put_dir(alloc: Global, dirs: &mut Vec<ByteText>, dir: &[u8]) -> Result<(), Memory>
+    ensures { OnOk result (dirs.new.items ≡ dirs.old.items ++ dir.now ∷ []) }
+{
+    dirs.push(ByteText::from_slice(alloc, dir)?)?;
     Ok(())
 }

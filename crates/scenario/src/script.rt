@@ -1,35 +1,71 @@
 // A script.
-ghost use Rattle.std.specs.Prelude.{◌≡◌};
+ghost use Rattle.std.specs.Prelude.{◌≡◌, ◌<◌, ◌^◌, length, OnOk};
+ghost use Rattle.script_words.specs.Entries.{IsEntryPath, path_of};
+ghost use Rattle.scenario.specs.Contents.{HaveEntryPaths, nothing, with_entry, with_line};
 
 use crate::Line;
+use mail_bytes::Memory;
+use script_words::Entry;
+use std::alloc::Global;
 use std::marker::Model;
 
-/// A script that was read; contracts see it as the list of its lines.
+/// A script that was read: what its disk holds at its beginning, and its lines.
 #[derive(Debug, Drop)]
 pub struct Script {
+    opening: Vec<Entry>,
     lines: Vec<Line>,
 }
 
 impl Model for Script {
-    ghost use Rattle.std.specs.Prelude.{List};
-    ghost use Rattle.scenario.specs.declared.line.Line.{Line};
+    ghost use Rattle.scenario.specs.Contents.{Content, HaveEntryPaths};
 
-    ghost Value = { List Line };
+    ghost Value = { Content };
 
-    ghost view = { λ s. s.lines.items };
+    ghost view = { λ s. record { opening = s.opening.items; lines = s.lines.items } };
+
+    ghost invariant = { λ s. HaveEntryPaths s.opening.items };
 }
 
 impl Script {
-    /// The script of these lines. Takes no memory.
-    pub fn from_vec(lines: Vec<Line>) -> Self
-        ensures { result ≡ lines.items }
+    /// A script that says nothing.
+    pub(crate) fn new(alloc: Global) -> Self
+        ensures { result ≡ nothing }
     {
-        Script { lines }
+        Script {
+            opening: Vec::new(alloc),
+            lines: Vec::new(alloc),
+        }
+    }
+
+    /// Puts an entry behind the others. The condition: its path lies below a directory for entries.
+    pub(crate) fn put_entry(&mut self, entry: Entry) -> Result<(), Memory>
+        requires { IsEntryPath (path_of entry) }
+        ensures { OnOk result (self.new ≡ with_entry self.old entry) }
+    {
+        self.opening.push(entry)?;
+        Ok(())
+    }
+
+    /// Puts a line behind the others.
+    pub(crate) fn put_line(&mut self, line: Line) -> Result<(), Memory>
+        ensures { OnOk result (self.new ≡ with_line self.old line) }
+    {
+        self.lines.push(line)?;
+        Ok(())
+    }
+
+    /// What its disk holds at its beginning.
+    pub fn opening(&self) -> &[Entry]
+        ensures value { result.now ≡ self.now.opening }
+        ensures paths { HaveEntryPaths result.now }
+        ensures few { length result.now < 2 ^ 64 }
+    {
+        self.opening.as_slice()
     }
 
     /// Its lines.
     pub fn lines(&self) -> &[Line]
-        ensures { result.now ≡ self.now }
+        ensures { result.now ≡ self.now.lines }
     {
         self.lines.as_slice()
     }

@@ -1,5 +1,5 @@
 // The lines of events.
-ghost use Rattle.std.specs.Prelude.{◌≡◌, ◌≤◌, ◌++◌, ◌∷◌, List, ℕ, length, drop, OnOk, codes, flat_map};
+ghost use Rattle.std.specs.Prelude.{◌≡◌, ◌≤◌, ◌++◌, List, length, drop, OnOk, codes, flat_map};
 ghost use Rattle.std.specs.List.{AllZip};
 ghost use Rattle.mail_bytes.specs.Decimal.{digits};
 ghost use Rattle.mail_world.specs.History.{Event as Happening};
@@ -22,7 +22,8 @@ pub fn traced_after(traced: bool, line: &Line) -> bool
         Line::Trace => true,
         Line::Mail { .. } => traced,
         Line::Step(_) | Line::Run(_) | Line::Stop(_) => traced,
-        Line::Halt(_) | Line::Moment(_) | Line::Cat(_) | Line::Show => traced,
+        Line::Halt(_) | Line::Fault(_) | Line::Number(_) => traced,
+        Line::Moment(_) | Line::Cat(_) | Line::Show => traced,
     }
 }
 

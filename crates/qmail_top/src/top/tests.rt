@@ -1,4 +1,7 @@
+mod crowded_disk;
+mod disks;
 mod queue;
+mod repeated;
 
 use crate::qmail;
 use mail_bytes::ByteText;

@@ -1,11 +1,13 @@
 // The command `queue` over forms in memory.
 ghost use Rattle.std.specs.Prelude.{◌<◌};
 
+use super::crowded_disk::CrowdedDisk;
+use super::repeated::Repeated;
 use crate::qmail;
-use call_fs::Recorder;
+use call_fs::{CallFs, Recorder};
 use mail_bytes::ByteText;
 use mem_fs::MemFs;
-use outside::{MemClock, MemPosts, MemSink, MemSource, MemSpawner, OpenGate};
+use outside::{MemClock, MemPosts, MemSink, MemSource, MemSpawner, OpenGate, Source};
 use std::alloc::Global;
 use std::test::Fail;
 
@@ -91,8 +93,22 @@ fn source_of(alloc: Global, bytes: &[u8], piece: usize, fails: &[u64]) -> Result
     Ok(MemSource::new(pieces, Vec::from_slice(alloc, fails)?))
 }
 
-/// Calls `qmail` with sources that give so many bytes at a time.
-fn inject(rt: &HostRuntime, given: &Given, piece: usize) -> Result<Outcome, Fail>
+/// Calls `qmail` over this disk, with sources that give so many bytes at a time, and answers the status.
+fn call<D: CallFs>(rt: &HostRuntime, given: &Given, piece: usize, disk: &mut D) -> Result<u8, Fail>
+    requires { 0 < piece }
+{
+    let mut message = source_of(rt.alloc(), given.message, piece, given.message_fails)?;
+    call_with(rt, given, piece, disk, &mut message)
+}
+
+/// The same with this source of the message.
+fn call_with<D: CallFs, M: Source>(
+    rt: &HostRuntime,
+    given: &Given,
+    piece: usize,
+    disk: &mut D,
+    message: &mut M,
+) -> Result<u8, Fail>
     requires { 0 < piece }
 {
     let alloc = rt.alloc();
@@ -100,13 +116,12 @@ fn inject(rt: &HostRuntime, given: &Given, piece: usize) -> Result<Outcome, Fail
     for word in given.words {
         words.push(String::from_str(alloc, word)?)?;
     }
-    let mut disk = Recorder::new(alloc, disk_of(alloc, given)?);
-    let status = qmail(
+    Ok(qmail(
         rt,
         alloc,
         &words,
-        &mut disk,
-        &mut source_of(alloc, given.message, piece, given.message_fails)?,
+        disk,
+        message,
         &mut source_of(alloc, given.envelope, piece, &[])?,
         &mut MemSink::new(alloc, Vec::new(alloc)),
         &mut MemSink::new(alloc, Vec::new(alloc)),
@@ -114,7 +129,16 @@ fn inject(rt: &HostRuntime, given: &Given, piece: usize) -> Result<Outcome, Fail
         &mut MemPosts::new(Vec::new(alloc)),
         &mut MemSpawner::new(alloc, Vec::new(alloc), Vec::new(alloc)),
         &OpenGate,
-    );
+    ))
+}
+
+/// Calls `qmail` over a disk whose calls are kept.
+fn inject(rt: &HostRuntime, given: &Given, piece: usize) -> Result<Outcome, Fail>
+    requires { 0 < piece }
+{
+    let alloc = rt.alloc();
+    let mut disk = Recorder::new(alloc, disk_of(alloc, given)?);
+    let status = call(rt, given, piece, &mut disk)?;
     Ok(Outcome {
         status,
         calls: format!(in alloc; "{:?}", disk.calls())?,
@@ -173,22 +197,54 @@ fn a_failed_call_has_its_status(rt: HostRuntime) -> Result<(), Fail> {
         (&[9], 66, "mess/1/1 intd/1 "),
     ];
     for (disk_fails, status, left) in &table {
-        ends(
-            &rt,
-            Given {
-                disk_fails,
-                ..PLAIN
-            },
-            *status,
-            left,
-        )?;
+        let failed = Given {
+            disk_fails,
+            ..PLAIN
+        };
+        assert!(rt; ends(&rt, failed, *status, left)?, "{status} {left}");
     }
     Ok(())
 }
 
 #[test]
+fn a_call_that_lacks_memory_has_its_status(rt: HostRuntime) -> Result<(), Fail> {
+    let alloc = rt.alloc();
+    let table = [
+        // the creations, the links and the appends: each may lack memory
+        (1, ""),
+        (2, "pid/77.0.1 "),
+        (4, ""),
+        (6, ""),
+        (7, ""),
+        (9, "mess/1/1 intd/1 "),
+    ];
+    for (lacking, left) in &table {
+        let mut disk = CrowdedDisk::new(disk_of(alloc, &PLAIN)?, *lacking);
+        let status = call(&rt, &PLAIN, 8192, &mut disk)?;
+        assert_eq!(rt; status, 51, "{lacking}");
+        let names = names_in(alloc, disk.below())?;
+        assert!(rt; names.as_slice() == left.as_bytes(), "{lacking}");
+    }
+    Ok(())
+}
+
+#[test]
+fn a_message_of_over_a_gibibyte_is_refused(rt: HostRuntime) -> Result<(), Fail> {
+    let alloc = rt.alloc();
+    let mut disk = disk_of(alloc, &PLAIN)?;
+    let mut message = Repeated::new(1_073_741_825);
+    let status = call_with(&rt, &PLAIN, 8192, &mut disk, &mut message)?;
+    assert_eq!(rt; status, 31);
+    assert!(rt; names_in(alloc, &disk)?.is_empty());
+    Ok(())
+}
+
+#[test]
 fn a_fault_of_the_envelope_has_its_status(rt: HostRuntime) -> Result<(), Fail> {
-    let table: [(&[u8], u8); 6] = [
+    let table: [(&[u8], u8); 8] = [
+        // an address of 1003 bytes, and one of 1002 behind which the envelope ends
+        (&[b'F'; 1004], 11),
+        (&[b'F'; 1003], 54),
         (b"Fa@x\0Tb@y\0", 54),
         (b"", 54),
         (b"X", 91),

@@ -1,31 +1,41 @@
-use Rattle.std.proofs.Common.{◌≡◌, ◌+◌, ◌++◌, ◌∷◌, [], List, take, drop, refl, sym, ap, ◌∙◌, subst, arith, append_assoc}
+use Rattle.std.proofs.Common.{◌≡◌, ◌+◌, ◌<◌, ◌^◌, length, ◌++◌, ◌∷◌, [], List, take, drop, refl, sym, ap, ◌∙◌, subst, arith, append_assoc}
 use Rattle.std.proofs.lemmas.List.{append-nil, take-append-drop, take_all}
 use Rattle.std.proofs.lemmas.Result.{err_from_is_err_and}
-use Rattle.crash_fs.specs.Crash.{Crash, crash_disk, IsQuiet}
+use Rattle.crash_fs.specs.Crash.{Crash, crash_disk, crash_plan}
+use Rattle.call_fs.specs.Plan.{no_plan}
 use Rattle.mem_fs.proofs.InTurn.{told_weaker}
 use Rattle.mail_world.specs.World.{Seen}
+use Rattle.script_words.specs.declared.entry.Entry.{Entry}
 use Rattle.scenario.specs.declared.line.Line.{Line}
+use Rattle.scenario.specs.Contents.{HaveEntryPaths}
+use Rattle.scenario.specs.FirstDisk.{IsFirstDisk}
 use Rattle.scenario.specs.Text.{IsPlayed}
 use Rattle.scenario.specs.Traced.{traced_after}
 use Rattle.scenario.specs.Playing.{IsPlaying}
-use Rattle.scenario.proofs.ScriptLines.{first_opens, nothing_begun, nothing_played, play_goes_on, is_played, is_begun, took_more, took_none, with_next}
+use Rattle.scenario.proofs.Openings.{first_opens}
+use Rattle.scenario.proofs.ScriptLines.{nothing_begun, nothing_played, play_goes_on, is_played, is_begun, took_more, took_none, with_next}
 use Rattle.scenario.proofs.playing.play.Goals as goal
 
 pub returns-in_err-first_disk-clause-begun : goal.returns-in_err-first_disk-clause-begun
 returns-in_err-first_disk-clause-begun g c =
     let p = err_from_is_err_and c.from_residual.result c.from_residual.ensures.1 in
-    rw p.1 (took_none (g.O.Sink.taken c.args.out.now) _ (λ x. ([], nothing_begun c.headline.ensures c.args.script, sym (append-nil x))))
+    let entries = c.opening.ensures in
+    let begun = nothing_begun c.headline.ensures c.args.script.opening c.args.script.lines (subst HaveEntryPaths entries.value entries.paths)
+    (subst (λ (l : List Entry). length l < 2 ^ 64) entries.value entries.few) in
+    rw p.1 (took_none (g.O.Sink.taken c.args.out.now) _ (λ x. ([], begun, sym (append-nil x))))
 
 pub loop-line-init : goal.loop-line-init
 loop-line-init g c =
     let world = c.in_ok-world.ensures.world in
-    let first = c.in_ok-first_disk.ensures in
-    let playing : IsPlaying (crash_disk c.in_ok-first_disk.field-0) c.in_ok-world.world [] = record {
-      is = c.in_ok-world.ensures.begun (first_opens (crash_disk c.in_ok-first_disk.field-0) first.disk);
-      quiet = subst (λ (w : Seen Crash). IsQuiet w.disk) (sym world) first.steady;
+    let d = crash_disk c.in_ok-first_disk.field-0 in
+    let entries = c.opening.ensures in
+    let first = subst (λ (l : List Entry). IsFirstDisk l d) entries.value c.in_ok-first_disk.ensures.disk in
+    let playing : IsPlaying d c.in_ok-world.world no_plan [] = record {
+      is = c.in_ok-world.ensures.begun (first_opens c.args.script.opening d (subst HaveEntryPaths entries.value entries.paths) first);
+      planned = ap (λ (w : Seen Crash). crash_plan w.disk) world ∙ c.in_ok-first_disk.ensures.plan;
     } in (
       omega arith,
-      nothing_played (crash_disk c.in_ok-first_disk.field-0) c.in_ok-world.world first.disk playing,
+      nothing_played c.args.script.opening d c.in_ok-world.world first playing,
       took_none (g.O.Sink.taken c.args.out.now) _ (λ x. sym (append-nil x)),
     )
 
@@ -39,8 +49,8 @@ returns-in_err-text-clause-begun g c =
     (told_weaker (g.O.Sink.taken c.args.out.now) (g.O.Sink.taken c.loop-line.out)
     (λ x y e. (
       so.text,
-      is_begun c.args.script (take i items) (drop i items) so.text [] so.text (sym c.lines-line-items.ensures ∙ sym (take-append-drop i items))
-          (is_played c.headline.ensures (take i items) c.loop-line.world c.loop-line.traced so) (sym (append-nil so.text)),
+      is_begun c.args.script.opening c.args.script.lines (take i items) (drop i items) so.text [] so.text (sym c.lines-line-items.ensures ∙ sym (take-append-drop i items))
+          (is_played c.headline.ensures c.args.script.opening (take i items) c.loop-line.world c.loop-line.traced so) (sym (append-nil so.text)),
       e,
     ))
     c.loop-line.invariant.2)
@@ -53,8 +63,8 @@ returns-clause-played g c =
     told_weaker (g.O.Sink.taken c.args.out.now) (g.O.Sink.taken c.loop-line.out)
     (λ x y e. (
       so.text,
-      subst (λ (l : List Line). IsPlayed l so.text) (take_all i items c.loop-line-test.false ∙ c.lines-line-items.ensures)
-          (is_played c.headline.ensures (take i items) c.loop-line.world c.loop-line.traced so),
+      subst (λ (l : List Line). IsPlayed c.args.script.opening l so.text) (take_all i items c.loop-line-test.false ∙ c.lines-line-items.ensures)
+          (is_played c.headline.ensures c.args.script.opening (take i items) c.loop-line.world c.loop-line.traced so),
       e,
     ))
     c.loop-line.invariant.2
@@ -68,16 +78,16 @@ returns-in_err-give-clause-begun g c =
     let one = c.line-item.result in
     let own = c.in_ok-text.text.items in
     let first = take i items ++ one ∷ [] in
-    let printed = c.in_ok-text.ensures so.disk so.history so.playing in
-    let next = play_goes_on (take i items) first one c.loop-line.world c.printed.new.world c.loop-line.traced (traced_after c.loop-line.traced one) own so printed refl refl in
-    let whole : c.args.script ≡ first ++ drop (i + 1) items =
+    let printed = c.in_ok-text.ensures so.disk so.left so.history so.playing in
+    let next = play_goes_on c.args.script.opening (take i items) first one c.loop-line.world c.printed.new.world c.loop-line.traced (traced_after c.loop-line.traced one) own so printed refl refl in
+    let whole : c.args.script.lines ≡ first ++ drop (i + 1) items =
     sym c.lines-line-items.ensures ∙ sym (take-append-drop (i + 1) items) ∙ ap (λ l. l ++ drop (i + 1) items) (with_next items i one c.loop-line-test.true c.line-item.is) in
     rw p.1
     (took_more (g.O.Sink.taken c.args.out.now) (g.O.Sink.taken c.loop-line.out) (g.O.Sink.taken c.give.new.out) so.text _
     (λ x y z took more. (
       so.text ++ take more.0 own,
-      is_begun c.args.script first (drop (i + 1) items) (so.text ++ take more.0 own) (drop more.0 own) (so.text ++ own) whole
-          (is_played c.headline.ensures first c.printed.new.world (traced_after c.loop-line.traced one) next)
+      is_begun c.args.script.opening c.args.script.lines first (drop (i + 1) items) (so.text ++ take more.0 own) (drop more.0 own) (so.text ++ own) whole
+          (is_played c.headline.ensures c.args.script.opening first c.printed.new.world (traced_after c.loop-line.traced one) next)
           (ap (λ t. so.text ++ t) (sym (take-append-drop more.0 own)) ∙ sym (append_assoc so.text (take more.0 own) (drop more.0 own))),
       more.1 ∙ ap (λ t. t ++ take more.0 c.deref.result.now) took ∙ append_assoc x so.text (take more.0 c.deref.result.now) ∙ ap (λ t. x ++ (so.text ++ take more.0 t)) c.deref.ensures.value,
     ))
@@ -89,11 +99,11 @@ loop-line-preserved g c =
     let items = c.lines-line-items.result.now in
     let i = c.loop-line.line-index in
     let one = c.line-item.result in
-    let printed = c.in_ok-text.ensures so.disk so.history so.playing in
+    let printed = c.in_ok-text.ensures so.disk so.left so.history so.playing in
     let later = c.give.ensures.later in
     let before = c.loop-line.invariant.0 in (
       omega arith,
-      play_goes_on (take i items) (take (i + 1) items) one c.loop-line.world c.printed.new.world c.loop-line.traced c.traced_after-traced.result c.in_ok-text.text.items so printed
+      play_goes_on c.args.script.opening (take i items) (take (i + 1) items) one c.loop-line.world c.printed.new.world c.loop-line.traced c.traced_after-traced.result c.in_ok-text.text.items so printed
           (with_next items i one c.loop-line-test.true c.line-item.is) c.traced_after-traced.ensures,
       took_more (g.O.Sink.taken c.args.out.now) (g.O.Sink.taken c.loop-line.out) (g.O.Sink.taken c.give.new.out) so.text _
           (λ x y z took more. more ∙ ap (λ t. t ++ c.deref.result.now) took ∙ append_assoc x so.text c.deref.result.now ∙ ap (λ t. x ++ (so.text ++ t)) c.deref.ensures.value)

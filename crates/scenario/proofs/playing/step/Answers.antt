@@ -7,11 +7,11 @@ pub returns-in_err-did-clause-err : goal.returns-in_err-did-clause-err
 returns-in_err-did-clause-err c =
     let p = err_from_is_err_and c.from_residual.result c.from_residual.ensures.1 in
     rw (p.1, p.2)
-    (λ d h playing. refused_as c.step.result c.in_err-did.field-0.0 d c.args.world.now c.args.actor.now h playing c.in_err-did.was
+    (λ d plan h playing. refused_as c.step.result c.in_err-did.field-0.0 d c.args.world.now plan c.args.actor.now h playing c.in_err-did.was
     c.step.ensures.unknown.0 (λ name at. (c.step.ensures.gone name at).0) c.step.ensures.waits c.step.ensures.taken c.step.ensures.past)
 
 pub returns-clause-ok : goal.returns-clause-ok
-returns-clause-ok c = λ d h playing.
+returns-clause-ok c = λ d plan h playing.
     let done = c.in_ok-did.ensures in
-    stepped d c.args.world.now c.step.new.self c.args.actor.now c.in_ok-did.did.ended h playing done.event c.step.ensures.present done.goes_on done.steady
+    stepped d c.args.world.now c.step.new.self plan c.args.actor.now c.in_ok-did.did.ended h playing done.event c.step.ensures.present done.goes_on done.plan
     (λ before newest is. sym c.if-newest_lacked_memory.false ∙ c.newest_lacked_memory.ensures before newest (c.history.ensures.events ∙ is))

@@ -1,7 +1,7 @@
 use Rattle.std.proofs.Common.{◌≡◌, List, ℕ, Contains, sym, subst}
 use Rattle.std.proofs.lemmas.Result.{IfErr-weaker}
 use Rattle.scenario.specs.declared.line.Line.{Line}
-use Rattle.scenario.specs.declared.reading.LineError.TheVariants.{Malformed}
+use Rattle.script_words.specs.declared.error.WordError.TheVariants.{Malformed}
 use Rattle.scenario.specs.Lines.{IsLine}
 use Rattle.scenario.specs.Reading.{lone_texts}
 use Rattle.scenario.proofs.LineHeads.{only_lone}

@@ -2,8 +2,9 @@ use Rattle.std.proofs.Common.{List, ℕ, sym, ◌∙◌, ap, subst}
 use Rattle.std.proofs.lemmas.Result.{err_from_is_err_and}
 use Rattle.mail_bytes.specs.Escape.{unescaped}
 use Rattle.mail_world.specs.MailNames.{IsMailName}
-use Rattle.scenario.specs.Reading.{HasEnvelopeAs}
-use Rattle.scenario.proofs.MailLines.{mail_line, only_mail, mail_has_space, behind_name, same_envelope_body}
+use Rattle.script_words.specs.Reading.{HasEnvelopeAs}
+use Rattle.script_words.proofs.Envelopes.{same_envelope_body}
+use Rattle.scenario.proofs.MailLines.{mail_line, only_mail, mail_has_space, behind_name}
 use Rattle.scenario.proofs.reading.read_mail.Goals as goal
 
 pub returns-in_err-word-clause-err : goal.returns-in_err-word-clause-err

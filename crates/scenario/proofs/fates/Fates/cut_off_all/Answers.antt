@@ -1,9 +1,9 @@
-use Rattle.std.proofs.Common.{◌≡◌, List, ℕ, refl, sym, ap, ◌∙◌, subst, bytes_eq}
+use Rattle.std.proofs.Common.{◌≡◌, List, ℕ, ap, ◌∙◌}
 use Rattle.call_fs.specs.Maps.{put_at}
 use Rattle.mail_world.specs.declared.event.Event.{Event as Kept}
 use Rattle.mail_world.specs.World.{starts}
 use Rattle.scenario.specs.declared.fates.Fate.{Fate}
-use Rattle.scenario.specs.Fates.{fate_of, cut_off, left_as, all_cut_off}
+use Rattle.scenario.specs.Fates.{fate_of, cut_off, left_as}
 use Rattle.scenario.proofs.KeptFates.{cut_more_still, cut_more_start, starts_none}
 use Rattle.scenario.proofs.fates.Fates.cut_off_all.Goals as goal
 use Rattle.scenario.proofs.fates.Fates.cut_off_all.Goals.{in-Start+in_ok-put, in_default}

@@ -1,9 +1,0 @@
-use Rattle.std.proofs.Common.{length}
-use Rattle.scenario.proofs.Words.{Passed}
-use Rattle.scenario.proofs.reading.read_recipients.Given as goal
-
-abbrev pub invariant-words : goal.invariant-words
-invariant-words l = Passed l.words l.rest l.initial.envelope.items l.envelope.items
-
-abbrev pub decreases-words : goal.decreases-words
-decreases-words l = length l.rest
