@@ -201,7 +201,11 @@ fn machine_stops_leave_what_was_synced(rt: HostRuntime) -> Result<(), Fail> {
     Ok(())
 }
 
-/// The script that starts a mail, makes so many steps, halts, and shows.
+/// What the queue holds of the mail once it is accepted.
+const ACCEPTED: &str =
+    "todo/1 : u1000%00p77%00Fa@x%00Tb@y%00\nmess/1/1 : Received:%20(qmail%2077%20invoked%20by%20uid%201000);%201%20Jan%201970%2000:00:00%20-0000%0Ahi%0A\n";
+
+/// The script that starts a mail, makes so many steps, halts, prints the files of an accepted mail, and shows.
 fn halted_after(rt: &HostRuntime, steps: u32, halt: &str) -> Result<Outcome, Fail> {
     let alloc = rt.alloc();
     let mut script = String::from_str(alloc, "mail a a@x b@y : hi%0A\n")?;
@@ -209,6 +213,9 @@ fn halted_after(rt: &HostRuntime, steps: u32, halt: &str) -> Result<Outcome, Fai
         script.push_str("step a\n")?;
     }
     script.push_str(halt)?;
+    if steps >= 9 {
+        script.push_str("\ncat todo/1\ncat mess/1/1")?;
+    }
     script.push_str("\nshow\n")?;
     play(rt, &script)
 }
@@ -227,10 +234,12 @@ fn a_machine_stop_after_any_event_loses_no_accepted_mail(rt: HostRuntime) -> Res
         "halt junk 7",
         "halt junk 8",
     ];
+    let alloc = rt.alloc();
     for halt in &halts {
         for steps in 0..11 {
             let outcome = halted_after(&rt, steps, halt)?;
-            let expected = match steps {
+            let files = if steps >= 9 { ACCEPTED } else { "" };
+            let shown = match steps {
                 0 => "pid 0\na stopped\n",
                 1 => "pid 1\na stopped\n",
                 2 => "pid 1\n1 S2\na stopped\n",
@@ -240,6 +249,7 @@ fn a_machine_stop_after_any_event_loses_no_accepted_mail(rt: HostRuntime) -> Res
                 _ => "pid 0\n1 S4\na 0\na.1 pending\n",
             };
             assert_eq!(rt; outcome.status, 0, "{halt} {steps}");
+            let expected = format!(in alloc; "{files}{shown}")?;
             assert!(rt;
                 outcome.out.as_slice() == expected.as_bytes(),
                 "{halt} {steps}"

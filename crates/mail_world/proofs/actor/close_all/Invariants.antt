@@ -3,7 +3,7 @@ use Rattle.call_fs.specs.Told.{OnTold, Meets}
 use Rattle.mail_world.specs.Acting.{AreOpen, shut}
 use Rattle.mail_world.proofs.actor.close_all.Given as goal
 
--- the rest is open; to close it is to close all from the begin
+-- the rest is open; to close it is to close all from the beginning
 abbrev pub invariant-loop-fd : goal.invariant-loop-fd
 invariant-loop-fd g l = record {
   rest : OnTold (g.D.CallFs.disk l.disk) (λ now. AreOpen now l.descriptors.items);

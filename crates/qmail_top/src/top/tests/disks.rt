@@ -69,6 +69,12 @@ fn a_number_is_taken_as_chosen(rt: HostRuntime) -> Result<(), Fail> {
             0,
             "pid 0\n2 S4\n457 S4\na 63\nb 0\nb.1 pending\nc 0\nc.1 pending\n",
         ),
+        // after a machine stop the number of a file without a name is free
+        (
+            "mail a a@x b@y :\nfault 4\nstep a\nstep a\nstep a\nstep a\nstep a\nnumber 1\nhalt junk 1\nnumber 1\nmail b c@x d@y :\nrun b\nshow\n",
+            0,
+            "refused taken 1\npid 0\n1 S4\na stopped\nb 0\nb.1 pending\n",
+        ),
         // one that is refused replaces none
         (
             "file pid/x :\nnumber 5\nnumber 18446744073709551615\nmail a a@x b@y :\nrun a\nshow\n",
