@@ -1,8 +1,15 @@
-# make play     proves and builds the program, then plays a first message, call by call
-# make build    leaves the proved program at ./qmail
-# make test     runs the gate: every proof from nothing, the must-fail edits, the tests and the stored run
+# make try       plays a first message at once, call by call; nothing is proved
+# make play      proves and builds the program, then plays the same message
+# make build     leaves the proved program at ./qmail
+# make examples  plays each example with ./qmail and compares what it prints
+# make test      runs the gate: every proof from nothing, the must-fail edits, the tests and the stored runs
 
-.PHONY: play build test
+.PHONY: try play build examples test
+
+try:
+	@echo "Unproved: this only runs the code. 'make play' proves it first."
+	cd crates/qmail_cli && rt try -- play < ../../examples/first_message.play
+	@echo "Nothing was proved."
 
 play: build
 	./qmail play < examples/first_message.play
@@ -11,5 +18,26 @@ build:
 	cd crates/qmail_cli && rt run -- play < /dev/null > /dev/null
 	cp crates/qmail_cli/out/qmail_cli qmail
 
+examples: build
+	@for script in examples/*.play; do \
+		name=$$(basename $$script .play); \
+		./qmail play < $$script | cmp - examples/$$name.out || exit 1; \
+		cmp $$script crates/play_tests/data/$$name.play || exit 1; \
+		cmp examples/$$name.out crates/play_tests/data/$$name.out || exit 1; \
+		echo "$$name ok"; \
+	done
+
 test:
 	rt ci
+
+# make install  puts ./qmail and its manual pages below PREFIX, /usr/local if none is given
+PREFIX = /usr/local
+
+.PHONY: install
+
+install:
+	@test -x qmail || { echo "there is no ./qmail yet: make build"; exit 1; }
+	install -d $(DESTDIR)$(PREFIX)/bin $(DESTDIR)$(PREFIX)/share/man/man1 $(DESTDIR)$(PREFIX)/share/man/man8
+	install -m 755 qmail $(DESTDIR)$(PREFIX)/bin/qmail
+	install -m 644 man/*.1 $(DESTDIR)$(PREFIX)/share/man/man1
+	install -m 644 man/*.8 $(DESTDIR)$(PREFIX)/share/man/man8

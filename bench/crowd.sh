@@ -1,7 +1,7 @@
 #!/usr/bin/env bash
 # bench/crowd.sh: eight shells inject 1,000 messages at once into one fresh directory, 125 each, one process of ./qmail a
 # message. Checks that each injection ended with 0, that 1,000 different numbers are left, all in S4, that pid/ is empty,
-# and that each of the 1,000 messages and of their envelopes is there once. Exit status 1 where not.
+# and that each of the 1,000 messages and of their envelopes is there once. Exit status 1 if not.
 set -eu
 shells=8
 each=125

@@ -1,9 +1,9 @@
 #!/usr/bin/env bash
 # bench/kill.sh [N]: N injections (200 without it) in a fresh directory, eight at a time, each of which is killed (kill -9)
-# at a random moment, unless it is done by then. Where strace is there, then one more for each call of an injection, which
+# at a random moment, unless it is done by then. If strace is there, then one more for each call of an injection, which
 # is killed just as it makes that call. Checks that each number left is in S2, S3 or S4, that each message file has its
 # inode number as its name, and that each process that ended with 0 has its message in S4, whole and with its recipient.
-# Exit status 1 where not. A name in pid/ may be left too: of a process that was killed before it took it away.
+# Exit status 1 if not. A name in pid/ may be left too: of a process that was killed before it removed it.
 set -eu
 count=${1:-200}
 top=$(cd "$(dirname "$0")/.." && pwd)
@@ -62,7 +62,7 @@ kill_at() { # CALL WHEN: one more injection, which is killed as it makes that ca
 
 next=$((10 + count + 1))
 if command -v strace > "$work/which"; then
-  for at in link:1 unlink:1 fsync:1 fsync:2 link:2; do kill_at "${at%:*}" "${at#*:}"; done
+  for at in link:1 fsync:1 unlink:1 fsync:2 fsync:3 link:2 fsync:4; do kill_at "${at%:*}" "${at#*:}"; done
   for ((w = 1; w <= 26; w++)); do kill_at write "$w"; done
 fi
 

@@ -2,7 +2,7 @@
 # bench/queue.sh N: N injections of a small message, one after the other, each a process of ./qmail, into a fresh
 # directory; prints how many a second. Then, where strace is there, the calls of the system that one injection makes on
 # files below that directory, and a count of all its calls; exit status 1 where the calls on files, after the directories
-# are looked at, aren't those of the injector's table.
+# are looked at, aren't those of the injector's table, each link with the sync of its directory.
 set -eu
 count=${1:?usage: bench/queue.sh N}
 top=$(cd "$(dirname "$0")/.." && pwd)
@@ -36,8 +36,8 @@ echo
 grep -c mkdir "$work/calls" | sed 's/$/ directories were looked for before (mkdir)/'
 # the number of a new file is that of its open file (fstat); closes come with the end
 made=$(sed 's/(.*//' "$work/listed" | grep -vx -e fstat -e newfstatat -e statx -e close | sed 's/at$//' | tr '\n' ' ')
-if [ "$made" = "open link unlink write fsync open write fsync link " ]; then
-  echo "they are the nine of the injector's table, and nothing else but to tell a new file's number"
+if [ "$made" = "open link open fsync unlink write fsync open write fsync link open fsync " ]; then
+  echo "they are the nine of the injector's table, the sync of a directory after each link, and what tells a new file's number"
 else
   echo "they aren't the nine of the injector's table: $made"
   bad=1

@@ -1,8 +1,8 @@
 #!/usr/bin/env bash
-# bench/refused.sh: injections that can't be done, each into a fresh directory: inputs that are none, directories that are
-# missing or can't be written, a full disk, and, where strace is there, each call of an injection failing in turn. Checks
-# the exit status, and which state of the number is left: S1 (no file), S2 or S3. Exit status 1 where one isn't as the
-# table of statuses says. A case that this machine or user can't make is skipped, and says so.
+# bench/refused.sh: injections that can't be done, each into a fresh directory: faulty inputs, directories that are missing
+# or can't be written, a full disk, and, if strace is there, each call of an injection failing in turn. Checks the exit
+# status, and which state of the number is left: S1 (no file), S2 or S3. Exit status 1 if one isn't as the table of statuses
+# in man/qmail-queue.8 says. A case that this machine or user can't make is skipped, and says so.
 set -eu
 top=$(cd "$(dirname "$0")/.." && pwd)
 work=$(mktemp -d)
@@ -137,9 +137,11 @@ fail() { # CALL WHEN STATUS LEFT
 if command -v strace > "$work/which"; then
   fail link 1 64 "pid 1 S1"
   fail unlink 1 63 "pid 1 S1"
-  fail fsync 1 53 "pid 0 S1"
+  fail fsync 1 64 "pid 1 S2" # the directory of the name in mess/
   fail fsync 2 53 "pid 0 S1"
+  fail fsync 3 53 "pid 0 S1"
   fail link 2 66 "pid 0 S3"
+  fail fsync 4 66 "pid 0 S4" # the directory of the name in todo/
   fail unlink 1+ 63 "pid 1 S2"
   fail write 1 53 "pid 0 S1"
   fail write 2 53 "pid 0 S1"

@@ -5,7 +5,7 @@ use std::alloc::AllocError;
 use thiserror::Error;
 
 /// What the words after the program's name say to do.
-#[derive(Debug, Drop)]
+#[derive(Drop)]
 pub enum Command {
     /// `play`: plays a script.
     Play,
@@ -14,7 +14,7 @@ pub enum Command {
 }
 
 /// What `queue` is told.
-#[derive(Debug, Drop)]
+#[derive(Drop)]
 pub struct QueueWords {
     /// The file of the envelope; None for `-`, where the message source gives the message and the envelope.
     pub env: Option<ByteText>,
@@ -27,7 +27,7 @@ pub struct QueueWords {
 }
 
 /// The file and the directory that a command is told.
-#[derive(Debug, Drop)]
+#[derive(Drop)]
 pub struct Places {
     /// The file of the envelope, where there is one.
     pub env: Option<ByteText>,
@@ -36,7 +36,7 @@ pub struct Places {
 }
 
 /// Why words weren't read.
-#[derive(Clone, Copy, Debug, PartialEq, Eq, Error)]
+#[derive(Clone, Copy, Debug, Error)]
 pub enum WordsError {
     /// The words are no command.
     #[error("usage")]

@@ -15,8 +15,6 @@ mod command;
 mod laws;
 mod lines;
 mod read;
-#[cfg(test)]
-mod tests;
 
 pub use command::{Command, Places, QueueWords, WordsError};
 pub use laws::{words_are_one_command, words_by_row, words_of_queue};

@@ -18,15 +18,13 @@ pub fn play_line<'a>(alloc: Global) -> Command<'a>
 pub fn queue_line<'a>(alloc: Global) -> Result<Command<'a>, Memory>
     ensures { IfOk result (λ line. app_of line ≡ queue_line) }
 {
-    let env = Arg::new(alloc, "env").required(true);
-    let dir = Arg::new(alloc, "dir").required(true);
-    let uid = Arg::new(alloc, "uid").long("uid");
-    let bounce = Arg::new(alloc, "bounce")
-        .long("bounce")
-        .action(ArgAction::SetTrue);
     Command::new(alloc, "queue")
-        .arg(env)?
-        .arg(dir)?
-        .arg(uid)?
-        .arg(bounce)
+        .arg(Arg::new(alloc, "env").required(true))?
+        .arg(Arg::new(alloc, "dir").required(true))?
+        .arg(Arg::new(alloc, "uid").long("uid"))?
+        .arg(
+            Arg::new(alloc, "bounce")
+                .long("bounce")
+                .action(ArgAction::SetTrue),
+        )
 }

@@ -1,7 +1,7 @@
 -- A call that was refused before any disk was asked has left it as it was.
 use Rattle.std.proofs.Common.{Option, Some, None}
 use Rattle.call_fs.specs.Disk.{Disk}
-use Rattle.call_fs.specs.Told.{Meets, OnTold}
+use Rattle.mail_bytes.specs.Told.{Meets, OnTold}
 
 pub stays : (told : Option Disk) (P : Disk → Type 0) (R : Disk → Disk → Type 0) → OnTold told P → ((d : Disk) → P d → R d d) → Meets told told R
 stays (Some d) P R holds same = same d holds

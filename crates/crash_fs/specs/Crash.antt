@@ -1,5 +1,5 @@
 -- A disk in memory whose machine can be stopped.
-use Rattle.std.specs.Prelude.{◌≡◌, ◌≢◌, ℕ, ◌+◌, ◌-◌, ◌^◌, min, [], Option, Some, Result, IsErrOf}
+use Rattle.std.specs.Prelude.{◌≡◌, ◌≢◌, ℕ, ◌+◌, ◌-◌, ◌^◌, min, Option, Some, Result, IsErrOf}
 use Rattle.std.specs.Option.{option_map}
 use Rattle.call_fs.specs.declared.calls.FsError.{FsError}
 use Rattle.call_fs.specs.declared.calls.FsError.TheVariants.{Fault}
@@ -29,12 +29,6 @@ crash_faults c = both_faults c.below.faults c.failed
 -- what is chosen; where the disk below has a plan of its own, that isn't all
 abbrev pub crash_plan : Crash → Option Plan
 crash_plan c = option_map (λ none. c.plan) (empty_plan c.below.picks c.below.plan)
-
--- neither disk has a plan
-pub record IsQuiet (c : Crash) : Type 0 where
-  pub picks : c.below.picks ≡ []
-  pub faults : c.below.plan ≡ []
-  pub chosen : c.plan ≡ no_plan
 
 -- A call was counted. Where it was the chosen one it failed, and the disk below wasn't asked; else that disk made it.
 pub record Passes {T : Type 0} (old new : Crash) (result : Result T FsError) : Type 0 where

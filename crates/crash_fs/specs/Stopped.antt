@@ -3,7 +3,8 @@ use Rattle.std.specs.Prelude.{◌≡◌, ℕ, ◌≤◌, ◌+◌, ◌-◌, ◌^�
 use Rattle.call_fs.specs.declared.calls.FsError.{FsError}
 use Rattle.call_fs.specs.declared.calls.FsError.TheVariants.{Fault}
 use Rattle.call_fs.specs.declared.calls.Recorded.{Recorded as Entry}
-use Rattle.call_fs.specs.Told.{HasCause, Records}
+use Rattle.call_fs.specs.Told.{HasCause}
+use Rattle.mail_bytes.specs.Told.{Records}
 use Rattle.mem_fs.specs.MemDisk.{one_more}
 
 -- the disk below, how many calls it passes on yet, and how many it has refused

@@ -6,7 +6,7 @@ ghost use Rattle.mem_fs.specs.MemDisk.{one_more};
 use call_fs::FsError;
 
 /// Counts calls down to the chosen one, and how many have failed by this choice.
-#[derive(Debug, Drop)]
+#[derive(Drop)]
 pub struct ChosenFault {
     /// Which call from now fails, counted from 1.
     pub at: Option<u64>,

@@ -2,27 +2,28 @@
 ghost use Rattle.std.specs.Prelude.{◌≡◌, ◌≤◌, ◌↔◌, ℕ, Some, None, [], length, IsOk, IfOk, IfSome, IfNone, OnOk, OnErr};
 ghost use Rattle.std.specs.Option.{option_copied};
 ghost use Rattle.call_fs.specs.declared.calls.CallData.TheVariants as call;
-ghost use Rattle.call_fs.specs.Disk.{IsMoment, IsUnused, MayUse, MayAppend, MayWrite, MayCut};
+ghost use Rattle.call_fs.specs.Disk.{IsUnused, MayUse, MayAppend, MayWrite, MayCut};
+ghost use Rattle.mail_bytes.specs.Moments.{IsMoment};
 ghost use Rattle.call_fs.specs.Calls.{created, opened, counted, done, stated, next_found};
 ghost use Rattle.call_fs.specs.Apply.{Apply, IsNextName, IsLastName};
 ghost use Rattle.call_fs.specs.Columns.{IsRead};
-ghost use Rattle.call_fs.specs.Steady.{IsNextDescriptor};
+ghost use Rattle.call_fs.specs.Free.{IsNextDescriptor};
 ghost use Rattle.call_fs.specs.Plan.{with_fault, with_pick};
 ghost use Rattle.call_fs.specs.Choices.{Halts};
 ghost use Rattle.call_fs.specs.Told.{HasCause};
 ghost use Rattle.mem_fs.specs.MemDisk.{with_dir, bytes_at, Places, IsPickedNumber};
-ghost use Rattle.crash_fs.specs.Crash.{crash_disk, crash_faults, crash_plan, crash_over, with_below, with_plan, IsQuiet, Passes};
+ghost use Rattle.crash_fs.specs.Crash.{crash_disk, crash_faults, crash_plan, crash_over, with_below, with_plan, Passes};
 
 use crate::chosen_fault::ChosenFault;
-use call_fs::{CallFs, CrashFs, Fd, FsError, How, NameBuf, Stat, Survival, Taken};
-use mail_bytes::Memory;
+use call_fs::{CallFs, CrashFs, Fd, FsError, How, Stat, Survival, Taken};
+use mail_bytes::{Memory, NameBuf};
 use mem_fs::MemFs;
 use std::alloc::Global;
 use std::marker::Model;
 
 /// A disk in memory whose machine can be stopped. It fails at the chosen call, and else as the disk below does; a call
 /// that fails by choice changes nothing, and the disk below isn't asked.
-#[derive(Debug, Drop)]
+#[derive(Drop)]
 pub struct CrashDisk {
     below: MemFs,
     fault: ChosenFault,
@@ -96,7 +97,6 @@ impl CallFs for CrashDisk {
     ghost faults = { crash_faults };
 
     // without picks, and without calls that are to fail
-    ghost steady = { IsQuiet };
 
     // where the disk below has no picks and no calls that are to fail
     ghost plan = { crash_plan };

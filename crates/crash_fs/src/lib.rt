@@ -8,8 +8,6 @@
 mod chosen_fault;
 mod crash_disk;
 mod stopper;
-#[cfg(test)]
-mod tests;
 
 pub use crash_disk::CrashDisk;
 pub use stopper::Stopper;

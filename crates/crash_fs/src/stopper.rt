@@ -1,21 +1,24 @@
 // A disk that fails from some call on.
 ghost use Rattle.std.specs.Prelude.{◌≡◌, ◌↔◌, ◌≤◌, ◌-◌, ℕ, List, [], length, Option, Some, None, IsSome, IsOk, IfOk, OnOk, OnErr, IsErr, IsErrOf, IsOkUnless, Contains, is_err, if◌then◌else◌};
 ghost use Rattle.call_fs.specs.declared.calls.CallData.TheVariants as call;
-ghost use Rattle.call_fs.specs.Disk.{HasDir, IsMoment, MayUse, MayAppend, MayWrite, MayCut};
+ghost use Rattle.call_fs.specs.Disk.{HasDir, MayUse, MayAppend, MayWrite, MayCut};
+ghost use Rattle.mail_bytes.specs.Moments.{IsMoment};
 ghost use Rattle.call_fs.specs.Calls.{created, opened, counted, done, stated, next_found, entry, entry_with};
 ghost use Rattle.call_fs.specs.Apply.{Apply, IsNew, IsOpenable, IsLinkable, IsStat, changed, grown, overwritten, cut, synced, with_new, with_open, with_name, without_open};
 ghost use Rattle.call_fs.specs.Columns.{IsTold, IsFound, IsRead, GrewPart, OverwrotePart, IsUnchanged, LacksLink};
-ghost use Rattle.call_fs.specs.Told.{HasCause, Meets, OnTold, Records};
+ghost use Rattle.call_fs.specs.Told.{HasCause};
+ghost use Rattle.mail_bytes.specs.Told.{Meets, OnTold, Records};
 ghost use Rattle.mem_fs.specs.MemDisk.{one_more};
 ghost use Rattle.crash_fs.specs.Stopped.{Stopped, stopped_faults, PassesOrFails};
 
-use call_fs::{CallFs, Fd, FsError, How, NameBuf, Stat};
+use call_fs::{CallFs, Fd, FsError, How, Stat};
+use mail_bytes::NameBuf;
 use std::alloc::Global;
 use std::marker::Model;
 
 /// A disk that passes its first calls on to another one, and answers `Fault` to all later ones, as where a disk is
 /// unplugged. `close` isn't counted, and is passed on always. A call that fails so changes nothing.
-#[derive(Debug, Drop)]
+#[derive(Drop)]
 pub struct Stopper<D> {
     below: D,
     left: u64,
@@ -76,7 +79,6 @@ impl<D: CallFs> CallFs for Stopper<D> {
     ghost faults = { λ s. stopped_faults D.faults s };
 
     // it fails without being asked to
-    ghost steady = { λ _. ⊥ };
 
     ghost plan = { λ _. None };
 

@@ -1,4 +1,4 @@
--- A name is one exactly where each of its parts is.
+-- A name is one exactly when each of its parts is.
 use Rattle.std.proofs.Common.{ℕ, ◌<◌, Bool, true, false, List, length, IsTrue, MatchBool, All, ◌↔◌, [], refl, arith}
 use Rattle.std.specs.List.{HoldsAt, AllWithin}
 use Rattle.std.proofs.lemmas.Bool.{false≢true}

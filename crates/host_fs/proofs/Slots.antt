@@ -12,8 +12,8 @@ same [] (suc k) = refl
 same (slot ∷ slots) zero = refl
 same (slot ∷ slots) (suc k) = same slots k
 
-pub vacant_behind : {T : Type 0} (old new : List (Option T)) (place : ℕ) → new ≡ old ++ None ∷ [] → place ≡ length old → IsVacant new place
-vacant_behind old new place grew behind = ap (slice_get new) behind ∙ ap (λ (slots : List (Option _)). slice_get slots (length old)) grew ∙ at_end old
+pub vacant_after : {T : Type 0} (old new : List (Option T)) (place : ℕ) → new ≡ old ++ None ∷ [] → place ≡ length old → IsVacant new place
+vacant_after old new place grew placed = ap (slice_get new) placed ∙ ap (λ (slots : List (Option _)). slice_get slots (length old)) grew ∙ at_end old
 
-pub same_behind : {T : Type 0} (old new : List (Option T)) → new ≡ old ++ None ∷ [] → HoldsTheSame old new
-same_behind old new grew k = ap (λ (slots : List (Option _)). held slots k) grew ∙ same old k
+pub same_after : {T : Type 0} (old new : List (Option T)) → new ≡ old ++ None ∷ [] → HoldsTheSame old new
+same_after old new grew k = ap (λ (slots : List (Option _)). held slots k) grew ∙ same old k

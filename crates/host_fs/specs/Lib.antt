@@ -8,3 +8,5 @@ pub mod Refusals
 pub mod Listing
 -- what an open file may be used for
 pub mod Modes
+-- what a caller knows of a real directory
+pub mod HostFs

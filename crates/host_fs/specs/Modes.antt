@@ -12,21 +12,21 @@ abbrev pub as_mode : Mode → made
 as_mode Created = made.Created
 as_mode (Opened how) = made.Opened how
 
--- how the file of this number came to be open, where it is
-abbrev pub mode_at : List (Option OpenFile) → ℕ → Option made
+-- how the file of this number came to be open, if it is
+abbrev pub mode_at : {F : Type 0} → List (Option (OpenFile F)) → ℕ → Option made
 mode_at slots number = option_map (λ file. as_mode file.mode) (held slots number)
 
--- The number wasn't open, and is now, in this way. What else is open stays so.
-pub record Opens (old new : List (Option OpenFile)) (number : ℕ) (mode : made) : Type 0 where
-  pub not_open : mode_at old number ≡ None
-  pub open_now : mode_at new number ≡ Some mode
-  pub others : (other : ℕ) → other ≢ number → mode_at new other ≡ mode_at old other
+-- The descriptor wasn't open, and is now, in this way. What else is open stays so.
+pub record Opens (old new : ℕ → Option made) (fd : ℕ) (mode : made) : Type 0 where
+  pub not_open : old fd ≡ None
+  pub open_now : new fd ≡ Some mode
+  pub others : (other : ℕ) → other ≢ fd → new other ≡ old other
 
--- The number isn't open any more. What else is open stays so.
-pub record Closes (old new : List (Option OpenFile)) (number : ℕ) : Type 0 where
-  pub not_open : mode_at new number ≡ None
-  pub others : (other : ℕ) → other ≢ number → mode_at new other ≡ mode_at old other
+-- The descriptor isn't open any more. What else is open stays so.
+pub record Closes (old new : ℕ → Option made) (fd : ℕ) : Type 0 where
+  pub not_open : new fd ≡ None
+  pub others : (other : ℕ) → other ≢ fd → new other ≡ old other
 
 -- what is open is as before
-abbrev pub OpensNone : List (Option OpenFile) → List (Option OpenFile) → Type 0
-OpensNone old new = (number : ℕ) → mode_at new number ≡ mode_at old number
+abbrev pub OpensNone : (ℕ → Option made) → (ℕ → Option made) → Type 0
+OpensNone old new = (fd : ℕ) → new fd ≡ old fd

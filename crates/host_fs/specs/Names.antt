@@ -14,7 +14,7 @@ abbrev pub is_of_machine : List ℕ → Bool
 is_of_machine [] = false
 is_of_machine (b ∷ rest) = b == 47
 
--- a name but for the `/` before its first part
+-- a name without the `/` before its first part
 abbrev pub without_slash : List ℕ → List ℕ
 without_slash [] = []
 without_slash (b ∷ rest) = if b == 47 then rest else b ∷ rest

@@ -1,5 +1,5 @@
 -- What the refusals and the moments of the system mean.
-use Rattle.std.specs.Prelude.{ℕ, ◌+◌, ◌-◌, ◌^◌, ℤ, pos, negsuc, min, Bool, true, false, Result, Ok, Err}
+use Rattle.std.specs.Prelude.{ℕ, ◌+◌, ◌-◌, ◌^◌, ℤ, pos, negsuc, min, Bool, false, Result, Ok, Err}
 use Rattle.std.specs.declared.io.ErrorKind.{ErrorKind}
 use Rattle.std.specs.declared.io.ErrorKind.TheVariants.{NotFound, NotADirectory, AlreadyExists}
 use Rattle.call_fs.specs.declared.calls.FsError.{FsError}
@@ -16,7 +16,7 @@ abbrev pub refused : ErrorKind → Bool → FsError
 refused AlreadyExists false = Exists
 refused kind is_dir = missing_or_fault kind
 
--- of a call that has no answer for want of memory
+-- of a call that has no answer for being out of memory
 abbrev pub without_memory : FsError → FsError
 without_memory Memory = Fault
 without_memory why = why
@@ -26,10 +26,10 @@ abbrev pub moment_of : ℤ → ℕ
 moment_of (pos seconds) = min seconds 250000000000
 moment_of (negsuc _) = 0
 
--- of a call that could be done, or failed
-abbrev pub done_or_fault : Bool → Result (Unit {0}) FsError
-done_or_fault true = Ok tt
-done_or_fault false = Err Fault
+-- of a call of the system whose every failure is a fault
+abbrev pub or_fault : {T E : Type 0} → Result T E → Result T FsError
+or_fault (Ok value) = Ok value
+or_fault (Err _) = Err Fault
 
 -- how often it has failed, after an outcome; the count stands still at u64's last value
 abbrev pub count_after : {T : Type 0} → ℕ → Result T FsError → ℕ

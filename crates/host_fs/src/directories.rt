@@ -1,59 +1,44 @@
 // The directories of a queue.
 use crate::paths::path_of;
+use crate::system::System;
 use call_fs::FsError;
 use mail_bytes::Memory;
+use queue_paths::{SPLIT_DIRS, queue_dirs};
 use std::alloc::{AllocError, Global};
-use std::{fs, str};
+use std::str;
 
-/// The directories that hold files, or splits, themselves.
-const PLAIN: [&str; 11] = [
-    "pid", "intd", "todo", "bounce", "mess", "info", "local", "remote", "control", "users", "home",
-];
-
-/// Those that have one directory for each split.
-const SPLIT: [&str; 4] = ["mess", "info", "local", "remote"];
-
-/// How many splits there are.
-const SPLITS: u8 = 23;
+/// The directories below a queue's root that hold none of the queue's files.
+const OTHER_DIRS: [&[u8]; 3] = [b"control", b"home", b"users"];
 
 /// Makes the missing ones of a queue's directories under this root, and the root itself. One that can't be made stays
 /// missing.
-pub fn make_directories(rt: &HostRuntime, alloc: Global, root: &[u8]) -> Result<(), Memory> {
-    make_root(rt, root);
-    for dir in PLAIN {
-        make(rt, alloc, root, dir.as_bytes())?;
+pub fn make_directories<S: System>(system: &S, alloc: Global, root: &[u8]) -> Result<(), Memory> {
+    make_root(system, root);
+    for dir in OTHER_DIRS {
+        make(system, alloc, root, dir)?;
     }
-    for dir in SPLIT {
-        make_splits(rt, alloc, root, dir)?;
+    // those above the splits come before them
+    for dir in SPLIT_DIRS {
+        make(system, alloc, root, dir)?;
+    }
+    for dir in &queue_dirs(alloc)? {
+        make(system, alloc, root, dir.as_slice())?;
     }
     Ok(())
 }
 
 /// Makes the root.
-fn make_root(rt: &HostRuntime, root: &[u8]) {
+fn make_root<S: System>(system: &S, root: &[u8]) {
     if let Ok(root) = str::from_utf8(root) {
-        let _ = fs::create_dir(rt, root);
+        let _ = system.make_dir(root);
     }
-}
-
-/// Makes the directories of the splits.
-fn make_splits(rt: &HostRuntime, alloc: Global, root: &[u8], dir: &str) -> Result<(), Memory> {
-    for split in 0..SPLITS {
-        make(
-            rt,
-            alloc,
-            root,
-            format!(in alloc; "{dir}/{split}")?.as_bytes(),
-        )?;
-    }
-    Ok(())
 }
 
 /// Makes one directory.
-fn make(rt: &HostRuntime, alloc: Global, root: &[u8], dir: &[u8]) -> Result<(), Memory> {
+fn make<S: System>(system: &S, alloc: Global, root: &[u8], dir: &[u8]) -> Result<(), Memory> {
     match path_of(alloc, root, dir) {
         Ok(path) => {
-            let _ = fs::create_dir(rt, path.as_str());
+            let _ = system.make_dir(path.as_str());
             Ok(())
         }
         Err(FsError::Memory) => Err(AllocError),

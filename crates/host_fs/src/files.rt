@@ -1,104 +1,116 @@
-// The calls of the system on paths and open files.
-ghost use Rattle.std.specs.Prelude.{◌≤◌, IfOk, IfSome, IsErrOf};
+// What the calls of the system on paths mean.
+ghost use Rattle.std.specs.Prelude.{◌≡◌, ◌≤◌, IfOk, OnErr, IsErrOf};
 ghost use Rattle.call_fs.specs.declared.calls.FsError.TheVariants as FsError;
-ghost use Rattle.call_fs.specs.Disk.{IsMoment};
+ghost use Rattle.mail_bytes.specs.Moments.{IsMoment};
 
-use crate::refusals::{missing_or_fault, moment_of, refused};
+use crate::refusals::{missing_or_fault, moment_of, or_fault, refused};
+use crate::system::System;
 use call_fs::{FsError, How, Stat};
-use std::fs::{self, File, OpenOptions};
-use std::os::unix::fs::{MetadataExt, OpenOptionsExt};
 
-/// The rights of a new file, but for those that umask(2) takes away.
-const NEW_FILE_MODE: u32 = 0o644;
-
-/// Makes a new empty file, open for reading and for writing at its end, with its number. Where the number can't be told
+/// Makes a new empty file, open for reading and for writing at its end, with its number. When the number can't be told
 /// the file is taken away again.
-pub fn create_new(rt: &HostRuntime, path: &str) -> Result<(File, u64), FsError>
-    ensures { IfOk result (λ made. 1 ≤ made.1) }
+pub fn create_new<S: System>(system: &S, path: &str) -> Result<(S::File, u64), FsError>
+    ensures number { IfOk result (λ made. 1 ≤ made.1) }
+    ensures memory { ¬ (IsErrOf result FsError.Memory) }
 {
-    let mut options = OpenOptions::new();
-    options.read(true).append(true).create_new(true);
-    options.mode(NEW_FILE_MODE);
-    let file = match options.open(rt, path) {
+    let file = match system.create(path) {
         Ok(file) => file,
-        Err(why) => return Err(refused(why.kind(), is_dir(rt, path))),
+        Err(why) => return Err(refused(why.kind(), is_dir(system, path))),
     };
-    match number_of(&file) {
-        Some(number) => Ok((file, number)),
-        None => {
-            let _ = fs::remove_file(rt, path);
-            Err(FsError::Fault)
+    match number_of(system, &file) {
+        Ok(number) => Ok((file, number)),
+        Err(why) => {
+            let _ = system.unlink(path);
+            Err(why)
         }
     }
 }
 
 /// The number of an open file, from 1.
-fn number_of(file: &File) -> Option<u64>
-    ensures { IfSome result (λ number. 1 ≤ number) }
+fn number_of<S: System>(system: &S, file: &S::File) -> Result<u64, FsError>
+    ensures number { IfOk result (λ number. 1 ≤ number) }
+    ensures fault { OnErr result (IsErrOf result FsError.Fault) }
 {
-    let number = file.metadata().ok()?.ino();
-    if number == 0 { None } else { Some(number) }
+    match system.fstat(file) {
+        Ok(facts) if facts.number > 0 => Ok(facts.number),
+        _ => Err(FsError::Fault),
+    }
 }
 
 /// Whether this is the path of a directory.
-fn is_dir(rt: &HostRuntime, path: &str) -> bool {
-    match fs::metadata(rt, path) {
-        Ok(metadata) => metadata.is_dir(),
+fn is_dir<S: System>(system: &S, path: &str) -> bool {
+    match system.stat(path) {
+        Ok(facts) => facts.is_dir,
         Err(_) => false,
     }
 }
 
 /// Opens a file for reading, and for what else is asked.
-pub fn open_file(rt: &HostRuntime, path: &str, how: How) -> Result<File, FsError>
+pub fn open_file<S: System>(system: &S, path: &str, how: How) -> Result<S::File, FsError>
     ensures exists { ¬ (IsErrOf result FsError.Exists) }
+    ensures memory { ¬ (IsErrOf result FsError.Memory) }
 {
-    let mut options = OpenOptions::new();
-    options.read(true);
-    options.write(how == How::Write);
-    options.append(how == How::Append);
-    let file = match options.open(rt, path) {
+    let file = match system.open(path, how) {
         Ok(file) => file,
         Err(why) => return Err(missing_or_fault(why.kind())),
     };
-    match file.metadata() {
-        Ok(metadata) if !metadata.is_dir() => Ok(file),
+    match system.fstat(&file) {
+        Ok(facts) if !facts.is_dir => Ok(file),
         _ => Err(FsError::Fault),
     }
 }
 
-/// Gives a file a second name. A directory has none, and no name takes its place.
-pub fn link_file(rt: &HostRuntime, old: &str, new: &str) -> Result<(), FsError>
+/// Gives a file a second name, and waits until that is on the disk. A directory has none, and no name takes its place.
+/// After a failed wait the name may be there.
+pub fn link_file<S: System>(system: &S, old: &str, new: &str) -> Result<(), FsError>
     ensures { ¬ (IsErrOf result FsError.Memory) }
 {
-    match fs::hard_link(rt, old, new) {
-        Ok(()) => Ok(()),
-        Err(why) => Err(refused(why.kind(), is_dir(rt, old) || is_dir(rt, new))),
+    match system.link(old, new) {
+        Ok(()) => sync_directory(system, directory_of(new)),
+        Err(why) => Err(refused(why.kind(), is_dir(system, old) || is_dir(system, new))),
     }
 }
 
+/// The path of the directory that a path lies in.
+fn directory_of(path: &str) -> &str {
+    match path.rsplit_once('/') {
+        Some(("", _)) => "/",
+        Some((dir, _)) => dir,
+        None => ".",
+    }
+}
+
+/// Waits until the names of a directory are on the disk.
+fn sync_directory<S: System>(system: &S, path: &str) -> Result<(), FsError>
+    ensures { OnErr result (IsErrOf result FsError.Fault) }
+{
+    let dir = or_fault(system.open(path, How::Read))?;
+    or_fault(system.sync(&dir))
+}
+
 /// Takes a name away.
-pub fn unlink_file(rt: &HostRuntime, path: &str) -> Result<(), FsError>
+pub fn unlink_file<S: System>(system: &S, path: &str) -> Result<(), FsError>
     ensures exists { ¬ (IsErrOf result FsError.Exists) }
     ensures memory { ¬ (IsErrOf result FsError.Memory) }
 {
-    match fs::remove_file(rt, path) {
+    match system.unlink(path) {
         Ok(()) => Ok(()),
         Err(why) => Err(missing_or_fault(why.kind())),
     }
 }
 
 /// Tells the file of a name.
-pub fn stat_file(rt: &HostRuntime, path: &str) -> Result<Stat, FsError>
+pub fn stat_file<S: System>(system: &S, path: &str) -> Result<Stat, FsError>
     ensures moment { IfOk result (λ stat. IsMoment stat.moment) }
     ensures exists { ¬ (IsErrOf result FsError.Exists) }
     ensures memory { ¬ (IsErrOf result FsError.Memory) }
 {
-    match fs::metadata(rt, path) {
-        Ok(metadata) if metadata.is_dir() => Err(FsError::Fault),
-        Ok(metadata) => Ok(Stat {
-            number: metadata.ino(),
-            length: metadata.len(),
-            moment: moment_of(metadata.mtime()),
+    match system.stat(path) {
+        Ok(facts) if facts.is_dir => Err(FsError::Fault),
+        Ok(facts) => Ok(Stat {
+            number: facts.number,
+            length: facts.length,
+            moment: moment_of(facts.modified),
         }),
         Err(why) => Err(missing_or_fault(why.kind())),
     }

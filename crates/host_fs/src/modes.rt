@@ -4,7 +4,6 @@ ghost use Rattle.call_fs.specs.Disk.{IsForAppend, IsForWrite, IsForCut};
 ghost use Rattle.host_fs.specs.Modes.{as_mode};
 
 use call_fs::How;
-use std::fs::File;
 
 /// How a descriptor came to be.
 #[derive(Clone, Copy)]
@@ -17,9 +16,9 @@ pub enum Mode {
 
 /// An open file.
 #[derive(Drop)]
-pub struct OpenFile {
+pub struct OpenFile<F> {
     /// The file of the system.
-    pub file: File,
+    pub file: F,
     /// How it came to be open.
     pub mode: Mode,
 }

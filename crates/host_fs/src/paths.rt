@@ -8,8 +8,8 @@ use std::alloc::Global;
 use std::str;
 
 /// The path of a name under this root; one that begins with `/` is a path of the machine as it stands. `Fault` exactly
-/// where there is none: the name isn't one or isn't UTF-8, or it stands under a root that isn't a path. Else only want
-/// of memory comes.
+/// when there is none: the name isn't one or isn't UTF-8, or it stands under a root that isn't a path. Else only
+/// `Memory` comes.
 pub fn path_of(alloc: Global, root: &[u8], name: &[u8]) -> Result<String, FsError>
     ensures ok { IfOk result (λ path. string_bytes path ≡ path_text root.now name.now) }
     ensures fault { IsErrOf result FsError.Fault ↔ ¬ (IsPath root.now name.now) }
@@ -31,7 +31,7 @@ pub fn path_of(alloc: Global, root: &[u8], name: &[u8]) -> Result<String, FsErro
     Ok(path)
 }
 
-/// A name as text; None exactly where it isn't one, or isn't UTF-8.
+/// A name as text; None exactly if it isn't one, or isn't UTF-8.
 fn name_text(name: &[u8]) -> Option<&str>
     ensures some { IfSome result (λ text. (text.now ≡ name.now) × IsName name.now × IsUtf8 name.now) }
     ensures none { IfNone result (¬ (IsName name.now × IsUtf8 name.now)) }
@@ -42,7 +42,7 @@ fn name_text(name: &[u8]) -> Option<&str>
     str::from_utf8(name).ok()
 }
 
-/// The root as text; None exactly where it is no path.
+/// The root as text; None exactly if it is no path.
 fn root_text(root: &[u8]) -> Option<&str>
     ensures some { IfSome result (λ text. (text.now ≡ root.now) × IsRoot root.now) }
     ensures none { IfNone result (¬ (IsRoot root.now)) }
@@ -72,7 +72,7 @@ fn is_name(name: &[u8]) -> bool
         .all(|part| is_part(part))
 }
 
-/// A name but for the `/` before its first part.
+/// A name without the `/` before its first part.
 fn without_slash(name: &[u8]) -> &[u8]
     ensures { result.now ≡ without_slash name.now }
 {
@@ -83,7 +83,7 @@ fn without_slash(name: &[u8]) -> &[u8]
 }
 
 /// Whether it is one part of a name.
-fn is_part(part: &[u8]) -> bool
+pub fn is_part(part: &[u8]) -> bool
     ensures { IsTrue result ↔ IsPart part.now }
 {
     !part.is_empty() && part.len() <= 255 && !part.contains(&0)

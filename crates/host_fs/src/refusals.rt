@@ -1,9 +1,11 @@
 // What the refusals and the moments of the system mean.
-ghost use Rattle.std.specs.Prelude.{◌≡◌};
-ghost use Rattle.host_fs.specs.Refusals.{missing_or_fault, refused, without_memory, moment_of};
+ghost use Rattle.std.specs.Prelude.{◌≡◌, OnErr, IsErrOf};
+ghost use Rattle.call_fs.specs.declared.calls.FsError.TheVariants as FsError;
+ghost use Rattle.host_fs.specs.Refusals.{missing_or_fault, refused, or_fault, without_memory, moment_of};
 
-use call_fs::{FsError, LAST_MOMENT};
-use std::io::ErrorKind;
+use call_fs::FsError;
+use mail_bytes::LAST_MOMENT;
+use std::io::{self, ErrorKind};
 
 /// Why a call was refused that needs a name, or a directory, that is there.
 pub fn missing_or_fault(kind: ErrorKind) -> FsError
@@ -25,7 +27,18 @@ pub fn refused(kind: ErrorKind, is_dir: bool) -> FsError
     }
 }
 
-/// Why a call was refused that has no answer for want of memory, which counts as a fault there.
+/// The outcome of a call of the system whose every failure is a fault.
+pub fn or_fault<T>(outcome: io::Result<T>) -> Result<T, FsError>
+    ensures value { result ≡ or_fault outcome }
+    ensures fault { OnErr result (IsErrOf result FsError.Fault) }
+{
+    match outcome {
+        Ok(value) => Ok(value),
+        Err(_) => Err(FsError::Fault),
+    }
+}
+
+/// Why a call was refused that has no answer for being out of memory, which counts as a fault there.
 pub fn without_memory(why: FsError) -> FsError
     ensures { result ≡ without_memory why }
 {

@@ -22,7 +22,7 @@ impl<T: Drop> Table<T> {
         }
     }
 
-    /// A slot that holds nothing, the first one, or a new one at the end where each holds something. What the others hold
+    /// A slot that holds nothing, the first one, or a new one at the end if each holds something. What the others hold
     /// stays. After `Memory` the table is as before.
     pub fn make_room(&mut self) -> Result<usize, Memory>
         ensures vacant { IfOk result (λ place. IsVacant self.new.slots.items place) }
@@ -52,7 +52,7 @@ impl<T: Drop> Table<T> {
         self.slots[place] = Some(value);
     }
 
-    /// The value of this number; None exactly where it holds none.
+    /// The value of this number; None exactly if it holds none.
     pub fn get(&self, number: u64) -> Option<&T>
         ensures { option_copied result ≡ held self.now.slots.items number }
     {
@@ -62,7 +62,7 @@ impl<T: Drop> Table<T> {
         }
     }
 
-    /// Lets go of the value of this number, where it holds one.
+    /// Lets go of the value of this number, if it holds one.
     pub fn remove(&mut self, number: u64)
         ensures { Puts self.old.slots.items self.new.slots.items number None }
     {

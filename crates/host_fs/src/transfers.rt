@@ -1,50 +1,86 @@
 // Reading and writing until all is done.
-ghost use Rattle.std.specs.Prelude.{◌≡◌, ◌≤◌, IfSome, IsTrue, length, take};
-ghost use Rattle.std.specs.Io.KnownBytes.{Appends};
+ghost use Rattle.std.specs.Prelude.{◌≡◌, ◌≤◌, IfOk, OnErr, IsErrOf, length};
+ghost use Rattle.call_fs.specs.declared.calls.FsError.TheVariants as FsError;
 ghost use Rattle.call_fs.specs.Apply.{lying};
 
-use std::io::{ErrorKind, Write};
-use std::os::unix::fs::FileExt;
+use crate::system::System;
+use call_fs::FsError;
+use std::io::{self, ErrorKind, Read, Write};
 
-/// How often an interrupted call is tried again.
+/// How often an interrupted read is tried again.
 const MOST_RETRIES: u32 = 1000;
 
-/// Reads from this place on until the buffer is full or the file ends, and answers how many bytes those were; None where
-/// a read failed. No file has a byte at 2^63 or past it.
-pub fn read_full<F: FileExt>(file: &F, at: u64, into: &mut [u8]) -> Option<u64>
-    ensures { IfSome result (λ count. count ≤ length into.old) }
+/// Reads or writes an open file from a place on, piece by piece.
+#[derive(Drop)]
+pub struct Cursor<'a, S: System> {
+    /// The system.
+    pub system: &'a S,
+    /// The open file.
+    pub file: &'a S::File,
+    /// The place of the next piece.
+    pub at: u64,
+}
+
+impl<'a, S: System> Read for Cursor<'a, S> {
+    /// No file has a byte at 2^63 or past it.
+    fn read(&mut self, into: &mut [u8]) -> io::Result<usize> {
+        if self.at >= 1 << 63 {
+            return Ok(0);
+        }
+        let count = self.system.read_at(self.file, into, self.at)?;
+        self.at = self.at.saturating_add(count as u64);
+        Ok(count)
+    }
+}
+
+impl<'a, S: System> Write for Cursor<'a, S> {
+    fn write(&mut self, bytes: &[u8]) -> io::Result<usize> {
+        let count = self.system.write_at(self.file, bytes, self.at)?;
+        self.at = self.at.saturating_add(count as u64);
+        Ok(count)
+    }
+
+    fn flush(&mut self) -> io::Result<()> {
+        Ok(())
+    }
+}
+
+/// Writes at the end of an open file, piece by piece.
+#[derive(Drop)]
+pub struct End<'a, S: System> {
+    /// The system.
+    pub system: &'a S,
+    /// The open file.
+    pub file: &'a S::File,
+}
+
+impl<'a, S: System> Write for End<'a, S> {
+    fn write(&mut self, bytes: &[u8]) -> io::Result<usize> {
+        self.system.append(self.file, bytes)
+    }
+
+    fn flush(&mut self) -> io::Result<()> {
+        Ok(())
+    }
+}
+
+/// Reads until the buffer is full or the reader is at its end, and answers how many bytes those were. An interrupted
+/// read is tried again.
+pub fn read_full<R: Read>(reader: &mut R, into: &mut [u8]) -> Result<u64, FsError>
+    ensures count { IfOk result (λ count. count ≤ length into.old) }
+    ensures fault { OnErr result (IsErrOf result FsError.Fault) }
 {
     let mut done = 0;
+    let mut retries = MOST_RETRIES;
     while done < into.len() {
-        let Some(place) = place_of(at, done) else {
-            return Some(done as u64);
-        };
-        match read_again(file, place, &mut into[done..])? {
-            0 => return Some(done as u64),
-            count => done += count,
+        match reader.read(&mut into[done..]) {
+            Ok(0) => break,
+            Ok(count) => done += count,
+            Err(why) if why.kind() == ErrorKind::Interrupted && retries > 0 => retries -= 1,
+            Err(_) => return Err(FsError::Fault),
         }
     }
-    Some(done as u64)
-}
-
-/// The place so far behind that one; None where no file has a byte there.
-fn place_of(at: u64, done: usize) -> Option<u64> {
-    let place = at.checked_add(done as u64)?;
-    if place < 1 << 63 { Some(place) } else { None }
-}
-
-/// Reads once, and again while the read is interrupted; None where it failed.
-fn read_again<F: FileExt>(file: &F, at: u64, into: &mut [u8]) -> Option<usize>
-    ensures { IfSome result (λ count. count ≤ length into.old) }
-{
-    for _ in 0..=MOST_RETRIES {
-        match file.read_at(into, at) {
-            Ok(count) => return Some(count),
-            Err(why) if why.kind() == ErrorKind::Interrupted => {}
-            Err(_) => return None,
-        }
-    }
-    None
+    Ok(done as u64)
 }
 
 /// What of these bytes, put at this place, lies below the length.
@@ -57,63 +93,4 @@ pub fn lying(len: u64, at: u64, bytes: &[u8]) -> &[u8]
     } else {
         bytes
     }
-}
-
-/// Writes these bytes from this place on, and answers whether it could. A write that takes none of what is left fails.
-pub fn write_all_at<F: FileExt>(file: &F, at: u64, bytes: &[u8]) -> bool {
-    let mut done = 0;
-    while done < bytes.len() {
-        let Some(place) = place_of(at, done) else {
-            return false;
-        };
-        match write_again(file, place, &bytes[done..]) {
-            Some(count) if count > 0 => done += count,
-            _ => return false,
-        }
-    }
-    true
-}
-
-/// Writes once, and again while the write is interrupted; None where it failed.
-fn write_again<F: FileExt>(file: &F, at: u64, bytes: &[u8]) -> Option<usize>
-    ensures { IfSome result (λ count. count ≤ length bytes.now) }
-{
-    for _ in 0..=MOST_RETRIES {
-        match file.write_at(bytes, at) {
-            Ok(count) => return Some(count),
-            Err(why) if why.kind() == ErrorKind::Interrupted => {}
-            Err(_) => return None,
-        }
-    }
-    None
-}
-
-/// Writes these bytes where the writer stands, and answers whether it could. A write that takes none of what is left
-/// fails.
-pub fn append_all<W: Write>(writer: &mut W, bytes: &[u8]) -> bool
-    ensures { IsTrue result → Appends (W.contents writer.old) (W.contents writer.new) bytes.now }
-{
-    let mut left = bytes;
-    while !left.is_empty() {
-        match append_again(writer, left) {
-            Some(count) if count > 0 => left = left.split_at(count).1,
-            _ => return false,
-        }
-    }
-    true
-}
-
-/// Writes once, and again while the write is interrupted; None where it failed.
-fn append_again<W: Write>(writer: &mut W, bytes: &[u8]) -> Option<usize>
-    ensures count { IfSome result (λ count. count ≤ length bytes.now) }
-    ensures bytes { IfSome result (λ count. Appends (W.contents writer.old) (W.contents writer.new) (take count bytes.now)) }
-{
-    for _ in 0..=MOST_RETRIES {
-        match writer.write(bytes) {
-            Ok(count) => return Some(count),
-            Err(why) if why.kind() == ErrorKind::Interrupted => {}
-            Err(_) => return None,
-        }
-    }
-    None
 }

@@ -10,7 +10,7 @@ use Rattle.mail_world.specs.declared.actor.Actor.{Actor as Held}
 use Rattle.mail_world.specs.declared.event.Event.{Event as Kept}
 use Rattle.mail_world.specs.declared.event.Event.TheVariants as kept
 use Rattle.call_fs.specs.declared.crash_file_system.Survival.{Survival}
-use Rattle.queue_inject.specs.Machine.{Machine}
+use Rattle.mail_world.specs.declared.mailer.Mailer.{Mailer}
 use Rattle.mail_world.specs.History.{State, Actor, stopped}
 use Rattle.mail_world.specs.World.{span_after, span_of, ends, starts, was_started}
 use Rattle.mail_world.specs.Inside.{span_by, Follows, IsMember, IsStranger, AreActors, is_by}
@@ -135,7 +135,7 @@ halt_member : (s t : State) (events : List Kept) (how : Survival) (p : ℕ) (x y
 halt_member s t events how p x y halted cut m = record {
   actor = stopped m.actor;
   is = ap t.actors cut.name ∙ halted.actors x.name ∙ ap (option_map stopped) m.is;
-  follows = subst (λ (machine : Machine). Follows machine m.actor.program m.actor.past) (sym cut.machine) m.follows;
+  follows = subst (λ (machine : Mailer). Follows machine m.actor.program m.actor.past) (sym cut.machine) m.follows;
   in_order = m.in_order;
   alive = λ e. absurd (none_alive (length events) x.ended (sym cut.ended ∙ e));
   spans = ap (λ (a : List ℕ). span_of a (reverse (events ++ kept.Halt how ∷ []))) cut.name ∙ span_push events (kept.Halt how) x.name

@@ -14,7 +14,7 @@ use Rattle.call_fs.specs.Disk.{Disk, Open, MayUse}
 use Rattle.call_fs.specs.Maps.{put}
 use Rattle.call_fs.specs.Apply.{effect, Apply}
 use Rattle.call_fs.specs.Calls.{done}
-use Rattle.call_fs.specs.Told.{OnTold, Meets}
+use Rattle.mail_bytes.specs.Told.{OnTold, Meets}
 use Rattle.mail_world.specs.History.{unless_by, shut_by}
 use Rattle.call_fs.proofs.Maps.{put_other}
 use Rattle.mail_world.specs.Inside.{has, AreApart, is_by}

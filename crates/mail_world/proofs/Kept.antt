@@ -20,7 +20,6 @@ use Rattle.mail_world.specs.History.{Books, Event, Life, Actor, State, next_of, 
 use Rattle.mail_world.specs.History.Event.{Start, Call, End, Stop, Moment, Halt}
 use Rattle.mail_world.specs.History.Life.{Alive, Over, Stopped}
 use Rattle.call_fs.proofs.Maps.{put_at_cases}
-use Rattle.mail_world.proofs.Texts.{failure_ends}
 use Rattle.mail_world.proofs.Tests.{unless_same, tells_number}
 use Rattle.mail_world.proofs.Looks.{find_none, found}
 use Rattle.mail_world.proofs.Invariant.{Queue, NamesSuit, Phase, IsHeld, Settles, InTime, FaresBy, Fares, Sound, Inv, queue}
@@ -56,7 +55,7 @@ in_time_call now start read h stall = let w : read ≤ start + 86400 = ltb-false
 -- an end with 0 comes only where the message was queued
 ends_queued : (b : Books) (a : List ℕ) (args : Arguments) (row : Row) → call_of args row ≡ Due.Ended 0 → Settles b a args row → row ≡ at.Queued
 ends_queued b a args at.Queued h settles = refl
-ends_queued b a args (at.Failed cause) h settles = absurd (failure_ends args cause settles (cc))
+ends_queued b a args (at.Failed cause) h settles = absurd (settles (cc))
 ends_queued b a args row h settles = absurd (cc)
 
 not_over : (l : Life) (status : ℕ) → l ≡ Alive → l ≡ Over status → ⊥

@@ -3,7 +3,6 @@ use Rattle.std.proofs.Common.{◌≡◌, ◌≢◌, ◌⊎◌, inl, inr, ℕ, Li
 use Rattle.call_fs.specs.Maps.{put}
 use Rattle.call_fs.specs.Disk.{Among}
 use Rattle.queue_inject.specs.declared.injection.Arguments.{Arguments}
-use Rattle.queue_inject.specs.declared.row.Cause.{Cause}
 use Rattle.queue_inject.specs.declared.row.Row.{Row}
 use Rattle.queue_inject.specs.declared.row.Row.TheVariants as at
 use Rattle.queue_paths.specs.Names.{Name, path}
@@ -151,7 +150,7 @@ module _ (now : ℕ) (q : Queue) (a : List ℕ) (args : Arguments) (G : Sound q)
         opened = h.mess.opened;
       }))
 
-  pub clean_intd_row : (n : ℕ) (cause : Cause) → Holds q a args n (λ w. IsBegun w a args n) → IsFailure cause
+  pub clean_intd_row : (n : ℕ) (cause : ℕ) → Holds q a args n (λ w. IsBegun w a args n) → IsFailure cause
       → To (named q (Of Intd n) None q.books) (at.CleanMess n cause)
   clean_intd_row n cause h bad =
       let x = Of Intd n in
@@ -160,7 +159,7 @@ module _ (now : ℕ) (q : Queue) (a : List ℕ) (args : Arguments) (G : Sound q)
       gone_row x n _ h.mine refl (begun_phase r a args n begins)
       (record { mine = h.mine; rest = record { begins = begins; no_intd = find_gone q.disk.names q.disk.files x } }, bad)
 
-  pub clean_mess_row : (n : ℕ) (cause : Cause) → Holds q a args n (λ w. IsBare w a args n) → IsFailure cause
+  pub clean_mess_row : (n : ℕ) (cause : ℕ) → Holds q a args n (λ w. IsBare w a args n) → IsFailure cause
       → To (named q (Of Mess n) None q.books) (at.Failed cause)
   clean_mess_row n cause h bad =
       let x = Of Mess n in

@@ -1,44 +1,29 @@
--- What an injector that was told its whole input stands for, and what it needs.
-use Rattle.std.proofs.Common.{◌≡◌, ℕ, List, [], drop, Bool, IsTrue, refl, sym, ap, ◌∙◌, subst, arith, append-nil}
+-- What an injector stands for that is fed its input as it goes, and what it needs.
+use Rattle.std.proofs.Common.{◌≡◌, ℕ, ◌+◌, ◌-◌, ◌≤◌, min, List, length, take, drop, Bool, true, false, Option, Some, None, refl, sym, ap, ◌∙◌, subst, arith, length-drop, drop_of_length-le}
+use Rattle.std.proofs.lemmas.List.{take_all, take-append-drop}
 use Rattle.call_fs.specs.declared.calls.Call.{Call}
 use Rattle.call_fs.specs.declared.program.Need.{Need}
 use Rattle.call_fs.specs.declared.program.Need.TheVariants as need
-use Rattle.call_fs.specs.declared.program.Ready.{Ready}
 use Rattle.call_fs.specs.declared.calls.CallData.{CallData}
 use Rattle.call_fs.specs.declared.calls.Answer.{Answer}
 use Rattle.call_fs.specs.Program.{Own, due_of}
 use Rattle.queue_inject.specs.declared.injection.Arguments.{Arguments}
 use Rattle.queue_inject.specs.declared.injection.InputEnd.TheVariants.{Whole}
-use Rattle.queue_inject.specs.Table.{Next}
-use Rattle.queue_inject.specs.Machine.{Machine, Progress, begun, fed_on, ended_on, is_over, is_told, is_decided}
-use Rattle.queue_inject.specs.Stands.{Stands, Continues, Ends}
-use Rattle.queue_inject.proofs.Settled.{told_decides}
+use Rattle.queue_inject.specs.declared.row.Row.{Row}
+use Rattle.queue_inject.specs.declared.injection.Part.{Part}
+use Rattle.queue_inject.specs.declared.injection.Part.TheVariants.{Message, Envelope}
+use Rattle.queue_inject.specs.Machine.{Machine, asks_by, asks}
+use Rattle.queue_inject.specs.Rows.{is_open, part_in}
+use Rattle.queue_inject.specs.Stands.{GoesOn, Stands, ContinuesBy, Continues, EndsBy, Ends}
+use Rattle.queue_inject.proofs.Kept.{asked_by, fed_inside}
 use Rattle.mail_world.specs.declared.event.Program.{Program}
 use Rattle.mail_world.specs.declared.event.Program.TheVariants.{Injector}
+use Rattle.mail_world.specs.declared.mailer.Mailer.{Mailer}
 use Rattle.mail_world.specs.History.{next_of}
 use Rattle.mail_world.specs.World.{input_ready}
-use Rattle.mail_world.specs.Inside.{Follows}
+use Rattle.mail_world.specs.Inside.{IsInput, Follows}
 use Rattle.mail_world.specs.Acting.{with_call}
 use Rattle.mail_world.proofs.Opens.{IsAct, next_act}
-
-told_by : Progress → Bool
-told_by p = is_over p.message_end p.envelope_end
-
--- a machine of the same input was told as much
-pub told_still : (m n : Machine) → n.heard ≡ m.heard → IsTrue (is_told m) → IsTrue (is_told n)
-unfolding told_by
-told_still m n same told = let progress : n.heard.progress ≡ m.heard.progress = cc in subst (λ (p : Progress). IsTrue (told_by p)) (sym progress) told
-
--- a machine that looked needs what is next
-pub needs_next : (m n : Machine) (r : Need) (p : ℕ) (program : Program) (past : List Own) → n ≡ record m { present = p; ready = input_ready }
-    → ((args : Arguments) → Stands m args past → Stands n args past)
-    → ((args : Arguments) → Stands n args past → IsTrue (is_decided n) → due_of r ≡ Next args past n.present n.ready)
-    → Follows m program past → due_of r ≡ next_of program past p input_ready
-needs_next m n r p (Injector args) past is stands needs f =
-    let present : n.present ≡ p = ap (λ (m : Machine). m.present) is in
-    let ready : n.ready ≡ input_ready = ap (λ (m : Machine). m.ready) is in
-    needs args (stands args f.stands) (told_decides n (told_still m n (ap (λ (m : Machine). m.heard) is) f.told))
-    ∙ ap (λ (k : ℕ). Next args past k n.ready) present ∙ ap (λ (r : Ready). Next args past p r) ready
 
 -- an injector that finds its input ready neither waits nor needs anything but a call
 pub calls_or_ends : (n : Need) (program : Program) (past : List Own) (now : ℕ) → due_of n ≡ next_of program past now input_ready
@@ -53,49 +38,70 @@ calls_or_ends n program past now is no_call no_status = by_need n (subst IsAct (
   by_need need.Wait act no_file no_end = act
   by_need (need.Ended status) act no_file no_end = no_end status refl
 
--- a machine that looked stands as before
-pub looked_follows : (m n : Machine) (program : Program) (past : List Own) → ((args : Arguments) → Stands m args past → Stands n args past) → n.heard ≡ m.heard
-    → Follows m program past → Follows n program past
-looked_follows m n (Injector args) past stands same f = record { stands = stands args f.stands; told = told_still m n same f.told }
+-- What is fed
 
--- and so does one that was told its answer, with it as its newest event
-pub told_follows : (m n : Machine) (program : Program) (past : List Own) (call : CallData) (answer : Answer)
-    → ((args : Arguments) → Stands m args past → Stands n args (with_call m past call answer)) → n.heard ≡ m.heard
-    → Follows m program past → Follows n program (with_call m past call answer)
-told_follows m n (Injector args) past call answer stands same f = record { stands = stands args f.stands; told = told_still m n same f.told }
+drop_min : (xs : List ℕ) (n : ℕ) → drop (min n (length xs)) xs ≡ drop n xs
+drop_min xs n = grind (arith, drop_of_length-le {A = ℕ})
 
--- An injector that was fed a message and told its end, and then an envelope and its end, stands for them.
-pub fed_whole : (m f e g n : Machine) (args : Arguments) (room : ℕ)
-    → m.heard.progress ≡ begun room → Stands m args []
-    → f.heard.progress ≡ fed_on m.heard.progress args.message → (Stands m args [] → Continues m.heard.progress args args.message → Stands f args [])
-    → e.heard.progress ≡ ended_on f.heard.progress Whole → (Stands f args [] → Ends f.heard.progress args Whole → Stands e args [])
-    → g.heard.progress ≡ fed_on e.heard.progress args.envelope → (Stands e args [] → Continues e.heard.progress args args.envelope → Stands g args [])
-    → n.heard.progress ≡ ended_on g.heard.progress Whole → (Stands g args [] → Ends g.heard.progress args Whole → Stands n args [])
-    → args.message_end ≡ Whole → args.envelope_end ≡ Whole → Follows n (Injector args) []
-unfolding told_by
-fed_whole m f e g n args room p₀ s₀ p₁ s₁ p₂ s₂ p₃ s₃ p₄ s₄ message_whole envelope_whole =
-    let a = begun room in
-    let b = fed_on a args.message in
-    let c = ended_on b Whole in
-    let d = fed_on c args.envelope in
-    let q₁ : f.heard.progress ≡ b = p₁ ∙ ap (λ (p : Progress). fed_on p args.message) p₀ in
-    let q₂ : e.heard.progress ≡ c = p₂ ∙ ap (λ (p : Progress). ended_on p Whole) q₁ in
-    let q₃ : g.heard.progress ≡ d = p₃ ∙ ap (λ (p : Progress). fed_on p args.envelope) q₂ in
-    let q₄ : n.heard.progress ≡ ended_on d Whole = p₄ ∙ ap (λ (p : Progress). ended_on p Whole) q₃ in
-    let first : Continues a args args.message = record {
-      message = record { rest = []; next = sym (append-nil args.message) };
-      envelope = record { rest = args.envelope; next = refl };
-    } in
-    let second : Ends b args Whole = (omega arith, message_whole) in
-    let third : Continues c args args.envelope = record {
-      message = record { rest = drop c.message_fed args.message; next = refl };
-      envelope = record { rest = []; next = sym (append-nil args.envelope) };
-    } in
-    let fourth : Ends d args Whole = (omega arith, envelope_whole) in
-    let t₁ = s₁ s₀ (subst (λ (p : Progress). Continues p args args.message) (sym p₀) first) in
-    let t₂ = s₂ t₁ (subst (λ (p : Progress). Ends p args Whole) (sym q₁) second) in
-    let t₃ = s₃ t₂ (subst (λ (p : Progress). Continues p args args.envelope) (sym q₂) third) in
-    record {
-      stands = s₄ t₃ (subst (λ (p : Progress). Ends p args Whole) (sym q₃) fourth);
-      told = subst (λ (p : Progress). IsTrue (told_by p)) (sym q₄) refl;
-    }
+goes_on : (whole text : List ℕ) (fed count : ℕ) → whole ≡ text → GoesOn whole fed (take count (drop (min fed (length text)) text))
+goes_on whole text fed count is =
+    let rest : List ℕ = drop (min fed (length text)) text in
+    record { rest = drop count rest; next = ap (drop fed) is ∙ sym (drop_min text fed) ∙ sym (take-append-drop count rest) }
+
+-- the next bytes are the text's
+continues_by : (t : Bool) (row : Row) (o : Option Part) (args : Arguments) (text : List ℕ) (fed count : ℕ) → part_in row ≡ o → IsInput o args text
+    → ContinuesBy (asks_by t row) fed args (take count (drop (min fed (length text)) text))
+continues_by false row o args text fed count of is = tt
+continues_by true row None args text fed count of is = subst (λ q. ContinuesBy q fed args (take count (drop (min fed (length text)) text))) (sym of) tt
+continues_by true row (Some Message) args text fed count of is =
+    subst (λ q. ContinuesBy q fed args (take count (drop (min fed (length text)) text))) (sym of) (goes_on args.message text fed count is.0)
+continues_by true row (Some Envelope) args text fed count of is =
+    subst (λ q. ContinuesBy q fed args (take count (drop (min fed (length text)) text))) (sym of) (goes_on args.envelope text fed count is.0)
+
+-- what is left of a text from a place on
+abbrev pub rest_from : List ℕ → ℕ → List ℕ
+rest_from text from = take (length text - from) (drop from text)
+
+rest_is : (text : List ℕ) (from : ℕ) → rest_from text from ≡ drop from text
+rest_is text from = take_all (length text - from) (drop from text) (omega (arith, length-drop from text))
+
+pub text_continues : (m : Machine) (args : Arguments) (text : List ℕ) (from count : ℕ) → from ≡ min m.heard.fed (length text) → IsInput (part_in m.row) args text
+    → Continues m args (take count (rest_from text from))
+text_continues m args text from count at is =
+    subst (λ r. Continues m args (take count r)) (ap (λ n. drop n text) (sym at) ∙ sym (rest_is text from))
+    (continues_by (is_open m.heard.verdict) m.row (part_in m.row) args text m.heard.fed count refl is)
+
+all_fed : (whole text : List ℕ) (fed : ℕ) → whole ≡ text → fed ≤ length whole → length text ≤ fed → fed ≡ length whole
+all_fed whole text fed is inside all = let same = ap length is in omega arith
+
+-- and after them comes its end
+ends_by : (t : Bool) (row : Row) (o : Option Part) (args : Arguments) (text : List ℕ) (fed : ℕ) → part_in row ≡ o → IsInput o args text → length text ≤ fed
+    → (asks_by t row ≡ Some Message → fed ≤ length args.message) → (asks_by t row ≡ Some Envelope → fed ≤ length args.envelope) → EndsBy (asks_by t row) fed args Whole
+ends_by false row o args text fed of is all message envelope = tt
+ends_by true row None args text fed of is all message envelope = subst (λ q. EndsBy q fed args Whole) (sym of) tt
+ends_by true row (Some Message) args text fed of is all message envelope = subst (λ q. EndsBy q fed args Whole) (sym of) (all_fed args.message text fed is.0 (message of) all, is.1)
+ends_by true row (Some Envelope) args text fed of is all message envelope = subst (λ q. EndsBy q fed args Whole) (sym of) (all_fed args.envelope text fed is.0 (envelope of) all, is.1)
+
+pub text_ends : (m : Machine) (args : Arguments) (past : List Own) (text : List ℕ) → Stands m args past → IsInput (part_in m.row) args text → length text ≤ m.heard.fed → Ends m args Whole
+text_ends m args past text s is all =
+    let inside = fed_inside m args past s in
+    ends_by (is_open m.heard.verdict) m.row (part_in m.row) args text m.heard.fed refl is all inside.0 inside.1
+
+pub all_of_rest : (text : List ℕ) (fed from count after : ℕ) → from ≡ min fed (length text) → count ≡ length (rest_from text from) → after ≡ fed + length (take count (rest_from text from)) → length text ≤ after
+all_of_rest text fed from count after at all on =
+    let rest = ap length (rest_is text from) in
+    let left = length-drop from text in
+    let whole = ap length (take_all count (rest_from text from) (omega arith)) in
+    omega arith
+
+-- the part that is asked for is the row's
+pub asked_part : (m : Machine) (part : Part) → asks m ≡ Some part → part_in m.row ≡ Some part
+asked_part m part e = (asked_by m.heard.verdict m.row part e).1
+
+-- Whole injectors
+
+-- one that was told its answer stands for the past with it as its newest event
+pub told_follows : (m : Mailer) (n : Machine) (program : Program) (past : List Own) (call : CallData) (answer : Answer)
+    → ((args : Arguments) → Stands m.injector args past → Stands n args (with_call m past call answer))
+    → Follows m program past → Follows (record m { injector = n }) program (with_call m past call answer)
+told_follows m n (Injector args) past call answer stands f = record { stands = stands args f.stands; inputs = f.inputs }

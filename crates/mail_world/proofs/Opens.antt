@@ -15,7 +15,6 @@ use Rattle.call_fs.specs.Columns.{HasRoomFor}
 use Rattle.call_fs.specs.Program.{Due, Own}
 use Rattle.call_fs.specs.Program.Did.{Called}
 use Rattle.queue_inject.specs.declared.injection.Arguments.{Arguments}
-use Rattle.queue_inject.specs.declared.row.Cause.TheVariants.{Status, Envelope}
 use Rattle.queue_inject.specs.declared.row.Row.{Row}
 use Rattle.queue_inject.specs.declared.row.Row.TheVariants as at
 use Rattle.queue_inject.specs.Texts.{Text, message_text, intd_text}
@@ -186,17 +185,17 @@ in_piece d h a bytes (Some status) done more end bad m e b =
 
 message_row : (d : Disk) (h : ℕ → Option (List ℕ)) (a : List ℕ) (text : Text) (n fd done : ℕ) → IsOwn d h a fd → HasRow d h a (in_message text n fd done)
 message_row d h a text n fd done own =
-    in_piece d h a text.bytes text.fault done (at.AppendMess n (record { 0 = fd }) done) (at.SyncMess n (record { 0 = fd })) (λ status. at.CleanMess n (Status status)) own own (λ status. tt)
+    in_piece d h a text.bytes text.fault done (at.AppendMess n (record { 0 = fd }) done) (at.SyncMess n (record { 0 = fd })) (λ status. at.CleanMess n status) own own (λ status. tt)
 
 todo_row : (d : Disk) (h : ℕ → Option (List ℕ)) (a : List ℕ) (text : Text) (n fd done : ℕ) → IsOwn d h a fd → HasRow d h a (in_todo text n fd done)
 todo_row d h a text n fd done own =
-    in_piece d h a text.bytes text.fault done (at.AppendTodo n (record { 0 = fd }) done) (at.SyncTodo n (record { 0 = fd })) (λ _. at.CleanIntd n Envelope) own own (λ status. tt)
+    in_piece d h a text.bytes text.fault done (at.AppendTodo n (record { 0 = fd }) done) (at.SyncTodo n (record { 0 = fd })) (λ status. at.CleanIntd n status) own own (λ status. tt)
 
 -- an actor's own row has its descriptor after its call
 pub row_moves : (d : Disk) (h : ℕ → Option (List ℕ)) (a : List ℕ) (args : Arguments) (row : Row) (answer : Answer) → HasRow d h a row → HasMade d h a answer → HasRow d h a (moved args row answer)
 row_moves d h a args (at.Create seq) (told.Created fd n) own made = made
 row_moves d h a args (at.Create seq) (told.Refused Exists) own made =
-    elim (nat_lt seq 9) as (λ t. HasRow d h a (settled (work_of args) (if t then at.Create (seq + 1) else at.Failed (Status 63)))) [ true ↦ tt | false ↦ tt ]
+    elim (nat_lt seq 9) as (λ t. HasRow d h a (settled (work_of args) (if t then at.Create (seq + 1) else at.Failed 63))) [ true ↦ tt | false ↦ tt ]
 row_moves d h a args (at.Create seq) answer own made = tt
 row_moves d h a args (at.LinkMess seq n fd) told.Done own made = own
 row_moves d h a args (at.LinkMess seq n fd) answer own made = tt

@@ -3,7 +3,6 @@ use Rattle.std.proofs.Common.{◌≡◌, ◌≢◌, ℕ, zero, suc, ◌+◌, ◌
 use Rattle.call_fs.specs.Disk.{File, IsSynced}
 use Rattle.call_fs.specs.Apply.{empty_file, grown, grown_part, synced, IsNew}
 use Rattle.queue_inject.specs.declared.injection.Arguments.{Arguments}
-use Rattle.queue_inject.specs.declared.row.Cause.TheVariants.{Status, Envelope}
 use Rattle.queue_inject.specs.declared.row.Row.{Row}
 use Rattle.queue_inject.specs.declared.row.Row.TheVariants as at
 use Rattle.queue_paths.specs.Names.{Name, path}
@@ -29,7 +28,7 @@ pub message_next : (q : Queue) (a : List ℕ) (args : Arguments) (n fd done : �
 message_next q a args n fd done h =
     let text = message_text args in
     let d = h.holds.rest in
-    piece_cases (Basis q a args) text.bytes text.fault done (at.AppendMess n (record { 0 = fd }) done) (at.SyncMess n (record { 0 = fd })) (λ status. at.CleanMess n (Status status))
+    piece_cases (Basis q a args) text.bytes text.fault done (at.AppendMess n (record { 0 = fd }) done) (at.SyncMess n (record { 0 = fd })) (λ status. at.CleanMess n status)
     (message_fails args)
     (h, tt)
     (λ ended long. (
@@ -46,7 +45,7 @@ todo_next : (q : Queue) (a : List ℕ) (args : Arguments) (n fd done : ℕ) → 
 todo_next q a args n fd done whole h =
     let text = intd_text args in
     let w = h.holds.rest in
-    piece_cases (Basis q a args) text.bytes text.fault done (at.AppendTodo n (record { 0 = fd }) done) (at.SyncTodo n (record { 0 = fd })) (λ _. at.CleanIntd n Envelope)
+    piece_cases (Basis q a args) text.bytes text.fault done (at.AppendTodo n (record { 0 = fd }) done) (at.SyncTodo n (record { 0 = fd })) (λ status. at.CleanIntd n status)
     (intd_fails args)
     (h, whole)
     (λ ended long. (
@@ -60,7 +59,7 @@ todo_next q a args n fd done whole h =
       },
       record { message = whole; envelope = ended },
     ))
-    (λ status bad. (record { mine = h.holds.mine; rest = w.begins }, tt))
+    (λ status bad. (record { mine = h.holds.mine; rest = w.begins }, bad))
 
 module _ (now : ℕ) (q : Queue) (a : List ℕ) (args : Arguments) (G : Sound q) where
   abbrev To : Queue → Row → Type 0
@@ -179,7 +178,7 @@ module _ (now : ℕ) (q : Queue) (a : List ℕ) (args : Arguments) (G : Sound q)
   part_moment read (suc k) more f late old = late
 
   pub cut_mess_row : (n fd read wrote : ℕ) (bytes more : List ℕ) → args.start ≤ read → AtMess q a args n fd bytes
-      → To (written q n (grown_part read more wrote (q.disk.files n))) (at.CleanMess n (Status 53))
+      → To (written q n (grown_part read more wrote (q.disk.files n))) (at.CleanMess n 53)
   cut_mess_row n fd read wrote bytes more late h =
       let f = grown_part read more wrote (q.disk.files n) in
       let bare = h.holds.rest.bare in
@@ -246,7 +245,7 @@ module _ (now : ℕ) (q : Queue) (a : List ℕ) (args : Arguments) (G : Sound q)
         opened = h.opened;
       }))
 
-  pub cut_todo_row : (n fd : ℕ) (bytes : List ℕ) (h : AtTodo q a args n fd bytes) (f : File) → To (written q h.number f) (at.CleanIntd n (Status 53))
+  pub cut_todo_row : (n fd : ℕ) (bytes : List ℕ) (h : AtTodo q a args n fd bytes) (f : File) → To (written q h.number f) (at.CleanIntd n 53)
   cut_todo_row n fd bytes h f =
       todo_row n h.number f _ _ h.holds
       (record { mine = h.holds.mine; rest = (intd_written n h.number f _ (λ _. Unit {0}) h.holds.mine h.holds.rest tt).begins }, not_zero 52)

@@ -11,8 +11,6 @@ use Rattle.call_fs.specs.declared.calls.Answer.{Answer}
 use Rattle.call_fs.specs.declared.calls.Answer.TheVariants.{Created, Done, Refused}
 use Rattle.call_fs.specs.declared.calls.FsError.TheVariants.{NotThere, Exists, Fault, Memory}
 use Rattle.queue_inject.specs.declared.injection.Arguments.{Arguments}
-use Rattle.queue_inject.specs.declared.row.Cause.{Cause}
-use Rattle.queue_inject.specs.declared.row.Cause.TheVariants.{Status}
 use Rattle.queue_inject.specs.declared.row.Row.{Row}
 use Rattle.queue_inject.specs.declared.row.Row.TheVariants as at
 use Rattle.queue_paths.specs.Names.{Name, path, parse}
@@ -80,11 +78,11 @@ module _ (now : ℕ) (q : Queue) (a : List ℕ) (args : Arguments) (G : Sound q)
   failed : (answer : Answer) (status : ℕ) → status ≢ 0 → Stays (at.Failed (failure answer status))
   failed answer status h = same (at.Failed _) (tt, fails answer status h)
 
-  clean_mess : (n : ℕ) (cause : Cause) (P : About → Type 0) → ((w : About) → P w → IsBare w a args n) → Holds q a args n P → IsFailure cause
+  clean_mess : (n : ℕ) (cause : ℕ) (P : About → Type 0) → ((w : About) → P w → IsBare w a args n) → Holds q a args n P → IsFailure cause
       → Stays (at.CleanMess n cause)
   clean_mess n cause P bare h bad = same (at.CleanMess n cause) (record { mine = h.mine; rest = bare (about q n) h.rest }, bad)
 
-  clean_intd : (n : ℕ) (cause : Cause) (i : ℕ) (P : File → Type 0) → Holds q a args n (λ w. HasIntd w a args n i P) → IsFailure cause → Stays (at.CleanIntd n cause)
+  clean_intd : (n : ℕ) (cause : ℕ) (i : ℕ) (P : File → Type 0) → Holds q a args n (λ w. HasIntd w a args n i P) → IsFailure cause → Stays (at.CleanIntd n cause)
   clean_intd n cause i P h bad = same (at.CleanIntd n cause) (record { mine = h.mine; rest = h.rest.begins }, bad)
 
   -- a call that writes changes the file behind its descriptor
@@ -112,10 +110,10 @@ module _ (now : ℕ) (q : Queue) (a : List ℕ) (args : Arguments) (G : Sound q)
   at_create : (seq : ℕ) → Steps (at.Create seq) (CreateExcl (pid_path seq))
   at_create seq (Created fd i) fits = (_, create_row now q a args G seq fd.0 i read late fits)
   at_create seq (Refused Exists) fits =
-      if_either (λ row. Stays (settled (work_of args) row)) (nat_lt seq 9) (at.Create (seq + 1)) (at.Failed (Status 63)) (same (at.Create (seq + 1)) (tt, tt)) (same (at.Failed (Status 63)) (tt, not_zero 62))
-  at_create seq (Refused NotThere) fits = same (at.Failed (Status 63)) (tt, not_zero 62)
-  at_create seq (Refused Fault) fits = same (at.Failed (Status 63)) (tt, not_zero 62)
-  at_create seq (Refused Memory) fits = same (at.Failed (Status 51)) (tt, not_zero 50)
+      if_either (λ row. Stays (settled (work_of args) row)) (nat_lt seq 9) (at.Create (seq + 1)) (at.Failed 63) (same (at.Create (seq + 1)) (tt, tt)) (same (at.Failed 63) (tt, not_zero 62))
+  at_create seq (Refused NotThere) fits = same (at.Failed 63) (tt, not_zero 62)
+  at_create seq (Refused Fault) fits = same (at.Failed 63) (tt, not_zero 62)
+  at_create seq (Refused Memory) fits = same (at.Failed 51) (tt, not_zero 50)
   at_create seq answer fits = absurd fits
 
   at_link : (seq n : ℕ) (fd : Fd) → AtLink q a args seq n fd.0 → Steps (at.LinkMess seq n fd) (Link (pid_path seq) (path (Of Mess n)))
@@ -133,7 +131,7 @@ module _ (now : ℕ) (q : Queue) (a : List ℕ) (args : Arguments) (G : Sound q)
       → Steps (at.AppendMess n fd done) (Append fd (piece (message_text args) done))
   at_append_mess n fd done h Done fits = (q.role, behind fd.0 n _ _ h.opened (append_mess_row now q a args G n fd.0 done read late h))
   at_append_mess n fd done h (Refused Fault) fits = (q.role, behind fd.0 n _ _ h.opened (cut_mess_row now q a args G n fd.0 read wrote _ _ late h))
-  at_append_mess n fd done h (Refused Memory) fits = clean_mess n (Status 51) _ (λ w d. d.bare) h.holds (not_zero 50)
+  at_append_mess n fd done h (Refused Memory) fits = clean_mess n 51 _ (λ w d. d.bare) h.holds (not_zero 50)
   at_append_mess n fd done h answer fits = absurd fits
 
   at_sync_mess : (n : ℕ) (fd : Fd) → AtMess q a args n fd.0 (message_text args).bytes → (message_text args).fault ≡ None → Steps (at.SyncMess n fd) (Sync fd)
@@ -150,7 +148,7 @@ module _ (now : ℕ) (q : Queue) (a : List ℕ) (args : Arguments) (G : Sound q)
       → (message_text args).fault ≡ None → Steps (at.AppendTodo n fd done) (Append fd (piece (intd_text args) done))
   at_append_todo n fd done h whole Done fits = (q.role, behind fd.0 h.number _ _ h.opened (append_todo_row now q a args G n fd.0 done read whole h))
   at_append_todo n fd done h whole (Refused Fault) fits = (q.role, behind fd.0 h.number _ _ h.opened (cut_todo_row now q a args G n fd.0 _ h _))
-  at_append_todo n fd done h whole (Refused Memory) fits = clean_intd n (Status 51) _ _ h.holds (not_zero 50)
+  at_append_todo n fd done h whole (Refused Memory) fits = clean_intd n 51 _ _ h.holds (not_zero 50)
   at_append_todo n fd done h whole answer fits = absurd fits
 
   at_sync_todo : (n : ℕ) (fd : Fd) → AtTodo q a args n fd.0 (intd_text args).bytes → IsValid args → Steps (at.SyncTodo n fd) (Sync fd)
@@ -166,7 +164,7 @@ module _ (now : ℕ) (q : Queue) (a : List ℕ) (args : Arguments) (G : Sound q)
   at_link_todo n h valid (Refused why) fits = failed (Refused why) 66 (not_zero 65)
   at_link_todo n h valid answer fits = absurd fits
 
-  at_clean_intd : (n : ℕ) (cause : Cause) → Holds q a args n (λ w. IsBegun w a args n) → IsFailure cause → Steps (at.CleanIntd n cause) (Unlink (path (Of Intd n)))
+  at_clean_intd : (n : ℕ) (cause : ℕ) → Holds q a args n (λ w. IsBegun w a args n) → IsFailure cause → Steps (at.CleanIntd n cause) (Unlink (path (Of Intd n)))
   at_clean_intd n cause h bad Done fits = (q.role, clean_intd_row now q a args G n cause h bad)
   at_clean_intd n cause h bad (Refused NotThere) fits =
       let none = find_none q.disk.names q.disk.files (Of Intd n) fits in
@@ -174,7 +172,7 @@ module _ (now : ℕ) (q : Queue) (a : List ℕ) (args : Arguments) (G : Sound q)
   at_clean_intd n cause h bad (Refused Fault) fits = same (at.Failed cause) (tt, bad)
   at_clean_intd n cause h bad answer fits = absurd fits
 
-  at_clean_mess : (n : ℕ) (cause : Cause) → Holds q a args n (λ w. IsBare w a args n) → IsFailure cause → Steps (at.CleanMess n cause) (Unlink (path (Of Mess n)))
+  at_clean_mess : (n : ℕ) (cause : ℕ) → Holds q a args n (λ w. IsBare w a args n) → IsFailure cause → Steps (at.CleanMess n cause) (Unlink (path (Of Mess n)))
   at_clean_mess n cause h bad Done fits = (q.role, clean_mess_row now q a args G n cause h bad)
   at_clean_mess n cause h bad (Refused why) fits = same (at.Failed cause) (tt, bad)
   at_clean_mess n cause h bad answer fits = absurd fits

@@ -9,22 +9,19 @@ use Rattle.envelope_records.specs.declared.envelope.EnvFault.TheVariants.{Format
 use Rattle.queue_inject.specs.declared.injection.Arguments.{Arguments}
 use Rattle.queue_inject.specs.declared.injection.InputEnd.{InputEnd}
 use Rattle.queue_inject.specs.declared.injection.InputEnd.TheVariants as ends
-use Rattle.queue_inject.specs.declared.row.Cause.{Cause}
-use Rattle.queue_inject.specs.declared.row.Cause.TheVariants.{Status, Envelope}
 use Rattle.queue_inject.specs.declared.row.Row.{Row}
 use Rattle.envelope_records.specs.Envelope.{Stage, Step, step, Reading, read_envelope}
 use Rattle.envelope_records.specs.Envelope.Step.{Goes, Ends, Fails}
 use Rattle.envelope_records.specs.Envelope.Reading.{Whole, Open, Broken}
 use Rattle.queue_inject.specs.Texts.{limit, message_end, message_text, end_status, fault_status, past_limit, open_status, envelope_text, envelope_of, intd_text}
-use Rattle.queue_inject.specs.Table.{piece_size, failure, status_of, past_piece}
+use Rattle.queue_inject.specs.Table.{piece_size, failure, past_piece}
 
 pub not_zero : (n : ℕ) → suc n ≢ 0
 not_zero n e = omega arith
 
--- a cause whose status isn't 0; a fault's never is
-abbrev pub IsFailure : Cause → Type 0
-IsFailure (Status status) = status ≢ 0
-IsFailure Envelope = Unit {0}
+-- the status of a failure isn't 0
+abbrev pub IsFailure : ℕ → Type 0
+IsFailure status = status ≢ 0
 
 -- a failed call's status isn't 0
 pub fails : (answer : Answer) (status : ℕ) → status ≢ 0 → IsFailure (failure answer status)
@@ -78,15 +75,6 @@ envelope_fails (Broken before fault) end next = fault_fails fault
 pub intd_fails : (args : Arguments) → AllFail (intd_text args).fault
 unfolding intd_text envelope_of
 intd_fails args = envelope_fails (read_envelope (take limit args.envelope)) args.envelope_end (slice_get args.envelope limit)
-
--- a cause's status isn't 0
-fault_ends : (fault : Option ℕ) → AllFail fault → status_of Envelope fault ≢ 0
-fault_ends None h = not_zero 53
-fault_ends (Some status) h = h
-
-pub failure_ends : (args : Arguments) (cause : Cause) → IsFailure cause → status_of cause (intd_text args).fault ≢ 0
-failure_ends args (Status status) h = h
-failure_ends args Envelope h = fault_ends (intd_text args).fault (intd_fails args)
 
 -- what holds of each row that a test leads to
 if_cases {ℓ} : (P : Row → Type ℓ) (t : Bool) (p q : Row) → (t ≡ true → P p) → (t ≡ false → P q) → P (if t then p else q)

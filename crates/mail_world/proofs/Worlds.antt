@@ -6,10 +6,11 @@ use Rattle.std.specs.Prelude.{count_by, if◌then◌else◌}
 use Rattle.std.specs.List.{slice_get}
 use Rattle.call_fs.specs.declared.calls.CallData.{CallData}
 use Rattle.call_fs.specs.declared.calls.Told.{Told}
-use Rattle.call_fs.specs.Disk.{Disk, IsMoment}
+use Rattle.call_fs.specs.Disk.{Disk}
+use Rattle.mail_bytes.specs.Moments.{IsMoment}
 use Rattle.call_fs.specs.Maps.{put_at}
 use Rattle.call_fs.specs.Apply.{Apply, IsReadBy}
-use Rattle.call_fs.specs.Told.{OnTold, Meets}
+use Rattle.mail_bytes.specs.Told.{OnTold, Meets}
 use Rattle.call_fs.specs.declared.crash_file_system.Survival.{Survival}
 use Rattle.call_fs.specs.Choices.{Halts}
 use Rattle.call_fs.specs.Program.{Due}

@@ -7,17 +7,16 @@ use Rattle.call_fs.specs.declared.calls.Answer.{Answer}
 use Rattle.call_fs.specs.declared.calls.Told.{Told}
 use Rattle.call_fs.specs.declared.calls.Answer.TheVariants as answer
 use Rattle.call_fs.specs.Disk.{Disk}
-use Rattle.call_fs.specs.Steady.{IsSteadyAnswer}
-use Rattle.call_fs.specs.Told.{OnTold, Meets}
+use Rattle.mail_bytes.specs.Told.{OnTold, Meets}
 use Rattle.call_fs.specs.Plan.{Plan, CallKeepsPlan}
 use Rattle.call_fs.specs.Apply.{Apply, IsReadBy, MayCall}
 use Rattle.call_fs.specs.Program.{Due, Own}
 use Rattle.call_fs.specs.Program.Did.{Called}
-use Rattle.queue_inject.specs.Machine.{Machine}
 use Rattle.mail_world.specs.declared.event.Event.{Event as Kept}
 use Rattle.mail_world.specs.declared.event.Event.TheVariants as kept
 use Rattle.mail_world.specs.declared.event.Program.{Program}
 use Rattle.mail_world.specs.declared.actor.Actor.{Actor as Held}
+use Rattle.mail_world.specs.declared.mailer.Mailer.{Mailer}
 use Rattle.mail_world.specs.declared.actor.Came.{Came}
 use Rattle.mail_world.specs.declared.actor.Came.TheVariants as came
 use Rattle.mail_world.specs.declared.error.WorldError.{WorldError}
@@ -47,7 +46,7 @@ MayMake d (Due.File c) = MayCall d c
 MayMake d other = Unit {0}
 
 -- a machine that may act at this moment
-pub record MayAct (disk : Option Disk) (machine : Machine) (now : ℕ) : Type 0 where
+pub record MayAct (disk : Option Disk) (machine : Mailer) (now : ℕ) : Type 0 where
   pub program : Program
   pub past : List Own
   pub follows : Follows machine program past
@@ -63,19 +62,14 @@ abbrev pub IsMade : Came → ℕ → Option Disk → Option Disk → Type 0
 IsMade (came.Called call answer) now old new = Meets old new (λ before after. Apply before now call answer after)
 IsMade (came.Ended status) now old new = new ≡ old
 
--- and a steady disk lets it come
-abbrev pub IsSteadyCame : Disk → Came → Type 0
-IsSteadyCame d (came.Called call answer) = IsSteadyAnswer d answer
-IsSteadyCame d (came.Ended status) = Unit {0}
-
 -- what a plan says of it, and what is left of the plan
 abbrev pub IsPlannedCame : Came → Option Plan → Option Plan → Option Disk → Option Disk → Type 0
 IsPlannedCame (came.Called call answer) old new disk disk_after = CallKeepsPlan call old new disk disk_after answer
 IsPlannedCame (came.Ended status) old new disk disk_after = new ≡ old
 
 -- the call that was due and its answer as the newest event of a past
-abbrev pub with_call : Machine → List Own → CallData → Answer → List Own
-with_call machine past call answer = (record { read = machine.present; ready = machine.ready; did = Called call answer [] }) ∷ past
+abbrev pub with_call : Mailer → List Own → CallData → Answer → List Own
+with_call machine past call answer = (record { read = machine.injector.present; ready = machine.injector.ready; did = Called call answer [] }) ∷ past
 
 -- a call that came, as it is kept
 abbrev pub call_event : List ℕ → ℕ → CallData → Told → Kept

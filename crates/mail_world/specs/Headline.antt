@@ -11,8 +11,8 @@ use Rattle.queue_inject.specs.Texts.{message_text, intd_text, entered, todo_of, 
 use Rattle.call_fs.specs.Program.{Own}
 use Rattle.mail_world.specs.declared.event.Program.{Program}
 use Rattle.mail_world.specs.declared.event.Program.TheVariants.{Injector}
-use Rattle.mail_world.specs.declared.queue_states.State.TheVariants.{Other}
-use Rattle.mail_world.specs.States.{state_of}
+use Rattle.queue_states.specs.declared.state.State.TheVariants.{Other}
+use Rattle.queue_states.specs.States.{state_of}
 use Rattle.mail_world.specs.History.{Event, Actor, Injection, Books, State, after, Legal}
 use Rattle.mail_world.specs.History.Life.{Over}
 

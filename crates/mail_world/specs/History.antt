@@ -1,6 +1,6 @@
 -- Histories: what happens, the state after it, and which histories are legal. A history is the list of its events,
 -- the newest first, so that what is left of it is a history too.
-use Rattle.std.specs.Prelude.{◌≡◌, ℕ, zero, suc, ◌+◌, ◌≤◌, List, [], ◌∷◌, ◌++◌, Bool, true, false, Option, Some, None, option_map, option_to_list, if◌then◌else◌, bytes_eq, Contains, codes}
+use Rattle.std.specs.Prelude.{◌≡◌, ℕ, ◌+◌, ◌≤◌, List, [], ◌∷◌, ◌++◌, Bool, true, false, Option, Some, None, option_map, option_to_list, if◌then◌else◌, bytes_eq, Contains}
 use Rattle.call_fs.specs.declared.calls.CallData.{CallData}
 use Rattle.call_fs.specs.declared.calls.CallData.TheVariants.{Close, Link}
 use Rattle.call_fs.specs.declared.calls.Answer.{Answer}
@@ -9,13 +9,14 @@ use Rattle.call_fs.specs.declared.calls.Told.{Told}
 use Rattle.call_fs.specs.declared.program.Ready.{Ready}
 use Rattle.call_fs.specs.declared.crash_file_system.Survival.{Survival}
 use Rattle.call_fs.specs.Maps.{put, put_at}
-use Rattle.call_fs.specs.Disk.{Disk, IsMoment, IsSynced}
+use Rattle.call_fs.specs.Disk.{Disk, IsSynced}
+use Rattle.mail_bytes.specs.Moments.{IsMoment}
 use Rattle.call_fs.specs.Apply.{effect, Fits, IsReadBy}
 use Rattle.call_fs.specs.Survival.{AllSurvive, halted}
 use Rattle.call_fs.specs.Program.{Due, Own}
 use Rattle.call_fs.specs.Program.Did.{Called}
-use Rattle.mail_bytes.specs.Decimal.{digits}
 use Rattle.queue_inject.specs.declared.injection.Arguments.{Arguments}
+use Rattle.queue_paths.specs.Dirs.{queue_dirs}
 use Rattle.queue_paths.specs.Names.{Name, Part, path, parse}
 use Rattle.queue_paths.specs.Names.Name.{Of}
 use Rattle.queue_paths.specs.Names.Part.{Mess, Intd, Todo}
@@ -230,16 +231,6 @@ Allowed s (End a read ready status) = MayEnd s a read ready status
 Allowed s (Stop a) = IsLiving s a
 Allowed s (Moment m) = MayCome s m
 Allowed s (Halt how contents) = AllSurvive s.disk contents
-
--- the directories of the queue: four plain ones, and twenty-three below each of mess, info, local and remote
-abbrev pub splits_of : List ℕ → ℕ → List (List ℕ)
-splits_of dir zero = []
-splits_of dir (suc n) = (dir ++ 47 ∷ digits n) ∷ splits_of dir n
-
-abbrev pub queue_dirs : List (List ℕ)
-queue_dirs =
-    (codes "pid" ∷ codes "intd" ∷ codes "todo" ∷ codes "bounce" ∷ [])
-    ++ (splits_of (codes "mess") 23 ++ (splits_of (codes "info") 23 ++ (splits_of (codes "local") 23 ++ splits_of (codes "remote") 23)))
 
 -- A disk to begin with: the queue's directories are there, of the queue's names there are pid names at most, nothing
 -- is open, and each file is synced.

@@ -1,22 +1,26 @@
 -- What the fields of a world mean, and what they keep.
-use Rattle.std.specs.Prelude.{◌≡◌, ℕ, ◌≤◌, ◌==◌, List, [], ◌∷◌, map, reverse, count_by, Bool, false, Option, Some, None, IsSome, IsSomeAnd, is_some, is_none, IsTrue, bytes_eq}
+use Rattle.std.specs.Prelude.{◌≡◌, ℕ, ◌≤◌, ◌==◌, List, [], ◌∷◌, map, reverse, count_by, Bool, false, Option, Some, None, IsSome, IsSomeAnd, is_some, is_none, bytes_eq}
 use Rattle.std.specs.List.{list_any, slice_get}
 use Rattle.call_fs.specs.declared.calls.Fd.{Fd}
-use Rattle.call_fs.specs.Disk.{Disk, Open, Mode, IsMoment}
+use Rattle.call_fs.specs.Disk.{Disk, Open, Mode}
+use Rattle.mail_bytes.specs.Moments.{IsMoment}
 use Rattle.call_fs.specs.Apply.{empty_file}
-use Rattle.call_fs.specs.Told.{OnTold}
+use Rattle.mail_bytes.specs.Told.{OnTold}
 use Rattle.call_fs.specs.Program.{Own}
 use Rattle.queue_inject.specs.declared.injection.Arguments.{Arguments}
 use Rattle.queue_inject.specs.declared.row.Row.{Row}
 use Rattle.queue_inject.specs.declared.row.Row.TheVariants as at
 use Rattle.queue_inject.specs.Table.{row_after}
-use Rattle.queue_inject.specs.Machine.{Machine, is_told}
+use Rattle.queue_inject.specs.declared.injection.InputEnd.TheVariants.{Whole}
+use Rattle.queue_inject.specs.declared.injection.Part.{Part}
+use Rattle.queue_inject.specs.declared.injection.Part.TheVariants.{Message, Envelope}
 use Rattle.queue_inject.specs.Stands.{Stands}
 use Rattle.mail_world.specs.declared.event.Event.{Event as Kept}
 use Rattle.mail_world.specs.declared.event.Event.TheVariants as kept
 use Rattle.mail_world.specs.declared.event.Program.{Program}
 use Rattle.mail_world.specs.declared.event.Program.TheVariants.{Injector}
 use Rattle.mail_world.specs.declared.actor.Actor.{Actor as Held}
+use Rattle.mail_world.specs.declared.mailer.Mailer.{Mailer}
 use Rattle.mail_world.specs.History.{Event, Actor, State, after, latest}
 use Rattle.mail_world.specs.History.Event.{Start, Call, End, Stop, Moment, Halt}
 use Rattle.mail_world.specs.History.Life.{Alive}
@@ -40,14 +44,27 @@ nowhere = record { dirs = []; names = λ _. None; files = λ _. empty_file 0; op
 abbrev pub known : List Kept → State
 known events = after nowhere (map event_of (reverse events))
 
--- an injector's machine stands for this past, and was told its whole input
-pub record Injects (machine : Machine) (args : Arguments) (past : List Own) : Type 0 where
-  pub stands : Stands machine args past
-  pub told : IsTrue (is_told machine)
+-- these are the message and the envelope, both whole
+pub record AreInputs (args : Arguments) (message envelope : List ℕ) : Type 0 where
+  pub message_is : args.message ≡ message
+  pub message_whole : args.message_end ≡ Whole
+  pub envelope_is : args.envelope ≡ envelope
+  pub envelope_whole : args.envelope_end ≡ Whole
 
--- a machine is that of this program with this past
-abbrev pub Follows : Machine → Program → List Own → Type 0
-Follows machine (Injector args) past = Injects machine args past
+-- this is the part of the input, whole
+abbrev pub IsInput : Option Part → Arguments → List ℕ → Type 0
+IsInput None args text = Unit {0}
+IsInput (Some Message) args text = (args.message ≡ text) × (args.message_end ≡ Whole)
+IsInput (Some Envelope) args text = (args.envelope ≡ text) × (args.envelope_end ≡ Whole)
+
+-- an injector stands for this past, and what is kept beside it is its input
+pub record Injects (mailer : Mailer) (args : Arguments) (past : List Own) : Type 0 where
+  pub stands : Stands mailer.injector args past
+  pub inputs : AreInputs args mailer.message mailer.envelope
+
+-- an injector with its input is that of this program with this past
+abbrev pub Follows : Mailer → Program → List Own → Type 0
+Follows mailer (Injector args) past = Injects mailer args past
 
 -- the life of an actor that ended with this event, or lasts
 abbrev pub span_by : Option ℕ → Span

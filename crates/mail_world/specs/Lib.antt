@@ -1,5 +1,3 @@
--- the states of a message number
-pub mod States
 -- histories: what happens, the state after it, and which are legal
 pub mod History
 -- what is claimed of each state, and the headline

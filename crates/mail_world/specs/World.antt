@@ -8,11 +8,9 @@ use Rattle.call_fs.specs.declared.crash_file_system.Survival.{Survival}
 use Rattle.call_fs.specs.Choices.{AreNamed, contents_by}
 use Rattle.call_fs.specs.Plan.{Plan, CallKeepsPlan}
 use Rattle.call_fs.specs.Disk.{Disk}
-use Rattle.call_fs.specs.Steady.{IsSteadyAnswer}
-use Rattle.call_fs.specs.Told.{OnTold}
 use Rattle.queue_inject.specs.declared.injection.Arguments.{Arguments}
 use Rattle.queue_inject.specs.declared.injection.InputEnd.TheVariants.{Whole}
-use Rattle.queue_inject.specs.declared.received_line.Invoked.TheVariants.{Uid}
+use Rattle.received_line.specs.declared.line.Invoked.TheVariants.{Uid}
 use Rattle.mail_world.specs.declared.event.Event.{Event as Kept}
 use Rattle.mail_world.specs.declared.event.Event.TheVariants as kept
 use Rattle.mail_world.specs.declared.event.Program.TheVariants.{Injector}
@@ -189,26 +187,11 @@ GoesOnWith tells how old new = (opening : Disk) (h : List Event) → Happened te
     → (contents : ℕ → List ℕ) × Happened tells opening new (Halt how contents ∷ h)
 
 -- the world is as before, by all that its disk tells
-pub record IsAsBefore {D : Type 0} (tells : D → Option Disk) (plan : D → Option Plan) (steady : D → Type 0) (old new : Seen D) : Type 0 where
+pub record IsAsBefore {D : Type 0} (tells : D → Option Disk) (plan : D → Option Plan) (old new : Seen D) : Type 0 where
   pub events : new.events ≡ old.events
   pub present : new.present ≡ old.present
   pub disk : tells new.disk ≡ tells old.disk
   pub plan_is : plan new.disk ≡ plan old.disk
-  pub still : steady old.disk → steady new.disk
-
--- an event that a steady disk, which is this one before it, lets happen
-abbrev pub IsSteadyEvent : Disk → Kept → Type 0
-IsSteadyEvent d (kept.Start a program) = Unit {0}
-IsSteadyEvent d (kept.Call a read ready call told) = IsSteadyAnswer d told.answer
-IsSteadyEvent d (kept.End a read ready status) = Unit {0}
-IsSteadyEvent d (kept.Stop a) = Unit {0}
-IsSteadyEvent d (kept.Moment m) = Unit {0}
-IsSteadyEvent d (kept.Halt how) = Unit {0}
-
--- A disk that was steady is so still, and the one event that was appended is a steady disk's.
-abbrev pub StaysSteady : {D : Type 0} → (D → Type 0) → (D → Option Disk) → D → D → List Kept → List Kept → Type 0
-StaysSteady steady tells old new before now =
-    steady old → steady new × OnTold (tells old) (λ d. (e : Kept) → now ≡ before ++ e ∷ [] → IsSteadyEvent d e)
 
 -- what the plan of a disk says of an event, and what is left of it: a call is by the plan, and nothing else uses it up
 abbrev pub IsPlannedEvent : Kept → Option Plan → Option Plan → Option Disk → Option Disk → Type 0

@@ -1,42 +1,34 @@
 // One actor: its machine, and what it has open.
 ghost use Rattle.std.specs.Prelude.{◌≡◌, ◌++◌, ◌∷◌, ◌+◌, ◌<◌, [], List, ℕ, IfOk, IsTrue, OnOk, OnErr, Some, None, false, length, vec_len, vec_capacity};
 ghost use Rattle.call_fs.specs.declared.calls.CallData.{CallData as Made};
-ghost use Rattle.call_fs.specs.Disk.{IsMoment};
-ghost use Rattle.call_fs.specs.Told.{OnTold, Meets};
+ghost use Rattle.mail_bytes.specs.Moments.{IsMoment};
+ghost use Rattle.mail_bytes.specs.Told.{OnTold, Meets};
 ghost use Rattle.call_fs.specs.Program.{Own};
 ghost use Rattle.queue_inject.specs.Machine.{due_now, is_call};
 ghost use Rattle.mail_world.specs.declared.event.Program.{Program};
 ghost use Rattle.mail_world.specs.declared.event.Program.TheVariants.{Injector as Injecting};
 ghost use Rattle.mail_world.specs.History.{next_of};
-ghost use Rattle.mail_world.specs.World.{mail, input_ready, StaysSteady, GoesByPlan};
+ghost use Rattle.mail_world.specs.World.{mail, input_ready, GoesByPlan};
 ghost use Rattle.mail_world.specs.Inside.{Follows};
-ghost use Rattle.mail_world.specs.Acting.{MayAct, AreOpen, due_by, IsMade, IsSteadyCame, IsPlannedCame, IsCutOff, AreCutOff, HasActed, HasLooked, IsFinished, with_call, opened, shut};
+ghost use Rattle.mail_world.specs.Acting.{MayAct, AreOpen, due_by, IsMade, IsPlannedCame, IsCutOff, AreCutOff, HasActed, HasLooked, IsFinished, with_call, opened, shut};
 ghost use Rattle.mail_world.specs.declared.event.Event.TheVariants as kept;
 ghost use Rattle.mail_world.specs.Kept.{events_of, HasRoom};
 
+use crate::mailer::{MAIL_USER, Mailer, READY};
 use crate::{ActorName, Did, Event, History};
-use call_fs::{Answer, CallData, CallFs, Fd, Got, Need, Ready, Told, perform};
+use call_fs::{Answer, CallData, CallFs, Fd, Need, Told, perform};
 use mail_bytes::{ByteText, Memory};
-use queue_inject::received_line::Invoked;
-use queue_inject::{Arguments, Injector, InputEnd};
-use std::alloc::{AllocError, Global};
-
-/// The user whose mails a script starts.
-pub const MAIL_USER: u32 = 1000;
-
-/// What an injector finds ready: its input, which was told to its end when it was started.
-pub const READY: Ready = Ready {
-    links: [true, false, false, false],
-    child: None,
-};
+use queue_inject::{Arguments, InputEnd};
+use received_line::Invoked;
+use std::alloc::Global;
 
 /// An actor of the world.
 #[derive(Drop)]
 pub struct Actor {
     /// Its name.
     pub name: ActorName,
-    /// Its machine.
-    pub machine: Injector,
+    /// Its machine, and its input.
+    pub machine: Mailer,
     /// Its open descriptors.
     pub descriptors: Vec<Fd>,
     /// The index of its end or stop in the history, where it has ended.
@@ -54,7 +46,7 @@ pub enum Came {
 
 impl Actor {
     /// A living actor that has nothing open. Takes no memory.
-    pub fn new(alloc: Global, name: ActorName, machine: Injector) -> Actor
+    pub fn new(alloc: Global, name: ActorName, machine: Mailer) -> Actor
         ensures name { result.name ≡ name }
         ensures machine { result.machine ≡ machine }
         ensures descriptors { result.descriptors.items ≡ [] }
@@ -76,8 +68,6 @@ impl Actor {
         ensures due { IfOk result (λ came. (program : Program) (past : List Own)
             → Follows self.old.machine program past → next_of program past now input_ready ≡ due_by came) }
         ensures made { IfOk result (λ came. IsMade came now (D.disk disk.old) (D.disk disk.new)) }
-        ensures steady { IfOk result (λ came. D.steady disk.old → D.steady disk.new
-            × OnTold (D.disk disk.old) (λ before. IsSteadyCame before came)) }
         ensures plan { IfOk result (λ came. IsPlannedCame came (D.plan disk.old) (D.plan disk.new)
             (D.disk disk.old) (D.disk disk.new)) }
         ensures room { OnOk result (vec_len self.new.descriptors < vec_capacity self.new.descriptors) }
@@ -85,9 +75,9 @@ impl Actor {
         // The machine stands as before, and has read this moment.
         ensures follows { (program : Program) (past : List Own)
             → Follows self.old.machine program past → Follows self.new.machine program past }
-        ensures present { OnOk result (self.new.machine.present ≡ now) }
-        ensures ready { OnOk result (self.new.machine.ready ≡ input_ready) }
-        ensures due_now { IfOk result (λ came. due_now self.new.machine ≡ due_by came) }
+        ensures present { OnOk result (self.new.machine.injector.present ≡ now) }
+        ensures ready { OnOk result (self.new.machine.injector.ready ≡ input_ready) }
+        ensures due_now { IfOk result (λ came. due_now self.new.machine.injector ≡ due_by came) }
 
         // The rest stays.
         ensures name { self.new.name ≡ self.old.name }
@@ -96,7 +86,7 @@ impl Actor {
         ensures err { OnErr result (disk.new ≡ disk.old) }
     {
         self.descriptors.reserve(1)?;
-        self.machine.look(now, READY);
+        self.machine.look(now);
         match self.machine.need() {
             Need::File(call) => {
                 let owned = CallData::of(alloc, call)?;
@@ -125,8 +115,6 @@ impl Actor {
         requires room { HasRoom history.old 1 }
         ensures acted { IfOk result (λ did. HasActed did.ended (D.disk disk.old) (D.disk disk.new)
             self.old self.new (events_of history.old) (events_of history.new) now) }
-        ensures steady { OnOk result (StaysSteady D.steady D.disk disk.old disk.new
-            (events_of history.old) (events_of history.new)) }
         ensures plan { OnOk result (GoesByPlan D.plan D.disk disk.old disk.new
             (events_of history.old) (events_of history.new)) }
         ensures at { IfOk result (λ did. did.at ≡ length (events_of history.old)) }
@@ -166,7 +154,7 @@ impl Actor {
     /// Hands the answer to its call to its machine, and keeps what was opened. The conditions: a call is due, and there
     /// is room for a descriptor.
     fn take(&mut self, answer: Answer)
-        requires due { IsTrue (is_call (due_now self.old.machine)) }
+        requires due { IsTrue (is_call (due_now self.old.machine.injector)) }
         requires room { vec_len self.old.descriptors < vec_capacity self.old.descriptors }
         ensures follows { (program : Program) (past : List Own) (call : Made) → Follows self.old.machine program past
             → Follows self.new.machine program (with_call self.old.machine past call answer) }
@@ -175,7 +163,7 @@ impl Actor {
         ensures ended { self.new.ended ≡ self.old.ended }
     {
         keep_open(&mut self.descriptors, &answer);
-        self.machine.done(Got::File(answer, &[])).unwrap();
+        self.machine.done(answer);
     }
 
     /// It is stopped from outside: the event is appended, and its descriptors are closed. Takes no memory. The
@@ -185,8 +173,6 @@ impl Actor {
         requires room { HasRoom history.old 1 }
         ensures stopped { IsFinished (kept.Stop self.old.name) (D.disk disk.old) (D.disk disk.new)
             self.old self.new (events_of history.old) (events_of history.new) }
-        ensures steady { StaysSteady D.steady D.disk disk.old disk.new
-            (events_of history.old) (events_of history.new) }
         ensures plan { GoesByPlan D.plan D.disk disk.old disk.new
             (events_of history.old) (events_of history.new) }
         ensures room { (more : ℕ) → HasRoom history.old (more + 1) → HasRoom history.new more }
@@ -203,7 +189,6 @@ impl Actor {
         requires { OnTold (D.disk disk.old) (λ before. AreOpen before self.old.descriptors.items) }
         ensures closed { Meets (D.disk disk.old) (D.disk disk.new)
             (λ before after. after ≡ shut self.old.descriptors.items before) }
-        ensures steady { D.steady disk.old → D.steady disk.new }
         ensures plan { D.plan disk.new ≡ D.plan disk.old }
         ensures descriptors { self.new.descriptors.items ≡ [] }
         ensures ended { self.new.ended ≡ Some at }
@@ -259,37 +244,12 @@ fn close_all<D: CallFs>(disk: &mut D, descriptors: &mut Vec<Fd>)
     requires { OnTold (D.disk disk.old) (λ before. AreOpen before descriptors.old.items) }
     ensures closed { Meets (D.disk disk.old) (D.disk disk.new)
         (λ before after. after ≡ shut descriptors.old.items before) }
-    ensures steady { D.steady disk.old → D.steady disk.new }
     ensures plan { D.plan disk.new ≡ D.plan disk.old }
     ensures none { descriptors.new.items ≡ [] }
 {
     while let Some(fd) = descriptors.pop() {
         let _ = disk.close(fd);
     }
-}
-
-/// An injector that was fed its whole input.
-pub fn injector_of(
-    alloc: Global,
-    pid: u32,
-    start: u64,
-    message: &[u8],
-    envelope: &[u8],
-) -> Result<Injector, Memory>
-    requires { IsMoment start }
-    ensures { IfOk result (λ machine.
-        Follows machine (Injecting (mail pid start message.now envelope.now)) []) }
-{
-    let Some(room) = message.len().checked_add(envelope.len()) else {
-        return Err(AllocError);
-    };
-    let invoked = Invoked::Uid(MAIL_USER);
-    let mut injector = Injector::new(alloc, MAIL_USER, pid, invoked, start, room)?;
-    injector.feed(message);
-    injector.end_input();
-    injector.feed(envelope);
-    injector.end_input();
-    Ok(injector)
 }
 
 /// What the injector of a mail is started with.

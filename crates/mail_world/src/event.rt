@@ -8,14 +8,14 @@ use queue_inject::Arguments;
 use std::alloc::Global;
 
 /// A program, and what it is started with.
-#[derive(Debug, Drop)]
+#[derive(Drop)]
 pub enum Program {
     /// An injector.
     Injector(Arguments),
 }
 
 /// One event of a history. An actor's event also tells the moment that it read and what it found ready.
-#[derive(Debug, Drop)]
+#[derive(Drop)]
 pub enum Event {
     /// An actor was started.
     Start {
@@ -66,7 +66,7 @@ pub enum Event {
 }
 
 /// A history, the oldest event first.
-#[derive(Debug, Drop)]
+#[derive(Drop)]
 pub struct History {
     events: Vec<Event>,
 }

@@ -12,8 +12,8 @@ mod error;
 mod event;
 pub mod laws;
 mod mail_name;
+mod mailer;
 mod places;
-pub mod queue_states;
 mod world;
 
 pub use actor_name::ActorName;

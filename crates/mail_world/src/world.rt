@@ -1,20 +1,22 @@
 // The world: the disk, the actors, the history.
 ghost use Rattle.std.specs.Prelude.{◌≡◌, ◌≢◌, ◌∷◌, ◌++◌, ◌⊎◌, ◌↔◌, ◌<◌, ◌≤◌, [], List, ℕ, Some, None, true, false, length, IsTrue, IsSomeAnd, IsOk, IfOk, IfErr, OnOk, OnErr};
 ghost use Rattle.std.specs.List.{slice_get};
-ghost use Rattle.call_fs.specs.Disk.{Disk, IsMoment, IsUnused};
-ghost use Rattle.call_fs.specs.Told.{OnTold, Meets};
+ghost use Rattle.call_fs.specs.Disk.{Disk, IsUnused};
+ghost use Rattle.mail_bytes.specs.Moments.{IsMoment};
+ghost use Rattle.mail_bytes.specs.Told.{OnTold, Meets};
 ghost use Rattle.call_fs.specs.Choices.{Halts};
 ghost use Rattle.call_fs.specs.Plan.{with_fault, with_pick};
 ghost use Rattle.mail_world.specs.History.{Opening, Legal, Event as Happening};
 ghost use Rattle.mail_world.specs.Kept.{events_of};
 ghost use Rattle.mail_world.specs.MailNames.{IsMailName};
-ghost use Rattle.mail_world.specs.World.{Leads, Happened, GoesOn, EachSafe, was_started, EndsAt, started_world, moment_world, IsStep, IsStop, StaysSteady, GoesByPlan, IsHalt, GoesOnWith, IsAsBefore};
+ghost use Rattle.mail_world.specs.World.{Leads, Happened, GoesOn, EachSafe, was_started, EndsAt, started_world, moment_world, IsStep, IsStop, GoesByPlan, IsHalt, GoesOnWith, IsAsBefore};
 ghost use Rattle.mail_world.specs.Acting.{IsNoLiving};
 ghost use Rattle.mail_world.specs.Places.{place_of};
 
-use crate::actor::{Actor, cut_off_all, injector_of, mail_of};
+use crate::actor::{Actor, cut_off_all, mail_of};
 use crate::laws::headline;
 use crate::mail_name::is_mail_name;
+use crate::mailer::Mailer;
 use crate::places::Places;
 use crate::{ActorName, Event, History, Program, WorldError};
 use call_fs::{CallFs, CrashFs, Survival, Taken};
@@ -26,7 +28,7 @@ use std::marker::Model;
 const FIRST_PID: u32 = 77;
 
 /// What a step did.
-#[derive(Clone, Copy, Debug, PartialEq, Eq)]
+#[derive(Clone, Copy)]
 pub struct Did {
     /// The index of its event in the history, from 0.
     pub at: u64,
@@ -160,7 +162,7 @@ impl<D: CallFs> World<D> {
         ensures goes_on { OnOk result (GoesOn D.disk self.old self.new) }
         ensures err { OnErr result (self.new ≡ self.old) }
     {
-        let machine = injector_of(alloc, self.next_pid, self.present, message, envelope)?;
+        let machine = Mailer::new(alloc, self.next_pid, self.present, message, envelope)?;
         let arguments = mail_of(alloc, self.next_pid, self.present, message, envelope)?;
         self.actors.reserve(1)?;
         // for its start, and for the stop of each actor, of this one too
@@ -178,15 +180,13 @@ impl<D: CallFs> World<D> {
 
     /// One step of an actor: its next file call, or its end, in which its descriptors are closed. `Unknown` exactly
     /// where no actor of this name was started, `Gone` exactly where it has ended or was stopped. `NotWaiting` would
-    /// come where an actor waits, and never does: each is an injector that has its whole input.
+    /// come where an actor waits, and never does: each is an injector whose whole input the world has.
     pub fn step(&mut self, alloc: Global, actor: &ActorName) -> Result<Did, WorldError>
         ensures event { IfOk result (λ did. IsStep actor.now did.ended self.old self.new) }
         ensures present { self.new.present ≡ self.old.present }
         ensures at { IfOk result (λ did. did.at ≡ length self.old.events) }
         ensures idle { IfOk result (λ did. did.idle ≡ false) }
         ensures goes_on { OnOk result (GoesOn D.disk self.old self.new) }
-        ensures steady { OnOk result (StaysSteady D.steady D.disk self.old.disk self.new.disk
-            self.old.events self.new.events) }
         ensures plan { OnOk result (GoesByPlan D.plan D.disk self.old.disk self.new.disk
             self.old.events self.new.events) }
 
@@ -211,8 +211,6 @@ impl<D: CallFs> World<D> {
     pub fn stop(&mut self, actor: &ActorName) -> Result<(), WorldError>
         ensures event { OnOk result (IsStop actor.now self.old self.new) }
         ensures goes_on { OnOk result (GoesOn D.disk self.old self.new) }
-        ensures steady { OnOk result (StaysSteady D.steady D.disk self.old.disk self.new.disk
-            self.old.events self.new.events) }
         ensures plan { OnOk result (GoesByPlan D.plan D.disk self.old.disk self.new.disk
             self.old.events self.new.events) }
 
@@ -235,8 +233,6 @@ impl<D: CallFs> World<D> {
         requires { IsMoment moment }
         ensures came { OnOk result (self.new ≡ moment_world self.old moment) }
         ensures goes_on { OnOk result (GoesOn D.disk self.old self.new) }
-        ensures steady { OnOk result (StaysSteady D.steady D.disk self.old.disk self.new.disk
-            self.old.events self.new.events) }
         ensures plan { OnOk result (GoesByPlan D.plan D.disk self.old.disk self.new.disk
             self.old.events self.new.events) }
 
@@ -267,11 +263,9 @@ impl<D: CrashFs> World<D> {
         ensures goes_on { OnOk result (GoesOnWith D.disk how self.old self.new) }
         ensures over { OnOk result ((actor : List ℕ) → was_started self.old.events actor ≡ true
             → (at : ℕ) × EndsAt self.new.events actor at) }
-        ensures steady { OnOk result (StaysSteady D.steady D.disk self.old.disk self.new.disk
-            self.old.events self.new.events) }
         ensures plan { OnOk result (GoesByPlan D.plan D.disk self.old.disk self.new.disk
             self.old.events self.new.events) }
-        ensures err { OnErr result (IsAsBefore D.disk D.plan D.steady self.old self.new) }
+        ensures err { OnErr result (IsAsBefore D.disk D.plan self.old self.new) }
     {
         // for this event; none that lives is left to be stopped
         self.history.reserve(self.actors.len() + 1)?;
@@ -303,7 +297,7 @@ impl<D: CrashFs> World<D> {
         ensures ok { OnOk result (Meets (D.plan self.old.disk) (D.plan self.new.disk)
             (λ before after. after ≡ with_pick number before)) }
         ensures unused { OnTold (D.disk self.old.disk) (λ before. IsOk result ↔ IsUnused before number) }
-        ensures err { OnErr result (IsAsBefore D.disk D.plan D.steady self.old self.new) }
+        ensures err { OnErr result (IsAsBefore D.disk D.plan self.old self.new) }
         ensures disk { D.disk self.new.disk ≡ D.disk self.old.disk }
         ensures events { self.new.events ≡ self.old.events }
         ensures present { self.new.present ≡ self.old.present }

@@ -1,6 +1,6 @@
 -- Calls in a row on a disk that may tell what it holds.
 use Rattle.std.proofs.Common.{Option, Some, None}
-use Rattle.call_fs.specs.Told.{Meets, OnTold}
+use Rattle.mail_bytes.specs.Told.{Meets, OnTold}
 
 pub told_weaker : {X : Type 0} (a b : Option X) {P Q : X → X → Type 0} → ((x y : X) → P x y → Q x y) → Meets a b P → Meets a b Q
 told_weaker None None f h = tt

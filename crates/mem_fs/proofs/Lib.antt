@@ -15,5 +15,3 @@ pub mod Uses
 pub mod Changes
 pub mod Steps
 pub mod InTurn
-pub mod TwoNames
-pub mod OpenInTurn

@@ -8,7 +8,7 @@ use Rattle.std.proofs.lemmas.List.Sums.{sum_by-remove, length-filter}
 use Rattle.mem_fs.specs.declared.file.Inode.{Inode}
 use Rattle.call_fs.specs.Disk.{Open, Mode, IsUnused}
 use Rattle.mem_fs.specs.Tables.{at_name, at_number}
-use Rattle.call_fs.specs.Steady.{IsFree, IsLeastFree}
+use Rattle.call_fs.specs.Free.{IsFree, IsLeastFree}
 use Rattle.mem_fs.specs.MemDisk.{Held, disk_of, links_of, holds_of, count_of, names_of, opens_of, IsSound, IsIdle, IsGreatestFree, NoneFree}
 use Rattle.call_fs.proofs.Maps.{bytes_eq-decides}
 use Rattle.mem_fs.proofs.Tables.{place_of_found}

@@ -5,7 +5,7 @@ use Rattle.call_fs.specs.declared.calls.FsError.{FsError}
 use Rattle.call_fs.specs.declared.calls.FsError.TheVariants.{NotThere, Exists, Fault, Memory}
 use Rattle.mem_fs.specs.declared.file.Inode.{Inode}
 use Rattle.call_fs.specs.Disk.{File, Open, Disk}
-use Rattle.call_fs.specs.Steady.{IsFree, IsLeastFree}
+use Rattle.call_fs.specs.Free.{IsFree, IsLeastFree}
 use Rattle.call_fs.specs.Plan.{Plan, no_plan}
 use Rattle.call_fs.specs.Maps.{put, put_at}
 use Rattle.mem_fs.specs.MemFile.{no_file, settled_file}

@@ -3,26 +3,27 @@ ghost use Rattle.std.specs.Prelude.{◌≡◌, ◌≤◌, ◌↔◌, IsTrue, IsO
 ghost use Rattle.std.specs.Option.{option_copied};
 ghost use Rattle.call_fs.specs.declared.calls.CallData.TheVariants as call;
 ghost use Rattle.call_fs.specs.declared.calls.Answer.TheVariants as answer;
-ghost use Rattle.call_fs.specs.Disk.{IsMoment, MayUse, MayAppend, MayWrite, MayCut};
+ghost use Rattle.call_fs.specs.Disk.{MayUse, MayAppend, MayWrite, MayCut};
+ghost use Rattle.mail_bytes.specs.Moments.{IsMoment};
 ghost use Rattle.call_fs.specs.Calls.{created, opened, counted, done, stated, next_found};
 ghost use Rattle.call_fs.specs.Apply.{Apply, IsNextName, IsLastName};
 ghost use Rattle.call_fs.specs.Columns.{IsRead};
 ghost use Rattle.call_fs.specs.Choices.{Halts};
 ghost use Rattle.call_fs.specs.Told.{HasCause};
-ghost use Rattle.call_fs.specs.Steady.{IsFree, IsNextDescriptor};
+ghost use Rattle.call_fs.specs.Free.{IsFree, IsNextDescriptor};
 ghost use Rattle.mem_fs.specs.MemDisk.{disk_of, fresh, with_dir, with_held, bytes_at, Places, Counts, NoneFree, IsNextNumber, IsPickedNumber, empty_plan};
 
 use crate::picks::Picks;
 use crate::plan::Plan;
 use crate::store::Store;
-use call_fs::{CallFs, Fd, FsError, How, NameBuf, Stat, Survival};
-use mail_bytes::Memory;
+use call_fs::{CallFs, Fd, FsError, How, Stat, Survival};
+use mail_bytes::{Memory, NameBuf};
 use std::alloc::Global;
 use std::marker::Model;
 
 /// A disk in memory. It keeps plain lists, tells what it holds, and fails at the calls that were planned and at no
 /// others. A file that nothing uses any more is kept until its number is taken again.
-#[derive(Debug, Drop)]
+#[derive(Drop)]
 pub struct MemFs {
     store: Store,
     picks: Picks,
@@ -194,7 +195,6 @@ impl CallFs for MemFs {
     ghost faults = { λ m. m.faults };
 
     // without picks, and without calls that are to fail
-    ghost steady = { λ m. (m.picks ≡ []) × (m.plan ≡ []) };
 
     ghost plan = { λ m. empty_plan m.picks m.plan };
 

@@ -1,7 +1,7 @@
 // One file in memory.
 ghost use Rattle.std.specs.Prelude.{◌≡◌, ◌++◌, ◌∷◌, [], ◌<◌, ◌≤◌, ◌+◌, ◌^◌, ◌↔◌, min, length, take, drop, IfOk, OnOk, OnErr, IsTrue, vec_len, vec_capacity};
 ghost use Rattle.std.specs.List.{enumerate_from};
-ghost use Rattle.call_fs.specs.Disk.{IsMoment};
+ghost use Rattle.mail_bytes.specs.Moments.{IsMoment};
 ghost use Rattle.call_fs.specs.Apply.{empty_file, lying, put_over, grown, overwritten, cut, synced};
 ghost use Rattle.call_fs.specs.Survival.{settled};
 ghost use Rattle.mem_fs.specs.MemFile.{settled_file, IsSurvivor};
@@ -12,7 +12,7 @@ use std::marker::Model;
 
 /// A file: its bytes, those at the last sync, what places of those were given since, the least and the greatest length
 /// since, and its moment. There is always room to keep its bytes, so that a sync takes no memory.
-#[derive(Debug, Drop)]
+#[derive(Drop)]
 pub struct FileData {
     bytes: Vec<u8>,
     kept: Vec<u8>,
@@ -24,7 +24,8 @@ pub struct FileData {
 
 impl Model for FileData {
     ghost use Rattle.std.specs.Prelude.{◌≤◌, vec_len, vec_capacity};
-    ghost use Rattle.call_fs.specs.Disk.{File, IsMoment};
+    ghost use Rattle.call_fs.specs.Disk.{File};
+    ghost use Rattle.mail_bytes.specs.Moments.{IsMoment};
     ghost use Rattle.mem_fs.specs.MemFile.{IsSurvivor};
 
     ghost Value = { File };
@@ -277,7 +278,7 @@ fn keep(kept: &mut Vec<u8>, bytes: &[u8])
 }
 
 /// What a number has: how many names, how many open descriptors, and its file.
-#[derive(Debug, Drop)]
+#[derive(Drop)]
 pub struct Inode {
     pub links: usize,
     pub opens: usize,

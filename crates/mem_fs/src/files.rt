@@ -1,6 +1,6 @@
 // The files of a disk in memory, by number.
 ghost use Rattle.std.specs.Prelude.{◌≡◌, ◌≢◌, ◌≤◌, ◌<◌, ◌+◌, ◌-◌, ◌^◌, ℕ, IsSome, IfSome, IfNone, IsTrue, ◌↔◌, OnOk, OnErr, length};
-ghost use Rattle.call_fs.specs.Disk.{IsMoment};
+ghost use Rattle.mail_bytes.specs.Moments.{IsMoment};
 ghost use Rattle.call_fs.specs.Apply.{grown, overwritten, cut, synced};
 ghost use Rattle.mem_fs.specs.Tables.{at_number, AreNumbersInOrder};
 ghost use Rattle.mem_fs.specs.MemDisk.{file_at, links_of, holds_of, IsIdle, Changes, on_file, linked, unlinked, opened, closed};

@@ -13,7 +13,5 @@ mod part;
 mod picks;
 mod plan;
 mod store;
-#[cfg(test)]
-mod tests;
 
 pub use disk::MemFs;

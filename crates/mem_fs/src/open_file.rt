@@ -6,7 +6,7 @@ use call_fs::How;
 use std::marker::Model;
 
 /// How a descriptor came to be.
-#[derive(Clone, Copy, Debug, PartialEq, Eq)]
+#[derive(Clone, Copy)]
 pub enum Origin {
     /// Its file was created.
     Created,
@@ -15,7 +15,7 @@ pub enum Origin {
 }
 
 /// An open descriptor: the number of its file, and how it came to be.
-#[derive(Debug, Drop)]
+#[derive(Drop)]
 pub struct OpenFile {
     number: u64,
     origin: Origin,

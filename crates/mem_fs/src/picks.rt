@@ -4,7 +4,7 @@ ghost use Rattle.std.specs.Prelude.{◌≡◌, ◌≤◌, length, drop};
 use std::marker::Model;
 
 /// The picks that are left; contracts see them as their list.
-#[derive(Debug, Drop)]
+#[derive(Drop)]
 pub struct Picks {
     all: Vec<u64>,
     used: usize,

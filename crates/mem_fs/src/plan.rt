@@ -1,12 +1,12 @@
 // Which calls are to fail.
 ghost use Rattle.std.specs.Prelude.{◌≡◌, ◌↔◌, Contains, IsErr, IsOkUnless, OnErr, ◌≤◌, is_err, if◌then◌else◌};
-ghost use Rattle.call_fs.specs.Told.{Rose};
+ghost use Rattle.mail_bytes.specs.Told.{Rose};
 ghost use Rattle.mem_fs.specs.MemDisk.{one_more};
 
 use call_fs::FsError;
 
 /// Counts calls, and makes those fail that are planned.
-#[derive(Debug, Drop)]
+#[derive(Drop)]
 pub struct Plan {
     /// The calls that are to fail, by their index from 1.
     pub at: Vec<u64>,

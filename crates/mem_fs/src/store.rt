@@ -4,11 +4,12 @@ ghost use Rattle.std.specs.Option.{option_copied, option_map};
 ghost use Rattle.call_fs.specs.declared.calls.CallData.TheVariants as call;
 ghost use Rattle.call_fs.specs.declared.calls.Answer.TheVariants as answer;
 ghost use Rattle.call_fs.specs.Maps.{put, put_at};
-ghost use Rattle.call_fs.specs.Disk.{Disk, HasDir, IsMoment, IsUnused};
+ghost use Rattle.call_fs.specs.Disk.{Disk, HasDir, IsUnused};
+ghost use Rattle.mail_bytes.specs.Moments.{IsMoment};
 ghost use Rattle.call_fs.specs.Apply.{effect, IsStat, IsNextName, IsLastName};
 ghost use Rattle.call_fs.specs.Columns.{IsRead};
 ghost use Rattle.call_fs.specs.Choices.{Halts};
-ghost use Rattle.call_fs.specs.Steady.{IsFree, IsLeastFree, IsNextDescriptor};
+ghost use Rattle.call_fs.specs.Free.{IsFree, IsLeastFree, IsNextDescriptor};
 ghost use Rattle.mem_fs.specs.MemDisk.{disk_of, nothing, IsOpenOn, bytes_at, IsGreatestFree, NoneFree, AllOpen, with_dir, Places, PlacesNew};
 
 use crate::file::{FileData, Inode};
@@ -21,7 +22,7 @@ use std::marker::Model;
 
 /// Directories, names, files and open descriptors. A file that nothing uses any more is kept until its number is taken
 /// again.
-#[derive(Debug, Drop)]
+#[derive(Drop)]
 pub struct Store {
     dirs: Vec<ByteText>,
     names: Vec<(ByteText, u64)>,

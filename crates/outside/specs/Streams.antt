@@ -4,7 +4,7 @@ use Rattle.outside.specs.declared.source.Took.{Took}
 use Rattle.outside.specs.declared.source.Took.TheVariants as took
 use Rattle.outside.specs.declared.sink.Gave.{Gave}
 use Rattle.outside.specs.declared.sink.Gave.TheVariants as gave
-use Rattle.call_fs.specs.Told.{Rose}
+use Rattle.mail_bytes.specs.Told.{Rose}
 
 -- The count never falls, and a failure comes only where it rose.
 pub record Counts (before now : ℕ) (Failure : Type 0) : Type 0 where

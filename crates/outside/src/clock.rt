@@ -1,10 +1,10 @@
 // The clock.
 ghost use Rattle.std.specs.Prelude.{◌≡◌, ◌≤◌, ℕ, List, Option};
-ghost use Rattle.call_fs.specs.Disk.{IsMoment};
-ghost use Rattle.call_fs.specs.Told.{Records};
+ghost use Rattle.mail_bytes.specs.Moments.{IsMoment};
+ghost use Rattle.mail_bytes.specs.Told.{Records};
 ghost use Rattle.outside.specs.Forms.{next_told};
 
-use call_fs::LAST_MOMENT;
+use mail_bytes::LAST_MOMENT;
 use std::marker::Model;
 
 /// The moment, and the number of this process.
@@ -33,7 +33,7 @@ pub trait Clock {
 
 /// A clock in memory: moments one after another, of which the last one stays. A moment past the last one of all, or
 /// before an earlier one, is told as that one.
-#[derive(Debug, Drop)]
+#[derive(Drop)]
 pub struct MemClock {
     moments: Vec<u64>,
     at: usize,
@@ -43,7 +43,7 @@ pub struct MemClock {
 
 impl Model for MemClock {
     ghost use Rattle.std.specs.Prelude.{drop};
-    ghost use Rattle.call_fs.specs.Disk.{IsMoment};
+    ghost use Rattle.mail_bytes.specs.Moments.{IsMoment};
     ghost use Rattle.outside.specs.Forms.{ClockForm};
 
     ghost Value = { ClockForm };
@@ -91,22 +91,5 @@ impl Clock for MemClock {
 
     fn pid(&self) -> u32 {
         self.pid
-    }
-}
-
-#[cfg(test)]
-mod tests {
-    use super::*;
-    use std::test::Fail;
-
-    #[test]
-    fn moments(rt: HostRuntime) -> Result<(), Fail> {
-        let mut clock = MemClock::new(vec![in rt.alloc(); 5u64, 3, 250_000_000_001]?, 77);
-        assert_eq!(rt; clock.now(), 5);
-        assert_eq!(rt; clock.now(), 5);
-        assert_eq!(rt; clock.now(), 250_000_000_000);
-        assert_eq!(rt; clock.now(), 250_000_000_000);
-        assert_eq!(rt; clock.pid(), 77);
-        Ok(())
     }
 }

@@ -5,7 +5,7 @@ ghost use Rattle.outside.specs.Forms.{FailsNext, after_call, after_failure, new_
 use std::marker::Model;
 
 /// Which calls of a form in memory fail, how many calls there were, and how many have failed.
-#[derive(Debug, Drop)]
+#[derive(Drop)]
 pub struct FaultPlan {
     calls: u64,
     failing: Vec<u64>,

@@ -1,6 +1,6 @@
 // What children and the program's own input send.
 ghost use Rattle.std.specs.Prelude.{◌≡◌, ◌<◌, ℕ, List, [], Option, flat_map, if◌then◌else◌, length, map, slice_index_or};
-ghost use Rattle.call_fs.specs.Told.{Meets, Records};
+ghost use Rattle.mail_bytes.specs.Told.{Meets, Records};
 ghost use Rattle.outside.specs.Streams.{Counts};
 ghost use Rattle.outside.specs.Children.{Arrival, FillsFront, IsFailure, Posted, Receives, arrivals, is_failure, posted};
 ghost use Rattle.outside.specs.Forms.{IsWithin, raised, rest_of};
@@ -10,7 +10,7 @@ use mail_bytes::ByteText;
 use std::marker::Model;
 
 /// What came of asking for a post. Channel 0 is the program's own input, the others are its children.
-#[derive(Clone, Copy, Debug, PartialEq, Eq)]
+#[derive(Clone, Copy, PartialEq, Eq)]
 pub enum Post {
     /// Bytes of a channel.
     Bytes {
@@ -59,7 +59,7 @@ pub trait Posts {
 }
 
 /// A post of a form in memory.
-#[derive(Debug, Drop)]
+#[derive(Drop)]
 pub enum Waiting {
     /// Bytes of a channel.
     Bytes {
@@ -81,7 +81,7 @@ pub enum Waiting {
 }
 
 /// Posts in memory: one after another, and then nothing more.
-#[derive(Debug, Drop)]
+#[derive(Drop)]
 pub struct MemPosts {
     posts: Vec<Waiting>,
     at: usize,
@@ -184,34 +184,5 @@ fn size(post: &Waiting) -> usize
     match post {
         Waiting::Bytes { bytes, .. } => bytes.len(),
         Waiting::End { .. } | Waiting::Failed { .. } => 1,
-    }
-}
-
-#[cfg(test)]
-mod tests {
-    use super::*;
-    use std::test::Fail;
-
-    #[test]
-    fn posts_in_order(rt: HostRuntime) -> Result<(), Fail> {
-        let alloc = rt.alloc();
-        let mut waiting = Vec::new(alloc);
-        let bytes = ByteText::from_slice(alloc, b"abc")?;
-        waiting.push(Waiting::Bytes { chan: 1, bytes })?;
-        let bytes = ByteText::new(alloc);
-        waiting.push(Waiting::Bytes { chan: 2, bytes })?;
-        waiting.push(Waiting::Failed { chan: 2 })?;
-        waiting.push(Waiting::End { chan: 1 })?;
-        let mut posts = MemPosts::new(waiting);
-        let mut into = [0; 2];
-        assert_eq!(rt; posts.next(&mut into), Post::Bytes { chan: 1, len: 2 });
-        assert_eq!(rt; &into, b"ab");
-        assert_eq!(rt; posts.next(&mut into), Post::Bytes { chan: 1, len: 1 });
-        assert_eq!(rt; &into, b"cb");
-        assert_eq!(rt; posts.next(&mut into), Post::Failed { chan: 2 });
-        assert_eq!(rt; posts.faults(), 1);
-        assert_eq!(rt; posts.next(&mut into), Post::End { chan: 1 });
-        assert_eq!(rt; posts.next(&mut into), Post::Turn);
-        Ok(())
     }
 }

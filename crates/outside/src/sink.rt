@@ -1,6 +1,6 @@
 // Where bytes go to.
 ghost use Rattle.std.specs.Prelude.{◌≡◌, ℕ, List, [], Option};
-ghost use Rattle.call_fs.specs.Told.{Meets};
+ghost use Rattle.mail_bytes.specs.Told.{Meets};
 ghost use Rattle.outside.specs.Streams.{Counts, Gives, gave_failed};
 ghost use Rattle.outside.specs.Forms.{FailsNext, after_call, new_plan};
 
@@ -9,7 +9,7 @@ use std::alloc::Global;
 use std::marker::Model;
 
 /// What came of giving bytes.
-#[derive(Clone, Copy, Debug, PartialEq, Eq)]
+#[derive(Clone, Copy, PartialEq, Eq)]
 pub enum Gave {
     /// All were taken.
     Done,
@@ -36,7 +36,7 @@ pub trait Sink {
 }
 
 /// A sink in memory, which keeps what it took.
-#[derive(Debug, Drop)]
+#[derive(Drop)]
 pub struct MemSink {
     taken: Vec<u8>,
     plan: FaultPlan,
@@ -95,23 +95,5 @@ impl Sink for MemSink {
             return Gave::Failed;
         }
         Gave::Done
-    }
-}
-
-#[cfg(test)]
-mod tests {
-    use super::*;
-    use std::test::Fail;
-
-    #[test]
-    fn bytes_and_a_failure(rt: HostRuntime) -> Result<(), Fail> {
-        let alloc = rt.alloc();
-        let mut sink = MemSink::new(alloc, vec![in alloc; 2u64]?);
-        assert_eq!(rt; sink.give(b"ab"), Gave::Done);
-        assert_eq!(rt; sink.give(b"c"), Gave::Failed);
-        assert_eq!(rt; sink.give(b"d"), Gave::Done);
-        assert_eq!(rt; sink.taken(), b"abd".as_slice());
-        assert_eq!(rt; sink.faults(), 1);
-        Ok(())
     }
 }

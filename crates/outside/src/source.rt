@@ -1,6 +1,6 @@
 // Where bytes come from.
 ghost use Rattle.std.specs.Prelude.{◌≡◌, ◌<◌, ◌↔◌, ℕ, List, [], Option, length, min, take, flat_map, slice_index_or};
-ghost use Rattle.call_fs.specs.Told.{Meets};
+ghost use Rattle.mail_bytes.specs.Told.{Meets};
 ghost use Rattle.outside.specs.Streams.{Counts, FitsInto, Takes, took_failed};
 ghost use Rattle.outside.specs.Forms.{FailsNext, IsWithin, after_call, new_plan, rest_of};
 
@@ -41,7 +41,7 @@ pub trait Source {
 
 /// A source in memory: pieces of bytes one after another, and then the end. A taking gives bytes of one piece alone, so
 /// that a test can cut its input where it likes.
-#[derive(Debug, Drop)]
+#[derive(Drop)]
 pub struct MemSource {
     pieces: Vec<ByteText>,
     at: usize,
@@ -129,31 +129,4 @@ fn next_place(pieces: &[ByteText], mut at: usize, mut given: usize) -> (usize, u
         given = 0;
     }
     (at, given)
-}
-
-#[cfg(test)]
-mod tests {
-    use super::*;
-    use std::test::Fail;
-
-    #[test]
-    fn pieces_and_a_failure(rt: HostRuntime) -> Result<(), Fail> {
-        let alloc = rt.alloc();
-        let mut pieces = Vec::new(alloc);
-        for piece in [b"abc".as_slice(), b"", b"d"] {
-            pieces.push(ByteText::from_slice(alloc, piece)?)?;
-        }
-        let mut source = MemSource::new(pieces, vec![in alloc; 2u64]?);
-        let mut into = [0; 2];
-        assert_eq!(rt; source.take(&mut into), Took::Got(2));
-        assert_eq!(rt; &into, b"ab");
-        assert_eq!(rt; source.take(&mut into), Took::Failed);
-        assert_eq!(rt; source.faults(), 1);
-        assert_eq!(rt; source.take(&mut into), Took::Got(1));
-        assert_eq!(rt; &into, b"cb");
-        assert_eq!(rt; source.take(&mut into), Took::Got(1));
-        assert_eq!(rt; &into, b"db");
-        assert_eq!(rt; source.take(&mut into), Took::End);
-        Ok(())
-    }
 }

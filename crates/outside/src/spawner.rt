@@ -1,6 +1,6 @@
 // What starts children.
 ghost use Rattle.std.specs.Prelude.{◌≡◌, ℕ, List, [], Option, map};
-ghost use Rattle.call_fs.specs.Told.{Records};
+ghost use Rattle.mail_bytes.specs.Told.{Records};
 ghost use Rattle.outside.specs.Streams.{Counts};
 ghost use Rattle.outside.specs.Children.{SpawnCall, Starts};
 ghost use Rattle.outside.specs.Children.SpawnCall.{Start, Feed, Finish, AskStatus};
@@ -12,7 +12,7 @@ use std::alloc::Global;
 use std::marker::Model;
 
 /// What came of a start.
-#[derive(Clone, Copy, Debug, PartialEq, Eq)]
+#[derive(Clone, Copy, PartialEq, Eq)]
 pub enum Started {
     /// The child runs.
     Chan {
@@ -28,7 +28,7 @@ pub enum Started {
 }
 
 /// How a child ended.
-#[derive(Clone, Copy, Debug, PartialEq, Eq)]
+#[derive(Clone, Copy, PartialEq, Eq)]
 pub enum Status {
     /// It exited with this status.
     Ended(u8),
@@ -80,7 +80,7 @@ pub trait Spawner {
 }
 
 /// A child in memory.
-#[derive(Clone, Copy, Debug)]
+#[derive(Clone, Copy)]
 pub struct MemChild {
     /// The number of its process.
     pub pid: u32,
@@ -90,7 +90,7 @@ pub struct MemChild {
 
 /// A spawner in memory: its children are started one after another, on the channels from 1, and then each start
 /// fails. A feeding or a question for a channel of none of them fails too, and so does each call that was planned to.
-#[derive(Debug, Drop)]
+#[derive(Drop)]
 pub struct MemSpawner {
     children: Vec<MemChild>,
     started: usize,
@@ -213,40 +213,5 @@ impl Spawner for MemSpawner {
                 Status::Failed
             }
         }
-    }
-}
-
-#[cfg(test)]
-mod tests {
-    use super::*;
-    use std::test::Fail;
-
-    #[test]
-    fn a_child_and_failures(rt: HostRuntime) -> Result<(), Fail> {
-        let alloc = rt.alloc();
-        let child = MemChild {
-            pid: 82,
-            status: Status::Ended(99),
-        };
-        let children = vec![in alloc; child]?;
-        let mut spawner = MemSpawner::new(alloc, children, vec![in alloc; 1u64, 3, 6]?);
-        let words = [b"sh".as_slice(), b"-c", b"exit 99"];
-        assert_eq!(rt; spawner.start(alloc, &words), Started::Failed);
-        assert_eq!(rt;
-            spawner.start(alloc, &words),
-            Started::Chan { chan: 1, pid: 82 }
-        );
-        assert_eq!(rt; spawner.feed(1, b"no"), Gave::Failed);
-        assert_eq!(rt; spawner.feed(1, b"hi"), Gave::Done);
-        spawner.finish(1);
-        assert_eq!(rt; spawner.status(1), Status::Ended(99));
-        assert_eq!(rt; spawner.status(1), Status::Failed);
-        assert_eq!(rt; spawner.fed(), b"hi".as_slice());
-        assert_eq!(rt; spawner.faults(), 3);
-        assert_eq!(rt; spawner.start(alloc, &words), Started::Failed);
-        assert_eq!(rt; spawner.feed(2, b"hi"), Gave::Failed);
-        assert_eq!(rt; spawner.status(2), Status::Failed);
-        assert_eq!(rt; spawner.faults(), 6);
-        Ok(())
     }
 }

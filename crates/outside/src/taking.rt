@@ -1,13 +1,13 @@
 // Taking more from a source than one call gives.
 ghost use Rattle.std.specs.Prelude.{◌≡◌, ◌≤◌, ◌++◌, [], List, ℕ, IfOk, length};
-ghost use Rattle.call_fs.specs.Told.{Meets, OnTold, Rose};
+ghost use Rattle.mail_bytes.specs.Told.{Meets, OnTold, Rose};
 
 use crate::source::{Source, Took};
 use mail_bytes::Memory;
 use std::alloc::Global;
 
 /// Why no more was taken of a source.
-#[derive(Clone, Copy, Debug, PartialEq, Eq)]
+#[derive(Clone, Copy, PartialEq, Eq)]
 pub enum Stopped {
     /// The source has no more.
     End,
@@ -45,32 +45,4 @@ pub fn take_up_to<S: Source>(
         }
     }
     Ok((bytes, Stopped::Full))
-}
-
-#[cfg(test)]
-mod tests {
-    use super::*;
-    use crate::MemSource;
-    use mail_bytes::ByteText;
-    use std::test::Fail;
-
-    #[test]
-    fn whole_full_and_failed(rt: HostRuntime) -> Result<(), Fail> {
-        let alloc = rt.alloc();
-        let mut pieces = Vec::new(alloc);
-        for piece in [b"ab".as_slice(), b"cde", b"f"] {
-            pieces.push(ByteText::from_slice(alloc, piece)?)?;
-        }
-        let mut source = MemSource::new(pieces, vec![in alloc; 4u64]?);
-        let (bytes, why) = take_up_to(alloc, &mut source, 4)?;
-        assert_eq!(rt; bytes.as_slice(), b"abcd".as_slice());
-        assert_eq!(rt; why, Stopped::Full);
-        let (bytes, why) = take_up_to(alloc, &mut source, 4)?;
-        assert_eq!(rt; bytes.as_slice(), b"e".as_slice());
-        assert_eq!(rt; why, Stopped::Failed);
-        let (bytes, why) = take_up_to(alloc, &mut source, 4)?;
-        assert_eq!(rt; bytes.as_slice(), b"f".as_slice());
-        assert_eq!(rt; why, Stopped::End);
-        Ok(())
-    }
 }

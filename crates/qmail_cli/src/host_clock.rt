@@ -1,9 +1,9 @@
 // The clock of the system.
 ghost use Rattle.std.specs.Prelude.{◌≡◌, ◌≤◌};
-ghost use Rattle.call_fs.specs.Disk.{IsMoment};
+ghost use Rattle.mail_bytes.specs.Moments.{IsMoment};
 ghost use Rattle.qmail_cli.specs.Clock.{next_moment};
 
-use call_fs::LAST_MOMENT;
+use mail_bytes::LAST_MOMENT;
 use outside::Clock;
 use std::marker::Model;
 use std::process;
@@ -19,7 +19,7 @@ pub struct HostClock {
 }
 
 impl Model for HostClock {
-    ghost use Rattle.call_fs.specs.Disk.{IsMoment};
+    ghost use Rattle.mail_bytes.specs.Moments.{IsMoment};
     ghost use Rattle.qmail_cli.specs.Clock.{ClockState};
 
     ghost Value = { ClockState };

@@ -2,10 +2,11 @@
 use crate::late_file::LateFile;
 use crate::reader_source::ReaderSource;
 use crate::run_words;
-use call_fs::{CallFs, NameBuf};
+use call_fs::{CallFs, FsError};
 use host_fs::HostFs;
-use mail_bytes::{ByteText, Memory, undec};
+use mail_bytes::{ByteText, LAST_MOMENT, Memory, NameBuf, undec};
 use outside::{MemSource, Source, Took};
+use received_line::{Invoked, received};
 use std::alloc::Global;
 use std::io::{self, ErrorKind, Read};
 use std::os::unix::fs::MetadataExt;
@@ -33,14 +34,19 @@ impl Read for Interrupted {
     }
 }
 
+/// What the first taking of a source answers, whose reader is interrupted so often, and how often it has failed then.
+fn first_taking(interruptions: u32) -> (Took, u64) {
+    let mut source = ReaderSource::new(Interrupted {
+        left: interruptions,
+    });
+    (source.take(&mut [0; 8]), source.faults())
+}
+
 #[test]
 fn an_interrupted_read_is_tried_again(rt: HostRuntime) {
-    let mut source = ReaderSource::new(Interrupted { left: 1000 });
-    assert_eq!(rt; source.take(&mut [0; 8]), Took::Got(1));
-    assert_eq!(rt; source.faults(), 0);
-    let mut source = ReaderSource::new(Interrupted { left: 1001 });
-    assert_eq!(rt; source.take(&mut [0; 8]), Took::Failed);
-    assert_eq!(rt; source.faults(), 1);
+    for (interruptions, expected) in [(1000, (Took::Got(1), 0)), (1001, (Took::Failed, 1))] {
+        assert_eq!(rt; first_taking(interruptions), expected, "{interruptions}");
+    }
 }
 
 #[test]
@@ -76,25 +82,51 @@ fn is(holds: bool, what: &str) -> Result<(), Fail> {
     if holds { Ok(()) } else { Err(Fail::new(what)) }
 }
 
+/// What a taking answers, how often the source has failed then, and the bytes.
+type Taking = (Took, u64, [u8; 8]);
+
+/// Takes up to so many bytes.
+fn taking(source: &mut ReaderSource<LateFile>, room: usize) -> Taking {
+    let mut into = [0; 8];
+    let room = room.min(into.len());
+    (source.take(&mut into[..room]), source.faults(), into)
+}
+
+const NOTHING: [u8; 8] = [0; 8];
+
+/// Before the file is made: nothing is asked for, then it is missing.
+const BEFORE: [Taking; 2] = [(Took::Got(0), 0, NOTHING), (Took::Failed, 1, NOTHING)];
+
+/// Once it is made: its four bytes, and its end.
+const AFTER: [Taking; 2] = [
+    (Took::Got(4), 1, [b'F', b'a', b'@', b'x', 0, 0, 0, 0]),
+    (Took::End, 1, NOTHING),
+];
+
 /// Reads a file that is made only after its source. It asserts nothing, so that the directory is removed after a failure
 /// too.
 fn read_late(rt: &HostRuntime, alloc: Global, root: &str) -> Result<(), Fail> {
     let path = format!(in alloc; "{root}/envelope")?;
     let place = ByteText::from_slice(alloc, path.as_bytes())?;
-    let mut source = ReaderSource::new(LateFile::new(rt, Some(place)));
-    let mut into = [0; 8];
-    is(source.take(&mut []) == Took::Got(0), "nothing is asked for")?;
-    is(source.faults() == 0, "nothing was opened")?;
-    is(source.take(&mut into) == Took::Failed, "missing")?;
-    is(source.faults() == 1, "counted")?;
-    fs::write(rt, path.as_str(), "Fa@x")?;
-    is(source.take(&mut into) == Took::Got(4), "four bytes")?;
-    is(into.starts_with(b"Fa@x"), "Fa@x")?;
-    is(source.take(&mut into) == Took::End, "the end")?;
-    is(source.faults() == 1, "no further failure")?;
+    let (before, after) = takings(rt, place, path.as_str());
+    is(before == BEFORE, "before the file is made")?;
+    is(after == AFTER, "once it is made")?;
     let mut none = ReaderSource::new(LateFile::new(rt, None));
-    is(none.take(&mut into) == Took::Failed, "no file")?;
-    is(none.faults() == 1, "counted too")
+    is(taking(&mut none, 8) == BEFORE[1], "no file")
+}
+
+/// Two takings before a file is made, and two after that. A file that can't be made shows in those.
+fn takings(rt: &HostRuntime, place: ByteText, path: &str) -> ([Taking; 2], [Taking; 2]) {
+    let mut source = ReaderSource::new(LateFile::new(rt, Some(place)));
+    let before = [taking(&mut source, 0), taking(&mut source, 8)];
+    let _ = fs::write(rt, path, "Fa@x");
+    let after = [taking(&mut source, 8), taking(&mut source, 8)];
+    (before, after)
+}
+
+/// The seconds that the system's clock tells.
+fn seconds(rt: &HostRuntime) -> Result<u64, Fail> {
+    Ok(SystemTime::now(rt)?.duration_since(UNIX_EPOCH)?.as_secs())
 }
 
 /// Queues a message, and looks for its files.
@@ -102,10 +134,31 @@ fn queue_one(rt: &HostRuntime, alloc: Global, root: &str) -> Result<(), Fail> {
     let envelope = format!(in alloc; "{root}/envelope")?;
     let queue = format!(in alloc; "{root}/queue")?;
     fs::write(rt, envelope.as_str(), "Fa@x\0Tb@y\0\0")?;
+    let before = seconds(rt)?;
     let status = run_queue(rt, alloc, envelope.as_str(), queue.as_str())?;
+    let after = seconds(rt)?;
     is(status == 0, "queued")?;
     let number = only_name(rt, alloc, queue.as_str())?;
-    is_whole(rt, alloc, queue.as_str(), number)
+    is_whole(rt, alloc, queue.as_str(), number)?;
+    let message = format!(in alloc; "{queue}/mess/{}/{number}", number % 23)?;
+    let found = fs::read(rt, message.as_str())?;
+    let pid = process::id(rt.process());
+    let is_dated = is_message(alloc, pid, (before, after), found.as_slice())?;
+    is(is_dated, "the message, with a first line of that time")
+}
+
+/// Whether a message file holds the message after the first line of a moment between these two, at most a minute later
+/// than the first.
+fn is_message(alloc: Global, pid: u32, span: (u64, u64), found: &[u8]) -> Result<bool, Memory> {
+    for late in 0..60 {
+        let moment = span.0.saturating_add(late).min(LAST_MOMENT);
+        let mut text = received(alloc, pid, Invoked::Uid(0), moment)?;
+        text.extend_from_slice(b"hi\n")?;
+        if moment <= span.1 && text.as_slice() == found {
+            return Ok(true);
+        }
+    }
+    Ok(false)
 }
 
 /// Runs the words `queue ENVELOPE QUEUE`.
@@ -119,18 +172,24 @@ fn run_queue(rt: &HostRuntime, alloc: Global, envelope: &str, queue: &str) -> Re
     run_words(rt, alloc, &words, &mut message)
 }
 
-/// The number of the only name in `todo`, where there is none in `pid`.
+/// The number of the only name in `todo`, if there is none in `pid`.
 fn only_name(rt: &HostRuntime, alloc: Global, queue: &str) -> Result<u64, Fail> {
     let mut disk = HostFs::open(rt, alloc, queue.as_bytes())?;
     let mut name = NameBuf::new();
-    let mut other = NameBuf::new();
-    let found = disk.next_name(b"todo", b"", &mut name)?;
-    let more = disk.next_name(b"todo", name.as_slice(), &mut other)?;
-    let left = disk.next_name(b"pid", b"", &mut other)?;
+    let found = names_found(&mut disk, &mut name);
     match undec(name.as_slice()) {
-        Some(number) if found && !more && !left => Ok(number),
+        Some(number) if found == [Ok(true), Ok(false), Ok(false)] => Ok(number),
         _ => Err(Fail::new("one name in todo, and none in pid")),
     }
+}
+
+/// Looks for the first name in `todo`, the next one, and one in `pid`.
+fn names_found<D: CallFs>(disk: &mut D, name: &mut NameBuf) -> [Result<bool, FsError>; 3] {
+    let mut other = NameBuf::new();
+    let found = disk.next_name(b"todo", b"", name);
+    let more = disk.next_name(b"todo", name.as_slice(), &mut other);
+    let left = disk.next_name(b"pid", b"", &mut other);
+    [found, more, left]
 }
 
 /// Whether the message file has this number, and the envelope is this one.

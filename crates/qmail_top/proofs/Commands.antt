@@ -1,7 +1,7 @@
 -- What a command does with its input.
 use Rattle.std.proofs.Common.{◌≡◌, ◌≢◌, ◌⊎◌, ℕ, List, [], ◌++◌, length, Option, Some, None, Result, Err, inl, inr, refl, sym, ◌∙◌, ap, subst, ⊎_elim, arith, length-append, ◌<◌}
 use Rattle.std.proofs.lemmas.List.{append-nil}
-use Rattle.call_fs.specs.Told.{Rose, Meets, OnTold}
+use Rattle.mail_bytes.specs.Told.{Rose, Meets, OnTold}
 use Rattle.scenario.specs.Contents.{Content}
 use Rattle.qmail_top.specs.declared.play_command.Failure.{Failure}
 use Rattle.qmail_top.specs.declared.play_command.Failure.TheVariants.{Memory, Output, Input, Malformed}

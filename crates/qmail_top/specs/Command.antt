@@ -1,12 +1,12 @@
 -- The words of the top call, and why a command fails.
 use Rattle.std.specs.Prelude.{◌≡◌, ◌⊎◌, ℕ, ◌<◌, List, [], ◌∷◌, ◌++◌, length, map, codes, Option, Some, None, if◌then◌else◌, String, string_bytes, Result, Ok, Err}
 use Rattle.std.specs.declared.alloc.Global.{Global}
-use Rattle.call_fs.specs.Told.{Rose}
+use Rattle.mail_bytes.specs.Told.{Rose}
 use Rattle.command_words.specs.declared.command.Command.TheVariants.{Play, Queue}
 use Rattle.command_words.specs.declared.command.QueueWords.{QueueWords}
 use Rattle.command_words.specs.Reads.{Reads}
-use Rattle.queue_inject.specs.declared.received_line.Invoked.{Invoked}
-use Rattle.queue_inject.specs.declared.received_line.Invoked.TheVariants.{Uid, Bounce}
+use Rattle.received_line.specs.declared.line.Invoked.{Invoked}
+use Rattle.received_line.specs.declared.line.Invoked.TheVariants.{Uid, Bounce}
 use Rattle.queue_command.specs.declared.input.Form.{Form}
 use Rattle.queue_command.specs.declared.input.Form.TheVariants.{Beside, Netstrings}
 use Rattle.queue_command.specs.Inputs.{Stream}

@@ -1,6 +1,6 @@
 // The command `play`: reads a script, checks it and plays it.
 ghost use Rattle.std.specs.Prelude.{◌≡◌, ◌≢◌, ◌⊎◌, ◌++◌, ◌∷◌, [], List, ℕ, IsOk, IfOk, IfErr, OnOk, Contains, Err, length, ◌<◌};
-ghost use Rattle.call_fs.specs.Told.{Rose, Meets, OnTold};
+ghost use Rattle.mail_bytes.specs.Told.{Rose, Meets, OnTold};
 ghost use Rattle.scenario.specs.Contents.{Content};
 ghost use Rattle.scenario.specs.Lines.{IsScript, IsRefused, most_bytes};
 ghost use Rattle.scenario.specs.Text.{Prints, BeginsAtMost, IsFrontAtMost, PrintsBadLine};
@@ -45,7 +45,7 @@ pub fn play_script<M: Source, O: Sink>(alloc: Global, message: &mut M, out: &mut
 }
 
 /// Why a command didn't do all its work.
-#[derive(Clone, Copy, Debug, PartialEq, Eq)]
+#[derive(Clone, Copy)]
 enum Failure {
     /// Want of memory.
     Memory,

@@ -1,10 +1,9 @@
 // What is printed of bytes that aren't a script.
 ghost use Rattle.std.specs.Prelude.{◌≡◌, ◌++◌, List, ℕ, IsOk, IfOk};
-ghost use Rattle.call_fs.specs.Told.{Rose, Meets};
+ghost use Rattle.mail_bytes.specs.Told.{Rose, Meets};
 ghost use Rattle.scenario.specs.Text.{script_line, IsTaken};
 
-use call_fs::{NameBuf, NoRoom};
-use mail_bytes::dec;
+use mail_bytes::{NameBuf, NoRoom, dec};
 use outside::Sink;
 
 /// Gives the sink `script K` and a newline. Takes no memory; where the sink fails it has counted it.

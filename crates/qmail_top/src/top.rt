@@ -1,6 +1,6 @@
 // The one public call.
 ghost use Rattle.std.specs.Prelude.{◌≡◌, ◌≢◌, ◌⊎◌, ◌++◌, ◌∷◌, [], List, ℕ, Contains, None, length, ◌<◌, map, string_bytes};
-ghost use Rattle.call_fs.specs.Told.{Rose, Meets, OnTold};
+ghost use Rattle.mail_bytes.specs.Told.{Rose, Meets, OnTold};
 ghost use Rattle.command_words.specs.declared.command.QueueWords.{QueueWords as Wanted};
 ghost use Rattle.command_words.specs.Reads.{IsNoCommand};
 ghost use Rattle.scenario.specs.Contents.{Content};
@@ -14,7 +14,7 @@ use call_fs::CallFs;
 use command_words::{Command, QueueWords, WordsError, read_words};
 use outside::{Clock, Gate, Posts, Sink, Source, Spawner};
 use queue_command::{Form, inject};
-use queue_inject::received_line::Invoked;
+use received_line::Invoked;
 use std::alloc::Global;
 
 /// Does what the words after the program's name say, and answers the exit status.
@@ -152,6 +152,3 @@ fn queue_message<D: CallFs, M: Source, E: Source, K: Clock>(
         alloc, queue.uid, invoked, form, disk, message, envelope, clock,
     )
 }
-
-#[cfg(test)]
-mod tests;

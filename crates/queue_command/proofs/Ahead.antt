@@ -1,16 +1,13 @@
 -- How much a run has before it: a number that falls with each call.
-use Rattle.std.proofs.Common.{◌≡◌, ℕ, ◌+◌, ◌-◌, ◌<◌, ◌≤◌, List, [], ◌∷◌, length, Bool, true, false, if◌then◌else◌, nat_lt, nat_le, Option, Some, None, refl, sym, ap, ◌∙◌, subst, arith}
+use Rattle.std.proofs.Common.{◌≡◌, ℕ, ◌+◌, ◌-◌, ◌<◌, List, length, true, false, if◌then◌else◌, nat_lt, nat_le, Option, Some, None, refl, arith}
 use Rattle.std.proofs.lemmas.Bool.{ltb-true, leb-true}
-use Rattle.call_fs.specs.declared.calls.CallData.{CallData}
 use Rattle.call_fs.specs.declared.calls.Answer.{Answer}
 use Rattle.call_fs.specs.declared.calls.Answer.TheVariants as told
-use Rattle.call_fs.specs.declared.calls.FsError.TheVariants.{NotThere, Exists, Fault, Memory}
-use Rattle.call_fs.specs.Program.{Due, Own}
-use Rattle.queue_inject.specs.declared.injection.Arguments.{Arguments}
-use Rattle.queue_inject.specs.declared.row.Cause.TheVariants.{Status, Envelope}
+use Rattle.call_fs.specs.declared.calls.FsError.TheVariants.{NotThere, Exists}
+use Rattle.call_fs.specs.Program.{Due}
 use Rattle.queue_inject.specs.declared.row.Row.{Row}
 use Rattle.queue_inject.specs.declared.row.Row.TheVariants as at
-use Rattle.queue_inject.specs.Table.{Work, work_of, past_piece, in_message, in_todo, piece_size, settled, goes_to, moved, row_after, asked}
+use Rattle.queue_inject.specs.Table.{Work, past_piece, in_message, in_todo, piece_size, settled, goes_to, asked}
 
 -- more than there are calls from a row on
 abbrev pub ahead : Work → Row → ℕ
@@ -54,12 +51,12 @@ IsBelow work bound row = HasMore work row × (ahead work row < bound)
 
 in_message_below : (work : Work) (n fd done bound : ℕ) → 21 + (length work.message.bytes - done) + length work.todo.bytes < bound → IsBelow work bound (in_message work.message n fd done)
 in_message_below work n fd done bound h =
-    more_of (IsBelow work bound) work.message.bytes work.message.fault done (at.AppendMess n (record { 0 = fd }) done) (at.SyncMess n (record { 0 = fd })) (λ status. at.CleanMess n (Status status))
+    more_of (IsBelow work bound) work.message.bytes work.message.fault done (at.AppendMess n (record { 0 = fd }) done) (at.SyncMess n (record { 0 = fd })) (λ status. at.CleanMess n status)
     (λ more. (more, h)) (tt, omega arith) (λ status. (tt, omega arith))
 
 in_todo_below : (work : Work) (n fd done bound : ℕ) → 11 + (length work.todo.bytes - done) < bound → IsBelow work bound (in_todo work.todo n fd done)
 in_todo_below work n fd done bound h =
-    more_of (IsBelow work bound) work.todo.bytes work.todo.fault done (at.AppendTodo n (record { 0 = fd }) done) (at.SyncTodo n (record { 0 = fd })) (λ status. at.CleanIntd n Envelope)
+    more_of (IsBelow work bound) work.todo.bytes work.todo.fault done (at.AppendTodo n (record { 0 = fd }) done) (at.SyncTodo n (record { 0 = fd })) (λ status. at.CleanIntd n status)
     (λ more. (more, h)) (tt, omega arith) (λ status. (tt, omega arith))
 
 -- it asks for a call
@@ -71,7 +68,7 @@ IsFile other = ⊥
 pub falls : (work : Work) (row : Row) (answer : Answer) → IsFile (asked work row) → HasMore work row → IsBelow work (ahead work row) (settled work (goes_to row answer))
 falls work (at.Create seq) (told.Created fd n) file more = (tt, omega arith)
 falls work (at.Create seq) (told.Refused Exists) file more =
-    elim (nat_lt seq 9) as (λ t. nat_lt seq 9 ≡ t → IsBelow work (ahead work (at.Create seq)) (settled work (if t then at.Create (seq + 1) else at.Failed (Status 63)))) [
+    elim (nat_lt seq 9) as (λ t. nat_lt seq 9 ≡ t → IsBelow work (ahead work (at.Create seq)) (settled work (if t then at.Create (seq + 1) else at.Failed 63))) [
       | true ↦ λ e. (tt, let h = ltb-true seq 9 e in omega arith)
       | false ↦ λ e. (tt, omega arith)
     ] refl

@@ -1,6 +1,6 @@
 -- A message that finds all that it needs is queued, or memory is wanted.
-use Rattle.std.proofs.Common.{◌≡◌, ◌≢◌, ◌⊎◌, inl, inr, ⊎_elim, ℕ, ◌+◌, ◌-◌, List, [], ◌∷◌, ◌++◌, length, take, length-append, Bool, true, false, not, Option, Some, None, refl, sym, ap, ◌∙◌, subst, arith}
-use Rattle.std.specs.Prelude.{if◌then◌else◌, ◌==◌, nat_lt, nat_le, Contains, codes, slice_get}
+use Rattle.std.proofs.Common.{◌≡◌, ◌≢◌, ◌⊎◌, inl, inr, ⊎_elim, ℕ, ◌+◌, ◌-◌, List, [], ◌∷◌, ◌++◌, length, take, length-append, true, not, Option, Some, None, refl, sym, ap, ◌∙◌, subst, arith}
+use Rattle.std.specs.Prelude.{if◌then◌else◌, ◌==◌, nat_lt, Contains, codes, slice_get}
 use Rattle.std.specs.List.{AllByRecursion, suffix_len}
 use Rattle.std.specs.Option.{option_or}
 use Rattle.std.proofs.lemmas.Bool.{cases_lt, le-ltb}
@@ -18,7 +18,7 @@ use Rattle.call_fs.specs.declared.calls.Answer.{Answer}
 use Rattle.call_fs.specs.declared.calls.Answer.TheVariants.{Created, Done, Refused}
 use Rattle.call_fs.specs.Disk.{Disk, dir_of}
 use Rattle.call_fs.specs.Apply.{Apply, Fits, effect}
-use Rattle.call_fs.specs.Told.{Meets}
+use Rattle.mail_bytes.specs.Told.{Meets}
 use Rattle.call_fs.specs.Program.{Due, Did, Own}
 use Rattle.call_fs.specs.Program.Did.{Called}
 use Rattle.envelope_records.specs.Envelope.{Reading}
@@ -26,12 +26,11 @@ use Rattle.envelope_records.proofs.Envelopes.{read_whole}
 use Rattle.queue_paths.specs.Names.{path}
 use Rattle.queue_paths.specs.Names.Part.{Intd}
 use Rattle.queue_inject.specs.declared.injection.Arguments.{Arguments}
-use Rattle.queue_inject.specs.declared.row.Cause.TheVariants.{Status, Envelope}
 use Rattle.queue_inject.specs.declared.row.Row.{Row}
 use Rattle.queue_inject.specs.declared.row.Row.TheVariants as at
 use Rattle.queue_inject.specs.Texts.{Text, limit, message_end, envelope_text, message_text, intd_text, envelope_of}
-use Rattle.queue_inject.specs.Table.{work_of, piece_size, past_piece, in_message, in_todo, settled, moved, row_after, after_own, call_of, in_time}
-use Rattle.queue_inject.proofs.Known.{either, past_by}
+use Rattle.queue_inject.specs.Table.{work_of, piece_size, in_message, in_todo, settled, moved, row_after, after_own, call_of}
+use Rattle.queue_inject.proofs.Pieces.{either, past_by}
 use Rattle.queue_inject.proofs.Runs.{timely}
 use Rattle.queue_inject.specs.Run.{IsDue, IsRun, HoldsOf, HasCall}
 use Rattle.queue_inject.specs.Causes.{first_fault, pid_name, IsTry, IsTaken, IsFailure, IsCausedBy}
@@ -82,17 +81,17 @@ Still first last row = Unit {0}
 module _ (first last : Disk) where
   message_still : (text : Text) (n fd done : ℕ) → Still first last (in_message text n fd done)
   message_still text n fd done =
-      past_by (Still first last) text.bytes text.fault done (at.AppendMess n (record { 0 = fd }) done) (at.SyncMess n (record { 0 = fd })) (λ status. at.CleanMess n (Status status)) tt tt (λ status. tt)
+      past_by (Still first last) text.bytes text.fault done (at.AppendMess n (record { 0 = fd }) done) (at.SyncMess n (record { 0 = fd })) (λ status. at.CleanMess n status) tt tt (λ status. tt)
 
   todo_still : (text : Text) (n fd done : ℕ) → Still first last (in_todo text n fd done)
   todo_still text n fd done =
-      past_by (Still first last) text.bytes text.fault done (at.AppendTodo n (record { 0 = fd }) done) (at.SyncTodo n (record { 0 = fd })) (λ status. at.CleanIntd n Envelope) tt tt (λ status. tt)
+      past_by (Still first last) text.bytes text.fault done (at.AppendTodo n (record { 0 = fd }) done) (at.SyncTodo n (record { 0 = fd })) (λ status. at.CleanIntd n status) tt tt (λ status. tt)
 
 moves_still : (args : Arguments) (first mid last : Disk) (read : ℕ) (row : Row) (call : CallData) (answer : Answer)
     → call_of args row ≡ Due.File call → Still first mid row → Apply mid read call answer last → Still first last (moved args row answer)
 moves_still args first mid last read (at.Create k) call (Refused Exists) due here applied =
     let same : call ≡ CreateExcl (pid_name args k) = cc in
-    either (λ row. Still first last (settled (work_of args) row)) (nat_lt k 9) (at.Create (k + 1)) (at.Failed (Status 63))
+    either (λ row. Still first last (settled (work_of args) row)) (nat_lt k 9) (at.Create (k + 1)) (at.Failed 63)
     (applied.2 ∙ ap (λ c. effect mid read c (Refused Exists) applied.0) same ∙ here) tt
 moves_still args first mid last read (at.LinkMess k n fd) call Done due here applied = tt
 moves_still args first mid last read (at.UnlinkPid k n fd) call Done due here applied = message_still first last (message_text args) n fd.0 0

@@ -1,48 +1,74 @@
--- An injector that was fed a message and told how it ended, and then an envelope, stands for them.
-use Rattle.std.proofs.Common.{◌≡◌, ℕ, [], drop, Some, true, IsTrue, refl, sym, ap, ◌∙◌, subst, arith, append-nil}
+-- An injector that is fed its arguments' input as it goes.
+use Rattle.std.proofs.Common.{◌≡◌, ℕ, ◌+◌, ◌-◌, ◌≤◌, min, List, length, take, drop, Bool, true, false, Option, Some, None, refl, sym, ap, ◌∙◌, subst, arith, length-drop, drop_of_length-le}
+use Rattle.std.proofs.lemmas.List.{take_all, take-append-drop}
+use Rattle.call_fs.specs.Program.{Own}
 use Rattle.queue_inject.specs.declared.injection.Arguments.{Arguments}
 use Rattle.queue_inject.specs.declared.injection.InputEnd.{InputEnd}
-use Rattle.queue_inject.specs.declared.injection.InputEnd.TheVariants.{Whole, Unread, Malformed}
-use Rattle.queue_inject.specs.Machine.{Machine, Progress, begun, fed_on, ended_on, is_over, is_told}
-use Rattle.queue_inject.specs.Stands.{Stands, Continues, Ends}
-use Rattle.mail_world.specs.declared.event.Program.TheVariants.{Injector}
-use Rattle.mail_world.specs.Inside.{Follows}
+use Rattle.queue_inject.specs.declared.row.Row.{Row}
+use Rattle.queue_inject.specs.declared.injection.Part.{Part}
+use Rattle.queue_inject.specs.declared.injection.Part.TheVariants.{Message, Envelope}
+use Rattle.queue_inject.specs.Machine.{Machine, asks_by, asks}
+use Rattle.queue_inject.specs.Rows.{is_open, part_in}
+use Rattle.queue_inject.specs.Stands.{GoesOn, Stands, ContinuesBy, Continues, EndsBy, Ends}
+use Rattle.queue_inject.proofs.Kept.{asked_by, fed_inside}
+use Rattle.queue_command.specs.Feeding.{IsPart}
 
-over : (first last : InputEnd) → is_over (Some first) (Some last) ≡ true
-over Whole last = refl
-over Unread last = refl
-over Malformed last = refl
+-- What is fed
 
-pub fed_whole : (m f e g n : Machine) (args : Arguments) (room : ℕ)
-    → m.heard.progress ≡ begun room → Stands m args []
-    → f.heard.progress ≡ fed_on m.heard.progress args.message → (Stands m args [] → Continues m.heard.progress args args.message → Stands f args [])
-    → e.heard.progress ≡ ended_on f.heard.progress args.message_end → (Stands f args [] → Ends f.heard.progress args args.message_end → Stands e args [])
-    → g.heard.progress ≡ fed_on e.heard.progress args.envelope → (Stands e args [] → Continues e.heard.progress args args.envelope → Stands g args [])
-    → n.heard.progress ≡ ended_on g.heard.progress args.envelope_end → (Stands g args [] → Ends g.heard.progress args args.envelope_end → Stands n args [])
-    → Follows n (Injector args) []
-fed_whole m f e g n args room p₀ s₀ p₁ s₁ p₂ s₂ p₃ s₃ p₄ s₄ =
-    let a = begun room in
-    let b = fed_on a args.message in
-    let c = ended_on b args.message_end in
-    let d = fed_on c args.envelope in
-    let q₁ : f.heard.progress ≡ b = p₁ ∙ ap (λ (p : Progress). fed_on p args.message) p₀ in
-    let q₂ : e.heard.progress ≡ c = p₂ ∙ ap (λ (p : Progress). ended_on p args.message_end) q₁ in
-    let q₃ : g.heard.progress ≡ d = p₃ ∙ ap (λ (p : Progress). fed_on p args.envelope) q₂ in
-    let q₄ : n.heard.progress ≡ ended_on d args.envelope_end = p₄ ∙ ap (λ (p : Progress). ended_on p args.envelope_end) q₃ in
-    let first : Continues a args args.message = record {
-      message = record { rest = []; next = sym (append-nil args.message) };
-      envelope = record { rest = args.envelope; next = refl };
-    } in
-    let second : Ends b args args.message_end = (omega arith, refl) in
-    let third : Continues c args args.envelope = record {
-      message = record { rest = drop c.message_fed args.message; next = refl };
-      envelope = record { rest = []; next = sym (append-nil args.envelope) };
-    } in
-    let fourth : Ends d args args.envelope_end = (omega arith, refl) in
-    let t₁ = s₁ s₀ (subst (λ (p : Progress). Continues p args args.message) (sym p₀) first) in
-    let t₂ = s₂ t₁ (subst (λ (p : Progress). Ends p args args.message_end) (sym q₁) second) in
-    let t₃ = s₃ t₂ (subst (λ (p : Progress). Continues p args args.envelope) (sym q₂) third) in
-    record {
-      stands = s₄ t₃ (subst (λ (p : Progress). Ends p args args.envelope_end) (sym q₃) fourth);
-      told = subst (λ (p : Progress). IsTrue (is_over p.message_end p.envelope_end)) (sym q₄) (over args.message_end args.envelope_end);
-    }
+drop_min : (xs : List ℕ) (n : ℕ) → drop (min n (length xs)) xs ≡ drop n xs
+drop_min xs n = grind (arith, drop_of_length-le {A = ℕ})
+
+goes_on : (whole text : List ℕ) (fed count : ℕ) → whole ≡ text → GoesOn whole fed (take count (drop (min fed (length text)) text))
+goes_on whole text fed count is =
+    let rest : List ℕ = drop (min fed (length text)) text in
+    record { rest = drop count rest; next = ap (drop fed) is ∙ sym (drop_min text fed) ∙ sym (take-append-drop count rest) }
+
+-- the next bytes are the text's
+continues_by : (t : Bool) (row : Row) (o : Option Part) (args : Arguments) (text : List ℕ) (end : InputEnd) (fed count : ℕ) → part_in row ≡ o → IsPart o args text end
+    → ContinuesBy (asks_by t row) fed args (take count (drop (min fed (length text)) text))
+continues_by false row o args text end fed count of is = tt
+continues_by true row None args text end fed count of is = subst (λ q. ContinuesBy q fed args (take count (drop (min fed (length text)) text))) (sym of) tt
+continues_by true row (Some Message) args text end fed count of is =
+    subst (λ q. ContinuesBy q fed args (take count (drop (min fed (length text)) text))) (sym of) (goes_on args.message text fed count is.0)
+continues_by true row (Some Envelope) args text end fed count of is =
+    subst (λ q. ContinuesBy q fed args (take count (drop (min fed (length text)) text))) (sym of) (goes_on args.envelope text fed count is.0)
+
+-- what is left of a text from a place on
+abbrev pub rest_from : List ℕ → ℕ → List ℕ
+rest_from text from = take (length text - from) (drop from text)
+
+rest_is : (text : List ℕ) (from : ℕ) → rest_from text from ≡ drop from text
+rest_is text from = take_all (length text - from) (drop from text) (omega (arith, length-drop from text))
+
+pub text_continues : (m : Machine) (args : Arguments) (text : List ℕ) (end : InputEnd) (from count : ℕ) → from ≡ min m.heard.fed (length text) → IsPart (part_in m.row) args text end
+    → Continues m args (take count (rest_from text from))
+text_continues m args text end from count at is =
+    subst (λ r. Continues m args (take count r)) (ap (λ n. drop n text) (sym at) ∙ sym (rest_is text from))
+    (continues_by (is_open m.heard.verdict) m.row (part_in m.row) args text end m.heard.fed count refl is)
+
+all_fed : (whole text : List ℕ) (fed : ℕ) → whole ≡ text → fed ≤ length whole → length text ≤ fed → fed ≡ length whole
+all_fed whole text fed is inside all = let same = ap length is in omega arith
+
+-- and after them comes its end
+ends_by : (t : Bool) (row : Row) (o : Option Part) (args : Arguments) (text : List ℕ) (end : InputEnd) (fed : ℕ) → part_in row ≡ o → IsPart o args text end → length text ≤ fed
+    → (asks_by t row ≡ Some Message → fed ≤ length args.message) → (asks_by t row ≡ Some Envelope → fed ≤ length args.envelope) → EndsBy (asks_by t row) fed args end
+ends_by false row o args text end fed of is all message envelope = tt
+ends_by true row None args text end fed of is all message envelope = subst (λ q. EndsBy q fed args end) (sym of) tt
+ends_by true row (Some Message) args text end fed of is all message envelope = subst (λ q. EndsBy q fed args end) (sym of) (all_fed args.message text fed is.0 (message of) all, is.1)
+ends_by true row (Some Envelope) args text end fed of is all message envelope = subst (λ q. EndsBy q fed args end) (sym of) (all_fed args.envelope text fed is.0 (envelope of) all, is.1)
+
+pub text_ends : (m : Machine) (args : Arguments) (past : List Own) (text : List ℕ) (end : InputEnd) → Stands m args past → IsPart (part_in m.row) args text end → length text ≤ m.heard.fed → Ends m args end
+text_ends m args past text end s is all =
+    let inside = fed_inside m args past s in
+    ends_by (is_open m.heard.verdict) m.row (part_in m.row) args text end m.heard.fed refl is all inside.0 inside.1
+
+pub all_of_rest : (text : List ℕ) (fed from count after : ℕ) → from ≡ min fed (length text) → count ≡ length (rest_from text from) → after ≡ fed + length (take count (rest_from text from)) → length text ≤ after
+all_of_rest text fed from count after at all on =
+    let rest = ap length (rest_is text from) in
+    let left = length-drop from text in
+    let whole = ap length (take_all count (rest_from text from) (omega arith)) in
+    omega arith
+
+-- the part that is asked for is the row's
+pub asked_part : (m : Machine) (part : Part) → asks m ≡ Some part → part_in m.row ≡ Some part
+asked_part m part e = (asked_by m.heard.verdict m.row part e).1

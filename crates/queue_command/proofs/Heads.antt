@@ -1,10 +1,10 @@
 -- The head of a netstring, read byte by byte.
-use Rattle.std.proofs.Common.{◌≡◌, ◌⊎◌, ℕ, ◌+◌, ◌≤◌, ◌<◌, ◌^◌, List, [], ◌∷◌, ◌++◌, length, take, true, false, nat_le, Option, refl, sym, ap, ◌∙◌, subst, arith, append_assoc, length-append}
+use Rattle.std.proofs.Common.{◌≡◌, ℕ, ◌+◌, ◌≤◌, ◌<◌, ◌^◌, List, [], ◌∷◌, ◌++◌, length, take, true, false, nat_le, Option, refl, sym, ap, ◌∙◌, subst, arith, append_assoc, length-append}
 use Rattle.std.proofs.lemmas.Bool.{le-leb, leb-true}
 use Rattle.std.proofs.lemmas.List.{take_all, take-append-le, take_more_set}
 use Rattle.std.proofs.lemmas.Fmt.{length-decimal-le}
 use Rattle.std.proofs.Math.ListN.{set}
-use Rattle.call_fs.specs.Told.{Meets}
+use Rattle.mail_bytes.specs.Told.{Meets}
 use Rattle.mail_bytes.specs.Decimal.{digits}
 use Rattle.mail_bytes.specs.Netstring.{head, IsHead, IsPartOfHead, IsNoHead}
 use Rattle.mail_bytes.proofs.Digits.{decimal-digits}

@@ -1,6 +1,6 @@
 -- Two inputs from one source.
-use Rattle.std.proofs.Common.{◌≡◌, ◌⊎◌, inl, inr, ⊎_elim, ℕ, ◌≤◌, List, true, Bool, Option, sym, subst, arith}
-use Rattle.call_fs.specs.Told.{Meets, Rose}
+use Rattle.std.proofs.Common.{◌≡◌, inl, inr, ⊎_elim, ℕ, ◌≤◌, List, true, Bool, Option, sym, subst}
+use Rattle.mail_bytes.specs.Told.{Meets, Rose}
 use Rattle.queue_inject.specs.declared.injection.InputEnd.{InputEnd}
 use Rattle.queue_inject.specs.declared.injection.InputEnd.TheVariants.{Whole, Unread, Malformed}
 use Rattle.mem_fs.proofs.InTurn.{told_weaker, told_then}

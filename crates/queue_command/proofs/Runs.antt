@@ -1,37 +1,35 @@
 -- An injector that runs: what its past did so far, and what its next call adds.
-use Rattle.std.proofs.Common.{◌≡◌, ◌⊎◌, inl, inr, ℕ, ◌+◌, ◌≤◌, ◌<◌, List, [], ◌∷◌, ◌++◌, length, take, Bool, true, false, IsTrue, Option, Some, None, refl, sym, ap, ◌∙◌, subst, ⊎_elim, arith, append_assoc}
-use Rattle.call_fs.specs.declared.calls.Call.{Call}
-use Rattle.call_fs.specs.declared.calls.FsError.TheVariants.{Fault}
+use Rattle.std.proofs.Common.{◌≡◌, ℕ, ◌≤◌, ◌<◌, List, [], ◌∷◌, ◌++◌, true, Option, Some, None, refl, sym, ap, ◌∙◌, subst, ⊎_elim, arith, append_assoc}
 use Rattle.call_fs.specs.declared.calls.CallData.{CallData}
 use Rattle.call_fs.specs.declared.calls.CallData.TheVariants as call
 use Rattle.call_fs.specs.declared.calls.Answer.{Answer}
 use Rattle.call_fs.specs.declared.calls.Answer.TheVariants as told
 use Rattle.call_fs.specs.declared.calls.Recorded.{Recorded}
-use Rattle.call_fs.specs.Calls.{data_of, bytes_read, entry_with}
+use Rattle.call_fs.specs.Calls.{bytes_read, entry_with}
 use Rattle.call_fs.specs.Columns.{IsAnswerTo}
-use Rattle.call_fs.specs.Disk.{Disk, IsMoment}
-use Rattle.call_fs.specs.Apply.{Apply, effect, Fits, MayCall}
-use Rattle.call_fs.specs.Told.{Meets, OnTold, Records, Rose, AnswerHasCause}
+use Rattle.call_fs.specs.Disk.{Disk}
+use Rattle.mail_bytes.specs.Moments.{IsMoment}
+use Rattle.call_fs.specs.Apply.{Apply, effect, MayCall}
+use Rattle.call_fs.specs.Told.{AnswerHasCause}
+use Rattle.mail_bytes.specs.Told.{Meets, OnTold, Records, Rose}
+use Rattle.call_fs.specs.declared.program.Ready.{Ready}
 use Rattle.call_fs.specs.Program.{Due, Own, due_of}
 use Rattle.call_fs.specs.Program.Did.{Called}
 use Rattle.queue_inject.specs.declared.injection.Arguments.{Arguments}
 use Rattle.queue_inject.specs.declared.row.Row.{Row}
 use Rattle.call_fs.specs.declared.program.Need.{Need}
-use Rattle.call_fs.specs.declared.program.Need.TheVariants as need
-use Rattle.queue_inject.specs.Table.{Next, row_after, call_of, work_of, settled, in_time, is_late}
-use Rattle.queue_inject.specs.Machine.{Machine, is_decided}
+use Rattle.queue_inject.specs.Table.{Next, row_after, call_of, work_of, settled, is_late}
+use Rattle.queue_inject.specs.Machine.{Machine}
 use Rattle.queue_inject.specs.Stands.{Stands}
 use Rattle.queue_inject.proofs.Runs.{timely}
 use Rattle.queue_inject.specs.Run.{IsRun, HasCall}
 use Rattle.mail_world.specs.declared.event.Program.TheVariants.{Injector}
-use Rattle.mail_world.specs.History.{next_of, held_by}
+use Rattle.mail_world.specs.History.{held_by}
 use Rattle.mail_world.specs.World.{input_ready}
-use Rattle.mail_world.specs.Inside.{Follows, HasNeeds}
-use Rattle.mail_world.proofs.Opens.{IsPlain, IsAct, MayDo, Opens, HasMade, opens_by, has_made, needs_stay, needs_move, needs_none, next_may, next_act}
-use Rattle.mail_world.specs.Acting.{with_call}
-use Rattle.mail_world.proofs.Machines.{needs_next, looked_follows, told_follows}
+use Rattle.mail_world.specs.Inside.{HasNeeds}
+use Rattle.mail_world.proofs.Opens.{IsPlain, IsAct, MayDo, Opens, opens_by, has_made, needs_stay, needs_move, needs_none, next_may, next_act}
 use Rattle.mail_world.proofs.Histories.{reads_none}
-use Rattle.mem_fs.proofs.InTurn.{told_weaker, told_then, told_after}
+use Rattle.mem_fs.proofs.InTurn.{told_weaker, told_then}
 use Rattle.queue_command.specs.Runs.{Outside, AreKept, kept_as, calls_of, moments_of, LeadsTo, Makes, FindsInput, latest_from, InOrder, IsFault, HasRun}
 use Rattle.queue_command.proofs.Ahead.{ahead, HasMore, IsFile, falls}
 
@@ -42,7 +40,7 @@ NeedsOpen args past d = (h : ℕ → Option (List ℕ)) × HasNeeds d h [] (Inje
 -- An injector with these arguments, and what its past did to the disk and asked of the clock so far.
 pub record IsRunning (args : Arguments) (machine : Machine) (old now : Outside) (last : ℕ) : Type 0 where
   pub past : List Own
-  pub follows : Follows machine (Injector args) past
+  pub stands : Stands machine args past
   pub run : IsRun args past
   pub more : HasMore (work_of args) (row_after args past)
   pub ready : FindsInput past
@@ -143,23 +141,16 @@ module _ (args : Arguments) (past : List Own) (now : ℕ) (c : CallData) (due : 
         told_then (λ d e. LeadsTo d past e) (λ d e. Makes d now (Called c answer []) e) a b n led
         (told_weaker b n (λ d e applied. (applied, reads_none d c answer is_plain)) made)
 
--- What a machine asks for, and what it is told
+-- What a machine that looked asks for, and what it is told
+module _ (args : Arguments) (was k : Machine) where
+  pub asks : (past : List Own) (now : ℕ) (r : Need) → k ≡ record was { present = now; ready = input_ready } → due_of r ≡ Next args past k.present k.ready → due_of r ≡ Next args past now input_ready
+  asks past now r looked is =
+      is ∙ ap (λ n. Next args past n k.ready) (ap (λ (m : Machine). m.present) looked) ∙ ap (λ (x : Ready). Next args past now x) (ap (λ (m : Machine). m.ready) looked)
 
-module _ (args : Arguments) (m k : Machine) (past : List Own) (now : ℕ) (looked : k ≡ record m { present = now; ready = input_ready }) (follows : Follows m (Injector args) past) where
-  pub asks : (r : Need) (c : Call) → ((a : Arguments) → Stands m a past → Stands k a past)
-      → ((a : Arguments) → Stands k a past → IsTrue (is_decided k) → due_of r ≡ Next a past k.present k.ready)
-      → r ≡ need.File c → Next args past now input_ready ≡ Due.File (data_of c)
-  asks r c stands needs is = sym (needs_next m k r now (Injector args) past looked stands needs follows) ∙ ap due_of is
-
-  pub hears : (n : Machine) (c : CallData) (answer : Answer) → ((a : Arguments) → Stands m a past → Stands k a past)
-      → ((a : Arguments) → Stands k a past → Stands n a (with_call k past c answer)) → n.heard ≡ k.heard
-      → Follows n (Injector args) ((record { read = now; ready = input_ready; did = Called c answer [] }) ∷ past)
-  hears n c answer stands told same =
-      let event : with_call k past c answer ≡ (record { read = now; ready = input_ready; did = Called c answer [] }) ∷ past
-      = ap (λ (m : Machine). with_call m past c answer) looked in
-      subst (Follows n (Injector args)) event
-      (told_follows k n (Injector args) past c answer told same
-      (looked_follows m k (Injector args) past stands (ap (λ (m : Machine). m.heard) looked) follows))
+  pub answered : (n : Machine) (past : List Own) (now : ℕ) (c : CallData) (answer : Answer) → k ≡ record was { present = now; ready = input_ready }
+      → Stands n args ((record { read = k.present; ready = k.ready; did = Called c answer [] }) ∷ past) → Stands n args ((record { read = now; ready = input_ready; did = Called c answer [] }) ∷ past)
+  answered n past now c answer looked =
+      subst (λ (m : Machine). Stands n args ((record { read = m.present; ready = m.ready; did = Called c answer [] }) ∷ past)) looked
 
 -- Counts of failures
 
@@ -183,10 +174,10 @@ leads_nowhere None = tt
 leads_nowhere (Some d) = refl
 
 -- before its first call
-pub begins : (args : Arguments) (m : Machine) (o : Outside) (last : ℕ) → Follows m (Injector args) [] → args.start ≤ last → IsRunning args m o o last
-begins args m o last follows later = record {
+pub begins : (args : Arguments) (m : Machine) (o : Outside) (last : ℕ) → Stands m args [] → args.start ≤ last → IsRunning args m o o last
+begins args m o last stands later = record {
   past = [];
-  follows = follows;
+  stands = stands;
   run = tt;
   more = tt;
   ready = tt;
@@ -203,15 +194,15 @@ begins args m o last follows later = record {
 -- after one call more
 pub goes_on : (args : Arguments) (m n : Machine) (old b a : Outside) (last now : ℕ) (c : CallData) (answer : Answer) (into : List ℕ) (r : IsRunning args m old b last)
     → last ≤ now → IsMoment now → Next args r.past now input_ready ≡ Due.File c → IsAnswerTo c answer
-    → Follows n (Injector args) ((record { read = now; ready = input_ready; did = Called c answer [] }) ∷ r.past)
+    → Stands n args ((record { read = now; ready = input_ready; did = Called c answer [] }) ∷ r.past)
     → Records b.calls a.calls (entry_with c answer into) → Records b.moments a.moments now
     → Meets b.disk a.disk (λ d e. Apply d now c answer e) → AnswerHasCause b.faults a.faults answer
     → IsRunning args n old a now
-goes_on args m n old b a last now c answer into r later moment due kind follows called read made counted =
+goes_on args m n old b a last now c answer into r later moment due kind stands called read made counted =
     let entry : entry_with c answer into ≡ kept_as (Called c answer []) = ap (λ (bytes : List ℕ). kept_as (Called c answer bytes)) (no_bytes c answer into (is_plain args r.past now c due) kind) in
     record {
       past = (record { read = now; ready = input_ready; did = Called c answer [] }) ∷ r.past;
-      follows = follows;
+      stands = stands;
       run = (r.run, (due, kind));
       more = more_still args r.past now c due answer r.more;
       ready = (refl, r.ready);

@@ -1,8 +1,7 @@
 -- A whole injection from its parts.
-use Rattle.std.proofs.Common.{◌≡◌, ◌⊎◌, inl, inr, ℕ, List, Option, refl}
+use Rattle.std.proofs.Common.{◌≡◌, ℕ, List, Option, refl}
 use Rattle.call_fs.specs.declared.program.Ready.{Ready}
-use Rattle.call_fs.specs.Disk.{Disk}
-use Rattle.call_fs.specs.Told.{Records, Meets}
+use Rattle.mail_bytes.specs.Told.{Records}
 use Rattle.call_fs.specs.Program.{Due, Own}
 use Rattle.queue_inject.specs.declared.injection.Arguments.{Arguments}
 use Rattle.queue_inject.specs.Table.{Next}
@@ -11,8 +10,8 @@ use Rattle.queue_inject.specs.Causes.{IsCausedBy}
 use Rattle.mail_world.specs.World.{input_ready}
 use Rattle.queue_command.specs.declared.input.Form.{Form}
 use Rattle.queue_command.specs.Inputs.{Stream, AreInputs}
-use Rattle.queue_command.specs.Runs.{Outside, LeadsTo, HasRun}
-use Rattle.queue_command.specs.Injected.{Who, MayBeQueued, IsInjected, HasInjected}
+use Rattle.queue_command.specs.Runs.{Outside, HasRun}
+use Rattle.queue_command.specs.Injected.{IsInjected}
 use Rattle.queue_command.proofs.Complete.{may_be_queued}
 
 -- each run's status has its cause

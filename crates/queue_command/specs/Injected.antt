@@ -1,22 +1,21 @@
 -- A whole injection: what came in, what was done with it, and why it ended so.
-use Rattle.std.specs.Prelude.{◌≡◌, ◌≢◌, ◌⊎◌, ℕ, ◌≤◌, List, [], ◌∷◌, length, take, Option, Some, None}
+use Rattle.std.specs.Prelude.{◌≡◌, ◌≢◌, ◌⊎◌, ℕ, ◌≤◌, List, length, take, Option, Some, None}
 use Rattle.call_fs.specs.declared.calls.FsError.TheVariants.{NotThere, Exists}
 use Rattle.call_fs.specs.declared.calls.CallData.{CallData}
 use Rattle.call_fs.specs.declared.calls.CallData.TheVariants.{CreateExcl}
 use Rattle.call_fs.specs.declared.calls.Answer.{Answer}
 use Rattle.call_fs.specs.declared.calls.Answer.TheVariants.{Refused}
 use Rattle.call_fs.specs.Disk.{Disk, HasDir}
-use Rattle.call_fs.specs.Told.{Records, Rose}
+use Rattle.mail_bytes.specs.Told.{Records}
 use Rattle.call_fs.specs.Program.{Own}
 use Rattle.envelope_records.specs.Envelope.{HasEnvelope}
 use Rattle.queue_inject.specs.declared.injection.Arguments.{Arguments}
 use Rattle.queue_inject.specs.declared.injection.InputEnd.TheVariants.{Whole}
-use Rattle.queue_inject.specs.declared.received_line.Invoked.{Invoked}
+use Rattle.received_line.specs.declared.line.Invoked.{Invoked}
 use Rattle.queue_inject.specs.Texts.{limit}
 use Rattle.queue_inject.specs.Run.{HasCall}
 use Rattle.queue_inject.specs.Causes.{pid_name, IsTry, IsTaken, IsCleanUp, IsCutShort, IsCausedBy}
 use Rattle.queue_command.specs.declared.input.Form.{Form}
-use Rattle.queue_command.specs.declared.netstring.Input.{Input}
 use Rattle.queue_command.specs.Inputs.{Stream, AreInputs}
 use Rattle.queue_command.specs.Runs.{Outside, IsFault, HasRun}
 

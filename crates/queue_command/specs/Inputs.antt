@@ -1,7 +1,7 @@
 -- How a message and its envelope are read from a source: each to its end, or as two netstrings one after the other.
 use Rattle.std.specs.Prelude.{◌≡◌, ◌≢◌, ◌⊎◌, ℕ, ◌+◌, ◌≤◌, List, [], ◌∷◌, ◌++◌, length, Option, Bool, true, false, ◌&&◌, nat_le}
 use Rattle.mail_bytes.specs.Netstring.{head, IsPartOfHead, IsNoHead}
-use Rattle.call_fs.specs.Told.{Meets, Rose}
+use Rattle.mail_bytes.specs.Told.{Meets, Rose}
 use Rattle.queue_inject.specs.declared.injection.InputEnd.{InputEnd}
 use Rattle.queue_inject.specs.declared.injection.InputEnd.TheVariants.{Whole, Unread, Malformed}
 use Rattle.queue_inject.specs.Texts.{limit}

@@ -6,3 +6,5 @@ pub mod Reading
 pub mod Runs
 -- a whole injection
 pub mod Injected
+-- what an injector is fed of its arguments
+pub mod Feeding

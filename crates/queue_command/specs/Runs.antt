@@ -5,9 +5,10 @@ use Rattle.call_fs.specs.declared.calls.Answer.TheVariants.{Refused}
 use Rattle.call_fs.specs.declared.calls.CallData.{CallData}
 use Rattle.call_fs.specs.declared.calls.Answer.{Answer}
 use Rattle.call_fs.specs.declared.calls.Recorded.{Recorded}
-use Rattle.call_fs.specs.Disk.{Disk, IsMoment}
+use Rattle.call_fs.specs.Disk.{Disk}
+use Rattle.mail_bytes.specs.Moments.{IsMoment}
 use Rattle.call_fs.specs.Apply.{Apply, IsReadBy}
-use Rattle.call_fs.specs.Told.{Meets, Rose}
+use Rattle.mail_bytes.specs.Told.{Meets, Rose}
 use Rattle.call_fs.specs.Program.{Due, Did, Own}
 use Rattle.call_fs.specs.Program.Did.{Called}
 use Rattle.queue_inject.specs.declared.injection.Arguments.{Arguments}

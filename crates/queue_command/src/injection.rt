@@ -6,8 +6,8 @@ use crate::input::{Form, read_input};
 use crate::running::run;
 use call_fs::CallFs;
 use outside::{Clock, Source};
-use queue_inject::received_line::Invoked;
 use queue_inject::{Arguments, statuses_have_causes};
+use received_line::Invoked;
 use std::alloc::Global;
 
 /// The exit status for want of memory.

@@ -1,6 +1,6 @@
 // The input of an injection: a message and its envelope.
 ghost use Rattle.std.specs.Prelude.{◌≡◌, ◌≢◌, List, ℕ, IfOk};
-ghost use Rattle.call_fs.specs.Told.{Meets, Rose};
+ghost use Rattle.mail_bytes.specs.Told.{Meets, Rose};
 ghost use Rattle.queue_command.specs.Inputs.{AreInputs, IsAll, IsValue, IsNextValue, leads_on, unread};
 
 use crate::netstring::{Input, MOST_BYTES, take_netstring};
@@ -10,7 +10,7 @@ use queue_inject::InputEnd;
 use std::alloc::Global;
 
 /// How a message and its envelope come in.
-#[derive(Clone, Copy, Debug, PartialEq, Eq)]
+#[derive(Clone, Copy)]
 pub enum Form {
     /// The envelope has a source of its own, beside the message's.
     Beside,

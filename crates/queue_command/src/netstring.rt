@@ -1,6 +1,6 @@
 // Reading a netstring (`5:hello,`) from a source.
 ghost use Rattle.std.specs.Prelude.{◌≤◌, IfOk};
-ghost use Rattle.call_fs.specs.Told.{Meets, Rose};
+ghost use Rattle.mail_bytes.specs.Told.{Meets, Rose};
 ghost use Rattle.queue_command.specs.Inputs.{IsValue};
 ghost use Rattle.queue_command.specs.Reading.{IsByteRead, IsHeadRead, IsCommaRead, IsValueRead};
 
@@ -13,7 +13,7 @@ use std::alloc::Global;
 pub const MOST_BYTES: usize = 1_073_741_824;
 
 /// A message or an envelope, as far as it was read.
-#[derive(Debug, Drop)]
+#[derive(Drop)]
 pub struct Input {
     /// Its bytes.
     pub bytes: ByteText,
@@ -43,7 +43,7 @@ pub fn take_netstring<S: Source>(alloc: Global, source: &mut S) -> Result<Input,
 }
 
 /// What a source gave as the head of a netstring.
-#[derive(Clone, Copy, Debug, PartialEq, Eq)]
+#[derive(Clone, Copy)]
 enum Head {
     /// A head, with this length.
     Length(u64),
@@ -119,6 +119,3 @@ fn take_byte<S: Source>(source: &mut S) -> Option<u8>
         Took::End | Took::Failed => None,
     }
 }
-
-#[cfg(test)]
-mod tests;

@@ -1,19 +1,19 @@
 // Running an injector over a disk and a clock.
-ghost use Rattle.std.specs.Prelude.{◌≡◌, ◌≤◌, [], List, IfOk, OnErr};
-ghost use Rattle.call_fs.specs.Disk.{IsMoment};
+ghost use Rattle.std.specs.Prelude.{◌≡◌, ◌≤◌, List, None, IfOk, OnErr};
+ghost use Rattle.mail_bytes.specs.Moments.{IsMoment};
 ghost use Rattle.call_fs.specs.Program.{Own};
 ghost use Rattle.queue_inject.specs.declared.injection.Arguments.{Arguments};
-ghost use Rattle.queue_inject.specs.Machine.{ended_on};
+ghost use Rattle.queue_inject.specs.Machine.{asks, room_of};
+ghost use Rattle.queue_inject.specs.Rows.{part_in};
 ghost use Rattle.queue_inject.specs.Stands.{Stands, Ends};
-ghost use Rattle.mail_world.specs.Inside.{Follows};
-ghost use Rattle.mail_world.specs.declared.event.Program.TheVariants.{Injector as Injecting};
+ghost use Rattle.queue_command.specs.Feeding.{IsPart};
 ghost use Rattle.queue_command.specs.Runs.{Outside, HasRun};
 
-use call_fs::{CallFs, Got, Need, Ready, perform};
+use call_fs::{CallFs, Got, Need, PIECE, Ready, perform};
 use mail_bytes::Memory;
 use outside::Clock;
-use queue_inject::{Arguments, Injector, InputEnd};
-use std::alloc::{AllocError, Global};
+use queue_inject::{Arguments, Injector, InputEnd, Part};
+use std::alloc::Global;
 
 /// What the injector finds ready: its input, which is read before it starts.
 const READY: Ready = Ready {
@@ -39,9 +39,10 @@ pub fn run<D: CallFs, K: Clock>(
     ensures disk { OnErr result (disk.new ≡ disk.old) }
     ensures clock { OnErr result (clock.new ≡ clock.old) }
 {
-    let mut injector = injector_of(alloc, args)?;
+    let mut injector = Injector::new(alloc, args.uid, args.pid, args.invoked, args.start, PIECE)?;
     let mut bytes = [0; 8192];
     'calls: loop {
+        feed(&mut injector, args);
         let now = clock.now();
         injector.look(now, READY);
         match injector.need() {
@@ -55,27 +56,40 @@ pub fn run<D: CallFs, K: Clock>(
     }
 }
 
-/// The injector with these arguments, which was fed its whole input.
-fn injector_of(alloc: Global, args: &Arguments) -> Result<Injector, Memory>
-    requires { IsMoment args.now.start }
-    ensures { IfOk result (λ machine. Follows machine (Injecting args.now) []) }
+/// Feeds an injector as much as it asks for now, of its arguments' input.
+fn feed(injector: &mut Injector, args: &Arguments)
+    ensures stands { (past : List Own) → Stands injector.old args.now past → Stands injector.new args.now past }
+    ensures full { room_of injector.new ≡ 0 }
+    ensures rest { injector.new ≡ record injector.old { heard = injector.new.heard } }
 {
-    let Some(room) = args.message.len().checked_add(args.envelope.len()) else {
-        return Err(AllocError);
-    };
-    let mut injector = Injector::new(alloc, args.uid, args.pid, args.invoked, args.start, room)?;
-    injector.feed(args.message.as_slice());
-    tell_end(&mut injector, args.message_end);
-    injector.feed(args.envelope.as_slice());
-    tell_end(&mut injector, args.envelope_end);
-    Ok(injector)
+    match injector.asks() {
+        None => {}
+        Some(Part::Message) => feed_part(injector, args.message.as_slice(), args.message_end),
+        Some(Part::Envelope) => feed_part(injector, args.envelope.as_slice(), args.envelope_end),
+    }
 }
 
-/// Tells an injector how its input ended.
+/// Feeds an injector as much as it asks for now, of this part, and tells it the part's end.
+fn feed_part(injector: &mut Injector, text: &[u8], end: InputEnd)
+    ensures stands { (args : Arguments) (past : List Own) → IsPart (part_in injector.old.row) args text.now end
+        → Stands injector.old args past → Stands injector.new args past }
+    ensures full { room_of injector.new ≡ 0 }
+    ensures rest { injector.new ≡ record injector.old { heard = injector.new.heard } }
+{
+    let rest = &text[injector.fed().min(text.len())..];
+    let count = rest.len().min(injector.room());
+    injector.feed(&rest[..count]);
+    if count == rest.len() {
+        tell_end(injector, end);
+    }
+}
+
+/// Tells an injector how the part of its input ended that it asks for.
 fn tell_end(injector: &mut Injector, end: InputEnd)
     ensures stands { (args : Arguments) (past : List Own) → Stands injector.old args past
-        → Ends injector.old.heard.progress args end → Stands injector.new args past }
-    ensures progress { injector.new.heard.progress ≡ ended_on injector.old.heard.progress end }
+        → Ends injector.old args end → Stands injector.new args past }
+    ensures none { asks injector.new ≡ None }
+    ensures rest { injector.new ≡ record injector.old { heard = injector.new.heard } }
 {
     match end {
         InputEnd::Whole => injector.end_input(),

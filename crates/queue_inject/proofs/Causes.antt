@@ -112,10 +112,10 @@ module _ (args : Arguments) (past : List Own) (now : ℕ) (input : Bool) (status
   ends_at (at.AppendTodo n fd done) is (clear, whole) end = cut_short (at.AppendTodo n fd done) _ is refl clear.unqueued end
   ends_at (at.SyncTodo n fd) is (clear, none) end = cut_short (at.SyncTodo n fd) _ is refl clear.unqueued end
   ends_at (at.LinkTodo n) is (clear, none) end = cut_short (at.LinkTodo n) _ is refl clear.unqueued end
-  ends_at (at.CleanIntd n cause) is here end = cut_short (at.CleanIntd n cause) _ is refl (unqueued_at args past _ here) end
-  ends_at (at.CleanMess n cause) is here end = cut_short (at.CleanMess n cause) _ is refl (unqueued_at args past _ here) end
+  ends_at (at.CleanIntd n last) is here end = cut_short (at.CleanIntd n last) _ is refl (unqueued_at args past _ here) end
+  ends_at (at.CleanMess n last) is here end = cut_short (at.CleanMess n last) _ is refl (unqueued_at args past _ here) end
   ends_at at.Queued is (none, unfailed, queued) end = Well (uncut at.Queued 0 is refl) none unfailed queued (cc)
-  ends_at (at.Failed cause) is here end = Badly (uncut (at.Failed cause) _ is refl) (subst (IsEnding args past) (cc) here)
+  ends_at (at.Failed last) is here end = Badly (uncut (at.Failed last) _ is refl) (subst (IsEnding args past) (cc) here)
 
 -- The causes
 

@@ -1,13 +1,12 @@
 -- An envelope that is fed byte by byte.
-use Rattle.std.proofs.Common.{◌≡◌, ◌≢◌, ℕ, ◌+◌, ◌-◌, ◌<◌, ◌≤◌, List, [], ◌∷◌, ◌++◌, length, take, get_or, Option, Some, None, Bool, true, false, refl, sym, ap, ◌∙◌, subst, ⊎_elim, arith, eqb, ltb}
+use Rattle.std.proofs.Common.{◌≡◌, ◌≢◌, ℕ, ◌+◌, ◌<◌, ◌≤◌, List, [], ◌∷◌, ◌++◌, length, take, drop, get_or, Option, Some, None, Bool, true, false, refl, sym, ap, ◌∙◌, subst, ⊎_elim, arith, eqb, ltb, length-append}
 use Rattle.std.specs.Prelude.{slice_get, if◌then◌else◌}
-use Rattle.std.proofs.lemmas.List.{take_all, take_more, take-append-le, get_or_append_left, append-nil, append_assoc, length_push}
+use Rattle.std.proofs.lemmas.List.{take_all, take_more, take-append-le, drop-append-le, get_or_append_left, append-nil, append_assoc, length_push}
 use Rattle.std.proofs.lemmas.Bool.{cases_lt, cases_Bool, lt-ltb, le-ltb}
 use Rattle.std.proofs.lemmas.Option.{slice_get_past, slice_get-get_or}
 use Rattle.std.proofs.Math.Seq.{get_or-append_seam}
 use Rattle.envelope_records.specs.declared.envelope.EnvFault.TheVariants.{Format, TooLong, EndEarly}
 use Rattle.envelope_records.specs.declared.envelope.EnvStep.{EnvStep}
-use Rattle.queue_inject.specs.declared.injection.InputEnd.{InputEnd}
 use Rattle.queue_inject.specs.declared.intake.Verdict.{Verdict}
 use Rattle.queue_inject.specs.declared.intake.Verdict.TheVariants as verdict
 use Rattle.envelope_records.specs.Envelope.{Stage, Step, Reading, bytes_to, records_of, in_address, step, read_on, read_more, read_envelope, step_of, HasRead}
@@ -15,9 +14,9 @@ use Rattle.envelope_records.specs.Envelope.Stage.{Begin, InSender, Between, InRe
 use Rattle.envelope_records.specs.Envelope.Step.{Goes, Ends, Fails}
 use Rattle.envelope_records.specs.Envelope.Reading.{Whole, Open, Broken}
 use Rattle.queue_inject.specs.Texts.{limit, past_limit}
-use Rattle.queue_inject.specs.Machine.{Progress, Heard, envelope_part}
+use Rattle.queue_inject.specs.Machine.{Heard}
 use Rattle.queue_inject.specs.Rows.{verdict_after, is_open}
-use Rattle.queue_inject.specs.Stands.{verdict_by, taken_by, verdict_of, Reads}
+use Rattle.queue_inject.specs.Stands.{verdict_by, taken_by, verdict_of, taken, Reads}
 use Rattle.envelope_records.proofs.Envelopes.{read_envelope-append, sound_as}
 
 -- The limit is any number here.
@@ -241,65 +240,64 @@ taken_more most read (b ∷ more) = ⊎_elim
     (λ closed. ([], (closed_more most read (b ∷ more) (is_closed_tells (verdict_at most read) closed)).taken_is ∙ sym (append-nil (taken_at most read))))
     (cases_Bool (is_open (verdict_at most read)))
 
--- what an intake holds
+-- What is held of it
 
-pub reads_begun : (h : Heard) (head : List ℕ) → h.progress.envelope_fed ≡ 0 → h.verdict ≡ verdict.Open → h.todo ≡ head → HasRead [] h.reader → Reads h head []
+pub reads_begun : (h : Heard) (head : List ℕ) → h.fed ≡ 0 → h.verdict ≡ verdict.Open → h.piece ≡ head → HasRead [] h.reader → Reads h 0 head []
 unfolding read_envelope
-reads_begun h head fed begun todo reader = record { fed = fed; verdict_is = begun; todo = todo ∙ sym (append-nil head); reader = λ _. reader }
+reads_begun h head fed begun piece reader = record { fed = fed; verdict_is = begun; written = omega arith; piece = piece ∙ sym (append-nil head); reader = λ _. reader }
 
-put : (t : Bool) (head read todo : List ℕ) (b : ℕ) → todo ≡ head ++ read → (if t then todo ++ b ∷ [] else todo) ≡ head ++ (if t then read ++ b ∷ [] else read)
-put true head read todo b e = ap (λ x. x ++ b ∷ []) e ∙ append_assoc head read (b ∷ [])
-put false head read todo b e = e
+put : (t : Bool) (head read : List ℕ) (done b : ℕ) → done ≤ length (head ++ read)
+    → (if t then drop done (head ++ read) ++ b ∷ [] else drop done (head ++ read)) ≡ drop done (head ++ (if t then read ++ b ∷ [] else read))
+put true head read done b within = sym (drop-append-le done (head ++ read) (b ∷ []) within) ∙ ap (drop done) (append_assoc head read (b ∷ []))
+put false head read done b within = refl
+
+longer : (t : Bool) (head read : List ℕ) (b done : ℕ) → done ≤ length (head ++ read) → done ≤ length (head ++ (if t then read ++ b ∷ [] else read))
+longer true head read b done within = omega (arith, length-append head read, length-append head (read ++ b ∷ []), length_push read b)
+longer false head read b done within = within
 
 -- a byte of an open envelope
-pub reads_open : (h next : Heard) (head read : List ℕ) (b : ℕ) (s : EnvStep) → Reads h head read → is_open h.verdict ≡ true
+pub reads_open : (h next : Heard) (done : ℕ) (head read : List ℕ) (b : ℕ) (s : EnvStep) → Reads h done head read → is_open h.verdict ≡ true
     → (HasRead read h.reader → HasRead (read ++ b ∷ []) next.reader) → (HasRead read h.reader → s ≡ step_of (read_envelope (read ++ b ∷ [])))
-    → next.progress.envelope_fed ≡ h.progress.envelope_fed + 1 → next.verdict ≡ verdict_after s (ltb h.progress.envelope_fed limit)
-    → (t : Bool) → is_open next.verdict ≡ t → next.todo ≡ (if t then h.todo ++ b ∷ [] else h.todo) → Reads next head (read ++ b ∷ [])
-reads_open h next head read b s r begun reader step fed verdict_is t test todo =
+    → next.fed ≡ h.fed + 1 → next.verdict ≡ verdict_after s (ltb h.fed limit)
+    → (t : Bool) → is_open next.verdict ≡ t → next.piece ≡ (if t then h.piece ++ b ∷ [] else h.piece) → Reads next done head (read ++ b ∷ [])
+reads_open h next done head read b s r begun reader step fed verdict_is t test piece =
     let begun : h.verdict ≡ verdict.Open = is_open_tells h.verdict begun in
     let o = open_at limit read (sym r.verdict_is ∙ begun) in
     let on = on_byte limit read b o in
     let told : s ≡ step_of (read_envelope (read ++ b ∷ [])) = step (r.reader begun) in
     let same : next.verdict ≡ verdict_of (read ++ b ∷ []) =
     verdict_is ∙ ap (λ n. verdict_after s (ltb n limit)) r.fed ∙ ap (λ t. verdict_after t (ltb (length read) limit)) told ∙ sym on.verdict_is in
-    let old : h.todo ≡ head ++ read = r.todo ∙ ap (λ t. head ++ t) (open_taken limit read o) in
+    let all : taken read ≡ read = open_taken limit read o in
+    let old : h.piece ≡ drop done (head ++ read) = r.piece ∙ ap (λ t. drop done (head ++ t)) all in
+    let within : done ≤ length (head ++ read) = subst (λ t. done ≤ length (head ++ t)) all r.written in
+    let u : Bool = is_open (verdict_of (read ++ b ∷ [])) in
     record {
       fed = fed ∙ ap (λ n. n + 1) r.fed ∙ sym (length_push read b);
       verdict_is = same;
-      todo = todo ∙ ap (λ u. if u then h.todo ++ b ∷ [] else h.todo) (sym test ∙ ap is_open same) ∙ put (is_open (verdict_of (read ++ b ∷ []))) head read h.todo b old ∙ ap (λ t. head ++ t) (sym on.taken_is);
+      written = subst (λ t. done ≤ length (head ++ t)) (sym on.taken_is) (longer u head read b done within);
+      piece = piece ∙ ap (λ u. if u then h.piece ++ b ∷ [] else h.piece) (sym test ∙ ap is_open same) ∙ ap (λ x. if u then x ++ b ∷ [] else x) old
+          ∙ put u head read done b within ∙ ap (λ t. drop done (head ++ t)) (sym on.taken_is);
       reader = λ _. reader (r.reader begun);
     }
 
--- a byte behind its end
-pub reads_closed : (h next : Heard) (head read : List ℕ) (b : ℕ) → Reads h head read → is_open h.verdict ≡ false
-    → next.progress.envelope_fed ≡ h.progress.envelope_fed + 1 → next.verdict ≡ h.verdict → next.todo ≡ h.todo → Reads next head (read ++ b ∷ [])
-reads_closed h next head read b r far fed verdict_is todo =
+-- a byte after its end
+pub reads_closed : (h next : Heard) (done : ℕ) (head read : List ℕ) (b : ℕ) → Reads h done head read → is_open h.verdict ≡ false
+    → next.fed ≡ h.fed + 1 → next.verdict ≡ h.verdict → next.piece ≡ h.piece → Reads next done head (read ++ b ∷ [])
+reads_closed h next done head read b r far fed verdict_is piece =
     let far = is_closed_tells h.verdict far in
     let same = closed_byte limit read b (λ e. far (r.verdict_is ∙ e)) in
     record {
       fed = fed ∙ ap (λ n. n + 1) r.fed ∙ sym (length_push read b);
       verdict_is = verdict_is ∙ r.verdict_is ∙ sym same.verdict_is;
-      todo = todo ∙ r.todo ∙ ap (λ t. head ++ t) (sym same.taken_is);
+      written = subst (λ t. done ≤ length (head ++ t)) (sym same.taken_is) r.written;
+      piece = piece ∙ r.piece ∙ ap (λ t. drop done (head ++ t)) (sym same.taken_is);
       reader = λ e. absurd (far (sym verdict_is ∙ e));
     }
 
--- a loop over the bytes
+pub reads_more : (h : Heard) (done : ℕ) (head read bytes : List ℕ) (i : ℕ) → i < length bytes → Reads h done head ((read ++ take i bytes) ++ get_or bytes i 0 ∷ [])
+    → Reads h done head (read ++ take (i + 1) bytes)
+reads_more h done head read bytes i inside r =
+    subst (Reads h done head) (append_assoc read (take i bytes) (get_or bytes i 0 ∷ []) ∙ ap (λ t. read ++ t) (sym (take_more bytes i 0 inside))) r
 
-pub reads_more : (h : Heard) (head read bytes : List ℕ) (i : ℕ) → i < length bytes → Reads h head ((read ++ take i bytes) ++ get_or bytes i 0 ∷ []) → Reads h head (read ++ take (i + 1) bytes)
-reads_more h head read bytes i inside r =
-    subst (Reads h head) (append_assoc read (take i bytes) (get_or bytes i 0 ∷ []) ∙ ap (λ t. read ++ t) (sym (take_more bytes i 0 inside))) r
-
-pub reads_all : (h : Heard) (head read bytes : List ℕ) (i : ℕ) → length bytes ≤ i → Reads h head (read ++ take i bytes) → Reads h head (read ++ bytes)
-reads_all h head read bytes i past r = subst (λ t. Reads h head (read ++ t)) (take_all i bytes past) r
-
-pub progress_more : (start now next : Progress) (i : ℕ) → now ≡ record start { envelope_fed = start.envelope_fed + i; room = start.room - i }
-    → next ≡ record now { envelope_fed = now.envelope_fed + 1; room = now.room - 1 } → next ≡ record start { envelope_fed = start.envelope_fed + (i + 1); room = start.room - (i + 1) }
-progress_more start now next i is one =
-    let fed : (start.envelope_fed + i) + 1 ≡ start.envelope_fed + (i + 1) = omega arith in
-    let room : (start.room - i) - 1 ≡ start.room - (i + 1) = omega arith in
-    let more : Progress → Progress = λ p. record p { envelope_fed = p.envelope_fed + 1; room = p.room - 1 } in
-    one ∙ ap more is ∙ (λ k. record start { envelope_fed = fed k; room = room k })
-
-pub envelope_part_here : (first last : Option InputEnd) (end : InputEnd) (bytes : List ℕ) → first ≡ Some end → last ≡ None → envelope_part first last bytes ≡ bytes
-envelope_part_here first last end bytes a b = ap (λ f. envelope_part f last bytes) a ∙ ap (λ l. envelope_part (Some end) l bytes) b
+pub reads_all : (h : Heard) (done : ℕ) (head read bytes : List ℕ) (i : ℕ) → length bytes ≤ i → Reads h done head (read ++ take i bytes) → Reads h done head (read ++ bytes)
+reads_all h done head read bytes i past r = subst (λ t. Reads h done head (read ++ t)) (take_all i bytes past) r

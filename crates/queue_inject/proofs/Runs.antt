@@ -1,6 +1,6 @@
 -- What a run has come to, by the row after it.
 use Rattle.std.proofs.Common.{◌≡◌, ◌≢◌, ℕ, ◌+◌, ◌≤◌, ◌<◌, List, [], ◌∷◌, length, Option, Some, None, Bool, true, false, refl, sym, ap, ◌∙◌, subst, ⊎_elim, inl, inr, arith}
-use Rattle.std.specs.Prelude.{if◌then◌else◌, nat_lt, nat_le, unwrap_or}
+use Rattle.std.specs.Prelude.{if◌then◌else◌, nat_lt, nat_le}
 use Rattle.std.specs.Option.{option_or}
 use Rattle.std.proofs.lemmas.Bool.{cases_lt, lt-ltb, ltb-true}
 use Rattle.call_fs.specs.declared.calls.CallData.{CallData}
@@ -18,13 +18,11 @@ use Rattle.queue_paths.specs.Names.{path}
 use Rattle.queue_paths.specs.Names.Part.{Mess, Intd, Todo}
 use Rattle.queue_paths.specs.Names.Name.{Of}
 use Rattle.queue_inject.specs.declared.injection.Arguments.{Arguments}
-use Rattle.queue_inject.specs.declared.row.Cause.{Cause}
-use Rattle.queue_inject.specs.declared.row.Cause.TheVariants.{Status, Envelope}
 use Rattle.queue_inject.specs.declared.row.Row.{Row}
 use Rattle.queue_inject.specs.declared.row.Row.TheVariants as at
 use Rattle.queue_inject.specs.Texts.{message_text, intd_text}
-use Rattle.queue_inject.specs.Table.{work_of, piece_size, failure, status_of, past_piece, in_message, in_todo, settled, moved, row_after, after_own, call_of, in_time}
-use Rattle.queue_inject.proofs.Known.{either}
+use Rattle.queue_inject.specs.Table.{work_of, piece_size, failure, past_piece, in_message, in_todo, settled, moved, row_after, after_own, call_of, in_time}
+use Rattle.queue_inject.proofs.Pieces.{either}
 use Rattle.queue_inject.specs.Run.{IsDue, IsRun, HoldsOf, HasCall}
 use Rattle.queue_inject.specs.Causes.{first_fault, pid_name, IsTry, IsTaken, IsQueuing, IsCleanUp, IsFailure, FailsWith}
 use Rattle.queue_inject.specs.Causes.FailsWith.{WantsMemory, Appends, Syncs, TakesAll, MakesPid, LeavesPid, LinksMess, MakesIntd, LinksTodo}
@@ -40,10 +38,6 @@ pub data IsEnding (args : Arguments) (past : List Own) (status : ℕ) : Type 0 w
   ByInput : IsClear args past → first_fault args ≡ Some status → IsEnding args past status
   ByCall : ¬ (HasCall past IsQueuing) → HasCall past (FailsWith args status) → ((other : ℕ) → HasCall past (FailsWith args other) → other ≡ status) → IsEnding args past status
 
--- it ends with the status of this cause
-abbrev pub EndsBy : Arguments → List Own → Cause → Type 0
-EndsBy args past cause = IsEnding args past (status_of cause (intd_text args).fault)
-
 abbrev pub IsAt : Arguments → List Own → Row → Type 0
 IsAt args past (at.Create k) = IsClear args past × IsTry k × ((j : ℕ) → 1 ≤ j → j < k → HasCall past (IsTaken args j))
 IsAt args past (at.LinkMess k n fd) = IsClear args past × IsTry k
@@ -54,10 +48,10 @@ IsAt args past (at.CreateIntd n) = IsClear args past × ((message_text args).fau
 IsAt args past (at.AppendTodo n fd done) = IsClear args past × ((message_text args).fault ≡ None)
 IsAt args past (at.SyncTodo n fd) = IsClear args past × (first_fault args ≡ None)
 IsAt args past (at.LinkTodo n) = IsClear args past × (first_fault args ≡ None)
-IsAt args past (at.CleanIntd n cause) = EndsBy args past cause
-IsAt args past (at.CleanMess n cause) = EndsBy args past cause
+IsAt args past (at.CleanIntd n status) = IsEnding args past status
+IsAt args past (at.CleanMess n status) = IsEnding args past status
 IsAt args past at.Queued = (first_fault args ≡ None) × (¬ (HasCall past (IsFailure args))) × HasCall past IsQueuing
-IsAt args past (at.Failed cause) = EndsBy args past cause
+IsAt args past (at.Failed status) = IsEnding args past status
 
 -- What follows the written bytes of a text
 
@@ -68,7 +62,7 @@ past_written P bytes (Some status) done more end bad h whole faulty = either P (
 
 in_message_at : (args : Arguments) (past : List Own) (n fd done : ℕ) → IsClear args past → IsAt args past (in_message (message_text args) n fd done)
 in_message_at args past n fd done clear =
-    past_written (IsAt args past) (message_text args).bytes (message_text args).fault done (at.AppendMess n (record { 0 = fd }) done) (at.SyncMess n (record { 0 = fd })) (λ status. at.CleanMess n (Status status))
+    past_written (IsAt args past) (message_text args).bytes (message_text args).fault done (at.AppendMess n (record { 0 = fd }) done) (at.SyncMess n (record { 0 = fd })) (λ status. at.CleanMess n status)
     clear
     (λ none. (clear, none))
     (λ status some. ByInput clear (ap (λ fault. option_or fault (intd_text args).fault) some))
@@ -76,10 +70,10 @@ in_message_at args past n fd done clear =
 in_todo_at : (args : Arguments) (past : List Own) (n fd done : ℕ) → IsClear args past → (message_text args).fault ≡ None → IsAt args past (in_todo (intd_text args) n fd done)
 in_todo_at args past n fd done clear whole =
     let first : first_fault args ≡ (intd_text args).fault = ap (λ fault. option_or fault (intd_text args).fault) whole in
-    past_written (IsAt args past) (intd_text args).bytes (intd_text args).fault done (at.AppendTodo n (record { 0 = fd }) done) (at.SyncTodo n (record { 0 = fd })) (λ status. at.CleanIntd n Envelope)
+    past_written (IsAt args past) (intd_text args).bytes (intd_text args).fault done (at.AppendTodo n (record { 0 = fd }) done) (at.SyncTodo n (record { 0 = fd })) (λ status. at.CleanIntd n status)
     (clear, whole)
     (λ none. (clear, first ∙ none))
-    (λ status some. ByInput clear (first ∙ some ∙ ap (λ fault. Some (unwrap_or fault 54)) (sym some)))
+    (λ status some. ByInput clear (first ∙ some))
 
 -- One event more, of a call and its answer
 module _ (args : Arguments) (before : List Own) (read : ℕ) (ready : Ready) (bytes : List ℕ) where
@@ -102,7 +96,7 @@ module _ (args : Arguments) (before : List Own) (read : ℕ) (ready : Ready) (by
       (λ other. ⊎_elim (λ g. one_status g f) (λ there. absurd (clear.unfailed (has_failure args other before there))))
 
   refused_at : (status : ℕ) (call : CallData) (why : FsError) → IsClear args before → ¬ (IsCleanUp call)
-      → (why ≢ Memory → FailsWith args status call (Refused why)) → EndsBy args (with_call call (Refused why)) (failure (Refused why) status)
+      → (why ≢ Memory → FailsWith args status call (Refused why)) → IsEnding args (with_call call (Refused why)) (failure (Refused why) status)
   refused_at status call NotThere clear needed f = failed_at status call NotThere clear (f (λ e. cc))
   refused_at status call Exists clear needed f = failed_at status call Exists clear (f (λ e. cc))
   refused_at status call Fault clear needed f = failed_at status call Fault clear (f (λ e. cc))
@@ -120,7 +114,7 @@ module _ (args : Arguments) (before : List Own) (read : ℕ) (ready : Ready) (by
   Keeps row call = (answer : Answer) → IsAt args before row → IsAnswerTo call answer → IsAt args (with_call call answer) (moved args row answer)
 
   taken : (k : ℕ) (t : Bool) → nat_lt k 9 ≡ t → IsAt args before (at.Create k)
-      → IsAt args (with_call (CreateExcl (pid_name args k)) (Refused Exists)) (settled (work_of args) (if t then at.Create (k + 1) else at.Failed (Status 63)))
+      → IsAt args (with_call (CreateExcl (pid_name args k)) (Refused Exists)) (settled (work_of args) (if t then at.Create (k + 1) else at.Failed 63))
   taken k true less (clear, in_range, below) =
       let small : k < 9 = ltb-true k 9 less in
       let low = in_range.0 in
@@ -189,14 +183,14 @@ module _ (args : Arguments) (before : List Own) (read : ℕ) (ready : Ready) (by
   links_todo n (Refused why) (clear, none) fit = refused_at 66 (Link (path (Of Intd n)) (path (Of Todo n))) why clear (no_clean_up (Link (path (Of Intd n)) (path (Of Todo n))) (λ name e. cc)) (LinksTodo n why)
   links_todo n _ here fit = absurd fit
 
-  cleans_intd : (n : ℕ) (cause : Cause) → Keeps (at.CleanIntd n cause) (Unlink (path (Of Intd n)))
-  cleans_intd n cause Done here fit = cleaned _ (Unlink (path (Of Intd n))) Done (n, inl refl) here
-  cleans_intd n cause (Refused NotThere) here fit = cleaned _ (Unlink (path (Of Intd n))) (Refused NotThere) (n, inl refl) here
-  cleans_intd n cause (Refused Fault) here fit = cleaned _ (Unlink (path (Of Intd n))) (Refused Fault) (n, inl refl) here
-  cleans_intd n cause _ here fit = absurd fit
+  cleans_intd : (n : ℕ) (status : ℕ) → Keeps (at.CleanIntd n status) (Unlink (path (Of Intd n)))
+  cleans_intd n status Done here fit = cleaned _ (Unlink (path (Of Intd n))) Done (n, inl refl) here
+  cleans_intd n status (Refused NotThere) here fit = cleaned _ (Unlink (path (Of Intd n))) (Refused NotThere) (n, inl refl) here
+  cleans_intd n status (Refused Fault) here fit = cleaned _ (Unlink (path (Of Intd n))) (Refused Fault) (n, inl refl) here
+  cleans_intd n status _ here fit = absurd fit
 
-  cleans_mess : (n : ℕ) (cause : Cause) → Keeps (at.CleanMess n cause) (Unlink (path (Of Mess n)))
-  cleans_mess n cause answer here fit = cleaned _ (Unlink (path (Of Mess n))) answer (n, inr refl) here
+  cleans_mess : (n : ℕ) (status : ℕ) → Keeps (at.CleanMess n status) (Unlink (path (Of Mess n)))
+  cleans_mess n status answer here fit = cleaned _ (Unlink (path (Of Mess n))) answer (n, inr refl) here
 
   due_keeps : (row : Row) (own call : CallData) → ◌≡◌ {A = Due} (Due.File own) (Due.File call) → Keeps row own → Keeps row call
   due_keeps row own call due h = let same : own ≡ call = cc in subst (Keeps row) same h
@@ -211,10 +205,10 @@ module _ (args : Arguments) (before : List Own) (read : ℕ) (ready : Ready) (by
   row_keeps (at.AppendTodo n fd done) call due = due_keeps (at.AppendTodo n fd done) _ call due (appends_todo n done fd _)
   row_keeps (at.SyncTodo n fd) call due = due_keeps (at.SyncTodo n fd) _ call due (syncs_todo n fd)
   row_keeps (at.LinkTodo n) call due = due_keeps (at.LinkTodo n) _ call due (links_todo n)
-  row_keeps (at.CleanIntd n cause) call due = due_keeps (at.CleanIntd n cause) _ call due (cleans_intd n cause)
-  row_keeps (at.CleanMess n cause) call due = due_keeps (at.CleanMess n cause) _ call due (cleans_mess n cause)
+  row_keeps (at.CleanIntd n status) call due = due_keeps (at.CleanIntd n status) _ call due (cleans_intd n status)
+  row_keeps (at.CleanMess n status) call due = due_keeps (at.CleanMess n status) _ call due (cleans_mess n status)
   row_keeps at.Queued call due = absurd (cc)
-  row_keeps (at.Failed cause) call due = absurd (cc)
+  row_keeps (at.Failed status) call due = absurd (cc)
 
 pub timely : (input late : Bool) (due : Due) (call : CallData) → in_time input late due ≡ Due.File call → due ≡ Due.File call
 timely true true (Due.File own) call h = absurd (cc)

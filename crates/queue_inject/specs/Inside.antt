@@ -1,16 +1,17 @@
 -- What the parts of an injector are, and what their fields keep.
-use Rattle.std.specs.Prelude.{◌≡◌, ℕ, ◌+◌, ◌≤◌, ◌<◌, ◌^◌, [], Option, Some, None, IfSome}
-use Rattle.queue_inject.specs.declared.injection.InputEnd.{InputEnd}
+use Rattle.std.specs.Prelude.{◌≡◌, ℕ, ◌+◌, ◌*◌, ◌≤◌, ◌<◌, length, true, IsTrue, IfSome}
 use Rattle.queue_inject.specs.declared.injector.Injector.TheInside as injector
 use Rattle.queue_inject.specs.declared.intake.Intake.TheInside as intake
-use Rattle.queue_inject.specs.declared.intake.Verdict.TheVariants as verdict
 use Rattle.queue_inject.specs.declared.named_row.NamedRow.TheInside as named
-use Rattle.envelope_records.specs.Envelope.{HasRead}
+use Rattle.queue_inject.specs.declared.row.Row.{Row}
+use Rattle.queue_inject.specs.declared.row.Row.TheVariants as at
 use Rattle.queue_paths.specs.Names.{path}
 use Rattle.queue_paths.specs.Names.Name.{Pid, Of}
 use Rattle.queue_paths.specs.Names.Part.{Mess, Intd, Todo}
-use Rattle.queue_inject.specs.Machine.{Heard, Machine}
-use Rattle.queue_inject.specs.Rows.{seq_in, number_in}
+use Rattle.queue_inject.specs.Texts.{limit}
+use Rattle.queue_inject.specs.Table.{piece_size, has_input}
+use Rattle.queue_inject.specs.Machine.{Heard, Machine, room_of}
+use Rattle.queue_inject.specs.Rows.{seq_in, number_in, is_open}
 
 -- the names that the row's call has
 pub record HasNames (i : named.Inside) : Type 0 where
@@ -20,37 +21,7 @@ pub record HasNames (i : named.Inside) : Type 0 where
   pub todo_is : IfSome (number_in i.row) (λ n. i.todo_name ≡ path (Of Todo n))
 
 abbrev pub heard_of : intake.Inside → Heard
-heard_of i = record {
-  progress = record {
-    message_fed = i.message_fed;
-    message_end = i.message_end;
-    envelope_fed = i.envelope_fed;
-    envelope_end = i.envelope_end;
-    room = i.room;
-  };
-  message = i.texts.first;
-  todo = i.texts.second;
-  verdict = i.verdict;
-  reader = i.reader;
-}
-
--- the most bytes of the todo text before the envelope
-abbrev pub head_room : Option InputEnd → ℕ
-head_room None = 44
-head_room (Some end) = 0
-
--- before the message has ended nothing is known of the envelope
-pub record IsUnbegun (i : intake.Inside) : Type 0 where
-  pub todo : i.texts.second ≡ []
-  pub fed : i.envelope_fed ≡ 0
-  pub last : i.envelope_end ≡ None
-  pub verdict_is : i.verdict ≡ verdict.Open
-  pub reader_is : HasRead [] i.reader
-
-pub record HasRoom (i : intake.Inside) : Type 0 where
-  pub fits : i.message_fed + (i.envelope_fed + i.room) < 2 ^ 64
-  pub spare : i.room + head_room i.message_end ≤ i.texts.spare
-  pub unbegun : i.message_end ≡ None → IsUnbegun i
+heard_of i = record { piece = i.piece; fed = i.fed; verdict = i.verdict; reader = i.reader }
 
 abbrev pub machine_of : injector.Inside → Machine
 machine_of i = record {
@@ -62,3 +33,30 @@ machine_of i = record {
   present = i.present;
   ready = i.ready;
 }
+
+-- So many written bytes can be counted on: a text that goes on has as many bytes as were fed of its part, and at most a
+-- piece more.
+pub record CanCount (h : Heard) (done : ℕ) : Type 0 where
+  pub going : is_open h.verdict ≡ true → done + length h.piece ≤ h.fed + piece_size
+  pub some : 0 < length h.piece → done ≤ h.fed + piece_size
+  pub bound : done ≤ limit + 32768
+
+abbrev pub Counts : Row → Heard → Type 0
+Counts (at.AppendMess n fd done) h = CanCount h done
+Counts (at.AppendTodo n fd done) h = CanCount h done
+Counts row h = Unit {0}
+
+-- How many bytes an injector keeps at most, all of them in place: its piece, four names of 255 bytes, an address of 1002,
+-- and 512 for its numbers.
+abbrev pub kept_bytes : Machine → ℕ
+kept_bytes m = length m.heard.piece + (4 * 255 + 1002 + 512)
+
+-- What is true of an injector at any time. If its input is ready, it was fed a whole piece, or the end or the fault of its
+-- input, so it knows its next call.
+pub record IsInStep (m : Machine) : Type 0 where
+  pub given : IsTrue (has_input m.ready) → room_of m ≡ 0
+  pub short : length m.heard.piece ≤ piece_size
+  pub fed : m.heard.fed ≤ limit + 1
+  pub within : is_open m.heard.verdict ≡ true → m.heard.fed ≤ limit
+  pub counts : Counts m.row m.heard
+  pub small : kept_bytes m ≤ 32768

@@ -1,5 +1,3 @@
--- the calendar, and the first line of a message file
-pub mod Received
 -- what an injector makes of its input
 pub mod Texts
 -- what an injector does next, as a function of its own past

@@ -1,21 +1,17 @@
 -- What the code of the table reads of rows and texts.
-use Rattle.std.specs.Prelude.{◌≡◌, ℕ, ◌+◌, ◌<◌, ◌^◌, List, length, Option, Some, None, Bool, true, false, if◌then◌else◌, nat_lt, nat_le}
+use Rattle.std.specs.Prelude.{ℕ, ◌+◌, ◌<◌, ◌^◌, Option, Some, None, Bool, true, false, if◌then◌else◌, nat_lt, nat_le}
 use Rattle.envelope_records.specs.declared.envelope.EnvFault.TheVariants.{Format, TooLong, EndEarly}
 use Rattle.envelope_records.specs.declared.envelope.EnvStep.{EnvStep}
 use Rattle.envelope_records.specs.declared.envelope.EnvStep.TheVariants.{More, Sender, Recipient, End, Fault}
+use Rattle.queue_inject.specs.declared.injection.InputEnd.{InputEnd}
+use Rattle.queue_inject.specs.declared.injection.InputEnd.TheVariants as ends
+use Rattle.queue_inject.specs.declared.injection.Part.{Part}
+use Rattle.queue_inject.specs.declared.injection.Part.TheVariants.{Message, Envelope}
 use Rattle.queue_inject.specs.declared.intake.Verdict.{Verdict}
 use Rattle.queue_inject.specs.declared.intake.Verdict.TheVariants.{Open, Whole, Faulty}
 use Rattle.queue_inject.specs.declared.row.Row.{Row}
 use Rattle.queue_inject.specs.declared.row.Row.TheVariants as at
-use Rattle.queue_inject.specs.declared.steps.Outlook.{Outlook}
-use Rattle.queue_inject.specs.Texts.{Text}
 use Rattle.queue_inject.specs.Table.{piece_size}
-
--- two texts, and how many bytes there is room for
-pub record TwoTexts : Type 0 where
-  pub first : List ℕ
-  pub second : List ℕ
-  pub spare : ℕ
 
 -- where an injector stands in its table, and whose names it uses
 pub record Place : Type 0 where
@@ -23,7 +19,7 @@ pub record Place : Type 0 where
   pub start : ℕ
   pub row : Row
 
--- the number at the end of the pid name, where the call of a row has that name
+-- the number at the end of the pid name, if the call of a row has that name
 abbrev pub seq_in : Row → Option ℕ
 seq_in (at.Create seq) = Some seq
 seq_in (at.LinkMess seq n fd) = Some seq
@@ -34,10 +30,10 @@ seq_in (at.CreateIntd n) = None
 seq_in (at.AppendTodo n fd done) = None
 seq_in (at.SyncTodo n fd) = None
 seq_in (at.LinkTodo n) = None
-seq_in (at.CleanIntd n cause) = None
-seq_in (at.CleanMess n cause) = None
+seq_in (at.CleanIntd n status) = None
+seq_in (at.CleanMess n status) = None
 seq_in at.Queued = None
-seq_in (at.Failed cause) = None
+seq_in (at.Failed status) = None
 
 -- the number of the message
 abbrev pub number_in : Row → Option ℕ
@@ -50,26 +46,26 @@ number_in (at.CreateIntd n) = Some n
 number_in (at.AppendTodo n fd done) = Some n
 number_in (at.SyncTodo n fd) = Some n
 number_in (at.LinkTodo n) = Some n
-number_in (at.CleanIntd n cause) = Some n
-number_in (at.CleanMess n cause) = Some n
+number_in (at.CleanIntd n status) = Some n
+number_in (at.CleanMess n status) = Some n
 number_in at.Queued = None
-number_in (at.Failed cause) = None
+number_in (at.Failed status) = None
 
--- the rows behind those of the message
-abbrev pub IsBehindMess : Row → Type 0
-IsBehindMess (at.Create seq) = ⊥
-IsBehindMess (at.LinkMess seq n fd) = ⊥
-IsBehindMess (at.UnlinkPid seq n fd) = ⊥
-IsBehindMess (at.AppendMess n fd done) = ⊥
-IsBehindMess (at.SyncMess n fd) = ⊥
-IsBehindMess (at.CreateIntd n) = Unit {0}
-IsBehindMess (at.AppendTodo n fd done) = Unit {0}
-IsBehindMess (at.SyncTodo n fd) = Unit {0}
-IsBehindMess (at.LinkTodo n) = Unit {0}
-IsBehindMess (at.CleanIntd n cause) = Unit {0}
-IsBehindMess (at.CleanMess n cause) = Unit {0}
-IsBehindMess at.Queued = Unit {0}
-IsBehindMess (at.Failed cause) = Unit {0}
+-- the rows after those of the message
+abbrev pub IsAfterMess : Row → Type 0
+IsAfterMess (at.Create seq) = ⊥
+IsAfterMess (at.LinkMess seq n fd) = ⊥
+IsAfterMess (at.UnlinkPid seq n fd) = ⊥
+IsAfterMess (at.AppendMess n fd done) = ⊥
+IsAfterMess (at.SyncMess n fd) = ⊥
+IsAfterMess (at.CreateIntd n) = Unit {0}
+IsAfterMess (at.AppendTodo n fd done) = Unit {0}
+IsAfterMess (at.SyncTodo n fd) = Unit {0}
+IsAfterMess (at.LinkTodo n) = Unit {0}
+IsAfterMess (at.CleanIntd n status) = Unit {0}
+IsAfterMess (at.CleanMess n status) = Unit {0}
+IsAfterMess at.Queued = Unit {0}
+IsAfterMess (at.Failed status) = Unit {0}
 
 -- a piece more than was written can be counted
 abbrev pub CountsOn : Row → Type 0
@@ -77,18 +73,48 @@ CountsOn (at.AppendMess n fd done) = done + piece_size < 2 ^ 64
 CountsOn (at.AppendTodo n fd done) = done + piece_size < 2 ^ 64
 CountsOn row = Unit {0}
 
--- what the table reads of a text
-pub record IsOutlook (outlook : Outlook) (text : Text) : Type 0 where
-  pub len : outlook.len ≡ length text.bytes
-  pub fault : outlook.fault ≡ text.fault
+-- the part of the input whose text is written next
+abbrev pub part_in : Row → Option Part
+part_in (at.Create seq) = Some Message
+part_in (at.LinkMess seq n fd) = Some Message
+part_in (at.UnlinkPid seq n fd) = Some Message
+part_in (at.AppendMess n fd done) = Some Message
+part_in (at.SyncMess n fd) = None
+part_in (at.CreateIntd n) = None
+part_in (at.AppendTodo n fd done) = Some Envelope
+part_in (at.SyncTodo n fd) = None
+part_in (at.LinkTodo n) = None
+part_in (at.CleanIntd n status) = None
+part_in (at.CleanMess n status) = None
+part_in at.Queued = None
+part_in (at.Failed status) = None
 
--- whether a piece follows so many bytes: before a fault only a full one
-abbrev pub has_piece_by : ℕ → Option ℕ → ℕ → Bool
-has_piece_by len None done = nat_lt done len
-has_piece_by len (Some status) done = nat_le (done + piece_size) len
+-- Whether a piece of so many bytes is written: before a fault only a full one, and no empty one. A text that goes on has
+-- a full one.
+abbrev pub has_piece : Verdict → ℕ → Bool
+has_piece Open len = true
+has_piece Whole len = nat_lt 0 len
+has_piece (Faulty status) len = nat_le piece_size len
 
-abbrev pub has_piece : Outlook → ℕ → Bool
-has_piece outlook done = has_piece_by outlook.len outlook.fault done
+-- what follows a text, or the clean up after its fault
+abbrev pub past_text : Verdict → Row → (ℕ → Row) → Row
+past_text Open end bad = end
+past_text Whole end bad = end
+past_text (Faulty status) end bad = bad status
+
+-- the row whose call is due, by what the text at hand is and how many bytes its next piece has
+abbrev pub row_by : Verdict → ℕ → Row → Row
+row_by verdict len (at.AppendMess n fd done) =
+    if has_piece verdict len then at.AppendMess n fd done else past_text verdict (at.SyncMess n fd) (λ status. at.CleanMess n status)
+row_by verdict len (at.AppendTodo n fd done) =
+    if has_piece verdict len then at.AppendTodo n fd done else past_text verdict (at.SyncTodo n fd) (λ status. at.CleanIntd n status)
+row_by verdict len row = row
+
+-- what a message is once its end is told
+abbrev pub message_over : InputEnd → Verdict
+message_over ends.Whole = Whole
+message_over ends.Unread = Faulty 54
+message_over ends.Malformed = Faulty 91
 
 -- what a byte of an open envelope makes of it, by the reader's step and whether the byte is within the limit
 abbrev pub verdict_after : EnvStep → Bool → Verdict

@@ -1,27 +1,48 @@
 -- Which injector stands for which past, that it doesn't store.
-use Rattle.std.specs.Prelude.{◌≡◌, ℕ, ◌≤◌, List, ◌++◌, length, take, drop, Option, Some, None, IsTrue, is_some, slice_get}
+use Rattle.std.specs.Prelude.{◌≡◌, ℕ, ◌≤◌, List, ◌++◌, length, take, drop, Option, Some, None, slice_get}
 use Rattle.call_fs.specs.Program.{Own}
-use Rattle.queue_inject.specs.declared.injection.Arguments.{Arguments}
-use Rattle.queue_inject.specs.declared.injection.InputEnd.{InputEnd}
-use Rattle.queue_inject.specs.declared.intake.Verdict.{Verdict}
-use Rattle.queue_inject.specs.declared.intake.Verdict.TheVariants as verdict
-use Rattle.queue_inject.specs.declared.received_line.Invoked.{Invoked}
-use Rattle.queue_inject.specs.Received.{received_text}
 use Rattle.envelope_records.specs.Envelope.{step, bytes_to, records_of, Reading, read_envelope, todo_head, HasRead}
 use Rattle.envelope_records.specs.Envelope.Reading.{Whole, Open, Broken}
-use Rattle.queue_inject.specs.Texts.{limit, fault_status, past_limit}
+use Rattle.queue_inject.specs.declared.injection.Arguments.{Arguments}
+use Rattle.queue_inject.specs.declared.injection.InputEnd.{InputEnd}
+use Rattle.queue_inject.specs.declared.injection.Part.{Part}
+use Rattle.queue_inject.specs.declared.injection.Part.TheVariants.{Message, Envelope}
+use Rattle.queue_inject.specs.declared.intake.Verdict.{Verdict}
+use Rattle.queue_inject.specs.declared.intake.Verdict.TheVariants as verdict
+use Rattle.received_line.specs.declared.line.Invoked.{Invoked}
+use Rattle.queue_inject.specs.declared.row.Row.{Row}
+use Rattle.queue_inject.specs.declared.row.Row.TheVariants as at
+use Rattle.received_line.specs.Received.{received_text}
+use Rattle.queue_inject.specs.Texts.{Text, limit, fault_status, past_limit, message_text, intd_text}
 use Rattle.queue_inject.specs.Table.{work_of, settled, row_after}
-use Rattle.queue_inject.specs.Machine.{Progress, Heard, Machine, message_part, envelope_part}
+use Rattle.queue_inject.specs.Machine.{Heard, Machine, asks}
 
--- of an input so much was fed, and all of it, with that end, once its end was told
-abbrev pub Told : Option InputEnd → InputEnd → ℕ → ℕ → Type 0
-Told None end fed whole = fed ≤ whole
-Told (Some told) end fed whole = (told ≡ end) × (fed ≡ whole)
+-- What is known of a text after so many written bytes: the piece that comes next, and whether the text goes on after it,
+-- or how it ends.
+abbrev pub IsNext : Verdict → List ℕ → Text → ℕ → Type 0
+IsNext verdict.Open piece text done = (rest : List ℕ) × (drop done text.bytes ≡ piece ++ rest)
+IsNext verdict.Whole piece text done = (drop done text.bytes ≡ piece) × (text.fault ≡ None)
+IsNext (verdict.Faulty status) piece text done = (drop done text.bytes ≡ piece) × (text.fault ≡ Some status)
 
--- the text of the message file, as far as the message was fed
-pub record HearsMessage (h : Heard) (args : Arguments) : Type 0 where
-  pub told : Told h.progress.message_end args.message_end h.progress.message_fed (length args.message)
-  pub text : h.message ≡ received_text args.pid args.invoked args.start ++ take limit (take h.progress.message_fed args.message)
+-- The message
+
+-- the text of the message file, as far as so many bytes of the message lead
+abbrev pub message_read : Arguments → ℕ → List ℕ
+message_read args fed = received_text args.pid args.invoked args.start ++ take limit (take fed args.message)
+
+-- so much of the message was fed, within the limit, and of its text the bytes after the written ones are kept
+pub record HearsOn (h : Heard) (args : Arguments) (done : ℕ) : Type 0 where
+  pub inside : h.fed ≤ length args.message
+  pub within : h.fed ≤ limit
+  pub written : done ≤ length (message_read args h.fed)
+  pub piece : h.piece ≡ drop done (message_read args h.fed)
+
+abbrev pub HearsMessage : Verdict → Heard → Arguments → ℕ → Type 0
+HearsMessage verdict.Open h args done = HearsOn h args done
+HearsMessage verdict.Whole h args done = IsNext verdict.Whole h.piece (message_text args) done
+HearsMessage (verdict.Faulty status) h args done = IsNext (verdict.Faulty status) h.piece (message_text args) done
+
+-- The envelope
 
 -- what an envelope is of which so many bytes were read, and then that one, past the limit
 abbrev pub verdict_by : Reading → Option ℕ → Verdict
@@ -42,43 +63,43 @@ taken_by (Broken before fault) = before
 abbrev pub taken : List ℕ → List ℕ
 taken read = taken_by (read_envelope (take limit read))
 
--- these bytes of the envelope were fed, and the todo text begins with that head
-pub record Reads (h : Heard) (head read : List ℕ) : Type 0 where
-  pub fed : h.progress.envelope_fed ≡ length read
+-- These bytes of the envelope were fed; the todo text begins with that head, and its bytes after the written ones are
+-- kept.
+pub record Reads (h : Heard) (done : ℕ) (head read : List ℕ) : Type 0 where
+  pub fed : h.fed ≡ length read
   pub verdict_is : h.verdict ≡ verdict_of read
-  pub todo : h.todo ≡ head ++ taken read
+  pub written : done ≤ length (head ++ taken read)
+  pub piece : h.piece ≡ drop done (head ++ taken read)
   pub reader : h.verdict ≡ verdict.Open → HasRead read h.reader
 
--- the todo text, as far as the envelope was fed
-pub record HearsEnvelope (h : Heard) (args : Arguments) : Type 0 where
-  pub told : Told h.progress.envelope_end args.envelope_end h.progress.envelope_fed (length args.envelope)
-  pub read : Reads h (todo_head args.uid args.pid) (take h.progress.envelope_fed args.envelope)
+pub record ReadsOn (h : Heard) (args : Arguments) (done : ℕ) : Type 0 where
+  pub inside : h.fed ≤ length args.envelope
+  pub read : Reads h done (todo_head args.uid args.pid) (take h.fed args.envelope)
 
--- Another input agrees with one as far as that was fed: it begins with the same bytes, and is the same once its end was
--- told.
-pub record Agrees (told : Option InputEnd) (fed : ℕ) (one other : List ℕ) (one_end other_end : InputEnd) : Type 0 where
-  pub front : take fed other ≡ take fed one
-  pub whole : IsTrue (is_some told) → (other ≡ one) × (other_end ≡ one_end)
+abbrev pub HearsTodo : Verdict → Heard → Arguments → ℕ → Type 0
+HearsTodo verdict.Open h args done = ReadsOn h args done
+HearsTodo verdict.Whole h args done = IsNext verdict.Whole h.piece (intd_text args) done
+HearsTodo (verdict.Faulty status) h args done = IsNext (verdict.Faulty status) h.piece (intd_text args) done
 
--- other arguments agree with these as far as their input was fed
-pub record IsAlike (p : Progress) (args others : Arguments) : Type 0 where
-  pub uid : others.uid ≡ args.uid
-  pub pid : others.pid ≡ args.pid
-  pub invoked : others.invoked ≡ args.invoked
-  pub start : others.start ≡ args.start
-  pub message : Agrees p.message_end p.message_fed args.message others.message args.message_end others.message_end
-  pub envelope : Agrees p.envelope_end p.envelope_fed args.envelope others.envelope args.envelope_end others.envelope_end
+-- The past
 
--- The injector stands for these arguments and this past, newest event first: it is theirs, it was fed the front of
--- their input, and however that may go on, the row after the past is the one to which the whole texts lead from where
--- its last answer led.
+-- what is held of the text that comes next
+abbrev pub Hears : Row → Heard → Arguments → Type 0
+Hears (at.Create seq) h args = HearsMessage h.verdict h args 0
+Hears (at.LinkMess seq n fd) h args = HearsMessage h.verdict h args 0
+Hears (at.UnlinkPid seq n fd) h args = HearsMessage h.verdict h args 0
+Hears (at.AppendMess n fd done) h args = HearsMessage h.verdict h args done
+Hears (at.AppendTodo n fd done) h args = HearsTodo h.verdict h args done
+Hears row h args = Unit {0}
+
+-- The injector stands for these arguments and this past, newest event first: it is theirs, it holds what comes next of
+-- their texts, and the row after the past is the one to which their texts lead from where its last answer led.
 pub record Stands (m : Machine) (args : Arguments) (past : List Own) : Type 0 where
   pub uid : m.uid ≡ args.uid
   pub pid : m.pid ≡ args.pid
   pub start : m.start ≡ args.start
-  pub message : HearsMessage m.heard args
-  pub envelope : IsTrue (is_some m.heard.progress.message_end) → HearsEnvelope m.heard args
-  pub row : (others : Arguments) → IsAlike m.heard.progress args others → row_after others past ≡ settled (work_of others) m.row
+  pub hears : Hears m.row m.heard args
+  pub row : row_after args past ≡ settled (work_of args) m.row
 
 -- the arguments of an injector that was started so
 pub record IsStartedBy (args : Arguments) (uid pid : ℕ) (invoked : Invoked) (start : ℕ) : Type 0 where
@@ -89,21 +110,25 @@ pub record IsStartedBy (args : Arguments) (uid pid : ℕ) (invoked : Invoked) (s
 
 -- How the input goes on
 
--- an input goes on with these bytes behind the first so many
+-- an input goes on with these bytes after the first so many
 pub record GoesOn (whole : List ℕ) (fed : ℕ) (bytes : List ℕ) : Type 0 where
   pub rest : List ℕ
   pub next : drop fed whole ≡ bytes ++ rest
 
--- the arguments' input goes on with these bytes
-pub record Continues (p : Progress) (args : Arguments) (bytes : List ℕ) : Type 0 where
-  pub message : GoesOn args.message p.message_fed (message_part p.message_end bytes)
-  pub envelope : GoesOn args.envelope p.envelope_fed (envelope_part p.message_end p.envelope_end bytes)
+-- the part of the arguments' input that is asked for goes on with these bytes
+abbrev pub ContinuesBy : Option Part → ℕ → Arguments → List ℕ → Type 0
+ContinuesBy None fed args bytes = Unit {0}
+ContinuesBy (Some Message) fed args bytes = GoesOn args.message fed bytes
+ContinuesBy (Some Envelope) fed args bytes = GoesOn args.envelope fed bytes
 
--- the arguments' input ends so behind what was fed, of its message first
-abbrev pub EndsBy : Option InputEnd → Option InputEnd → Progress → Arguments → InputEnd → Type 0
-EndsBy None last p args end = (p.message_fed ≡ length args.message) × (args.message_end ≡ end)
-EndsBy (Some first) None p args end = (p.envelope_fed ≡ length args.envelope) × (args.envelope_end ≡ end)
-EndsBy (Some first) (Some last) p args end = Unit {0}
+abbrev pub Continues : Machine → Arguments → List ℕ → Type 0
+Continues m args bytes = ContinuesBy (asks m) m.heard.fed args bytes
 
-abbrev pub Ends : Progress → Arguments → InputEnd → Type 0
-Ends p args end = EndsBy p.message_end p.envelope_end p args end
+-- it ends so after what was fed
+abbrev pub EndsBy : Option Part → ℕ → Arguments → InputEnd → Type 0
+EndsBy None fed args end = Unit {0}
+EndsBy (Some Message) fed args end = (fed ≡ length args.message) × (args.message_end ≡ end)
+EndsBy (Some Envelope) fed args end = (fed ≡ length args.envelope) × (args.envelope_end ≡ end)
+
+abbrev pub Ends : Machine → Arguments → InputEnd → Type 0
+Ends m args end = EndsBy (asks m) m.heard.fed args end

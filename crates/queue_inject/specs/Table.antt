@@ -1,6 +1,6 @@
 -- What an injector does next, as a function of its own past (qmail-queue(8); INTERNALS, "How messages enter the
 -- queue").
-use Rattle.std.specs.Prelude.{ℕ, ◌+◌, List, [], ◌∷◌, length, take, drop, Bool, true, false, Option, Some, None, if◌then◌else◌, nat_lt, nat_le, unwrap_or}
+use Rattle.std.specs.Prelude.{ℕ, ◌+◌, List, [], ◌∷◌, length, take, drop, Bool, true, false, Option, Some, None, if◌then◌else◌, nat_lt, nat_le}
 use Rattle.call_fs.specs.declared.calls.CallData.TheVariants as call
 use Rattle.call_fs.specs.declared.calls.Answer.{Answer}
 use Rattle.call_fs.specs.declared.calls.Answer.TheVariants.{Created, Done, Refused}
@@ -9,8 +9,6 @@ use Rattle.call_fs.specs.declared.program.Ready.{Ready}
 use Rattle.call_fs.specs.Program.{Due, Did, Own}
 use Rattle.call_fs.specs.Program.Did.{Called}
 use Rattle.queue_inject.specs.declared.injection.Arguments.{Arguments}
-use Rattle.queue_inject.specs.declared.row.Cause.{Cause}
-use Rattle.queue_inject.specs.declared.row.Cause.TheVariants.{Status, Envelope}
 use Rattle.queue_inject.specs.declared.row.Row.{Row}
 use Rattle.queue_inject.specs.declared.row.Row.TheVariants as at
 use Rattle.queue_paths.specs.Names.{path}
@@ -32,37 +30,30 @@ work_of args = record { pid = args.pid; start = args.start; message = message_te
 abbrev pub piece_size : ℕ
 piece_size = 8192
 
--- a failed call ends with this status: want of memory has its own
-abbrev pub failure : Answer → ℕ → Cause
-failure (Refused Memory) status = Status 51
-failure answer status = Status status
+-- a failed call ends with this status: out of memory has its own
+abbrev pub failure : Answer → ℕ → ℕ
+failure (Refused Memory) status = 51
+failure answer status = status
 
--- The exit status of a cause, by the fault of the todo text. Nothing leads to that cause where the text has none: 54
--- there says nothing.
-abbrev pub status_of : Cause → Option ℕ → ℕ
-status_of (Status status) fault = status
-status_of Envelope fault = unwrap_or fault 54
-
--- After so many bytes of a text were written: the next piece, what follows the text, or the clean up where the input
--- failed. A full piece is written before the fault behind it is found, and no write is empty.
+-- After so many bytes of a text were written: the next piece, what follows the text, or the clean up if the input failed.
+-- A full piece is written before the fault after it is found, and no write is empty.
 abbrev pub past_piece : List ℕ → Option ℕ → ℕ → Row → Row → (ℕ → Row) → Row
 past_piece bytes None done more end bad = if nat_lt done (length bytes) then more else end
 past_piece bytes (Some status) done more end bad = if nat_le (done + piece_size) (length bytes) then more else bad status
 
 abbrev pub in_message : Text → ℕ → ℕ → ℕ → Row
 in_message text n fd done =
-    past_piece text.bytes text.fault done (at.AppendMess n (record { 0 = fd }) done) (at.SyncMess n (record { 0 = fd })) (λ status. at.CleanMess n (Status status))
+    past_piece text.bytes text.fault done (at.AppendMess n (record { 0 = fd }) done) (at.SyncMess n (record { 0 = fd })) (λ status. at.CleanMess n status)
 
--- the status of an envelope's fault is looked up at the end
 abbrev pub in_todo : Text → ℕ → ℕ → ℕ → Row
 in_todo text n fd done =
-    past_piece text.bytes text.fault done (at.AppendTodo n (record { 0 = fd }) done) (at.SyncTodo n (record { 0 = fd })) (λ status. at.CleanIntd n Envelope)
+    past_piece text.bytes text.fault done (at.AppendTodo n (record { 0 = fd }) done) (at.SyncTodo n (record { 0 = fd })) (λ status. at.CleanIntd n status)
 
--- Where an answer leads; of each row the answer that goes on, and what any other answer leads to. What follows the
--- written bytes of a text isn't decided yet: there its row asks for the next piece.
+-- Where an answer leads, with no look at the texts; of each row the answer that goes on, and what any other answer leads
+-- to. After an append this is the next one, whether the text has more bytes or not.
 abbrev pub goes_to : Row → Answer → Row
 goes_to (at.Create seq) (Created fd n) = at.LinkMess seq n fd
-goes_to (at.Create seq) (Refused Exists) = if nat_lt seq 9 then at.Create (seq + 1) else at.Failed (Status 63)
+goes_to (at.Create seq) (Refused Exists) = if nat_lt seq 9 then at.Create (seq + 1) else at.Failed 63
 goes_to (at.Create seq) answer = at.Failed (failure answer 63)
 goes_to (at.LinkMess seq n fd) Done = at.UnlinkPid seq n fd
 goes_to (at.LinkMess seq n fd) answer = at.Failed (failure answer 64)
@@ -80,12 +71,12 @@ goes_to (at.SyncTodo n fd) Done = at.LinkTodo n
 goes_to (at.SyncTodo n fd) answer = at.CleanIntd n (failure answer 53)
 goes_to (at.LinkTodo n) Done = at.Queued
 goes_to (at.LinkTodo n) answer = at.Failed (failure answer 66)
-goes_to (at.CleanIntd n cause) Done = at.CleanMess n cause
-goes_to (at.CleanIntd n cause) (Refused NotThere) = at.CleanMess n cause
-goes_to (at.CleanIntd n cause) answer = at.Failed cause
-goes_to (at.CleanMess n cause) answer = at.Failed cause
+goes_to (at.CleanIntd n status) Done = at.CleanMess n status
+goes_to (at.CleanIntd n status) (Refused NotThere) = at.CleanMess n status
+goes_to (at.CleanIntd n status) answer = at.Failed status
+goes_to (at.CleanMess n status) answer = at.Failed status
 goes_to at.Queued answer = at.Queued
-goes_to (at.Failed cause) answer = at.Failed cause
+goes_to (at.Failed status) answer = at.Failed status
 
 -- what follows the written bytes of a text, by that text
 abbrev pub settled : Work → Row → Row
@@ -109,21 +100,30 @@ abbrev pub row_after : Arguments → List Own → Row
 row_after args [] = at.Create 1
 row_after args (event ∷ before) = after_own args (row_after args before) event.did
 
--- the call of a row, or the end
+-- the bytes that the append of a row writes
+abbrev pub next_piece : Work → Row → List ℕ
+next_piece work (at.AppendMess n fd done) = take piece_size (drop done work.message.bytes)
+next_piece work (at.AppendTodo n fd done) = take piece_size (drop done work.todo.bytes)
+next_piece work row = []
+
+-- the call of a row, by the process number, the start and the bytes that its append writes, or the end
+abbrev pub call_at : ℕ → ℕ → List ℕ → Row → Due
+call_at pid start piece (at.Create seq) = Due.File (call.CreateExcl (path (Pid pid start seq)))
+call_at pid start piece (at.LinkMess seq n fd) = Due.File (call.Link (path (Pid pid start seq)) (path (Of Mess n)))
+call_at pid start piece (at.UnlinkPid seq n fd) = Due.File (call.Unlink (path (Pid pid start seq)))
+call_at pid start piece (at.AppendMess n fd done) = Due.File (call.Append fd piece)
+call_at pid start piece (at.SyncMess n fd) = Due.File (call.Sync fd)
+call_at pid start piece (at.CreateIntd n) = Due.File (call.CreateExcl (path (Of Intd n)))
+call_at pid start piece (at.AppendTodo n fd done) = Due.File (call.Append fd piece)
+call_at pid start piece (at.SyncTodo n fd) = Due.File (call.Sync fd)
+call_at pid start piece (at.LinkTodo n) = Due.File (call.Link (path (Of Intd n)) (path (Of Todo n)))
+call_at pid start piece (at.CleanIntd n status) = Due.File (call.Unlink (path (Of Intd n)))
+call_at pid start piece (at.CleanMess n status) = Due.File (call.Unlink (path (Of Mess n)))
+call_at pid start piece at.Queued = Due.Ended 0
+call_at pid start piece (at.Failed status) = Due.Ended status
+
 abbrev pub asked : Work → Row → Due
-asked work (at.Create seq) = Due.File (call.CreateExcl (path (Pid work.pid work.start seq)))
-asked work (at.LinkMess seq n fd) = Due.File (call.Link (path (Pid work.pid work.start seq)) (path (Of Mess n)))
-asked work (at.UnlinkPid seq n fd) = Due.File (call.Unlink (path (Pid work.pid work.start seq)))
-asked work (at.AppendMess n fd done) = Due.File (call.Append fd (take piece_size (drop done work.message.bytes)))
-asked work (at.SyncMess n fd) = Due.File (call.Sync fd)
-asked work (at.CreateIntd n) = Due.File (call.CreateExcl (path (Of Intd n)))
-asked work (at.AppendTodo n fd done) = Due.File (call.Append fd (take piece_size (drop done work.todo.bytes)))
-asked work (at.SyncTodo n fd) = Due.File (call.Sync fd)
-asked work (at.LinkTodo n) = Due.File (call.Link (path (Of Intd n)) (path (Of Todo n)))
-asked work (at.CleanIntd n cause) = Due.File (call.Unlink (path (Of Intd n)))
-asked work (at.CleanMess n cause) = Due.File (call.Unlink (path (Of Mess n)))
-asked work at.Queued = Due.Ended 0
-asked work (at.Failed cause) = Due.Ended (status_of cause work.todo.fault)
+asked work row = call_at work.pid work.start (next_piece work row) row
 
 abbrev pub call_of : Arguments → Row → Due
 call_of args row = asked (work_of args) row

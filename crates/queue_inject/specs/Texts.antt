@@ -5,7 +5,7 @@ use Rattle.envelope_records.specs.declared.envelope.EnvFault.TheVariants.{Format
 use Rattle.queue_inject.specs.declared.injection.Arguments.{Arguments}
 use Rattle.queue_inject.specs.declared.injection.InputEnd.{InputEnd}
 use Rattle.queue_inject.specs.declared.injection.InputEnd.TheVariants as ends
-use Rattle.queue_inject.specs.Received.{received_text}
+use Rattle.received_line.specs.Received.{received_text}
 use Rattle.envelope_records.specs.Envelope.{Stage, Step, step, bytes_to, records_of, Reading, read_envelope, todo_head}
 use Rattle.envelope_records.specs.Envelope.Step.{Goes, Ends, Fails}
 use Rattle.envelope_records.specs.Envelope.Reading.{Whole, Open, Broken}

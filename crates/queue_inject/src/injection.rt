@@ -1,7 +1,7 @@
 // What an injector is started with.
 
-use crate::received_line::Invoked;
 use mail_bytes::ByteText;
+use received_line::Invoked;
 
 /// How an input ended.
 #[derive(Clone, Copy, Debug, PartialEq, Eq)]
@@ -14,8 +14,17 @@ pub enum InputEnd {
     Malformed,
 }
 
+/// A part of an injector's input.
+#[derive(Clone, Copy, Debug, PartialEq, Eq)]
+pub enum Part {
+    /// The message, which comes first.
+    Message,
+    /// The envelope.
+    Envelope,
+}
+
 /// What an injector is started with: who injects and when, and its whole input.
-#[derive(Debug, Drop)]
+#[derive(Drop)]
 pub struct Arguments {
     /// The user whose message it is.
     pub uid: u32,

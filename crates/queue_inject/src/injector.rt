@@ -1,36 +1,45 @@
 // The injector as a machine.
-ghost use Rattle.std.specs.Prelude.{◌≡◌, ◌≤◌, ◌<◌, ◌-◌, ◌∷◌, [], List, ℕ, false, IfOk, IsOk, IsTrue, length, ◌&&◌, if◌then◌else◌};
+ghost use Rattle.std.specs.Prelude.{◌≡◌, ◌≢◌, ◌≤◌, ◌+◌, ◌∷◌, [], List, ℕ, None, Some, IfOk, IsOk, IsTrue, length, if◌then◌else◌};
 ghost use Rattle.call_fs.specs.declared.calls.CallData.{CallData};
-ghost use Rattle.call_fs.specs.Disk.{IsMoment};
+ghost use Rattle.mail_bytes.specs.Moments.{IsMoment};
 ghost use Rattle.call_fs.specs.Program.{due_of, Own};
 ghost use Rattle.call_fs.specs.Program.Due.{Ended, Wait};
 ghost use Rattle.call_fs.specs.Program.Did.{Called};
 ghost use Rattle.queue_inject.specs.declared.injection.Arguments.{Arguments};
-ghost use Rattle.queue_inject.specs.Table.{Next, goes_to, asked, has_input};
-ghost use Rattle.queue_inject.specs.Rows.{CountsOn};
-ghost use Rattle.queue_inject.specs.Machine.{begun, fed_on, ended_on, work_known, row_now, late_now, is_settled, is_decided, due_now, is_call, is_answer, IsFileAnswer};
+ghost use Rattle.queue_inject.specs.Texts.{limit};
+ghost use Rattle.queue_inject.specs.Table.{Next, has_input};
+ghost use Rattle.queue_inject.specs.Inside.{IsInStep as InStep};
+ghost use Rattle.queue_inject.specs.Machine.{asks, room_of, over_by, row_now, late_now, call_now, due_now, is_call, is_answer, IsFileAnswer, gone_on};
+ghost use Rattle.queue_inject.specs.declared.intake.Verdict.TheVariants.{Whole};
 ghost use Rattle.queue_inject.specs.Stands.{Stands, IsStartedBy, Continues, Ends};
 
 use crate::intake::Intake;
 use crate::named_row::NamedRow;
-use crate::received_line::{Invoked, received};
-use crate::steps::{after, settled};
-use crate::{InputEnd, Row};
-use call_fs::{Answer, Got, Need, Ready};
+use crate::steps::after;
+use crate::{InputEnd, Part, Row};
+use call_fs::{Answer, Got, Need, PIECE, Ready};
 use mail_bytes::Memory;
-use std::alloc::Global;
+use received_line::{Invoked, received};
+use std::alloc::{AllocError, Global};
 use std::marker::Model;
 
 /// An injector makes no call when this many seconds have passed since its start.
 const DAY: u64 = 86400;
 
+/// Nothing is ready.
+const UNREADY: Ready = Ready {
+    links: [false; 4],
+    child: None,
+};
+
 /// The injector: the program that puts one message into the queue, as a machine.
 ///
-/// Its input is fed from left to right: the message's bytes and their end, then the envelope's. With its input ready it
-/// makes each call that what it was fed settles: a full piece can go out before the next byte is fed, and what follows a
-/// shorter one once the text's end or fault is known, or nothing but a fault can come. More than a day after its start it
-/// ends in place of any call, whatever it was fed. It takes all its memory when it is made.
-#[derive(Debug, Drop)]
+/// It is fed its input as it goes: the message's bytes and their end, and once the message is written and intd is there
+/// the envelope's. `asks` says of which part it is to be fed, and `room` how many bytes. With its input ready, which is
+/// told when `room` is 0, it makes the next call. More than a day after its start it ends in place of any call.
+///
+/// What it keeps is held in place, at most 32,768 bytes: the next piece of the text at hand, and the names of its calls.
+#[derive(Drop)]
 pub struct Injector {
     uid: u32,
     place: NamedRow,
@@ -44,15 +53,17 @@ impl Model for Injector {
 
     ghost Value = { Machine };
 
-    ghost use Rattle.queue_inject.specs.Inside.{machine_of};
+    ghost use Rattle.queue_inject.specs.Inside.{machine_of, IsInStep};
 
     ghost view = { machine_of };
+
+    ghost invariant = { λ i. IsInStep (machine_of i) };
 }
 
 impl Injector {
-    /// An injector of this user, with this process number, started now, whose message and envelope have at most `room`
-    /// bytes together. It waits until `look` has told it that its input is ready. Fails only for want of memory. The
-    /// condition: a clock may tell the start.
+    /// An injector of this user, with this process number, started now. It waits until `look` has told it that its input is
+    /// ready. `room` is how many bytes its caller counts on it to keep of its input. Fails only for want of memory. The
+    /// conditions: a clock may tell the start, and `room` is at least 8192, the bytes of a piece.
     pub fn new(
         alloc: Global,
         uid: u32,
@@ -61,61 +72,97 @@ impl Injector {
         start: u64,
         room: usize,
     ) -> Result<Injector, Memory>
-        requires { IsMoment start }
+        requires moment { IsMoment start }
+        requires room { 8192 ≤ room }
         ensures stands { IfOk result (λ m. (args : Arguments) → IsStartedBy args uid pid invoked start → Stands m args []) }
-        ensures progress { IfOk result (λ m. m.heard.progress ≡ begun room) }
+        ensures row { IfOk result (λ m. m.row ≡ Row.Create 1) }
+        ensures fed { IfOk result (λ m. m.heard.fed ≡ 0) }
         ensures waits { IfOk result (λ m. due_now m ≡ Wait) }
     {
         let line = received(alloc, pid, invoked, start)?;
+        let line = line.as_slice();
+        if line.len() > PIECE.min(room) {
+            return Err(AllocError);
+        }
         Ok(Injector {
             uid,
             place: NamedRow::new(pid, start),
-            intake: Intake::new(line, room)?,
+            intake: Intake::new(line),
             present: start,
-            ready: Ready {
-                links: [false; 4],
-                child: None,
-            },
+            ready: UNREADY,
         })
     }
 
-    /// How many more bytes it may be fed.
-    pub fn room(&self) -> usize
-        ensures { result ≡ self.now.heard.progress.room }
+    /// The part of its input that it asks for next: the message, then the envelope. None once the end or the fault of that
+    /// part is known, and when its next call needs no more of the input.
+    pub fn asks(&self) -> Option<Part>
+        ensures { result ≡ asks self.now }
     {
-        self.intake.room()
+        if self.intake.is_open() {
+            self.place.row().part()
+        } else {
+            None
+        }
     }
 
-    /// More of its input: of the message, and once that has ended, of the envelope. Bytes behind both ends are passed
-    /// over. The condition: there is room for them.
+    /// How many more bytes it may be fed now, at most 8192. Of a part that is too long one byte past the limit in all.
+    pub fn room(&self) -> usize
+        ensures room { result ≡ room_of self.now }
+        ensures short { result ≤ 8192 }
+        ensures within { self.now.heard.fed + result ≤ limit + 1 }
+    {
+        let _ = &self.uid;
+        match self.asks() {
+            None => 0,
+            Some(_) => self.intake.room(),
+        }
+    }
+
+    /// How many bytes it was fed of the part that it asks for.
+    pub fn fed(&self) -> usize
+        ensures { result ≡ self.now.heard.fed }
+    {
+        self.intake.fed()
+    }
+
+    /// More of its input, of the part that it asks for. The condition: there is room for these bytes.
     pub fn feed(&mut self, bytes: &[u8])
-        requires { length bytes.now ≤ self.old.heard.progress.room }
+        requires { length bytes.now ≤ room_of self.old }
         ensures stands { (args : Arguments) (past : List Own) → Stands self.old args past
-            → Continues self.old.heard.progress args bytes.now → Stands self.new args past }
-        ensures progress { self.new.heard.progress ≡ fed_on self.old.heard.progress bytes.now }
+            → Continues self.old args bytes.now → Stands self.new args past }
+        ensures fed { self.new.heard.fed ≡ self.old.heard.fed + length bytes.now }
+        // A message isn't whole before its end is told.
+        ensures message { asks self.old ≡ Some Part.Message → self.new.heard.verdict ≢ Whole }
+        // Fed as much as there is room for, it needs no more for its next call.
+        ensures full { room_of self.old ≤ length bytes.now → room_of self.new ≡ 0 }
         ensures rest { self.new ≡ record self.old { heard = self.new.heard } }
     {
-        self.intake.feed(bytes);
+        match self.asks() {
+            None => {}
+            Some(Part::Message) => self.intake.feed_message(bytes),
+            Some(Part::Envelope) => self.intake.feed_envelope(bytes),
+        }
     }
 
-    /// The message has ended, or after it the envelope.
+    /// The part of its input that it asks for has ended. When it asks for none, this tells it nothing.
     pub fn end_input(&mut self)
         ensures stands { (args : Arguments) (past : List Own) → Stands self.old args past
-            → Ends self.old.heard.progress args InputEnd.Whole → Stands self.new args past }
-        ensures progress { self.new.heard.progress ≡ ended_on self.old.heard.progress InputEnd.Whole }
-        ensures rest { self.new ≡ record self.old { heard = self.new.heard } }
+            → Ends self.old args InputEnd.Whole → Stands self.new args past }
+        ensures over { self.new ≡ record self.old { heard = over_by (asks self.old) self.old.heard InputEnd.Whole } }
+        ensures none { asks self.new ≡ None }
     {
         self.end(InputEnd::Whole);
     }
 
-    /// The message, or after it the envelope, could not be read on; where `bad`, since the netstring that it came in
-    /// has a wrong head or comma. After a fault of the message its input is over.
+    /// The part of its input that it asks for could not be read on; if `bad`, since the netstring that it came in has a
+    /// wrong head or comma. When it asks for none, this tells it nothing.
     pub fn fail_input(&mut self, bad: bool)
         ensures stands { (args : Arguments) (past : List Own) → Stands self.old args past
-            → Ends self.old.heard.progress args (if bad then InputEnd.Malformed else InputEnd.Unread) → Stands self.new args past }
-        ensures progress { self.new.heard.progress
-            ≡ ended_on self.old.heard.progress (if bad then InputEnd.Malformed else InputEnd.Unread) }
-        ensures rest { self.new ≡ record self.old { heard = self.new.heard } }
+            → Ends self.old args (if bad then InputEnd.Malformed else InputEnd.Unread) → Stands self.new args past }
+        ensures over { self.new ≡ record self.old {
+          heard = over_by (asks self.old) self.old.heard (if bad then InputEnd.Malformed else InputEnd.Unread);
+        } }
+        ensures none { asks self.new ≡ None }
     {
         let end = if bad {
             InputEnd::Malformed
@@ -127,25 +174,28 @@ impl Injector {
 
     fn end(&mut self, end: InputEnd)
         ensures stands { (args : Arguments) (past : List Own) → Stands self.old args past
-            → Ends self.old.heard.progress args end → Stands self.new args past }
-        ensures progress { self.new.heard.progress ≡ ended_on self.old.heard.progress end }
-        ensures rest { self.new ≡ record self.old { heard = self.new.heard } }
+            → Ends self.old args end → Stands self.new args past }
+        ensures over { self.new ≡ record self.old { heard = over_by (asks self.old) self.old.heard end } }
+        ensures none { asks self.new ≡ None }
     {
-        self.intake.end(self.uid, self.place.pid(), end);
+        match self.asks() {
+            None => {}
+            Some(Part::Message) => self.intake.end_message(end),
+            Some(Part::Envelope) => self.intake.end_envelope(end),
+        }
     }
 
-    /// Tells it the moment, and what is ready: of `links` the first, its input. The condition: a clock may tell the
-    /// moment.
+    /// Tells it the moment, and what is ready: of `links` the first, its input. The conditions: a clock may tell the moment;
+    /// if its input is ready, `room` is 0, as it is once the end or the fault of the part was told that it asked for.
     pub fn look(&mut self, now: u64, ready: Ready)
-        requires { IsMoment now }
+        requires moment { IsMoment now }
+        requires given { IsTrue (has_input ready) → room_of self.old ≡ 0 }
         ensures stands { (args : Arguments) (past : List Own) → Stands self.old args past → Stands self.new args past }
         ensures rest { self.new ≡ record self.old { present = now; ready = ready } }
-        // One whose table is at its end has ended, and stays so whatever it is told; while the fault that it ends for
-        // isn't known yet, it waits.
-        ensures ended { (status : ℕ) → asked (work_known self.old) (row_now self.old) ≡ Ended status
-            → let due = if is_settled self.old then Ended status else Wait in
-            (due_now self.old ≡ due) × (due_now self.new ≡ due) }
-        // Any other end is the timer's: it stays where moments don't fall and the input stays ready.
+        // One whose table is at its end has ended, and stays so whatever it is told.
+        ensures ended { (status : ℕ) → call_now self.old ≡ Ended status
+            → (due_now self.old ≡ Ended status) × (due_now self.new ≡ Ended status) }
+        // Any other end is the timer's: it stays if moments don't fall and the input stays ready.
         ensures timed_out { (status : ℕ) → due_now self.old ≡ Ended status → self.old.present ≤ now
             → (IsTrue (has_input self.old.ready) → IsTrue (has_input ready)) → due_now self.new ≡ Ended status }
     {
@@ -153,51 +203,39 @@ impl Injector {
         self.ready = ready;
     }
 
-    /// What it does next. It waits while its input isn't ready, and where what it was fed doesn't settle that: at a call
-    /// within a day of its start, at an end always.
+    /// What it does next: the next of its table, after any past that it stands for. It waits while its input isn't ready.
     pub fn need(&self) -> Need<'_>
-        ensures stands { (args : Arguments) (past : List Own) → Stands self.now args past → IsTrue (is_decided self.now)
+        ensures stands { (args : Arguments) (past : List Own) → Stands self.now args past
             → due_of result ≡ Next args past self.now.present self.now.ready }
-        ensures waits { is_decided self.now ≡ false → due_of result ≡ Wait }
         ensures due { due_of result ≡ due_now self.now }
+        ensures step { InStep self.now }
     {
+        let _ = &self.uid;
         self.due()
     }
 
-    // A late one makes no call, whatever the rest of its input is.
     fn due(&self) -> Need<'_>
         ensures { due_of result ≡ due_now self.now }
     {
         match self.asked() {
             Need::File(_) if !self.ready.links[0] => Need::Wait,
             Need::File(_) if self.is_late() => Need::Ended(52),
-            _ if !self.is_settled() => Need::Wait,
             need => need,
         }
     }
 
     // The call of its row, or its end, at whatever time.
     fn asked(&self) -> Need<'_>
-        ensures { due_of result ≡ asked (work_known self.now) (row_now self.now) }
+        ensures { due_of result ≡ call_now self.now }
     {
-        let fault = self.intake.todo_outlook().fault;
-        self.place.need(self.row(), self.intake.message(), self.intake.todo(), fault)
+        self.place.need(self.row(), self.intake.piece())
     }
 
-    // The row whose call is due, by what was fed: here what follows a written piece is decided, and nowhere else.
+    // The row whose call is due.
     fn row(&self) -> Row
-        ensures row { result ≡ row_now self.now }
-        ensures counts { CountsOn result }
+        ensures { result ≡ row_now self.now }
     {
-        let message = self.intake.message_outlook();
-        let todo = self.intake.todo_outlook();
-        settled(self.place.row(), message, todo)
-    }
-
-    fn is_settled(&self) -> bool
-        ensures { result ≡ is_settled self.now }
-    {
-        self.intake.settles(self.place.row())
+        self.intake.next_row(self.place.row())
     }
 
     fn is_late(&self) -> bool
@@ -206,8 +244,8 @@ impl Injector {
         self.present.saturating_sub(self.place.start()) > DAY
     }
 
-    /// Hands in the answer to its call. It takes no memory and never answers `Memory`. The conditions: it needs a file
-    /// call, and this is the answer to one.
+    /// Hands in the answer to its call. It takes no memory and never answers `Memory`. Before its next call it is to be told
+    /// again what is ready. The conditions: it needs a file call, and this is the answer to one.
     pub fn done(&mut self, got: Got<'_>) -> Result<(), Memory>
         requires due { IsTrue (is_call (due_now self.old)) }
         requires kind { IsTrue (is_answer got) }
@@ -216,8 +254,9 @@ impl Injector {
         ensures stands { (args : Arguments) (past : List Own) (call : CallData) (answer : _) (bytes : List ℕ)
             → Stands self.old args past → IsFileAnswer got.entry answer bytes
             → Stands self.new args (record { read = self.old.present; ready = self.old.ready; did = Called call answer bytes } ∷ past) }
-        ensures rest { self.new ≡ record self.old { row = self.new.row } }
+        ensures on { (answer : _) (bytes : List ℕ) → IsFileAnswer got.entry answer bytes → self.new ≡ gone_on self.old answer }
     {
+        let _ = &self.uid;
         if let Got::File(answer, _) = got {
             self.go_on(&answer);
         }
@@ -225,12 +264,13 @@ impl Injector {
     }
 
     fn go_on(&mut self, answer: &Answer)
-        ensures { self.new ≡ record self.old { row = goes_to (row_now self.old) answer.now } }
+        requires { IsTrue (is_call (due_now self.old)) }
+        ensures { self.new ≡ gone_on self.old answer.now }
     {
-        let row = after(self.row(), answer);
-        self.place.go(row);
+        let row = self.row();
+        let pid = self.place.pid();
+        self.intake.go_on(row, self.uid, pid);
+        self.place.go(after(row, answer));
+        self.ready = UNREADY;
     }
 }
-
-#[cfg(test)]
-mod tests;

@@ -1,16 +1,17 @@
 // A row with the names that its call has.
-ghost use Rattle.std.specs.Prelude.{◌≡◌, take, drop};
+ghost use Rattle.std.specs.Prelude.{◌≡◌};
 ghost use Rattle.call_fs.specs.Program.{due_of};
-ghost use Rattle.queue_inject.specs.Table.{Work, asked};
+ghost use Rattle.queue_inject.specs.Table.{call_at};
 ghost use Rattle.queue_inject.specs.Rows.{seq_in, number_in};
 
 use crate::Row;
-use call_fs::{Call, NameBuf, Need, PIECE};
+use call_fs::{Call, Need};
+use mail_bytes::NameBuf;
 use queue_paths::{Name, path};
 use std::marker::Model;
 
 /// A row of an injector's table, with the names that its call and those that follow its text have, held in place.
-#[derive(Debug, Drop)]
+#[derive(Drop)]
 pub struct NamedRow {
     pid: u32,
     start: u64,
@@ -88,20 +89,11 @@ impl NamedRow {
         self.row = row;
     }
 
-    /// The call of a row, over these texts of the message file and of intd, or its end, by the fault of the second. The
-    /// conditions: its call has the names that are held.
-    pub fn need<'a>(
-        &'a self,
-        row: Row,
-        message: &'a [u8],
-        todo: &'a [u8],
-        fault: Option<u8>,
-    ) -> Need<'a>
+    /// The call of a row, whose append writes this piece, or its end. The conditions: its call has the names that are held.
+    pub fn need<'a>(&'a self, row: Row, piece: &'a [u8]) -> Need<'a>
         requires seq { seq_in row ≡ seq_in self.now.row }
         requires number { number_in row ≡ number_in self.now.row }
-        ensures { (work : Work) → work.pid ≡ self.now.pid → work.start ≡ self.now.start
-            → work.message.bytes ≡ message.now → work.todo.bytes ≡ todo.now → work.todo.fault ≡ fault
-            → due_of result ≡ asked work row }
+        ensures { due_of result ≡ call_at self.now.pid self.now.start piece.now row }
     {
         let pid_name = self.pid_name.as_slice();
         let mess_name = self.mess_name.as_slice();
@@ -110,25 +102,16 @@ impl NamedRow {
             Row::Create { .. } => Need::File(Call::CreateExcl(pid_name)),
             Row::LinkMess { .. } => Need::File(Call::Link(pid_name, mess_name)),
             Row::UnlinkPid { .. } => Need::File(Call::Unlink(pid_name)),
-            Row::AppendMess { fd, done, .. } => Need::File(Call::Append(fd, piece(message, done))),
+            Row::AppendMess { fd, .. } => Need::File(Call::Append(fd, piece)),
             Row::SyncMess { fd, .. } => Need::File(Call::Sync(fd)),
             Row::CreateIntd { .. } => Need::File(Call::CreateExcl(intd_name)),
-            Row::AppendTodo { fd, done, .. } => Need::File(Call::Append(fd, piece(todo, done))),
+            Row::AppendTodo { fd, .. } => Need::File(Call::Append(fd, piece)),
             Row::SyncTodo { fd, .. } => Need::File(Call::Sync(fd)),
             Row::LinkTodo { .. } => Need::File(Call::Link(intd_name, self.todo_name.as_slice())),
             Row::CleanIntd { .. } => Need::File(Call::Unlink(intd_name)),
             Row::CleanMess { .. } => Need::File(Call::Unlink(mess_name)),
             Row::Queued => Need::Ended(0),
-            Row::Failed { cause } => Need::Ended(cause.status(fault)),
+            Row::Failed { status } => Need::Ended(status),
         }
     }
-}
-
-// The piece of a text behind so many bytes.
-fn piece(text: &[u8], done: usize) -> &[u8]
-    ensures { result.now ≡ take 8192 (drop done text.now) }
-{
-    let from = done.min(text.len());
-    let rest = &text[from..];
-    &rest[..rest.len().min(PIECE)]
 }

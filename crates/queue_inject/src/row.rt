@@ -1,36 +1,12 @@
 // The rows of an injector's table.
 ghost use Rattle.std.specs.Prelude.{◌≡◌};
 
+use crate::Part;
 use call_fs::Fd;
 
-/// Why an injector fails, from which its exit status follows.
-#[derive(Clone, Copy, Debug, PartialEq, Eq)]
-pub enum Cause {
-    /// With this status.
-    Status(u8),
-    /// Of the envelope's fault, with that fault's status. It may be certain that there is one before it is known which.
-    Envelope,
-}
-
-impl Cause {
-    ghost use Rattle.std.specs.Prelude.{◌≡◌};
-    ghost use Rattle.queue_inject.specs.Table.{status_of};
-
-    // The exit status, by the fault of the todo text.
-    pub(crate) fn status(self, fault: Option<u8>) -> u8
-        ensures { result ≡ status_of self fault }
-    {
-        match self {
-            Cause::Status(status) => status,
-            Cause::Envelope => fault.unwrap_or(54),
-        }
-    }
-}
-
-/// Where an injector stands: at the call that is named, or, at the two appends, behind so many pieces of a text, where
-/// what follows them is still to be looked up. `number` is the number of the message file and so of the message; `fd` is
-/// an open file; `done` counts 8192 bytes for each piece that was written, the last one as a whole one too; `cause` is
-/// the failure that a clean up ends with.
+/// Where an injector stands: at the call that is named. `number` is the number of the message file and so of the message;
+/// `fd` is an open file; `done` counts 8192 bytes for each piece of a text that was written, the last one as a whole one
+/// too; `status` is that of the failure that a clean up ends with.
 #[derive(Clone, Copy, Debug, PartialEq, Eq)]
 pub enum Row {
     /// Creates the pid name with this number at its end, from 1 to 9.
@@ -52,20 +28,20 @@ pub enum Row {
     /// Links intd to todo, by which the message is queued.
     LinkTodo { number: u64 },
     /// Unlinks intd after a failure.
-    CleanIntd { number: u64, cause: Cause },
+    CleanIntd { number: u64, status: u8 },
     /// Unlinks the message file after a failure.
-    CleanMess { number: u64, cause: Cause },
+    CleanMess { number: u64, status: u8 },
     /// Has ended with 0: the message is queued.
     Queued,
     /// Has ended with another status.
-    Failed { cause: Cause },
+    Failed { status: u8 },
 }
 
 impl Row {
     ghost use Rattle.std.specs.Prelude.{◌≡◌};
-    ghost use Rattle.queue_inject.specs.Rows.{seq_in, number_in};
+    ghost use Rattle.queue_inject.specs.Rows.{seq_in, number_in, part_in};
 
-    // The number at the end of the pid name, where the call has that name.
+    // The number at the end of the pid name, when the call has that name.
     pub(crate) fn seq(self) -> Option<u8>
         ensures { result ≡ seq_in self }
     {
@@ -77,7 +53,7 @@ impl Row {
         }
     }
 
-    // The number of the message, where it has one by then and the injector hasn't ended.
+    // The number of the message, when it has one by then and the injector hasn't ended.
     pub(crate) fn number(self) -> Option<u64>
         ensures { result ≡ number_in self }
     {
@@ -88,6 +64,20 @@ impl Row {
             Row::CreateIntd { number } | Row::LinkTodo { number } => Some(number),
             Row::AppendTodo { number, .. } | Row::SyncTodo { number, .. } => Some(number),
             Row::CleanIntd { number, .. } | Row::CleanMess { number, .. } => Some(number),
+        }
+    }
+
+    // The part of the input whose text is written next, if one is.
+    pub(crate) fn part(self) -> Option<Part>
+        ensures { result ≡ part_in self }
+    {
+        match self {
+            Row::Create { .. } | Row::LinkMess { .. } | Row::UnlinkPid { .. } => Some(
+                Part::Message,
+            ),
+            Row::AppendMess { .. } => Some(Part::Message),
+            Row::AppendTodo { .. } => Some(Part::Envelope),
+            _ => None,
         }
     }
 }

@@ -1,10 +1,12 @@
-//! The names of the queue's files.
+//! The names of the queue's files, and the directories that they lie in.
 //!
 //! The contract of this crate, `names_are_exact`: each name has one text, and each text is at most one name's. A text
 //! is read as a name exactly where the queue uses that name and writes it so. The names are those of qmail's INTERNALS,
 //! "Queue structure".
 #![tactic(auto)]
 
+mod dirs;
 mod names;
 
+pub use dirs::{FLAT_DIRS, SPLIT_DIRS, SPLITS, queue_dirs, split_dir};
 pub use names::{Name, names_are_exact, parse, path, split};

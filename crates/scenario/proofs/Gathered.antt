@@ -16,7 +16,7 @@ use Rattle.queue_paths.specs.Names.{Name, Part, name_of, path, split, split_text
 use Rattle.queue_paths.specs.Names.Part.{Mess, Intd, Todo, Info, Local, Remote, Bounce}
 use Rattle.queue_paths.specs.Names.Name.{Of}
 use Rattle.queue_paths.proofs.Paths.{path-parse, used_name-path, is_number_tells}
-use Rattle.mail_world.specs.States.{is_there}
+use Rattle.queue_states.specs.States.{is_there}
 use Rattle.scenario.specs.Shown.{AreNamesIn}
 
 -- a name has one number

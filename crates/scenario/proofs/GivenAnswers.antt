@@ -11,7 +11,7 @@ use Rattle.call_fs.specs.Calls.{without_bytes}
 use Rattle.call_fs.specs.Disk.{Disk, HasDir, dir_of}
 use Rattle.call_fs.specs.Apply.{Fits, MayCall}
 use Rattle.call_fs.specs.Program.{Due, Own}
-use Rattle.call_fs.specs.Steady.{IsFree}
+use Rattle.call_fs.specs.Free.{IsFree}
 use Rattle.call_fs.specs.Plan.{Plan, Takes, TakesNumber}
 use Rattle.mail_world.proofs.Tests.{tells_number}
 use Rattle.queue_inject.specs.declared.injection.Arguments.{Arguments}

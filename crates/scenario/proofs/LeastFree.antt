@@ -2,7 +2,7 @@
 use Rattle.std.proofs.Common.{◌≡◌, ◌≢◌, ◌⊎◌, inl, inr, ⊎_elim, ℕ, zero, suc, ◌<◌, ◌≤◌, List, [], ◌∷◌, Option, Some, None, refl, sym, ap, ◌∙◌, subst, arith}
 use Rattle.std.proofs.lemmas.Bool.{cases_eq}
 use Rattle.call_fs.specs.Disk.{Disk, Open, Among, IsUnused}
-use Rattle.call_fs.specs.Steady.{IsFree, IsLeastFree, IsNextDescriptor}
+use Rattle.call_fs.specs.Free.{IsFree, IsLeastFree, IsNextDescriptor}
 use Rattle.mail_world.proofs.Tests.{tells_number}
 use Rattle.scenario.proofs.Decided.{Decided, both, up_to, is_none}
 use Rattle.scenario.proofs.FiniteDisks.{IsFinite}

@@ -7,7 +7,7 @@ use Rattle.std.specs.Str.{bytes_eq}
 use Rattle.std.proofs.lemmas.Bool.{false≢true}
 use Rattle.std.proofs.lemmas.Slice.Eq.{bytes_eq-Decides}
 use Rattle.mail_bytes.specs.Decimal.{digits}
-use Rattle.call_fs.specs.Disk.{IsMoment}
+use Rattle.mail_bytes.specs.Moments.{IsMoment}
 use Rattle.script_words.specs.declared.entry.Entry.{Entry}
 use Rattle.script_words.specs.declared.entry.Entry.TheVariants.{File, Dir}
 use Rattle.script_words.specs.Entries.{IsEntry}

@@ -10,8 +10,8 @@ use Rattle.call_fs.specs.Choices.{AreNamed}
 use Rattle.queue_paths.specs.Names.{Name, Part, path, parse, is_number}
 use Rattle.queue_paths.specs.Names.Name.{Pid, Of}
 use Rattle.queue_paths.proofs.Paths.{parse-path, is_number_tells, is_number_if}
-use Rattle.mail_world.specs.declared.queue_states.State.TheVariants.{S1}
-use Rattle.mail_world.specs.States.{state_of}
+use Rattle.queue_states.specs.declared.state.State.TheVariants.{S1}
+use Rattle.queue_states.specs.States.{state_of}
 use Rattle.scenario.specs.Shown.{AreNamesIn, AreNumbersIn}
 use Rattle.scenario.proofs.Decided.{Decided, both, neither, is_true, up_to, is_some, listed}
 use Rattle.scenario.proofs.FiniteDisks.{IsFinite}

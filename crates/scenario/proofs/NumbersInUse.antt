@@ -12,9 +12,9 @@ use Rattle.call_fs.specs.Disk.{Disk}
 use Rattle.queue_paths.specs.Names.{Part}
 use Rattle.queue_paths.specs.Names.Part.{Mess, Intd, Todo, Info, Local, Remote, Bounce}
 use Rattle.queue_paths.proofs.Paths.{is_number_tells, is_number_if}
-use Rattle.mail_world.specs.declared.queue_states.State.{State}
-use Rattle.mail_world.specs.declared.queue_states.State.TheVariants.{S1, S2, S3, S4, S5, Other}
-use Rattle.mail_world.specs.States.{state_by, state_of, is_there}
+use Rattle.queue_states.specs.declared.state.State.{State}
+use Rattle.queue_states.specs.declared.state.State.TheVariants.{S1, S2, S3, S4, S5, Other}
+use Rattle.queue_states.specs.States.{state_by, state_of, is_there}
 use Rattle.scenario.specs.Shown.{AreNumbersIn}
 use Rattle.scenario.proofs.Gathered.{HasFile, Gathered, flat_dirs, split_dirs, found_part}
 

@@ -16,7 +16,7 @@ use Rattle.call_fs.specs.declared.calls.Answer.{Answer}
 use Rattle.call_fs.specs.declared.calls.Answer.TheVariants as answer
 use Rattle.call_fs.specs.declared.calls.Told.{Told}
 use Rattle.call_fs.specs.Disk.{Disk, HasDir}
-use Rattle.call_fs.specs.Steady.{IsFree, IsLeastFree, IsNextDescriptor}
+use Rattle.call_fs.specs.Free.{IsFree, IsLeastFree, IsNextDescriptor}
 use Rattle.call_fs.specs.Plan.{Plan, Takes, TakesNumber}
 use Rattle.call_fs.specs.Apply.{Fits, IsReadBy, read_by, from_place, IsNew, IsOpenable, IsLinkable, IsStat, IsNextName, IsLastName}
 use Rattle.scenario.specs.Played.{Answers}

@@ -9,7 +9,8 @@ use Rattle.call_fs.proofs.Maps.{put_cases, put_at_cases}
 use Rattle.mem_fs.specs.MemDisk.{Places, with_dir, with_file}
 use Rattle.mem_fs.specs.MemFile.{settled_file}
 use Rattle.mem_fs.proofs.Survivors.{Lasts, lasts-settled}
-use Rattle.mail_world.specs.History.{Opening, queue_dirs}
+use Rattle.mail_world.specs.History.{Opening}
+use Rattle.queue_paths.specs.Dirs.{queue_dirs}
 use Rattle.queue_paths.specs.Names.{Part, path}
 use Rattle.queue_paths.specs.Names.Part.{Mess, Intd, Todo, Info, Local, Remote, Bounce}
 use Rattle.queue_paths.specs.Names.Name.{Of}

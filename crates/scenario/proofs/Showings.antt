@@ -7,7 +7,7 @@ use Rattle.mail_world.specs.History.{Event, Injection, State, after}
 use Rattle.mail_world.specs.Headline.{Accounted, Safe}
 use Rattle.mail_world.specs.Headline.Accounted.{Pending}
 use Rattle.mail_world.specs.World.{IsHistory, EachSafe}
-use Rattle.mail_world.specs.States.{is_there}
+use Rattle.queue_states.specs.States.{is_there}
 use Rattle.queue_paths.specs.Names.Part.{Todo}
 use Rattle.scenario.specs.declared.fates.Fate.{Fate}
 use Rattle.scenario.specs.Fates.{fate_in, start_lines}

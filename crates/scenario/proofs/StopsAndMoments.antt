@@ -5,7 +5,7 @@ use Rattle.mail_bytes.specs.Decimal.{digits}
 use Rattle.call_fs.specs.declared.crash_file_system.Survival.{Survival}
 use Rattle.call_fs.specs.Disk.{Disk, IsUnused}
 use Rattle.call_fs.specs.Plan.{Plan, with_fault, with_pick}
-use Rattle.call_fs.specs.Told.{Meets}
+use Rattle.mail_bytes.specs.Told.{Meets}
 use Rattle.crash_fs.specs.Crash.{Crash, crash_disk, crash_plan}
 use Rattle.mail_world.specs.declared.error.WorldError.{WorldError}
 use Rattle.mail_world.specs.declared.error.WorldError.TheVariants as error

@@ -1,7 +1,7 @@
 -- What a sink took of a line.
 use Rattle.std.proofs.Common.{◌≡◌, ℕ, List, [], ◌++◌, take, drop, Option, inl, inr, refl, sym}
 use Rattle.std.proofs.lemmas.List.{append-nil, take-append-drop}
-use Rattle.call_fs.specs.Told.{Meets}
+use Rattle.mail_bytes.specs.Told.{Meets}
 use Rattle.outside.specs.Streams.{Gives}
 use Rattle.outside.specs.declared.sink.Gave.{Gave}
 use Rattle.outside.specs.declared.sink.Gave.TheVariants as gave

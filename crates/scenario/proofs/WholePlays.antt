@@ -3,7 +3,8 @@ use Rattle.std.proofs.Common.{◌≡◌, ◌⊎◌, inl, inr, ⊎_elim, ℕ, zer
 use Rattle.std.specs.Prelude.{◌^◌, flat_map, codes}
 use Rattle.std.specs.List.{AllZip}
 use Rattle.mail_bytes.specs.Decimal.{digits}
-use Rattle.call_fs.specs.Disk.{Disk, IsMoment}
+use Rattle.call_fs.specs.Disk.{Disk}
+use Rattle.mail_bytes.specs.Moments.{IsMoment}
 use Rattle.call_fs.specs.Program.{Due}
 use Rattle.mem_fs.specs.MemDisk.{bytes_at}
 use Rattle.queue_inject.specs.declared.injection.Arguments.{Arguments}

@@ -3,7 +3,7 @@ use Rattle.std.specs.Prelude.{◌≡◌, ◌⊎◌, ℕ, List, [], ◌∷◌, �
 use Rattle.call_fs.specs.Apply.{empty_file}
 use Rattle.call_fs.specs.Disk.{Disk}
 use Rattle.mem_fs.specs.MemDisk.{Places, with_dir}
-use Rattle.mail_world.specs.History.{queue_dirs}
+use Rattle.queue_paths.specs.Dirs.{queue_dirs}
 use Rattle.script_words.specs.declared.entry.Entry.{Entry}
 use Rattle.script_words.specs.declared.entry.Entry.TheVariants.{File, Dir}
 use Rattle.script_words.specs.Entries.{dirs_above}

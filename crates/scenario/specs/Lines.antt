@@ -3,7 +3,7 @@ use Rattle.std.specs.Prelude.{◌≡◌, ◌⊎◌, ℕ, ◌+◌, ◌<◌, ◌�
 use Rattle.std.specs.List.{AllZip, filter}
 use Rattle.mail_bytes.specs.Decimal.{digits}
 use Rattle.mail_bytes.specs.Lists.{last_of}
-use Rattle.call_fs.specs.Disk.{IsMoment}
+use Rattle.mail_bytes.specs.Moments.{IsMoment}
 use Rattle.script_words.specs.Words.{joined, StandsFor, StandsForText, HasBody, envelope_of, IsCount, IsCounted, survival_text, IsSeeded}
 use Rattle.mail_world.specs.MailNames.{IsMailName, members}
 use Rattle.scenario.specs.declared.error.ScriptError.{ScriptError}

@@ -18,9 +18,9 @@ use Rattle.queue_paths.specs.Names.Name.{Of}
 use Rattle.queue_paths.specs.Names.Part.{Intd, Todo}
 use Rattle.queue_inject.specs.Texts.{recipients_of}
 use Rattle.mail_world.specs.declared.event.Program.TheVariants.{Injector}
-use Rattle.mail_world.specs.declared.queue_states.State.{State as StateOf}
-use Rattle.mail_world.specs.declared.queue_states.State.TheVariants.{S1, S2, S3, S4, S5, Other}
-use Rattle.mail_world.specs.States.{state_of, is_there}
+use Rattle.queue_states.specs.declared.state.State.{State as StateOf}
+use Rattle.queue_states.specs.declared.state.State.TheVariants.{S1, S2, S3, S4, S5, Other}
+use Rattle.queue_states.specs.States.{state_of, is_there}
 use Rattle.mail_world.specs.History.{Event, Life, State, Actor, Injection, after}
 use Rattle.mail_world.specs.History.Event.{Start, Call, End, Stop, Moment, Halt}
 use Rattle.mail_world.specs.History.Life.{Alive, Over, Stopped}

@@ -15,7 +15,7 @@ pub enum ScriptError {
 }
 
 /// Why a script wasn't played to its end.
-#[derive(Clone, Copy, Debug, PartialEq, Eq, Error)]
+#[derive(Clone, Copy, Debug, Error)]
 pub enum PlayError {
     /// What it prints wasn't taken; the sink has counted it.
     #[error("the output failed")]

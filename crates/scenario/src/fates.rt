@@ -10,7 +10,7 @@ use std::alloc::Global;
 use std::collections::BTreeMap;
 
 /// Whether an injector lives.
-#[derive(Clone, Copy, Debug, PartialEq, Eq)]
+#[derive(Clone, Copy)]
 pub enum Life {
     /// It does.
     Alive,
@@ -33,7 +33,7 @@ impl Life {
 }
 
 /// How an injector fares.
-#[derive(Clone, Copy, Debug, PartialEq, Eq)]
+#[derive(Clone, Copy)]
 pub struct Fate {
     /// Whether it lives.
     pub life: Life,

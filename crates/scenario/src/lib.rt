@@ -5,6 +5,7 @@
 //! prints in `specs/Shown.antt`, `specs/Traced.antt` and `specs/Text.antt`: one text, by the laws in `laws`.
 #![tactic(auto)]
 
+mod bare_dirs;
 mod error;
 mod fates;
 pub mod laws;
@@ -13,7 +14,6 @@ mod numbers;
 mod opening_disk;
 mod playing;
 mod printing;
-mod queue_dirs;
 mod reading;
 mod script;
 mod showing;

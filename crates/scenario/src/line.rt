@@ -6,7 +6,7 @@ use mail_world::ActorName;
 use script_words::{Count, Moment};
 
 /// A line of a script.
-#[derive(Debug, Drop)]
+#[derive(Drop)]
 pub enum Line {
     /// `mail` or `raw`: starts an injector of this name.
     Mail {

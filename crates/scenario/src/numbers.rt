@@ -4,15 +4,13 @@ ghost use Rattle.mail_bytes.specs.Decimal.{digits};
 ghost use Rattle.crash_fs.specs.Crash.{crash_disk};
 ghost use Rattle.queue_paths.specs.Names.{Part, is_number, name_of, path, split_text, used_name};
 ghost use Rattle.queue_paths.specs.Names.Name.{Of};
-ghost use Rattle.mail_world.specs.States.{is_there, state_of};
+ghost use Rattle.queue_states.specs.States.{is_there, state_of};
 ghost use Rattle.scenario.specs.Shown.{AreNamesIn, AreNumbersIn};
 
-use crate::queue_dirs::{FLAT_DIRS, SPLIT_DIRS, SPLITS, split_dir};
-use call_fs::NameBuf;
 use crash_fs::CrashDisk;
-use mail_bytes::Memory;
-use mail_world::queue_states::{State, state_of};
-use queue_paths::{Name, parse, path};
+use mail_bytes::{Memory, NameBuf};
+use queue_paths::{FLAT_DIRS, Name, SPLIT_DIRS, SPLITS, parse, path, split_dir};
+use queue_states::{State, state_of};
 use std::alloc::Global;
 
 /// The names of a directory, in order.

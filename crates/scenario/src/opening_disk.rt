@@ -6,7 +6,7 @@ ghost use Rattle.mem_fs.specs.MemDisk.{disk_of, nothing, with_held};
 ghost use Rattle.script_words.specs.Entries.{dirs_above};
 ghost use Rattle.scenario.specs.FirstDisk.{with_dirs, HasMade, AreMade, Enters, EntersAll, IsFirstDisk};
 
-use crate::queue_dirs::{bare_dirs, put_dir};
+use crate::bare_dirs::{bare_dirs, put_dir};
 use crash_fs::CrashDisk;
 use mail_bytes::{ByteText, Memory};
 use mem_fs::MemFs;
@@ -28,7 +28,7 @@ pub fn first_disk(alloc: Global, opening: &[Entry]) -> Result<CrashDisk, Memory>
 /// A disk with these directories and no file.
 fn disk_with(alloc: Global, dirs: &[ByteText]) -> Result<MemFs, Memory>
     ensures disk { IfOk result (λ disk. disk_of disk.held ≡ with_dirs (disk_of nothing) dirs.now) }
-    ensures steady { IfOk result (λ disk. (disk.picks ≡ []) × (disk.plan ≡ [])) }
+    ensures quiet { IfOk result (λ disk. (disk.picks ≡ []) × (disk.plan ≡ [])) }
 {
     let mut disk = MemFs::new(alloc, Vec::new(alloc), Vec::new(alloc))?;
     for dir in dirs {

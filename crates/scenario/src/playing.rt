@@ -3,7 +3,7 @@ ghost use Rattle.std.specs.Prelude.{◌≡◌, ◌≢◌, ◌≤◌, ◌++◌, �
 ghost use Rattle.mail_bytes.specs.Decimal.{digits};
 ghost use Rattle.call_fs.specs.Disk.{Disk};
 ghost use Rattle.call_fs.specs.Plan.{Plan};
-ghost use Rattle.call_fs.specs.Told.{Rose, Meets};
+ghost use Rattle.mail_bytes.specs.Told.{Rose, Meets};
 ghost use Rattle.mail_world.specs.declared.event.Event.{Event as Kept};
 ghost use Rattle.mail_world.specs.History.{Event as Happening};
 ghost use Rattle.mail_world.specs.Kept.{events_of};
@@ -20,7 +20,7 @@ use crate::tracing::{put_events_behind, traced_after};
 use crate::{Line, PlayError, Script};
 use call_fs::{Answer, FsError, Survival, Taken};
 use crash_fs::CrashDisk;
-use mail_bytes::Memory;
+use mail_bytes::{ByteText, Memory};
 use mail_world::laws::headline;
 use mail_world::{ActorName, Event, History, World, WorldError};
 use outside::{Gave, Sink};
@@ -103,19 +103,10 @@ fn play_line(
             name,
             message,
             envelope,
-        } => match world.start_mail(alloc, name, message.as_slice(), envelope.as_slice()) {
-            Ok(()) => Ok(()),
-            Err(why) => refuse(text, why, name),
-        },
-        Line::Step(actor) => match step(alloc, world, actor) {
-            Ok(_) => Ok(()),
-            Err(why) => refuse(text, why, actor),
-        },
+        } => start(alloc, world, name, message, envelope, text),
+        Line::Step(actor) => step_once(alloc, world, actor, text),
         Line::Run(actor) => run(alloc, world, actor, text),
-        Line::Stop(actor) => match world.stop(actor) {
-            Ok(()) => Ok(()),
-            Err(why) => refuse(text, why, actor),
-        },
+        Line::Stop(actor) => stop(world, actor, text),
         Line::Halt(how) => halt(alloc, world, *how),
         Line::Fault(k) => {
             fail_in(world, *k);
@@ -126,6 +117,51 @@ fn play_line(
         Line::Trace => Ok(()),
         Line::Cat(path) => cat(alloc, world.disk(), path.as_slice(), text),
         Line::Show => show(alloc, world, text),
+    }
+}
+
+/// Starts a mail, or puts the line of its refusal at the end of a text.
+fn start(
+    alloc: Global,
+    world: &mut World<CrashDisk>,
+    name: &ActorName,
+    message: &ByteText,
+    envelope: &ByteText,
+    text: &mut Vec<u8>,
+) -> Result<(), Memory>
+    ensures { OnOk result ((d : Disk) (plan : Plan) (h : List Happening) → IsPlaying d world.old plan h
+        → HasPlayed d world.new (LineOf.Mail name.now message.now envelope.now) text.old.items text.new.items plan h) }
+{
+    match world.start_mail(alloc, name, message.as_slice(), envelope.as_slice()) {
+        Ok(()) => Ok(()),
+        Err(why) => refuse(text, why, name),
+    }
+}
+
+/// Makes one step of an actor, or puts the line of its refusal at the end of a text.
+fn step_once(
+    alloc: Global,
+    world: &mut World<CrashDisk>,
+    actor: &ActorName,
+    text: &mut Vec<u8>,
+) -> Result<(), Memory>
+    ensures { OnOk result ((d : Disk) (plan : Plan) (h : List Happening) → IsPlaying d world.old plan h
+        → HasPlayed d world.new (LineOf.Step actor.now) text.old.items text.new.items plan h) }
+{
+    match step(alloc, world, actor) {
+        Ok(_) => Ok(()),
+        Err(why) => refuse(text, why, actor),
+    }
+}
+
+/// Stops an actor, or puts the line of its refusal at the end of a text.
+fn stop(world: &mut World<CrashDisk>, actor: &ActorName, text: &mut Vec<u8>) -> Result<(), Memory>
+    ensures { OnOk result ((d : Disk) (plan : Plan) (h : List Happening) → IsPlaying d world.old plan h
+        → HasPlayed d world.new (LineOf.Stop actor.now) text.old.items text.new.items plan h) }
+{
+    match world.stop(actor) {
+        Ok(()) => Ok(()),
+        Err(why) => refuse(text, why, actor),
     }
 }
 

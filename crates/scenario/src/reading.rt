@@ -134,7 +134,7 @@ fn read_word(word: &[u8]) -> Result<Line, WordError>
 }
 
 /// The first word of a line that has more.
-#[derive(Clone, Copy, Debug, PartialEq, Eq)]
+#[derive(Clone, Copy)]
 enum Keyword {
     Mail(Form),
     Step,

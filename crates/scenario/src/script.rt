@@ -10,7 +10,7 @@ use std::alloc::Global;
 use std::marker::Model;
 
 /// A script that was read: what its disk holds at its beginning, and its lines.
-#[derive(Debug, Drop)]
+#[derive(Drop)]
 pub struct Script {
     opening: Vec<Entry>,
     lines: Vec<Line>,

@@ -17,9 +17,9 @@ use crate::printing::{put_escaped, put_line, put_number};
 use crash_fs::CrashDisk;
 use envelope_records::{EnvStep, EnvelopeReader};
 use mail_bytes::Memory;
-use mail_world::queue_states::State;
 use mail_world::{Event, Program, World};
 use queue_inject::Arguments;
+use queue_states::State;
 use std::alloc::Global;
 
 /// The most bytes of an envelope that an injector reads.

@@ -8,7 +8,7 @@ use mail_bytes::{decimals_are_exact, undec};
 use std::marker::Model;
 
 /// A number from 1.
-#[derive(Clone, Copy, Debug)]
+#[derive(Clone, Copy)]
 pub struct Count {
     number: u64,
 }

@@ -3,7 +3,7 @@
 use mail_bytes::ByteText;
 
 /// A file or a directory that a script's disk holds at its beginning.
-#[derive(Debug, Drop)]
+#[derive(Drop)]
 pub enum Entry {
     /// `file`: a file of this path, all of whose bytes are on the disk.
     File {

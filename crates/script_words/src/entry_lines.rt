@@ -24,7 +24,7 @@ pub fn read_entry(alloc: Global, text: &[u8]) -> Result<Option<Entry>, Memory>
 }
 
 /// The first word of such a line.
-#[derive(Clone, Copy, Debug, PartialEq, Eq)]
+#[derive(Clone, Copy)]
 enum Kind {
     /// `file`
     File,

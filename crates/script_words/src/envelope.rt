@@ -8,7 +8,7 @@ use crate::words::{cut, first_word, is_end, put_text, put_word, read_end};
 use std::alloc::Global;
 
 /// How a line has an envelope.
-#[derive(Clone, Copy, Debug, PartialEq, Eq)]
+#[derive(Clone, Copy)]
 pub enum Form {
     /// `mail`: by a sender and recipients.
     Written,

@@ -1,15 +1,14 @@
 // A moment of a script.
 ghost use Rattle.std.specs.Prelude.{◌≡◌, ◌≢◌, ℕ, None, ◌↔◌, IfSome, IfOk, OnErr};
 ghost use Rattle.mail_bytes.specs.Decimal.{digits};
-ghost use Rattle.call_fs.specs.Disk.{IsMoment};
+ghost use Rattle.mail_bytes.specs.Moments.{IsMoment};
 
 use crate::WordError;
-use call_fs::LAST_MOMENT;
-use mail_bytes::{decimals_are_exact, undec};
+use mail_bytes::{LAST_MOMENT, decimals_are_exact, undec};
 use std::marker::Model;
 
 /// A moment that a clock may tell, in seconds since 1 January 1970 UTC.
-#[derive(Clone, Copy, Debug)]
+#[derive(Clone, Copy)]
 pub struct Moment {
     seconds: u64,
 }

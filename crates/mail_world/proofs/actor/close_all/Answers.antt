@@ -19,7 +19,6 @@ loop-fd-preserved g c =
       rest = rest_stays (g.D.CallFs.disk l.disk) (g.D.CallFs.disk c.close.new.self) l.descriptors.items rest c.in-Some.fd c.in-Some.ensures.items l.invariant.rest told;
       closed = closed_more (g.D.CallFs.disk c.args.disk.now) (g.D.CallFs.disk l.disk) (g.D.CallFs.disk c.close.new.self) c.args.descriptors.now.items l.descriptors.items rest c.in-Some.fd c.in-Some.ensures.items l.invariant.closed told;
       plan = c.close.ensures.plan ∙ l.invariant.plan;
-      steady = λ was. c.close.ensures.steady (l.invariant.steady was);
     }
 
 pub returns-clause-closed : goal.returns-clause-closed

@@ -1,5 +1,5 @@
 use Rattle.std.proofs.Common.{◌≡◌, vec_len}
-use Rattle.call_fs.specs.Told.{OnTold, Meets}
+use Rattle.mail_bytes.specs.Told.{OnTold, Meets}
 use Rattle.mail_world.specs.Acting.{AreOpen, shut}
 use Rattle.mail_world.proofs.actor.close_all.Given as goal
 
@@ -9,7 +9,6 @@ invariant-loop-fd g l = record {
   rest : OnTold (g.D.CallFs.disk l.disk) (λ now. AreOpen now l.descriptors.items);
   closed : Meets (g.D.CallFs.disk l.initial.disk) (g.D.CallFs.disk l.disk) (λ before now. shut l.descriptors.items now ≡ shut l.initial.descriptors.items before);
   plan : g.D.CallFs.plan l.disk ≡ g.D.CallFs.plan l.initial.disk;
-  steady : g.D.CallFs.steady l.initial.disk → g.D.CallFs.steady l.disk;
 }
 
 abbrev pub decreases-loop-fd : goal.decreases-loop-fd

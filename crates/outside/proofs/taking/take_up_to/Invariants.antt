@@ -1,5 +1,5 @@
 use Rattle.std.proofs.Common.{◌≡◌, ◌-◌, ◌++◌, ◌≤◌, length, vec_len}
-use Rattle.call_fs.specs.Told.{Meets}
+use Rattle.mail_bytes.specs.Told.{Meets}
 use Rattle.outside.proofs.taking.take_up_to.Given as goal
 
 -- the count never falls, and what was taken is kept, and no more than was asked for

@@ -1,8 +1,8 @@
-use Rattle.std.proofs.Common.{◌≡◌, inl, ℕ, sym, ◌∙◌, subst}
+use Rattle.std.proofs.Common.{◌≡◌, inl, ℕ, ◌∙◌, subst}
 use Rattle.queue_inject.specs.declared.injection.Arguments.{Arguments}
 use Rattle.queue_command.specs.Inputs.{Stream}
 use Rattle.queue_command.specs.Runs.{Outside}
-use Rattle.queue_command.specs.Injected.{Who, IsInjected}
+use Rattle.queue_command.specs.Injected.{IsInjected}
 use Rattle.queue_command.proofs.Whole.{injected}
 use Rattle.queue_command.proofs.injection.inject.Goals as goal
 

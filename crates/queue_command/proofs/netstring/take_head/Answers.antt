@@ -1,4 +1,4 @@
-use Rattle.std.proofs.Common.{◌≤◌, length, take, arith}
+use Rattle.std.proofs.Common.{take, arith}
 use Rattle.std.proofs.lemmas.List.{length-take-le}
 use Rattle.queue_command.proofs.Heads.{head_read, bad_read, part_short}
 use Rattle.queue_command.proofs.netstring.take_head.Goals as goal

@@ -1,5 +1,5 @@
 use Rattle.std.proofs.Common.{◌≡◌, ◌≤◌, ◌++◌, ℕ, take, length}
-use Rattle.call_fs.specs.Told.{Meets}
+use Rattle.mail_bytes.specs.Told.{Meets}
 use Rattle.mail_bytes.specs.Netstring.{IsHead, IsPartOfHead}
 use Rattle.queue_command.proofs.netstring.take_head.Given as goal
 

@@ -1,6 +1,4 @@
-use Rattle.std.proofs.Common.{ℕ}
 use Rattle.queue_inject.specs.Table.{work_of, settled}
-use Rattle.queue_command.specs.Runs.{Outside}
 use Rattle.queue_command.proofs.Runs.{IsRunning}
 use Rattle.queue_command.proofs.Ahead.{ahead}
 use Rattle.queue_command.proofs.running.run.Given as goal

@@ -1,5 +1,5 @@
 use Rattle.std.proofs.Common.{◌≡◌, subst}
-use Rattle.call_fs.specs.Told.{Meets}
+use Rattle.mail_bytes.specs.Told.{Meets}
 use Rattle.call_fs.specs.Plan.{with_fault}
 use Rattle.crash_fs.specs.Crash.{crash_plan}
 use Rattle.scenario.proofs.StopsAndMoments.{fault_played}

@@ -1,7 +1,7 @@
 use Rattle.std.proofs.Common.{◌≡◌, ◌++◌, refl, sym, ap, ◌∙◌, subst}
 use Rattle.std.proofs.lemmas.Result.{on_ok_weaker}
 use Rattle.mail_bytes.specs.Decimal.{digits}
-use Rattle.call_fs.specs.Told.{Meets}
+use Rattle.mail_bytes.specs.Told.{Meets}
 use Rattle.call_fs.specs.Disk.{IsUnused}
 use Rattle.call_fs.specs.Plan.{with_pick}
 use Rattle.crash_fs.specs.Crash.{crash_disk, crash_plan}

@@ -1,5 +1,5 @@
 use Rattle.std.proofs.Common.{◌≡◌, ◌≤◌, ◌++◌, take}
-use Rattle.call_fs.specs.Told.{Meets}
+use Rattle.mail_bytes.specs.Told.{Meets}
 use Rattle.scenario.proofs.ScriptLines.{HavePlayed}
 use Rattle.scenario.proofs.playing.play.Given as goal
 

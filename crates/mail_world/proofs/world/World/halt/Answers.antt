@@ -1,11 +1,10 @@
-use Rattle.std.proofs.Common.{◌≡◌, ◌+◌, ◌≤◌, List, [], ◌∷◌, ◌++◌, length, take, drop, ℕ, true, sym, ap, ◌∙◌, subst, arith}
-use Rattle.call_fs.specs.Told.{Meets}
+use Rattle.std.proofs.Common.{◌≡◌, ◌+◌, List, [], ◌∷◌, ◌++◌, length, ℕ, ap, ◌∙◌, subst, arith}
+use Rattle.mail_bytes.specs.Told.{Meets}
 use Rattle.call_fs.specs.Choices.{Halts}
 use Rattle.mail_world.specs.declared.actor.Actor.{Actor as Held}
 use Rattle.mail_world.specs.declared.event.Event.{Event as Kept}
 use Rattle.mail_world.specs.declared.event.Event.TheVariants as kept
 use Rattle.mail_world.specs.Places.{place_of}
-use Rattle.mail_world.specs.World.{EndsAt, Seen, was_started}
 use Rattle.mail_world.specs.Inside.{known, living}
 use Rattle.mail_world.specs.Acting.{AreCutOff}
 use Rattle.mail_world.proofs.Histories.{halt_goes_with}

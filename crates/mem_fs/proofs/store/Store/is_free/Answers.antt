@@ -1,5 +1,5 @@
 use Rattle.std.proofs.Common.{◌↔◌, IsTrue, subst}
-use Rattle.call_fs.specs.Steady.{IsFree}
+use Rattle.call_fs.specs.Free.{IsFree}
 use Rattle.mem_fs.specs.MemDisk.{disk_of}
 use Rattle.mem_fs.proofs.Uses.{is_free_from}
 use Rattle.mem_fs.proofs.store.Store.is_free.Goals as goal

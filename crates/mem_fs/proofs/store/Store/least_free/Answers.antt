@@ -1,6 +1,6 @@
 use Rattle.std.proofs.Common.{subst}
 use Rattle.std.specs.Option.{IfSome, IfNone}
-use Rattle.call_fs.specs.Steady.{IsLeastFree}
+use Rattle.call_fs.specs.Free.{IsLeastFree}
 use Rattle.mem_fs.specs.MemDisk.{disk_of, NoneFree}
 use Rattle.mem_fs.proofs.Uses.{none_free_from, least_free_from}
 use Rattle.mem_fs.proofs.store.Store.least_free.Goals as goal

@@ -1,12 +1,21 @@
-use Rattle.std.proofs.Common.{◌≡◌, [], None, refl, sym, subst}
+use Rattle.std.proofs.Common.{◌≡◌, Some, sym, ap, ◌∙◌, subst}
+use Rattle.queue_inject.specs.declared.injection.Part.TheVariants.{Message, Envelope}
+use Rattle.queue_inject.specs.Machine.{Machine, asks}
 use Rattle.queue_inject.specs.Inside.{machine_of}
-use Rattle.envelope_records.specs.Envelope.{todo_head}
-use Rattle.queue_inject.specs.Stands.{Stands, Reads, Ends}
-use Rattle.queue_inject.proofs.Kept.{stands_ended}
+use Rattle.queue_inject.specs.Stands.{Stands, Ends}
+use Rattle.queue_inject.proofs.Kept.{stands_message_over, stands_envelope_over}
 use Rattle.queue_inject.proofs.injector.Injector.end.Goals as goal
 
-pub returns-clause-stands : goal.returns-clause-stands
-returns-clause-stands c = λ args past s e.
-    stands_ended (machine_of c.self.inside) _ args past c.args.end (subst (λ m. Stands m args past) (sym c.self.view_is) s)
-    (subst (λ m. Ends m.heard.progress args c.args.end) (sym c.self.view_is) e) refl c.end.ensures.progress c.end.ensures.message
-    (λ first. subst (λ i. Reads c.end.new.self (todo_head c.self.inside.uid i) [] × (c.self.inside.intake.progress.envelope_end ≡ None)) c.pid.ensures (c.end.ensures.begun first)) c.end.ensures.envelope
+pub returns-in-Some-Message-clause-stands : goal.returns-in-Some-Message-clause-stands
+returns-in-Some-Message-clause-stands c = λ args past s e.
+    let m : Machine = machine_of c.self.inside in
+    let asked : asks m ≡ Some Message = ap asks c.self.view_is ∙ sym c.asks.ensures ∙ c.in-Some-Message.is ∙ ap Some c.in-Some-Message.field-0-is in
+    stands_message_over m c.end_message.new.self args past c.args.end asked (subst (λ n. Stands n args past) (sym c.self.view_is) s) (subst (λ n. Ends n args c.args.end) (sym c.self.view_is) e)
+    c.end_message.ensures
+
+pub returns-in-Some-Envelope-clause-stands : goal.returns-in-Some-Envelope-clause-stands
+returns-in-Some-Envelope-clause-stands c = λ args past s e.
+    let m : Machine = machine_of c.self.inside in
+    let asked : asks m ≡ Some Envelope = ap asks c.self.view_is ∙ sym c.asks.ensures ∙ c.in-Some-Envelope.is ∙ ap Some c.in-Some-Envelope.field-0-is in
+    stands_envelope_over m c.end_envelope.new.self args past c.args.end asked (subst (λ n. Stands n args past) (sym c.self.view_is) s) (subst (λ n. Ends n args c.args.end) (sym c.self.view_is) e)
+    c.end_envelope.ensures

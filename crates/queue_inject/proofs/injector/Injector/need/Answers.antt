@@ -1,9 +1,10 @@
-use Rattle.std.proofs.Common.{◌∙◌}
-use Rattle.queue_inject.proofs.Settled.{due_stands, waits_undecided}
+use Rattle.std.proofs.Common.{◌∙◌, subst}
+use Rattle.queue_inject.specs.Inside.{IsInStep}
+use Rattle.queue_inject.proofs.Needs.{due_stands}
 use Rattle.queue_inject.proofs.injector.Injector.need.Goals as goal
 
 pub returns-clause-stands : goal.returns-clause-stands
-returns-clause-stands c = λ args past s decided. c.due.ensures ∙ due_stands c.args.self.now args past s decided
+returns-clause-stands c = λ args past s. c.due.ensures ∙ due_stands c.args.self.now args past (subst IsInStep c.self.view_is c.self.invariant) s
 
-pub returns-clause-waits : goal.returns-clause-waits
-returns-clause-waits c = λ e. c.due.ensures ∙ waits_undecided c.args.self.now e
+pub returns-clause-step : goal.returns-clause-step
+returns-clause-step c = subst IsInStep c.self.view_is c.self.invariant

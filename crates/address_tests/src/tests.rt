@@ -1,0 +1,4 @@
+mod files;
+mod limits;
+mod names;
+mod routes;

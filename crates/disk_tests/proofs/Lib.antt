@@ -1,0 +1,3 @@
+pub mod OpenInTurn
+pub mod Opened
+pub mod TwoNames

@@ -1,0 +1,13 @@
+// Nothing branches in a function that holds a disk, a source or a sink: each branch there makes its proof dearer. What
+// can't be made shows in the answer.
+mod calls;
+mod clients;
+mod host_files;
+mod host_scripts;
+mod host_steps;
+mod host_system;
+mod names;
+mod recorder;
+mod scripts;
+mod steps;
+mod stopper;

@@ -1,0 +1,29 @@
+// The clock in memory.
+
+use outside::{Clock, MemClock};
+use std::test::Fail;
+
+/// What a clock of 5, 3 and 250,000,000,001 tells.
+const TOLD: [u64; 4] = [5, 5, 250_000_000_000, 250_000_000_000];
+
+/// Whether the clock tells these moments.
+fn tells(clock: &mut MemClock, moments: &[u64]) -> bool {
+    let mut is_told = true;
+    for moment in moments {
+        is_told = clock.now() == *moment && is_told;
+    }
+    is_told
+}
+
+#[test]
+fn moments_do_not_fall(rt: HostRuntime) -> Result<(), Fail> {
+    let mut clock = MemClock::new(vec![in rt.alloc(); 5u64, 3, 250_000_000_001]?, 77);
+    assert!(rt; tells(&mut clock, &TOLD) && clock.pid() == 77);
+    Ok(())
+}
+
+#[test]
+fn a_clock_without_moments_tells_0(rt: HostRuntime) {
+    let mut clock = MemClock::new(Vec::new(rt.alloc()), 77);
+    assert!(rt; tells(&mut clock, &[0, 0]));
+}

@@ -1,0 +1,53 @@
+// Posts in memory.
+
+use super::byte_texts::same;
+use mail_bytes::{ByteText, Memory};
+use outside::{MemPosts, Post, Posts, Waiting};
+use std::alloc::Global;
+use std::test::Fail;
+
+/// What an asking gives, the bytes that stand in a buffer of two then, and the count of failures.
+type Row = (Post, &'static [u8], u64);
+
+const ROWS: [Row; 5] = [
+    (Post::Bytes { chan: 1, len: 2 }, b"ab", 0),
+    (Post::Bytes { chan: 1, len: 1 }, b"cb", 0),
+    (Post::Failed { chan: 2 }, b"cb", 1),
+    (Post::End { chan: 1 }, b"cb", 1),
+    (Post::Turn, b"cb", 1),
+];
+
+/// Bytes of channel 1, no bytes of channel 2, then its failure, and the end of channel 1.
+fn waiting(alloc: Global) -> Result<Vec<Waiting>, Memory> {
+    let mut waiting = Vec::new(alloc);
+    let bytes = ByteText::from_slice(alloc, b"abc")?;
+    waiting.push(Waiting::Bytes { chan: 1, bytes })?;
+    let bytes = ByteText::new(alloc);
+    waiting.push(Waiting::Bytes { chan: 2, bytes })?;
+    waiting.push(Waiting::Failed { chan: 2 })?;
+    waiting.push(Waiting::End { chan: 1 })?;
+    Ok(waiting)
+}
+
+/// Whether the posts give what the row says.
+fn gives(posts: &mut MemPosts, into: &mut [u8; 2], row: &Row) -> bool {
+    posts.next(into) == row.0 && same(into.as_slice(), row.1) && posts.faults() == row.2
+}
+
+/// Which row the posts give otherwise first; none if they give all.
+fn first_wrong(posts: &mut MemPosts, rows: &[Row]) -> Option<usize> {
+    let mut into = [0; 2];
+    for (at, row) in rows.iter().enumerate() {
+        if !gives(posts, &mut into, row) {
+            return Some(at);
+        }
+    }
+    None
+}
+
+#[test]
+fn posts_come_in_order(rt: HostRuntime) -> Result<(), Fail> {
+    let mut posts = MemPosts::new(waiting(rt.alloc())?);
+    assert_eq!(rt; first_wrong(&mut posts, &ROWS), None);
+    Ok(())
+}

@@ -1,0 +1,52 @@
+// The source in memory.
+
+use super::byte_texts::same;
+use mail_bytes::{ByteText, Memory};
+use outside::{MemSource, Source, Took};
+use std::alloc::Global;
+use std::test::Fail;
+
+/// What a taking gives, the bytes that stand in a buffer of two then, and the count of failures.
+type Row = (Took, &'static [u8], u64);
+
+/// Of the pieces `abc`, none and `d`, where the second taking fails.
+const ROWS: [Row; 5] = [
+    (Took::Got(2), b"ab", 0),
+    (Took::Failed, b"ab", 1),
+    (Took::Got(1), b"cb", 1),
+    (Took::Got(1), b"db", 1),
+    (Took::End, b"db", 1),
+];
+
+/// Pieces with these bytes.
+pub fn pieces(alloc: Global, texts: &[&[u8]]) -> Result<Vec<ByteText>, Memory> {
+    let mut pieces = Vec::new(alloc);
+    for text in texts {
+        pieces.push(ByteText::from_slice(alloc, text)?)?;
+    }
+    Ok(pieces)
+}
+
+/// Whether the source gives what the row says.
+fn gives(source: &mut MemSource, into: &mut [u8; 2], row: &Row) -> bool {
+    source.take(into) == row.0 && same(into.as_slice(), row.1) && source.faults() == row.2
+}
+
+/// Which row the source gives otherwise first; none if it gives all.
+fn first_wrong(source: &mut MemSource, rows: &[Row]) -> Option<usize> {
+    let mut into = [0; 2];
+    for (at, row) in rows.iter().enumerate() {
+        if !gives(source, &mut into, row) {
+            return Some(at);
+        }
+    }
+    None
+}
+
+#[test]
+fn a_taking_gives_bytes_of_one_piece(rt: HostRuntime) -> Result<(), Fail> {
+    let pieces = pieces(rt.alloc(), &[b"abc", b"", b"d"])?;
+    let mut source = MemSource::new(pieces, vec![in rt.alloc(); 2u64]?);
+    assert_eq!(rt; first_wrong(&mut source, &ROWS), None);
+    Ok(())
+}

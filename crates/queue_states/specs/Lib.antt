@@ -1,0 +1,2 @@
+-- the states of a message number
+pub mod States

@@ -1,0 +1,4 @@
+-- the parts of a date, one after the other
+pub mod DateTexts
+-- the calendar
+pub mod Dates

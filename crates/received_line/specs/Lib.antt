@@ -1,0 +1,2 @@
+-- the calendar, and the first line of a message file
+pub mod Received

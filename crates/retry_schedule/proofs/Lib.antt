@@ -1,0 +1,4 @@
+-- roots
+pub mod Roots
+-- entries in order
+pub mod Entries

@@ -1,0 +1,18 @@
+use Rattle.std.proofs.Common.{◌≡◌, rules, eqb, not, sym, subst}
+use Rattle.std.proofs.lemmas.Fn.{filter_same}
+use Rattle.retry_schedule.specs.Due.{IsSchedule, IsFree, removed}
+use Rattle.retry_schedule.proofs.Entries.{schedule_removed, free_removed}
+use Rattle.retry_schedule.proofs.due.take_out.Goals as goal
+
+pub returns-clause-items : goal.returns-clause-items
+returns-clause-items c = filter_same _ (λ e. not (eqb e.1 c.args.n)) _ (λ x b f' k. search rules) c.args.entries.now.items _ c.retain.ensures.filtered
+
+pub returns-clause-schedule : goal.returns-clause-schedule
+returns-clause-schedule c =
+    let is : c.retain.new.self.items ≡ removed c.args.n c.args.entries.now.items = filter_same _ (λ e. not (eqb e.1 c.args.n)) _ (λ x b f' k. search rules) c.args.entries.now.items _ c.retain.ensures.filtered in
+    subst IsSchedule (sym is) (schedule_removed c.args.n c.args.entries.now.items c.requires.schedule)
+
+pub returns-clause-free : goal.returns-clause-free
+returns-clause-free c =
+    let is : c.retain.new.self.items ≡ removed c.args.n c.args.entries.now.items = filter_same _ (λ e. not (eqb e.1 c.args.n)) _ (λ x b f' k. search rules) c.args.entries.now.items _ c.retain.ensures.filtered in
+    subst (IsFree c.args.n) (sym is) (free_removed c.args.n c.args.entries.now.items)

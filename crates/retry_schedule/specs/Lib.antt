@@ -1,0 +1,4 @@
+-- when a message is tried again
+pub mod Retry
+-- which entry is due first
+pub mod Due

@@ -1,0 +1,4 @@
+mod dues;
+mod reports;
+mod requests;
+mod retries;

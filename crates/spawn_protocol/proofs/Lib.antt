@@ -1,0 +1,6 @@
+-- a reader fed byte by byte, whatever it reads
+pub mod Runs
+-- reading requests is their grammar
+pub mod Requests
+-- reading reports is their grammar
+pub mod Reports

@@ -1,0 +1,11 @@
+use Rattle.spawn_protocol.proofs.Reports.{some_reading, one_reading, read_back, read_cut, all_kept}
+use Rattle.spawn_protocol.proofs.report.reports_are_exact.Goals as goal
+
+pub returns : goal.returns
+returns c = record {
+  some = some_reading;
+  one = one_reading;
+  back = read_back;
+  cut = read_cut;
+  kept = all_kept;
+}

@@ -1,0 +1,171 @@
+// Reports, byte by byte.
+ghost use Rattle.std.specs.Prelude.{◌≡◌, ◌++◌, ◌∷◌, [], ℕ, List, All, IfOk, OnOk, OnErr};
+ghost use Rattle.spawn_protocol.specs.Report.{Reader, HasRead, IsReport, IsKept, kept, more_text, report_text};
+ghost use Rattle.spawn_protocol.specs.declared.report.Report.{Report};
+
+use mail_bytes::{ByteText, Memory};
+use std::alloc::Global;
+use std::marker::Model;
+use std::mem::replace;
+
+/// What became of a delivery.
+#[derive(Drop)]
+pub struct Report {
+    /// The delivery number.
+    pub slot: u8,
+    /// The letter as it came; 0 if the report has none.
+    pub letter: u8,
+    /// What the report says.
+    pub text: ByteText,
+}
+
+impl Report {
+    ghost use Rattle.std.specs.Prelude.{◌≡◌};
+    ghost use Rattle.spawn_protocol.specs.Report.{counted};
+
+    /// What its letter counts as: `K` for success, `D` for failure, and `Z`, for a later try, with any other letter and
+    /// with none.
+    pub fn counts_as(&self) -> u8
+        ensures { result ≡ counted self.now.letter }
+    {
+        match self.letter {
+            b'K' | b'D' => self.letter,
+            _ => b'Z',
+        }
+    }
+}
+
+/// Where a reader stands.
+#[derive(Clone, Copy)]
+enum Place {
+    Begin,
+    AtLetter,
+    InText,
+}
+
+/// Reads reports byte by byte, and keeps at most 10,000 bytes of each.
+#[derive(Drop)]
+pub struct ReportReader {
+    place: Place,
+    slot: u8,
+    letter: u8,
+    begun: ByteText,
+}
+
+impl Model for ReportReader {
+    ghost use Rattle.spawn_protocol.specs.Report.{Reader, standing};
+
+    ghost Value = { Reader };
+
+    ghost view = { λ r. standing r.place r.slot r.letter r.begun };
+}
+
+impl ReportReader {
+    ghost use Rattle.std.specs.Prelude.{◌≡◌, ◌++◌, [], ℕ, List, OnErr};
+    ghost use Rattle.spawn_protocol.specs.Report.{HasRead, Takes, eaten, given};
+    ghost use Rattle.spawn_protocol.specs.declared.report.Report.{Report};
+
+    /// A reader of no bytes yet. Takes no memory.
+    pub fn new(alloc: Global) -> Self
+        ensures { HasRead [] [] result }
+    {
+        ReportReader {
+            place: Place::Begin,
+            slot: 0,
+            letter: 0,
+            begun: ByteText::new(alloc),
+        }
+    }
+
+    /// Takes the next byte, and gives the report that it ended, if it ended one. What goes past a report's 10,000th
+    /// byte is dropped, so that at most 9,998 bytes of text stay. After an `Err` the reader is as before, and the byte
+    /// isn't taken.
+    pub fn feed(&mut self, alloc: Global, byte: u8) -> Result<Option<Report>, Memory>
+        ensures read { (bytes : List ℕ) (reports : List Report) → HasRead bytes reports self.old
+            → HasRead (bytes ++ eaten result byte) (reports ++ given result) self.new }
+        ensures memory { OnErr result (self.new ≡ self.old) }
+    {
+        self.advance(alloc, byte)
+    }
+
+    // Each place with the bytes that lead on from it.
+    fn advance(&mut self, alloc: Global, byte: u8) -> Result<Option<Report>, Memory>
+        ensures { Takes self.old byte result self.new }
+    {
+        match (self.place, byte) {
+            (Place::Begin, _) => {
+                self.slot = byte;
+                self.place = Place::AtLetter;
+                Ok(None)
+            }
+            (Place::AtLetter, 0) => {
+                self.place = Place::Begin;
+                Ok(Some(Report {
+                    slot: self.slot,
+                    letter: 0,
+                    text: ByteText::new(alloc),
+                }))
+            }
+            (Place::AtLetter, _) => {
+                self.letter = byte;
+                self.begun = ByteText::new(alloc);
+                self.place = Place::InText;
+                Ok(None)
+            }
+            (Place::InText, 0) => {
+                self.place = Place::Begin;
+                Ok(Some(Report {
+                    slot: self.slot,
+                    letter: self.letter,
+                    text: replace(&mut self.begun, ByteText::new(alloc)),
+                }))
+            }
+            (Place::InText, _) => {
+                put_byte(&mut self.begun, byte)?;
+                Ok(None)
+            }
+        }
+    }
+}
+
+// A byte of text, kept while there is room.
+fn put_byte(text: &mut ByteText, byte: u8) -> Result<(), Memory>
+    ensures ok { OnOk result (text.new ≡ more_text text.old byte) }
+    ensures err { OnErr result (text.new ≡ text.old) }
+{
+    if text.len() >= 9998 {
+        return Ok(());
+    }
+    text.extend(&[byte])
+}
+
+/// The text of a report, whole, however long it is. Fails only when out of memory.
+pub fn report_text(alloc: Global, report: &Report) -> Result<Vec<u8>, Memory>
+    ensures { IfOk result (λ text. text.items ≡ report_text report.now) }
+{
+    let mut text = Vec::new(alloc);
+    text.push(report.slot)?;
+    if report.letter != 0 {
+        text.push(report.letter)?;
+        text.extend_from_slice(report.text.as_slice())?;
+    }
+    text.push(0)?;
+    Ok(text)
+}
+
+/// Bytes are reports in one way alone.
+pub fn reports_are_exact()
+    // Any bytes are whole reports and the start of one more.
+    ensures some { (bytes : List ℕ) → (reports : List Report) × (reader : Reader) × HasRead bytes reports reader }
+    ensures one { (bytes : List ℕ) (reports others : List Report) (reader other : Reader) →
+        HasRead bytes reports reader → HasRead bytes others other → (reports ≡ others) × (reader ≡ other) }
+    // The text of a report that a reader can give is read back, whatever follows it.
+    ensures back { (r : Report) (more : List ℕ) (reports : List Report) (reader : Reader) →
+        IsKept r → HasRead more reports reader → HasRead (report_text r ++ more) (r ∷ reports) reader }
+    // Of a longer one what is kept is read.
+    ensures cut { (r : Report) (more : List ℕ) (reports : List Report) (reader : Reader) →
+        IsReport r → HasRead more reports reader → HasRead (report_text r ++ more) (kept r ∷ reports) reader }
+    // What was read is what a reader can give.
+    ensures kept { (bytes : List ℕ) (reports : List Report) (reader : Reader) →
+        HasRead bytes reports reader → All IsKept reports }
+{}

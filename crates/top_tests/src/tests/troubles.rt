@@ -1,0 +1,101 @@
+// Calls whose source or output fails, and words that are no command.
+use super::playing::{Expected, Given, ends};
+use mail_bytes::Memory;
+use std::test::Fail;
+
+const SCRIPT: &[&[u8]] = &[b"show\nsh", b"ow\n"];
+
+const PLAY: Given = Given {
+    words: &["play"],
+    script: SCRIPT,
+    source_fails: &[],
+    out_fails: &[],
+};
+
+const USAGE: Expected = Expected {
+    status: 100,
+    out: "",
+    log: "usage\n",
+};
+
+const ROWS: [(&str, Given, Expected); 7] = [
+    (
+        "nothing fails",
+        PLAY,
+        Expected {
+            status: 0,
+            out: "pid 0\npid 0\n",
+            log: "",
+        },
+    ),
+    (
+        "the source fails",
+        Given {
+            source_fails: &[2],
+            ..PLAY
+        },
+        Expected {
+            status: 54,
+            out: "",
+            log: "",
+        },
+    ),
+    (
+        "the output fails",
+        Given {
+            out_fails: &[2],
+            ..PLAY
+        },
+        Expected {
+            status: 53,
+            out: "pid 0\n",
+            log: "",
+        },
+    ),
+    (
+        "the output fails at the number of a bad line",
+        Given {
+            script: &[b"stepp a"],
+            out_fails: &[1],
+            ..PLAY
+        },
+        Expected {
+            status: 91,
+            out: "",
+            log: "",
+        },
+    ),
+    ("no word", Given { words: &[], ..PLAY }, USAGE),
+    (
+        "an unknown word",
+        Given {
+            words: &["nosuch"],
+            ..PLAY
+        },
+        USAGE,
+    ),
+    (
+        "a word after play",
+        Given {
+            words: &["play", "x"],
+            ..PLAY
+        },
+        USAGE,
+    ),
+];
+
+/// The name of the first row that ends otherwise; the empty text if there is none.
+fn first_wrong(rt: &HostRuntime) -> Result<&'static str, Memory> {
+    for (name, given, expected) in &ROWS {
+        if !ends(rt, given, expected)? {
+            return Ok(*name);
+        }
+    }
+    Ok("")
+}
+
+#[test]
+fn failures_and_other_words_end_a_call(rt: HostRuntime) -> Result<(), Fail> {
+    assert_eq!(rt; first_wrong(&rt)?, "");
+    Ok(())
+}
