@@ -2,9 +2,10 @@
 # make play      proves and builds the program, then plays the same message
 # make build     leaves the proved program at ./qmail
 # make examples  plays each example with ./qmail and compares what it prints
+# make streams   checks what ./qmail writes to its two streams, and its exit status
 # make test      runs the gate: every proof from nothing, the must-fail edits, the tests and the stored runs
 
-.PHONY: try play build examples test
+.PHONY: try play build examples streams test
 
 try:
 	@echo "Unproved: this only runs the code. 'make play' proves it first."
@@ -26,6 +27,9 @@ examples: build
 		cmp examples/$$name.out crates/play_tests/data/$$name.out || exit 1; \
 		echo "$$name ok"; \
 	done
+
+streams: build
+	bench/streams.sh
 
 test:
 	rt ci

@@ -2,7 +2,7 @@
 # bench/mailfront.sh: an outside program puts mail into the queue by contrib/qmail-queue. Debian's mailfront takes a message
 # by SMTP and one by QMQP; checks that both are in the queue, in S4, with their sender and recipients. Then it is handed an
 # address of 1,003 bytes, which has to be refused for good, and a message with which the disk is full, which has to be
-# refused for now; checks mailfront's answers, and that nothing more is queued. Exit status 1 where one isn't so. The
+# refused for now; checks mailfront's answers, and that nothing more is queued. Exit status 1 if one isn't so. The
 # program is ./qmail, which `make build` leaves, or $QMAIL.
 set -eu
 top=$(cd "$(dirname "$0")/.." && pwd)

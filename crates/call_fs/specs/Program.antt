@@ -1,40 +1,32 @@
--- The shape of a program, as owned data: what it needs next, and what came of it.
-use Rattle.std.specs.Prelude.{ℕ, List, map}
+-- The shape of a program, as owned data: what it needs next, what came of it, and its past.
+use Rattle.std.specs.Prelude.{ℕ, ◌<◌, ◌≤◌, length, map, Option, Some, None}
 use Rattle.call_fs.specs.declared.calls.CallData.{CallData}
-use Rattle.call_fs.specs.declared.calls.Answer.{Answer}
-use Rattle.call_fs.specs.declared.program.Ready.{Ready}
-use Rattle.call_fs.specs.declared.program.Port.{Port}
 use Rattle.call_fs.specs.declared.program.Child.{Child}
 use Rattle.call_fs.specs.declared.program.Child.TheVariants as child
+use Rattle.call_fs.specs.declared.program.Got.{Got}
+use Rattle.call_fs.specs.declared.program.Got.TheVariants as got
 use Rattle.call_fs.specs.declared.program.Need.{Need}
 use Rattle.call_fs.specs.declared.program.Need.TheVariants as need
+use Rattle.call_fs.specs.declared.program.Port.{Port}
+use Rattle.call_fs.specs.declared.program.Port.TheVariants as port
+use Rattle.call_fs.specs.declared.past.ChildData.{ChildData}
+use Rattle.call_fs.specs.declared.past.ChildData.TheVariants.{Bounce, Forward, Local, Remote}
+use Rattle.call_fs.specs.declared.past.NeedData.{NeedData}
+use Rattle.call_fs.specs.declared.past.NeedData.TheVariants.{File, Take, Give, Start, Command, Wait, Ended}
+use Rattle.call_fs.specs.declared.past.GotData.{GotData}
+use Rattle.call_fs.specs.declared.past.GotData.TheVariants as came
 use Rattle.call_fs.specs.Calls.{data_of}
+use Rattle.call_fs.specs.Columns.{IsAnswerTo, IsMomentIn}
 
--- a program that another one starts, with its bytes
-pub data ChildData : Type 0 where
-  Bounce : (room : ℕ) → ChildData
-  Forward : (uid room : ℕ) → ChildData
-  Local : (slot : ℕ) (words : List (List ℕ)) (uid : ℕ) → ChildData
-  Remote : (slot : ℕ) (domain sender recipient : List ℕ) → ChildData
-
+-- a program that is started, with its bytes
 abbrev pub child_data : Child → ChildData
 child_data (child.Bounce room) = Bounce room
 child_data (child.Forward uid room) = Forward uid room
 child_data (child.Local slot words uid) = Local slot (map (λ word. word.now) words) uid
 child_data (child.Remote slot domain sender recipient) = Remote slot domain.now sender.now recipient.now
 
--- what a program must do next
-pub data Due : Type 0 where
-  File : CallData → Due
-  Take : Port → Due
-  Give : Port → List ℕ → Due
-  Start : ChildData → Due
-  Command : List ℕ → Due
-  Wait : Due
-  Ended : (status : ℕ) → Due
-
 -- what a machine asks for, with its bytes
-abbrev pub due_of : Need → Due
+abbrev pub due_of : Need → NeedData
 due_of (need.File call) = File (data_of call)
 due_of (need.Take port) = Take port
 due_of (need.Give port bytes) = Give port bytes.now
@@ -43,12 +35,56 @@ due_of (need.Command bytes) = Command bytes.now
 due_of need.Wait = Wait
 due_of (need.Ended status) = Ended status
 
--- what came of one need
-pub data Did : Type 0 where
-  Called : CallData → Answer → List ℕ → Did
+-- what is handed to a machine, with its bytes
+abbrev pub came_of : Got → GotData
+came_of (got.File answer bytes) = came.Answered (record { answer = answer; bytes = bytes.now })
+came_of (got.Took bytes) = came.Took bytes.now
+came_of got.End = came.End
+came_of (got.Ended status) = came.Ended status
+came_of got.Crashed = came.Crashed
+came_of got.Gave = came.Gave
+came_of (got.Started pid) = came.Started pid
+came_of got.Failed = came.Failed
+came_of got.Memory = came.Memory
 
--- One event of a program's own past: the moment that it read, what it found ready, and what it did.
-pub record Own : Type 0 where
-  pub read : ℕ
-  pub ready : Ready
-  pub did : Did
+-- what may come of a taking: of a program's status how it ended, of any other port bytes or the end
+abbrev pub IsTaken : Port → GotData → Type 0
+IsTaken (port.Status d) (came.Ended status) = Unit {0}
+IsTaken (port.Status d) came.Crashed = Unit {0}
+IsTaken (port.Status d) came.Failed = Unit {0}
+IsTaken (port.Status d) other = ⊥
+IsTaken port (came.Took bytes) = Unit {0}
+IsTaken port came.End = Unit {0}
+IsTaken port came.Failed = Unit {0}
+IsTaken port other = ⊥
+
+-- Which kind of thing may come of a need. Nothing comes of a wait or of an end.
+abbrev pub IsKind : NeedData → GotData → Type 0
+IsKind (File call) (came.Answered told) = IsMomentIn told.answer
+IsKind (Take port) got = IsTaken port got
+IsKind (Give port bytes) came.Gave = Unit {0}
+IsKind (Give port bytes) came.Failed = Unit {0}
+IsKind (Start started) (came.Started pid) = Unit {0}
+IsKind (Start started) came.Failed = Unit {0}
+IsKind (Start started) came.Memory = Unit {0}
+IsKind (Command bytes) (came.Ended status) = Unit {0}
+IsKind (Command bytes) came.Crashed = Unit {0}
+IsKind (Command bytes) came.Failed = Unit {0}
+IsKind (Command bytes) came.Memory = Unit {0}
+IsKind due other = ⊥
+
+-- so, and of a file call it is an answer to that call
+abbrev pub MayCome : NeedData → GotData → Type 0
+MayCome (File call) (came.Answered told) = IsAnswerTo call told.answer
+MayCome due got = IsKind due got
+
+-- a taking brought no more bytes than this
+abbrev pub IsWithin : ℕ → GotData → Type 0
+IsWithin most (came.Took bytes) = length bytes ≤ most
+IsWithin most other = Unit {0}
+
+-- fewer events are ahead than before, if it was bounded how many
+abbrev pub IsNearer : Option ℕ → Option ℕ → Type 0
+IsNearer (Some before) (Some now) = now < before
+IsNearer (Some before) None = ⊥
+IsNearer None now = Unit {0}

@@ -1,7 +1,7 @@
 -- A parse by a simple clap command, and what it says of the words.
 use Rattle.std.proofs.Common.{◌≡◌, ◌≢◌, ◌&&◌, ℕ, Bool, true, false, List, [], ◌∷◌, Option, Some, None, Ok, Err, codes, cond, option_map, sym, ap, ◌∙◌, ⊎_elim, rules}
 use Rattle.clap.specs.Walk.{is_empty}
-use Rattle.clap.specs.Words.{App, FailsBy, HasMatchesOf, IsAmong, Kinds, Row, Text, fault_of, first_value, found_of, is_simple, is_simple_and_free, kind_of, matches_of, rows_of}
+use Rattle.clap.specs.Words.{App, FailsBy, HasMatchesOf, IsAmong, Kinds, Row, Text, fault_of, first_of, first_value, found_of, is_simple, is_simple_and_free, kind_of, matches_of, rows_of}
 use Rattle.clap.specs.declared.error.Error.{Error}
 use Rattle.clap.specs.declared.error.kind.ErrorKind.{ErrorKind}
 use Rattle.clap.specs.declared.error.kind.ErrorKind.TheVariants.{OutOfMemory}
@@ -11,7 +11,7 @@ use Rattle.clap.proofs.WalkLemmas.{first_value-rows}
 use Rattle.command_words.specs.Lines.{play_line, queue_line, takes_words}
 use Rattle.command_words.specs.declared.command.Command.TheVariants.{Play, Queue}
 use Rattle.command_words.specs.declared.command.QueueWords.{QueueWords}
-use Rattle.command_words.specs.Reads.{env_of, is_on, play_words, queue_words, told, told_by, uid_of}
+use Rattle.command_words.specs.Reads.{dir_words, env_of, is_on, play_words, queue_words, told, told_by, uid_of}
 
 -- an `Ok` says that no step failed
 pub taken : (a line : App) (words : List Text) (m : ArgMatches) → a ≡ line → is_simple_and_free line ≡ true → (is_simple_and_free a ≡ true → FailsBy (fault_of a words) (Ok m)) → takes_words line words ≡ true
@@ -65,6 +65,19 @@ queue_read words rows queue takes is told =
 pub queue_refused : (words : List Text) → takes_words queue_line words ≡ false → queue_words words ≡ None
 unfolding queue_words
 queue_refused words refuses = ap (λ t. cond t (option_map Queue (told_by (matches_of queue_line words))) None) refuses
+
+-- the words that are taken tell the directory that clap found
+pub dir_read : (line : App) (words : List Text) (found : Found) (dir : Option Text) → takes_words line words ≡ true → rows_of found ≡ matches_of line words → dir ≡ first_value found (codes "dir")
+    → dir_words line words ≡ dir
+unfolding dir_words
+dir_read line words found dir takes is read =
+    ap (λ t. cond t (first_of (codes "dir") (matches_of line words)) None) takes
+    ∙ ap (λ rows. first_of (codes "dir") rows) (sym is)
+    ∙ sym (read ∙ first_value-rows found (codes "dir"))
+
+pub dir_refused : (line : App) (words : List Text) → takes_words line words ≡ false → dir_words line words ≡ None
+unfolding dir_words
+dir_refused line words refuses = ap (λ t. cond t (first_of (codes "dir") (matches_of line words)) None) refuses
 
 -- the matches of a command are those of its words
 pub matched : (a line : App) (words : List Text) (m : ArgMatches) → a ≡ line → is_simple line ≡ true → HasMatchesOf a words m → rows_of (found_of m) ≡ matches_of line words

@@ -25,6 +25,14 @@ abbrev pub queue_line : App
 queue_line =
     with_rule (with_rule (with_rule (with_rule (new_app (codes "queue")) (word_rule (codes "env"))) (word_rule (codes "dir"))) (option_rule (codes "uid"))) (flag_rule (codes "bounce"))
 
+-- `audit DIR`
+abbrev pub audit_line : App
+audit_line = with_rule (new_app (codes "audit")) (word_rule (codes "dir"))
+
+-- `clean DIR`
+abbrev pub clean_line : App
+clean_line = with_rule (new_app (codes "clean")) (word_rule (codes "dir"))
+
 -- clap reads the words by this simple command, and no step of that fails
 abbrev pub takes_words : App → List Text → Bool
 takes_words line words = is_simple_and_free line && is_empty (fault_of line words)

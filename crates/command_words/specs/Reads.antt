@@ -3,21 +3,21 @@ use Rattle.std.specs.Prelude.{◌≡◌, ◌≢◌, ◌^◌, ℕ, Bool, false, L
 use Rattle.std.specs.Option.{option_map_or}
 use Rattle.std.specs.Str.{bytes_eq}
 use Rattle.mail_bytes.specs.Decimal.{number_of}
-use Rattle.clap.specs.Words.{Row, Text, first_of, matches_of}
+use Rattle.clap.specs.Words.{App, Row, Text, first_of, matches_of}
 use Rattle.command_words.specs.declared.command.Command.{Command}
-use Rattle.command_words.specs.declared.command.Command.TheVariants.{Play, Queue}
+use Rattle.command_words.specs.declared.command.Command.TheVariants.{Play, Queue, Audit, Clean}
 use Rattle.command_words.specs.declared.command.QueueWords.{QueueWords}
-use Rattle.command_words.specs.Lines.{play_line, queue_line, takes_words}
+use Rattle.command_words.specs.Lines.{audit_line, clean_line, play_line, queue_line, takes_words}
 
 -- the file of the envelope; `-` is none
 abbrev pub env_of : Text → Option Text
 env_of word = if bytes_eq word (codes "-") then None else Some word
 
--- the number, where a u32 holds it
+-- the number, if a u32 holds it
 abbrev pub as_u32 : ℕ → Option ℕ
 as_u32 n = if nat_lt n (2 ^ 32) then Some n else None
 
--- the user of a decimal text; 0 where there is no text
+-- the user of a decimal text; 0 if there is no text
 abbrev pub uid_of : Option Text → Option ℕ
 uid_of None = Some 0
 uid_of (Some text) = option_and_then as_u32 (number_of text)
@@ -26,7 +26,7 @@ uid_of (Some text) = option_and_then as_u32 (number_of text)
 abbrev pub is_on : Option Text → Bool
 is_on value = option_map_or (bytes_eq (codes "true")) value false
 
--- what `queue` is told, where both words stand and the user is a number
+-- what `queue` is told, if both words stand and the user is a number
 abbrev pub told : Option Text → Option Text → Option ℕ → Bool → Option QueueWords
 told (Some env) (Some dir) (Some uid) bounce = Some (record { env = env_of env; dir = dir; uid = uid; bounce = bounce })
 told _ _ _ bounce = None
@@ -44,13 +44,19 @@ play_words words = if takes_words play_line words then Some Play else None
 unfoldable pub queue_words : List Text → Option Command
 queue_words words = if takes_words queue_line words then option_map Queue (told_by (matches_of queue_line words)) else None
 
+-- the directory that the words after a name tell, by the simple command that has that name
+unfoldable pub dir_words : App → List Text → Option Text
+dir_words line words = if takes_words line words then first_of (codes "dir") (matches_of line words) else None
+
 -- the command that the first word names
 abbrev pub command_named : Option Text → List Text → Option Command
 command_named None words = None
 command_named (Some name) words = if bytes_eq name (codes "play") then play_words words
-    else (if bytes_eq name (codes "queue") then queue_words words else None)
+    else (if bytes_eq name (codes "queue") then queue_words words
+    else (if bytes_eq name (codes "audit") then option_map Audit (dir_words audit_line words)
+    else (if bytes_eq name (codes "clean") then option_map Clean (dir_words clean_line words) else None)))
 
--- the command that the words are, where they are one
+-- the command that the words are, if they are one
 unfoldable pub command_of : List Text → Option Command
 command_of words = command_named (slice_get words 0) words
 

@@ -11,16 +11,20 @@ pub enum Command {
     Play,
     /// `queue`: puts a message into a queue.
     Queue(QueueWords),
+    /// `audit`: prints what a queue holds; with the directory of the queue.
+    Audit(ByteText),
+    /// `clean`: runs the cleaner; with the directory of the queue.
+    Clean(ByteText),
 }
 
 /// What `queue` is told.
 #[derive(Drop)]
 pub struct QueueWords {
-    /// The file of the envelope; None for `-`, where the message source gives the message and the envelope.
+    /// The file of the envelope; None for `-`: the message's source gives both.
     pub env: Option<ByteText>,
     /// The directory of the queue.
     pub dir: ByteText,
-    /// The number of the user who sends; 0 where none is told.
+    /// The number of the user who sends; 0 if none is told.
     pub uid: u32,
     /// Whether the message is a bounce.
     pub bounce: bool,
@@ -29,9 +33,9 @@ pub struct QueueWords {
 /// The file and the directory that a command is told.
 #[derive(Drop)]
 pub struct Places {
-    /// The file of the envelope, where there is one.
+    /// The file of the envelope, if there is one.
     pub env: Option<ByteText>,
-    /// The directory of the queue, where there is one.
+    /// The directory of the queue, if there is one.
     pub dir: Option<ByteText>,
 }
 
@@ -41,7 +45,7 @@ pub enum WordsError {
     /// The words are no command.
     #[error("usage")]
     Usage,
-    /// Want of memory.
+    /// Out of memory.
     #[error("out of memory")]
     Memory,
 }

@@ -2,11 +2,11 @@
 ghost use Rattle.std.specs.Prelude.{◌≡◌, ◌<◌, ◌^◌, ◌↔◌, ◌∷◌, [], List, ℕ, Some, None, true, false, codes, slice_get};
 ghost use Rattle.mail_bytes.specs.Decimal.{digits};
 ghost use Rattle.command_words.specs.declared.command.Command.{Command as Told};
-ghost use Rattle.command_words.specs.declared.command.Command.TheVariants.{Play, Queue};
+ghost use Rattle.command_words.specs.declared.command.Command.TheVariants.{Play, Queue, Audit, Clean};
 ghost use Rattle.command_words.specs.Lines.{play_line, takes_words};
 ghost use Rattle.command_words.specs.Reads.{IsNoCommand, IsNoOption, Reads};
 
-/// Words are at most one command; they are none exactly where no command is theirs. They are `play` exactly where the
+/// Words are at most one command; they are none exactly if no command is theirs. They are `play` exactly if the
 /// first one is, and `clap` takes the others as no more than that name.
 pub fn words_are_one_command()
     ensures one { (words : List (List ℕ)) (a b : Told) → Reads words a → Reads words b → a ≡ b }
@@ -24,6 +24,11 @@ pub fn words_by_row()
         (Queue (record { env = Some (codes "ENV"); dir = codes "DIR"; uid = 0; bounce = false })) }
     ensures options { Reads (codes "queue" ∷ codes "--bounce" ∷ codes "-" ∷ codes "--uid" ∷ codes "7" ∷ codes "DIR" ∷ [])
         (Queue (record { env = None; dir = codes "DIR"; uid = 7; bounce = true })) }
+    ensures audit { Reads (codes "audit" ∷ codes "DIR" ∷ []) (Audit (codes "DIR")) }
+    ensures audit_no_directory { IsNoCommand (codes "audit" ∷ []) }
+    ensures audit_extra { IsNoCommand (codes "audit" ∷ codes "DIR" ∷ codes "more" ∷ []) }
+    ensures clean { Reads (codes "clean" ∷ codes "DIR" ∷ []) (Clean (codes "DIR")) }
+    ensures clean_no_directory { IsNoCommand (codes "clean" ∷ []) }
     ensures help { IsNoCommand (codes "queue" ∷ codes "-" ∷ codes "DIR" ∷ codes "--help" ∷ []) }
     ensures version { IsNoCommand (codes "play" ∷ codes "--version" ∷ []) }
     ensures no_directory { IsNoCommand (codes "queue" ∷ codes "-" ∷ []) }
@@ -34,7 +39,7 @@ pub fn words_by_row()
     ensures nothing { IsNoCommand [] }
 {}
 
-/// Words of `queue` that are written out but for ENV, DIR and the user, where the first two don't begin with `-`: what a
+/// Words of `queue` that are written out except for ENV, DIR and the user, if the first two don't begin with `-`: what a
 /// caller wrote is what is read.
 pub fn words_of_queue()
     ensures file { (env dir : List ℕ) → IsNoOption env → IsNoOption dir → Reads (codes "queue" ∷ env ∷ dir ∷ [])

@@ -3,12 +3,14 @@
 //! The first word names the command; the words after it are its own, and are read by a simple `clap` command of that
 //! name. So an option may stand before or after the other words, `--uid=7` is `--uid 7`, after `--` no word is an
 //! option, and no option stands twice. The contract of this crate is one function, `command_of`: the command that words
-//! are, where they are one. To ask for help or for a version is no command.
+//! are, if they are one. To ask for help or for a version is no command.
 //!
 //! | Words | Command |
 //! |---|---|
 //! | `play` | plays a script |
 //! | `queue ENV DIR --uid N --bounce` | puts a message into the queue of DIR, as qmail-queue(8) |
+//! | `audit DIR` | prints what the queue of DIR holds |
+//! | `clean DIR` | runs the cleaner over the queue of DIR |
 #![tactic(auto)]
 
 mod command;

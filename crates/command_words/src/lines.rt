@@ -1,7 +1,7 @@
 // The simple `clap` commands.
 ghost use Rattle.std.specs.Prelude.{◌≡◌, IfOk};
 ghost use Rattle.clap.specs.Words.{app_of};
-ghost use Rattle.command_words.specs.Lines.{play_line, queue_line};
+ghost use Rattle.command_words.specs.Lines.{audit_line, clean_line, play_line, queue_line};
 
 use clap::{Arg, ArgAction, Command};
 use mail_bytes::Memory;
@@ -27,4 +27,18 @@ pub fn queue_line<'a>(alloc: Global) -> Result<Command<'a>, Memory>
                 .long("bounce")
                 .action(ArgAction::SetTrue),
         )
+}
+
+/// The words of `audit`.
+pub fn audit_line<'a>(alloc: Global) -> Result<Command<'a>, Memory>
+    ensures { IfOk result (λ line. app_of line ≡ audit_line) }
+{
+    Command::new(alloc, "audit").arg(Arg::new(alloc, "dir").required(true))
+}
+
+/// The words of `clean`.
+pub fn clean_line<'a>(alloc: Global) -> Result<Command<'a>, Memory>
+    ensures { IfOk result (λ line. app_of line ≡ clean_line) }
+{
+    Command::new(alloc, "clean").arg(Arg::new(alloc, "dir").required(true))
 }

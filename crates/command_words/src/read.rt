@@ -1,19 +1,19 @@
 // Words are read.
-ghost use Rattle.std.specs.Prelude.{◌≡◌, ◌≢◌, Some, None, Err, true, false, IfOk, IfErr, map, string_bytes};
-ghost use Rattle.clap.specs.Words.{found_of, kind_of, rows_of};
+ghost use Rattle.std.specs.Prelude.{◌≡◌, ◌≢◌, Some, None, Err, true, false, IfOk, IfErr, IsTrue, map, string_bytes};
+ghost use Rattle.clap.specs.Words.{app_of, found_of, is_simple, is_simple_and_free, kind_of, rows_of};
 ghost use Rattle.clap.specs.declared.error.kind.ErrorKind.TheVariants.{OutOfMemory};
 ghost use Rattle.std.specs.Option.{option_map};
 ghost use Rattle.command_words.specs.Places.{places_of};
-ghost use Rattle.command_words.specs.Reads.{IsNoCommand, command_of, Reads, env_of, is_on, play_words, queue_words, told_by, uid_of};
+ghost use Rattle.command_words.specs.Reads.{IsNoCommand, command_of, Reads, dir_words, env_of, is_on, play_words, queue_words, told_by, uid_of};
 
-use crate::lines::{play_line, queue_line};
+use crate::lines::{audit_line, clean_line, play_line, queue_line};
 use crate::{Command, Places, QueueWords, WordsError};
-use clap::ArgMatches;
 use clap::error::ErrorKind;
+use clap::{ArgMatches, Command as Line};
 use mail_bytes::{ByteText, Memory, undec};
 use std::alloc::{AllocError, Global};
 
-/// The command that the words after the program's name are. `Usage` only where they are none: the first word names no
+/// The command that the words after the program's name are. `Usage` only if they are none: the first word names no
 /// command, `clap` refuses the others, or a number isn't a decimal text without a leading zero, or isn't in its range.
 /// `Memory` may come.
 pub fn read_words(alloc: Global, words: &[String]) -> Result<Command, WordsError>
@@ -26,11 +26,19 @@ pub fn read_words(alloc: Global, words: &[String]) -> Result<Command, WordsError
     match name.as_str() {
         "play" => read_play(alloc, words),
         "queue" => read_queue(alloc, words),
+        "audit" => match read_dir(alloc, audit_line(alloc)?, words) {
+            Ok(dir) => Ok(Command::Audit(dir)),
+            Err(why) => Err(why),
+        },
+        "clean" => match read_dir(alloc, clean_line(alloc)?, words) {
+            Ok(dir) => Ok(Command::Clean(dir)),
+            Err(why) => Err(why),
+        },
         _ => Err(WordsError::Usage),
     }
 }
 
-/// The file and the directory that the words name, where they are a command that has them; else neither.
+/// The file and the directory that the words name, if they are a command that has them; else neither.
 pub fn places(alloc: Global, words: &[String]) -> Result<Places, Memory>
     ensures { IfOk result (λ places. places ≡ places_of (command_of (map string_bytes words.now))) }
 {
@@ -38,6 +46,10 @@ pub fn places(alloc: Global, words: &[String]) -> Result<Places, Memory>
         Ok(Command::Queue(queue)) => Ok(Places {
             env: queue.env,
             dir: Some(queue.dir),
+        }),
+        Ok(Command::Audit(dir) | Command::Clean(dir)) => Ok(Places {
+            env: None,
+            dir: Some(dir),
         }),
         Ok(Command::Play) | Err(WordsError::Usage) => Ok(Places {
             env: None,
@@ -73,7 +85,24 @@ fn read_queue(alloc: Global, words: &[String]) -> Result<Command, WordsError>
     }
 }
 
-/// What `queue` is told by what `clap` found; None where a word is missing or the user is no number.
+/// Reads the directory that the words after a name tell. The condition: the line is a simple command.
+fn read_dir<'a>(alloc: Global, line: Line<'a>, words: &'a [String]) -> Result<ByteText, WordsError>
+    requires free { IsTrue (is_simple_and_free (app_of line)) }
+    requires simple { IsTrue (is_simple (app_of line)) }
+    ensures ok { IfOk result (λ dir. dir_words (app_of line.entry) (map string_bytes words.now) ≡ Some dir) }
+    ensures usage { result ≡ Err WordsError.Usage → dir_words (app_of line.entry) (map string_bytes words.now) ≡ None }
+{
+    let matches = match line.try_get_matches_from(words) {
+        Ok(matches) => matches,
+        Err(why) => return Err(refusal(&why)),
+    };
+    match matches.get_str("dir") {
+        Some(dir) => Ok(ByteText::from_slice(alloc, dir.as_bytes())?),
+        None => Err(WordsError::Usage),
+    }
+}
+
+/// What `queue` is told by what `clap` found; None if a word is missing or the user is no number.
 fn told_by(alloc: Global, matches: &ArgMatches<'_>) -> Result<Option<QueueWords>, Memory>
     ensures { IfOk result (λ queue. queue ≡ told_by (rows_of (found_of matches.now))) }
 {
@@ -114,7 +143,7 @@ fn env_of(alloc: Global, word: &str) -> Result<Option<ByteText>, Memory>
     Ok(Some(ByteText::from_slice(alloc, word.as_bytes())?))
 }
 
-/// The user's number, 0 where none is told. None exactly where the text is no decimal text of a u32.
+/// The user's number, 0 if none is told. None exactly if the text is no decimal text of a u32.
 fn uid_of(text: Option<&str>) -> Option<u32>
     ensures { result ≡ uid_of (option_map (λ s. s.now) text.entry) }
 {

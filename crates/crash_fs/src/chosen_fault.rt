@@ -15,7 +15,7 @@ pub struct ChosenFault {
 }
 
 impl ChosenFault {
-    /// Counts a call; `Fault` exactly where it is the chosen one.
+    /// Counts a call; `Fault` exactly if it is the chosen one.
     pub fn begin(&mut self) -> Result<(), FsError>
         ensures at { self.new.at ≡ nearer self.old.at }
         ensures due { IsErr result ↔ (self.old.at ≡ Some 1) }

@@ -73,7 +73,7 @@ impl CrashDisk {
         self.below.place(alloc, name, bytes)
     }
 
-    /// The least name in a directory after that one in byte order; None exactly where there is none.
+    /// The least name in a directory after that one in byte order; None exactly if there is none.
     pub fn name_after(&self, dir: &[u8], after: &[u8]) -> Option<&[u8]>
         ensures some { IfSome result (λ name. IsNextName (crash_disk self.now) dir.now after.now name.now) }
         ensures none { IfNone result (IsLastName (crash_disk self.now) dir.now after.now) }
@@ -81,7 +81,7 @@ impl CrashDisk {
         self.below.name_after(dir, after)
     }
 
-    /// The bytes of the file of a name; None exactly where the name is missing.
+    /// The bytes of the file of a name; None exactly if the name is missing.
     pub fn bytes_of(&self, name: &[u8]) -> Option<&[u8]>
         ensures { option_copied result ≡ bytes_at (crash_disk self.now) name.now }
     {
@@ -98,14 +98,14 @@ impl CallFs for CrashDisk {
 
     // without picks, and without calls that are to fail
 
-    // where the disk below has no picks and no calls that are to fail
+    // if the disk below has no picks and no calls that are to fail
     ghost plan = { crash_plan };
 
     fn faults(&self) -> u64 {
         self.below.faults().saturating_add(self.fault.failed)
     }
 
-    /// As the trait says. Where a number is chosen and is free the new file takes that one, else the next by the picks of the
+    /// As the trait says. If a number is chosen and is free the new file takes that one, else the next by the picks of the
     /// disk below; it takes the least free descriptor.
     fn create_excl(&mut self, alloc: Global, now: u64, name: &[u8]) -> Result<(Fd, u64), FsError>
         requires { IsMoment now }

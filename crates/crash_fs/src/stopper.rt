@@ -16,7 +16,7 @@ use mail_bytes::NameBuf;
 use std::alloc::Global;
 use std::marker::Model;
 
-/// A disk that passes its first calls on to another one, and answers `Fault` to all later ones, as where a disk is
+/// A disk that passes its first calls on to another one, and answers `Fault` to all later ones, as when a disk is
 /// unplugged. `close` isn't counted, and is passed on always. A call that fails so changes nothing.
 #[derive(Drop)]
 pub struct Stopper<D> {
@@ -52,7 +52,7 @@ impl<D: CallFs> Stopper<D> {
         &self.below
     }
 
-    /// Counts a call; `Fault` exactly where none is passed on any more.
+    /// Counts a call; `Fault` exactly if none is passed on any more.
     fn begin(&mut self) -> Result<(), FsError>
         ensures stopped { IsErr result ↔ (self.old.left ≡ 0) }
         ensures fault { IsOkUnless result FsError.Fault }

@@ -1,4 +1,4 @@
--- names, and the paths that are handed to the system
+-- the paths that are handed to the system for names
 pub mod Names
 -- what is open
 pub mod Held

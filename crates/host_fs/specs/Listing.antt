@@ -3,7 +3,7 @@ use Rattle.std.specs.Prelude.{ℕ, List, Bool, true, false, IsTrue, Contains, if
 use Rattle.std.specs.Ordering.{nat_cmp, is_lt}
 use Rattle.std.specs.Cmp.Lexicographic.{slice_cmp}
 use Rattle.std.specs.Str.{IsUtf8}
-use Rattle.host_fs.specs.Names.{IsPart}
+use Rattle.call_fs.specs.Names.{IsPart}
 
 -- one name stands before another in byte order
 abbrev pub is_before : List ℕ → List ℕ → Bool

@@ -3,10 +3,9 @@ ghost use Rattle.std.specs.Prelude.{◌≡◌, ◌<◌, IsTrue, IfOk, IfSome, If
 ghost use Rattle.call_fs.specs.declared.calls.FsError.TheVariants as FsError;
 ghost use Rattle.host_fs.specs.Listing.{is_nearer, FoundAfter, IsEntry};
 
-use crate::paths::is_part;
 use crate::refusals::{missing_or_fault, or_fault};
 use crate::system::System;
-use call_fs::FsError;
+use call_fs::{FsError, is_part};
 use mail_bytes::NameBuf;
 use std::alloc::Global;
 use std::io::Read;

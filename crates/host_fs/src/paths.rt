@@ -1,9 +1,10 @@
 // Names of files, and the paths that the system is handed for them.
 ghost use Rattle.std.specs.Prelude.{◌≡◌, ◌↔◌, IfOk, IfSome, IfNone, IsTrue, IsErrOf, string_bytes};
 ghost use Rattle.std.specs.Str.{IsUtf8};
-ghost use Rattle.host_fs.specs.Names.{IsPart, IsName, IsPath, IsRoot, without_slash, is_of_machine, path_text};
+ghost use Rattle.call_fs.specs.Names.{IsName};
+ghost use Rattle.host_fs.specs.Names.{IsPath, IsRoot, is_of_machine, path_text};
 
-use call_fs::FsError;
+use call_fs::{FsError, is_name};
 use std::alloc::Global;
 use std::str;
 
@@ -61,30 +62,4 @@ fn is_of_machine(name: &[u8]) -> bool
         Some((first, _)) => *first == b'/',
         None => false,
     }
-}
-
-/// Whether it is the name of a file.
-fn is_name(name: &[u8]) -> bool
-    ensures { IsTrue result ↔ IsName name.now }
-{
-    without_slash(name)
-        .split(|byte| *byte == b'/')
-        .all(|part| is_part(part))
-}
-
-/// A name without the `/` before its first part.
-fn without_slash(name: &[u8]) -> &[u8]
-    ensures { result.now ≡ without_slash name.now }
-{
-    match name.split_first() {
-        Some((first, rest)) if *first == b'/' => rest,
-        _ => name,
-    }
-}
-
-/// Whether it is one part of a name.
-pub fn is_part(part: &[u8]) -> bool
-    ensures { IsTrue result ↔ IsPart part.now }
-{
-    !part.is_empty() && part.len() <= 255 && !part.contains(&0)
 }

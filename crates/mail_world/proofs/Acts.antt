@@ -1,6 +1,8 @@
 -- What the world knows and has open, as one actor makes a call, ends, or starts.
 use Rattle.std.proofs.Common.{◌≡◌, ◌≢◌, ℕ, List, [], ◌∷◌, ◌++◌, length, true, false, if◌then◌else◌, Option, Some, None, refl, sym, ap, ◌∙◌, subst, ⊎_elim, arith, bytes_eq, reverse}
 use Rattle.std.proofs.lemmas.Bool.Decides.{eqb_tells}
+use Rattle.call_fs.specs.declared.past.NeedData.TheVariants as needs
+use Rattle.call_fs.specs.declared.past.GotData.TheVariants.{Answered}
 use Rattle.call_fs.specs.declared.calls.CallData.{CallData}
 use Rattle.call_fs.specs.declared.calls.CallData.TheVariants as call
 use Rattle.call_fs.specs.declared.calls.Answer.{Answer}
@@ -8,7 +10,6 @@ use Rattle.call_fs.specs.declared.calls.Told.{Told}
 use Rattle.call_fs.specs.declared.calls.Answer.TheVariants as told
 use Rattle.call_fs.specs.declared.program.Ready.{Ready}
 use Rattle.call_fs.specs.Maps.{put}
-use Rattle.call_fs.specs.Program.Did.{Called}
 use Rattle.mail_world.specs.declared.event.Program.{Program}
 use Rattle.mail_world.specs.declared.actor.Actor.{Actor as Held}
 use Rattle.mail_world.specs.declared.event.Event.{Event as Kept}
@@ -108,13 +109,13 @@ start_alone s a program = record {
 -- the actor that made a call
 pub call_member : (s : State) (events : List Kept) (p : ℕ) (x y : Held) (ready : Ready) (c : CallData) (got : Told) (m : IsMember s events p x)
     → x.ended ≡ None → y.name ≡ x.name → y.ended ≡ x.ended
-    → Follows y.machine m.actor.program ((record { read = p; ready = ready; did = Called c got.answer got.bytes }) ∷ m.actor.past)
+    → Follows y.machine m.actor.program ((record { read = p; ready = ready; due = needs.File c; came = Answered got }) ∷ m.actor.past)
     → IsMember (called s x.name p ready c got 0 (Some m.actor)) (events ++ kept.Call x.name p ready c got ∷ []) p y
 call_member s events p x y ready c got m alive name ended follows =
     let k : Kept = kept.Call x.name p ready c got in
     let t = called s x.name p ready c got 0 (Some m.actor) in
     record {
-      actor = record { program = m.actor.program; past = (record { read = p; ready = ready; did = Called c got.answer got.bytes }) ∷ m.actor.past; life = m.actor.life };
+      actor = record { program = m.actor.program; past = (record { read = p; ready = ready; due = needs.File c; came = Answered got }) ∷ m.actor.past; life = m.actor.life };
       is = ap t.actors name ∙ put_at_same s.actors x.name _;
       follows = follows;
       in_order = omega arith;

@@ -6,7 +6,7 @@ use Rattle.call_fs.specs.Survival.{HadAt, Survives, AllSurvive, settled, halted}
 use Rattle.queue_paths.specs.Names.{Name}
 use Rattle.queue_paths.specs.Names.Name.{Of}
 use Rattle.queue_paths.specs.Names.Part.{Mess, Intd, Todo}
-use Rattle.call_fs.specs.Program.{Own}
+use Rattle.call_fs.specs.declared.past.Own.{Own}
 use Rattle.mail_world.specs.declared.event.Program.{Program}
 use Rattle.mail_world.specs.declared.event.Program.TheVariants.{Injector}
 use Rattle.mail_world.specs.History.{happens, State, Life, stopped, cut_off}

@@ -10,8 +10,9 @@ use Rattle.call_fs.specs.declared.calls.Told.{Told}
 use Rattle.call_fs.specs.declared.program.Ready.{Ready}
 use Rattle.call_fs.specs.Disk.{Disk, Open, Mode}
 use Rattle.call_fs.specs.Maps.{put}
-use Rattle.call_fs.specs.Program.{Own}
-use Rattle.call_fs.specs.Program.Did.{Called}
+use Rattle.call_fs.specs.declared.past.NeedData.TheVariants as needs
+use Rattle.call_fs.specs.declared.past.GotData.TheVariants.{Answered}
+use Rattle.call_fs.specs.declared.past.Own.{Own}
 use Rattle.queue_inject.specs.declared.row.Row.{Row}
 use Rattle.queue_inject.specs.declared.row.Row.TheVariants as at
 use Rattle.queue_inject.specs.Table.{row_after}
@@ -91,7 +92,7 @@ call_opens places actors s events p i x y m d e ready c got crew is alive name l
     let answer = got.answer in
     let t = called s x.name p ready c got 0 (Some m.actor) in
     let mine = open_to.each i x is in
-    let own : Own = record { read = p; ready = ready; did = Called c answer got.bytes } in
+    let own : Own = record { read = p; ready = ready; due = needs.File c; came = Answered got } in
     let now : Actor = record { program = m.actor.program; past = own ∷ m.actor.past; life = m.actor.life } in
     let needed : HasNeeds e t.holder x.name m.actor.program (own ∷ m.actor.past) =
     needs_move e t.holder x.name m.actor.program m.actor.past p ready c got

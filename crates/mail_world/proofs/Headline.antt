@@ -8,7 +8,7 @@ use Rattle.queue_paths.specs.Names.Part.{Mess, Intd, Todo, Info, Local, Remote, 
 use Rattle.queue_inject.specs.Texts.{message_text, intd_text, entered, todo_of}
 use Rattle.queue_states.specs.declared.state.State.TheVariants.{Other}
 use Rattle.queue_states.specs.States.{state_by, is_there, state_of}
-use Rattle.call_fs.specs.Program.{Own}
+use Rattle.call_fs.specs.declared.past.Own.{Own}
 use Rattle.mail_world.specs.declared.event.Program.{Program}
 use Rattle.mail_world.specs.declared.event.Program.TheVariants.{Injector}
 use Rattle.mail_world.specs.History.{Event, Injection, Life, State, after, Legal}

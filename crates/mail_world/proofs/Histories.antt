@@ -14,7 +14,8 @@ use Rattle.call_fs.specs.Choices.{Halts, contents_by}
 use Rattle.call_fs.specs.Disk.{Disk}
 use Rattle.mail_bytes.specs.Moments.{IsMoment}
 use Rattle.call_fs.specs.Apply.{effect, Fits, Apply, IsReadBy}
-use Rattle.call_fs.specs.Program.{Due}
+use Rattle.call_fs.specs.declared.past.NeedData.{NeedData}
+use Rattle.call_fs.specs.declared.past.NeedData.TheVariants as needs
 use Rattle.mail_bytes.specs.Told.{OnTold, Meets}
 use Rattle.mail_world.specs.declared.event.Program.{Program}
 use Rattle.mail_world.specs.declared.event.Event.{Event as Kept}
@@ -85,7 +86,7 @@ may_read s t a p x same now acts = record {
 }
 
 call_goes_on : (o d d' : Disk) (events : List Kept) (p : ℕ) (h : List Event) (a : List ℕ) (x : Actor) (ready : Ready) (call : CallData) (got : Told)
-    → Leads o d events p h → IsActing (known events) a p x → next_of x.program x.past p ready ≡ Due.File call → Apply d p call got.answer d' → IsReadBy d call got
+    → Leads o d events p h → IsActing (known events) a p x → next_of x.program x.past p ready ≡ needs.File call → Apply d p call got.answer d' → IsReadBy d call got
     → (e : Event) × Leads o d' (events ++ kept.Call a p ready call got ∷ []) p (e ∷ h)
 call_goes_on o d d' events p h a x ready call got is acts due applied bytes =
     let s = after o h in
@@ -129,7 +130,7 @@ finish_goes_on o d events p h a x life k e is there tells allowed named over =
     }
 
 end_goes_on : (o d : Disk) (events : List Kept) (p : ℕ) (h : List Event) (a : List ℕ) (x : Actor) (ready : Ready) (status : ℕ)
-    → Leads o d events p h → IsActing (known events) a p x → next_of x.program x.past p ready ≡ Due.Ended status
+    → Leads o d events p h → IsActing (known events) a p x → next_of x.program x.past p ready ≡ needs.Ended status
     → (e : Event) × Leads o (shut_by a (known events).holder d) (events ++ kept.End a p ready status ∷ []) p (e ∷ h)
 end_goes_on o d events p h a x ready status is acts due =
     let s = after o h in
@@ -187,14 +188,14 @@ abbrev pub LeadsOn : Option Disk → Option Disk → List Kept → List Kept →
 LeadsOn old new events later p q = (o : Disk) (h : List Event) → IsSomeAnd old (λ d. Leads o d events p h) → (e : Event) × IsSomeAnd new (λ d. Leads o d later q (e ∷ h))
 
 pub call_told : (old new : Option Disk) (events : List Kept) (p : ℕ) (a : List ℕ) (x : Actor) (ready : Ready) (call : CallData) (got : Told)
-    → IsActing (known events) a p x → next_of x.program x.past p ready ≡ Due.File call → Meets old new (λ d d'. Apply d p call got.answer d' × IsReadBy d call got)
+    → IsActing (known events) a p x → next_of x.program x.past p ready ≡ needs.File call → Meets old new (λ d d'. Apply d p call got.answer d' × IsReadBy d call got)
     → LeadsOn old new events (events ++ kept.Call a p ready call got ∷ []) p p
 call_told (Some d) (Some d') events p a x ready call got acts due met o h is = call_goes_on o d d' events p h a x ready call got is acts due met.0 met.1
 call_told (Some d) None events p a x ready call got acts due met o h is = absurd met
 call_told None new events p a x ready call got acts due met o h is = absurd is
 
 pub end_told : (old new : Option Disk) (events : List Kept) (p : ℕ) (a : List ℕ) (x : Actor) (ready : Ready) (status : ℕ)
-    → IsActing (known events) a p x → next_of x.program x.past p ready ≡ Due.Ended status → Meets old new (λ d d'. d' ≡ shut_by a (known events).holder d)
+    → IsActing (known events) a p x → next_of x.program x.past p ready ≡ needs.Ended status → Meets old new (λ d d'. d' ≡ shut_by a (known events).holder d)
     → LeadsOn old new events (events ++ kept.End a p ready status ∷ []) p p
 end_told (Some d) (Some d') events p a x ready status acts due met o h is =
     let next = end_goes_on o d events p h a x ready status is acts due in

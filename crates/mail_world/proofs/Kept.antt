@@ -2,8 +2,10 @@
 use Rattle.std.proofs.Common.{◌≡◌, ◌≢◌, ℕ, ◌+◌, ◌≤◌, List, [], ◌∷◌, Bool, true, false, Option, Some, None, refl, sym, ap, ◌∙◌, subst, ⊎_elim, arith, nat_lt, ltb-false, le_refl, le_trans}
 use Rattle.call_fs.specs.Disk.{Disk}
 use Rattle.call_fs.specs.Maps.{put_at}
-use Rattle.call_fs.specs.Program.{Due, Own}
-use Rattle.call_fs.specs.Program.Did.{Called}
+use Rattle.call_fs.specs.declared.past.GotData.TheVariants.{Answered}
+use Rattle.call_fs.specs.declared.past.NeedData.{NeedData}
+use Rattle.call_fs.specs.declared.past.NeedData.TheVariants as needs
+use Rattle.call_fs.specs.declared.past.Own.{Own}
 use Rattle.call_fs.specs.declared.calls.CallData.{CallData}
 use Rattle.call_fs.specs.Apply.{Fits}
 use Rattle.call_fs.specs.declared.calls.Told.{Told}
@@ -35,17 +37,17 @@ abbrev with_actor : State → Queue → List ℕ → Actor → State
 with_actor s r a y = record { disk = r.disk; holder = r.holder; now = s.now; actors = put_at s.actors a (Some y); books = r.books }
 
 -- what the table and the clock say of a call and of an end
-call_due : (input late : Bool) (due : Due) (call : CallData) → in_time input late due ≡ Due.File call → (due ≡ Due.File call) × (late ≡ false)
-call_due true true (Due.File own) call h = absurd (cc)
-call_due true false (Due.File own) call h = (h, refl)
-call_due false late (Due.File own) call h = absurd (cc)
+call_due : (input late : Bool) (due : NeedData) (call : CallData) → in_time input late due ≡ needs.File call → (due ≡ needs.File call) × (late ≡ false)
+call_due true true (needs.File own) call h = absurd (cc)
+call_due true false (needs.File own) call h = (h, refl)
+call_due false late (needs.File own) call h = absurd (cc)
 call_due input late due call h = absurd (cc)
 
-end_due : (input late : Bool) (due : Due) → in_time input late due ≡ Due.Ended 0 → due ≡ Due.Ended 0
-end_due input late (Due.Ended status) h = h
-end_due true true (Due.File own) h = absurd (cc)
-end_due true false (Due.File own) h = absurd (cc)
-end_due false late (Due.File own) h = absurd (cc)
+end_due : (input late : Bool) (due : NeedData) → in_time input late due ≡ needs.Ended 0 → due ≡ needs.Ended 0
+end_due input late (needs.Ended status) h = h
+end_due true true (needs.File own) h = absurd (cc)
+end_due true false (needs.File own) h = absurd (cc)
+end_due false late (needs.File own) h = absurd (cc)
 end_due input late due h = absurd (cc)
 
 -- a call that is due comes in time
@@ -53,7 +55,7 @@ in_time_call : (now start read : ℕ) → nat_lt (start + 86400) read ≡ false 
 in_time_call now start read h stall = let w : read ≤ start + 86400 = ltb-false _ _ h in omega arith
 
 -- an end with 0 comes only where the message was queued
-ends_queued : (b : Books) (a : List ℕ) (args : Arguments) (row : Row) → call_of args row ≡ Due.Ended 0 → Settles b a args row → row ≡ at.Queued
+ends_queued : (b : Books) (a : List ℕ) (args : Arguments) (row : Row) → call_of args row ≡ needs.Ended 0 → Settles b a args row → row ≡ at.Queued
 ends_queued b a args at.Queued h settles = refl
 ends_queued b a args (at.Failed cause) h settles = absurd (settles (cc))
 ends_queued b a args row h settles = absurd (cc)
@@ -100,7 +102,7 @@ module _ (s : State) (I : Inv s) where
 
   -- a call, by the program that makes it
   called_by : (a : List ℕ) (read : ℕ) (ready : Found) (call : CallData) (told : Told) (wrote : ℕ) (program : Program) (past : List Own) (life : Life)
-      → MayRead s a (record { program = program; past = past; life = life }) read → next_of program past read ready ≡ Due.File call
+      → MayRead s a (record { program = program; past = past; life = life }) read → next_of program past read ready ≡ needs.File call
       → Fits s.disk call told.answer wrote → Inv (called s a read ready call told wrote (Some (record { program = program; past = past; life = life })))
   called_by a read ready call told wrote (Injector args) past life reads next fits =
       let q = queue s I.role in
@@ -112,7 +114,7 @@ module _ (s : State) (I : Inv s) where
       let w = step s.now q a args I.sound read late wrote (row_after args past) call due.0 (S.relies soon, S.settles) told.answer fits in
       let O = w.1 in
       kept_by a O.number (queue_after q a args read call told.answer wrote w.0)
-      (record { program = Injector args; past = (record { read = read; ready = ready; did = Called call told.answer told.bytes }) ∷ past; life = life })
+      (record { program = Injector args; past = (record { read = read; ready = ready; due = needs.File call; came = Answered told }) ∷ past; life = life })
       O.elsewhere (sound_by a args _ _ O)
       (record {
         stands = λ _. record { relies = λ _. O.next.0; settles = O.next.1 };
@@ -169,7 +171,7 @@ module _ (s : State) (I : Inv s) where
   kept_finish a life x is dead ends = subst (λ o. Inv (finished s a life o)) (sym is) (finished_by a life x (I.actors a x is) dead ends)
 
   ends_done : (a : List ℕ) (program : Program) (past : List Own) (life : Life) (read : ℕ) (ready : Found) → FaresBy s.now (queue s I.role) a program past life
-      → life ≡ Alive → next_of program past read ready ≡ Due.Ended 0 → IsDone program past
+      → life ≡ Alive → next_of program past read ready ≡ needs.Ended 0 → IsDone program past
   ends_done a (Injector args) past life read ready F alive next =
       ends_queued s.books a args (row_after args past) (end_due _ _ _ next) (F.stands alive).settles
 
@@ -178,7 +180,7 @@ module _ (s : State) (I : Inv s) where
       let x = m.actor in
       kept_finish a (Over status) x m.reads.is (λ h. cc) (λ h.
       let zero_status : status ≡ 0 = cc in
-      ends_done a x.program x.past x.life read ready (I.actors a x m.reads.is) m.reads.alive (m.due ∙ ap Due.Ended zero_status))
+      ends_done a x.program x.past x.life read ready (I.actors a x m.reads.is) m.reads.alive (m.due ∙ ap needs.Ended zero_status))
 
   kept_stop : (a : List ℕ) → IsLiving s a → Inv (finished s a Stopped (s.actors a))
   kept_stop a m = kept_finish a Stopped m.actor m.is (λ h. cc) (λ h. absurd (cc))

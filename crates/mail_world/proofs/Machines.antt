@@ -6,7 +6,8 @@ use Rattle.call_fs.specs.declared.program.Need.{Need}
 use Rattle.call_fs.specs.declared.program.Need.TheVariants as need
 use Rattle.call_fs.specs.declared.calls.CallData.{CallData}
 use Rattle.call_fs.specs.declared.calls.Answer.{Answer}
-use Rattle.call_fs.specs.Program.{Own, due_of}
+use Rattle.call_fs.specs.declared.past.Own.{Own}
+use Rattle.call_fs.specs.Program.{due_of}
 use Rattle.queue_inject.specs.declared.injection.Arguments.{Arguments}
 use Rattle.queue_inject.specs.declared.injection.InputEnd.TheVariants.{Whole}
 use Rattle.queue_inject.specs.declared.row.Row.{Row}
@@ -101,7 +102,7 @@ asked_part m part e = (asked_by m.heard.verdict m.row part e).1
 -- Whole injectors
 
 -- one that was told its answer stands for the past with it as its newest event
-pub told_follows : (m : Mailer) (n : Machine) (program : Program) (past : List Own) (call : CallData) (answer : Answer)
-    → ((args : Arguments) → Stands m.injector args past → Stands n args (with_call m past call answer))
-    → Follows m program past → Follows (record m { injector = n }) program (with_call m past call answer)
-told_follows m n (Injector args) past call answer stands f = record { stands = stands args f.stands; inputs = f.inputs }
+pub told_follows : (m : Mailer) (n : Machine) (program : Program) (past : List Own) (answer : Answer)
+    → ((args : Arguments) → Stands m.injector args past → Stands n args (with_call m past answer))
+    → Follows m program past → Follows (record m { injector = n }) program (with_call m past answer)
+told_follows m n (Injector args) past answer stands f = record { stands = stands args f.stands; inputs = f.inputs }

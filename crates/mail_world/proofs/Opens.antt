@@ -12,8 +12,10 @@ use Rattle.call_fs.specs.Disk.{Disk, File, Open, Mode, MayUse, MayAppend, IsForA
 use Rattle.call_fs.specs.Maps.{put}
 use Rattle.call_fs.specs.Apply.{effect, changed, Fits, MayCall}
 use Rattle.call_fs.specs.Columns.{HasRoomFor}
-use Rattle.call_fs.specs.Program.{Due, Own}
-use Rattle.call_fs.specs.Program.Did.{Called}
+use Rattle.call_fs.specs.declared.past.GotData.TheVariants.{Answered}
+use Rattle.call_fs.specs.declared.past.NeedData.{NeedData}
+use Rattle.call_fs.specs.declared.past.NeedData.TheVariants as needs
+use Rattle.call_fs.specs.declared.past.Own.{Own}
 use Rattle.queue_inject.specs.declared.injection.Arguments.{Arguments}
 use Rattle.queue_inject.specs.declared.row.Row.{Row}
 use Rattle.queue_inject.specs.declared.row.Row.TheVariants as at
@@ -221,7 +223,7 @@ row_moves d h a args at.Queued answer own made = tt
 row_moves d h a args (at.Failed cause) answer own made = tt
 
 pub needs_move : (d : Disk) (h : ℕ → Option (List ℕ)) (a : List ℕ) (program : Program) (past : List Own) (read : ℕ) (ready : Ready) (c : CallData) (got : Told)
-    → HasNeeds d h a program past → HasMade d h a got.answer → HasNeeds d h a program ((record { read = read; ready = ready; did = Called c got.answer got.bytes }) ∷ past)
+    → HasNeeds d h a program past → HasMade d h a got.answer → HasNeeds d h a program ((record { read = read; ready = ready; due = needs.File c; came = Answered got }) ∷ past)
 needs_move d h a (Injector args) past read ready c got own made = row_moves d h a args (row_after args past) got.answer own made
 
 -- a program that starts needs nothing
@@ -229,8 +231,8 @@ pub needs_none : (d : Disk) (h : ℕ → Option (List ℕ)) (a : List ℕ) (prog
 needs_none d h a (Injector args) = tt
 
 -- the call that is due may be made, and is a plain one
-abbrev pub MayDo : Disk → Due → Type 0
-MayDo d (Due.File c) = MayCall d c × IsPlain c
+abbrev pub MayDo : Disk → NeedData → Type 0
+MayDo d (needs.File c) = MayCall d c × IsPlain c
 MayDo d other = Unit {0}
 
 may_append : (d : Disk) (h : ℕ → Option (List ℕ)) (a : List ℕ) (fd : ℕ) → IsOwn d h a fd → MayAppend d fd
@@ -254,16 +256,16 @@ row_may d h a args (at.CleanMess n cause) own = (tt, tt)
 row_may d h a args at.Queued own = tt
 row_may d h a args (at.Failed cause) own = tt
 
-in_time_may : (d : Disk) (input late : Bool) (due : Due) → MayDo d due → MayDo d (in_time input late due)
-in_time_may d true true (Due.File c) may = tt
-in_time_may d true false (Due.File c) may = may
-in_time_may d false late (Due.File c) may = tt
-in_time_may d input late (Due.Take port) may = tt
-in_time_may d input late (Due.Give port bytes) may = tt
-in_time_may d input late (Due.Start child) may = tt
-in_time_may d input late (Due.Command bytes) may = tt
-in_time_may d input late Due.Wait may = tt
-in_time_may d input late (Due.Ended status) may = tt
+in_time_may : (d : Disk) (input late : Bool) (due : NeedData) → MayDo d due → MayDo d (in_time input late due)
+in_time_may d true true (needs.File c) may = tt
+in_time_may d true false (needs.File c) may = may
+in_time_may d false late (needs.File c) may = tt
+in_time_may d input late (needs.Take port) may = tt
+in_time_may d input late (needs.Give port bytes) may = tt
+in_time_may d input late (needs.Start child) may = tt
+in_time_may d input late (needs.Command bytes) may = tt
+in_time_may d input late needs.Wait may = tt
+in_time_may d input late (needs.Ended status) may = tt
 
 -- a program may do what is next, where it has what it needs
 pub next_may : (d : Disk) (h : ℕ → Option (List ℕ)) (a : List ℕ) (program : Program) (past : List Own) (now : ℕ) (ready : Ready)
@@ -271,9 +273,9 @@ pub next_may : (d : Disk) (h : ℕ → Option (List ℕ)) (a : List ℕ) (progra
 next_may d h a (Injector args) past now ready own = in_time_may d (has_input ready) (is_late args now) (call_of args (row_after args past)) (row_may d h a args (row_after args past) own)
 
 -- a plain file call or an end
-abbrev pub IsAct : Due → Type 0
-IsAct (Due.File c) = IsPlain c
-IsAct (Due.Ended status) = Unit {0}
+abbrev pub IsAct : NeedData → Type 0
+IsAct (needs.File c) = IsPlain c
+IsAct (needs.Ended status) = Unit {0}
 IsAct other = ⊥
 
 row_act : (args : Arguments) (row : Row) → IsAct (call_of args row)
@@ -291,15 +293,15 @@ row_act args (at.CleanMess n cause) = tt
 row_act args at.Queued = tt
 row_act args (at.Failed cause) = tt
 
-in_time_act : (late : Bool) (due : Due) → IsAct due → IsAct (in_time true late due)
-in_time_act true (Due.File c) act = tt
-in_time_act false (Due.File c) act = act
-in_time_act late (Due.Ended status) act = tt
-in_time_act late (Due.Take port) act = absurd act
-in_time_act late (Due.Give port bytes) act = absurd act
-in_time_act late (Due.Start child) act = absurd act
-in_time_act late (Due.Command bytes) act = absurd act
-in_time_act late Due.Wait act = absurd act
+in_time_act : (late : Bool) (due : NeedData) → IsAct due → IsAct (in_time true late due)
+in_time_act true (needs.File c) act = tt
+in_time_act false (needs.File c) act = act
+in_time_act late (needs.Ended status) act = tt
+in_time_act late (needs.Take port) act = absurd act
+in_time_act late (needs.Give port bytes) act = absurd act
+in_time_act late (needs.Start child) act = absurd act
+in_time_act late (needs.Command bytes) act = absurd act
+in_time_act late needs.Wait act = absurd act
 
 -- an injector whose input is ready never waits, and makes plain calls only
 pub next_act : (program : Program) (past : List Own) (now : ℕ) → IsAct (next_of program past now input_ready)

@@ -3,7 +3,8 @@ use Rattle.std.proofs.Common.{◌≡◌, ◌≢◌, Bool, ℕ, ◌+◌, ◌≤�
 use Rattle.std.specs.Prelude.{if◌then◌else◌}
 use Rattle.call_fs.specs.Disk.{File, Open}
 use Rattle.call_fs.specs.Apply.{effect, changed, Fits}
-use Rattle.call_fs.specs.Program.{Due}
+use Rattle.call_fs.specs.declared.past.NeedData.{NeedData}
+use Rattle.call_fs.specs.declared.past.NeedData.TheVariants as needs
 use Rattle.call_fs.specs.declared.calls.Fd.{Fd}
 use Rattle.call_fs.specs.declared.calls.CallData.{CallData}
 use Rattle.call_fs.specs.declared.calls.CallData.TheVariants.{CreateExcl, Append, Sync, Link, Unlink}
@@ -178,10 +179,10 @@ module _ (now : ℕ) (q : Queue) (a : List ℕ) (args : Arguments) (G : Sound q)
   at_clean_mess n cause h bad answer fits = absurd fits
 
   -- the call that is due is the row's
-  due_call : (row : Row) (own call : CallData) → ◌≡◌ {A = Due} (Due.File own) (Due.File call) → Steps row own → Steps row call
+  due_call : (row : Row) (own call : CallData) → ◌≡◌ {A = NeedData} (needs.File own) (needs.File call) → Steps row own → Steps row call
   due_call row own call due h = let same : own ≡ call = cc in subst (Steps row) same h
 
-  pub step : (row : Row) (call : CallData) → call_of args row ≡ Due.File call → Basis q a args row → Steps row call
+  pub step : (row : Row) (call : CallData) → call_of args row ≡ needs.File call → Basis q a args row → Steps row call
   step (at.Create seq) call due h = due_call (at.Create seq) _ call due (at_create seq)
   step (at.LinkMess seq n fd) call due h = due_call (at.LinkMess seq n fd) _ call due (at_link seq n fd h.0)
   step (at.UnlinkPid seq n fd) call due h = due_call (at.UnlinkPid seq n fd) _ call due (at_unlink seq n fd h.0)

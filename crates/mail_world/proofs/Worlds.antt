@@ -13,8 +13,9 @@ use Rattle.call_fs.specs.Apply.{Apply, IsReadBy}
 use Rattle.mail_bytes.specs.Told.{OnTold, Meets}
 use Rattle.call_fs.specs.declared.crash_file_system.Survival.{Survival}
 use Rattle.call_fs.specs.Choices.{Halts}
-use Rattle.call_fs.specs.Program.{Due}
-use Rattle.call_fs.specs.Program.Did.{Called}
+use Rattle.call_fs.specs.declared.past.GotData.TheVariants.{Answered}
+use Rattle.call_fs.specs.declared.past.NeedData.{NeedData}
+use Rattle.call_fs.specs.declared.past.NeedData.TheVariants as needs
 use Rattle.mail_world.specs.declared.actor.Actor.{Actor as Held}
 use Rattle.mail_world.specs.declared.event.Event.{Event as Kept}
 use Rattle.mail_world.specs.declared.event.Event.TheVariants as kept
@@ -87,14 +88,14 @@ may_act told places actors s events p n i x w at = record {
   may = on_told told (λ d. IsOpenTo d actors s) (λ d. MayMake d (next_of at.member.actor.program at.member.actor.past p input_ready))
       (λ d o. may_make d (next_of at.member.actor.program at.member.actor.past p input_ready) (may_do d s actors events i x p at.member at.lives at.is o)) w.opens;
 } where
-  may_make : (d : Disk) (due : Due) → MayDo d due → MayMake d due
-  may_make d (Due.File c) may = may.0
-  may_make d (Due.Take port) may = tt
-  may_make d (Due.Give port bytes) may = tt
-  may_make d (Due.Start child) may = tt
-  may_make d (Due.Command bytes) may = tt
-  may_make d Due.Wait may = tt
-  may_make d (Due.Ended status) may = tt
+  may_make : (d : Disk) (due : NeedData) → MayDo d due → MayMake d due
+  may_make d (needs.File c) may = may.0
+  may_make d (needs.Take port) may = tt
+  may_make d (needs.Give port bytes) may = tt
+  may_make d (needs.Start child) may = tt
+  may_make d (needs.Command bytes) may = tt
+  may_make d needs.Wait may = tt
+  may_make d (needs.Ended status) may = tt
 
 -- an actor's machine looked
 pub look_keeps : (told : Option Disk) (places : List ℕ → Option ℕ) (actors : List Held) (s : State) (events : List Kept) (p n i : ℕ) (x y : Held)
@@ -116,10 +117,10 @@ acting s p x events m lives = record { is = m.is; alive = m.alive lives; in_orde
 -- what is open after a call
 call_open : (d e : Disk) (places : List ℕ → Option ℕ) (actors : List Held) (s : State) (events : List Kept) (p i : ℕ) (x y : Held) (at : StandsAt places actors s events p i x) (c : CallData) (got : Told)
     → AreActors places actors s events p → y.name ≡ x.name → y.descriptors.items ≡ x.descriptors.items ++ opened got.answer
-    → next_of at.member.actor.program at.member.actor.past p input_ready ≡ Due.File c → Apply d p c got.answer e
+    → next_of at.member.actor.program at.member.actor.past p input_ready ≡ needs.File c → Apply d p c got.answer e
     → IsOpenTo d actors s → IsOpenTo e (set actors i y) (called s x.name p input_ready c got 0 (Some at.member.actor))
 call_open d e places actors s events p i x y at c got crew name list due applied o =
-    let may : MayDo d (Due.File c) = subst (MayDo d) due (may_do d s actors events i x p at.member at.lives at.is o) in
+    let may : MayDo d (needs.File c) = subst (MayDo d) due (may_do d s actors events i x p at.member at.lives at.is o) in
     let opens : Opens d e s.holder (held_by s.holder x.name c got.answer) x.name got.answer =
     subst (λ (e : Disk). Opens d e s.holder (held_by s.holder x.name c got.answer) x.name got.answer) (sym applied.2) (opens_by d p c got.answer applied.0 s.holder x.name may.1 applied.1) in
     call_opens places actors s events p i x y at.member d e input_ready c got crew at.is (at.member.alive at.lives) name list opens o
@@ -127,7 +128,7 @@ call_open d e places actors s events p i x y at c got crew name list due applied
 -- what led here goes on with an actor's call
 call_leads_on : (old new : Option Disk) (places : List ℕ → Option ℕ) (actors : List Held) (events : List Kept) (p i : ℕ) (x : Held) (c : CallData) (got : Told)
     → (at : StandsAt places actors (known events) events p i x)
-    → next_of at.member.actor.program at.member.actor.past p input_ready ≡ Due.File c
+    → next_of at.member.actor.program at.member.actor.past p input_ready ≡ needs.File c
     → Meets old new (λ d e. Apply d p c got.answer e × IsReadBy d c got)
     → LeadsOn old new events (events ++ call_event x.name p c got ∷ []) p p
 call_leads_on old new places actors events p i x c got at due made =
@@ -137,8 +138,8 @@ call_leads_on old new places actors events p i x c got at due made =
 pub call_keeps : (old new : Option Disk) (places : List ℕ → Option ℕ) (actors : List Held) (events : List Kept) (p n i : ℕ) (x y : Held) (c : CallData) (got : Told)
     → IsWorld old places actors (known events) events p n → (at : StandsAt places actors (known events) events p i x)
     → y.name ≡ x.name → y.ended ≡ x.ended → y.descriptors.items ≡ x.descriptors.items ++ opened got.answer
-    → next_of at.member.actor.program at.member.actor.past p input_ready ≡ Due.File c
-    → Follows y.machine at.member.actor.program ((record { read = p; ready = input_ready; did = Called c got.answer got.bytes }) ∷ at.member.actor.past)
+    → next_of at.member.actor.program at.member.actor.past p input_ready ≡ needs.File c
+    → Follows y.machine at.member.actor.program ((record { read = p; ready = input_ready; due = needs.File c; came = Answered got }) ∷ at.member.actor.past)
     → Meets old new (λ d e. Apply d p c got.answer e × IsReadBy d c got)
     → IsWorld new places (set actors i y) (known (events ++ call_event x.name p c got ∷ [])) (events ++ call_event x.name p c got ∷ []) p n
 call_keeps old new places actors events p n i x y c got w at name ended list due follows made =
@@ -175,7 +176,7 @@ shut_is old new places actors s events p n i x w at met =
 -- what led here goes on with an actor's end
 end_leads_on : (old new : Option Disk) (places : List ℕ → Option ℕ) (actors : List Held) (events : List Kept) (p n i : ℕ) (x : Held) (status : ℕ)
     → IsWorld old places actors (known events) events p n → (at : StandsAt places actors (known events) events p i x)
-    → next_of at.member.actor.program at.member.actor.past p input_ready ≡ Due.Ended status
+    → next_of at.member.actor.program at.member.actor.past p input_ready ≡ needs.Ended status
     → Meets old new (λ d e. e ≡ shut x.descriptors.items d)
     → LeadsOn old new events (events ++ kept.End x.name p input_ready status ∷ []) p p
 end_leads_on old new places actors events p n i x status w at due made =

@@ -10,8 +10,13 @@ use Rattle.call_fs.specs.Disk.{Disk}
 use Rattle.mail_bytes.specs.Told.{OnTold, Meets}
 use Rattle.call_fs.specs.Plan.{Plan, CallKeepsPlan}
 use Rattle.call_fs.specs.Apply.{Apply, IsReadBy, MayCall}
-use Rattle.call_fs.specs.Program.{Due, Own}
-use Rattle.call_fs.specs.Program.Did.{Called}
+use Rattle.call_fs.specs.Calls.{without_bytes}
+use Rattle.call_fs.specs.Columns.{IsMomentIn}
+use Rattle.queue_inject.specs.Machine.{due_now}
+use Rattle.call_fs.specs.declared.past.GotData.TheVariants.{Answered}
+use Rattle.call_fs.specs.declared.past.NeedData.{NeedData}
+use Rattle.call_fs.specs.declared.past.NeedData.TheVariants as needs
+use Rattle.call_fs.specs.declared.past.Own.{Own}
 use Rattle.mail_world.specs.declared.event.Event.{Event as Kept}
 use Rattle.mail_world.specs.declared.event.Event.TheVariants as kept
 use Rattle.mail_world.specs.declared.event.Program.{Program}
@@ -41,8 +46,8 @@ abbrev pub shut : List Fd → Disk → Disk
 shut fds d = record { dirs = d.dirs; names = d.names; files = d.files; opens = λ fd. if has fd fds then None else d.opens fd }
 
 -- the call that is due may be made
-abbrev pub MayMake : Disk → Due → Type 0
-MayMake d (Due.File c) = MayCall d c
+abbrev pub MayMake : Disk → NeedData → Type 0
+MayMake d (needs.File c) = MayCall d c
 MayMake d other = Unit {0}
 
 -- a machine that may act at this moment
@@ -53,9 +58,14 @@ pub record MayAct (disk : Option Disk) (machine : Mailer) (now : ℕ) : Type 0 w
   pub may : OnTold disk (λ d. MayMake d (next_of program past now input_ready))
 
 -- what came was due
-abbrev pub due_by : Came → Due
-due_by (came.Called call answer) = Due.File call
-due_by (came.Ended status) = Due.Ended status
+abbrev pub due_by : Came → NeedData
+due_by (came.Called call answer) = needs.File call
+due_by (came.Ended status) = needs.Ended status
+
+-- a moment that came with an answer is one
+abbrev pub HasMoment : Came → Type 0
+HasMoment (came.Called call answer) = IsMomentIn answer
+HasMoment (came.Ended status) = Unit {0}
 
 -- what it did to the disk
 abbrev pub IsMade : Came → ℕ → Option Disk → Option Disk → Type 0
@@ -67,9 +77,14 @@ abbrev pub IsPlannedCame : Came → Option Plan → Option Plan → Option Disk 
 IsPlannedCame (came.Called call answer) old new disk disk_after = CallKeepsPlan call old new disk disk_after answer
 IsPlannedCame (came.Ended status) old new disk disk_after = new ≡ old
 
--- the call that was due and its answer as the newest event of a past
-abbrev pub with_call : Mailer → List Own → CallData → Answer → List Own
-with_call machine past call answer = (record { read = machine.injector.present; ready = machine.injector.ready; did = Called call answer [] }) ∷ past
+-- what was due and its answer as the newest event of a past
+abbrev pub with_call : Mailer → List Own → Answer → List Own
+with_call machine past answer = (record {
+  read = machine.injector.present;
+  ready = machine.injector.ready;
+  due = due_now machine.injector;
+  came = Answered (without_bytes answer);
+}) ∷ past
 
 -- a call that came, as it is kept
 abbrev pub call_event : List ℕ → ℕ → CallData → Told → Kept
@@ -80,8 +95,8 @@ pub record HasCalled (old new : Option Disk) (x y : Held) (before now_kept : Lis
   pub call : CallData
   pub told : Told
   pub event : now_kept ≡ before ++ call_event x.name now call told ∷ []
-  pub due : (program : Program) (past : List Own) → Follows x.machine program past → next_of program past now input_ready ≡ Due.File call
-  pub follows : (program : Program) (past : List Own) → Follows x.machine program past → Follows y.machine program ((record { read = now; ready = input_ready; did = Called call told.answer told.bytes }) ∷ past)
+  pub due : (program : Program) (past : List Own) → Follows x.machine program past → next_of program past now input_ready ≡ needs.File call
+  pub follows : (program : Program) (past : List Own) → Follows x.machine program past → Follows y.machine program ((record { read = now; ready = input_ready; due = needs.File call; came = Answered told }) ∷ past)
   pub made : Meets old new (λ d e. Apply d now call told.answer e × IsReadBy d call told)
   pub name : y.name ≡ x.name
   pub descriptors : y.descriptors.items ≡ x.descriptors.items ++ opened told.answer
@@ -103,7 +118,7 @@ pub record IsFinished (k : Kept) (old new : Option Disk) (x y : Held) (before no
 
 -- a step was the actor's end
 pub record HasEnded (status : ℕ) (old new : Option Disk) (x y : Held) (before now_kept : List Kept) (now : ℕ) : Type 0 where
-  pub due : (program : Program) (past : List Own) → Follows x.machine program past → next_of program past now input_ready ≡ Due.Ended status
+  pub due : (program : Program) (past : List Own) → Follows x.machine program past → next_of program past now input_ready ≡ needs.Ended status
   pub over : IsFinished (kept.End x.name now input_ready status) old new x y before now_kept
 
 abbrev pub HasActed : Option ℕ → Option Disk → Option Disk → Held → Held → List Kept → List Kept → ℕ → Type 0

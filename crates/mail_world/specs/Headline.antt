@@ -8,7 +8,7 @@ use Rattle.queue_inject.specs.declared.injection.Arguments.{Arguments}
 use Rattle.queue_inject.specs.declared.row.Row.TheVariants as Row
 use Rattle.queue_inject.specs.Table.{row_after}
 use Rattle.queue_inject.specs.Texts.{message_text, intd_text, entered, todo_of, recipients_of}
-use Rattle.call_fs.specs.Program.{Own}
+use Rattle.call_fs.specs.declared.past.Own.{Own}
 use Rattle.mail_world.specs.declared.event.Program.{Program}
 use Rattle.mail_world.specs.declared.event.Program.TheVariants.{Injector}
 use Rattle.queue_states.specs.declared.state.State.TheVariants.{Other}

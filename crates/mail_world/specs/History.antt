@@ -13,8 +13,10 @@ use Rattle.call_fs.specs.Disk.{Disk, IsSynced}
 use Rattle.mail_bytes.specs.Moments.{IsMoment}
 use Rattle.call_fs.specs.Apply.{effect, Fits, IsReadBy}
 use Rattle.call_fs.specs.Survival.{AllSurvive, halted}
-use Rattle.call_fs.specs.Program.{Due, Own}
-use Rattle.call_fs.specs.Program.Did.{Called}
+use Rattle.call_fs.specs.declared.past.GotData.TheVariants.{Answered}
+use Rattle.call_fs.specs.declared.past.NeedData.{NeedData}
+use Rattle.call_fs.specs.declared.past.NeedData.TheVariants as needs
+use Rattle.call_fs.specs.declared.past.Own.{Own}
 use Rattle.queue_inject.specs.declared.injection.Arguments.{Arguments}
 use Rattle.queue_paths.specs.Dirs.{queue_dirs}
 use Rattle.queue_paths.specs.Names.{Name, Part, path, parse}
@@ -44,7 +46,7 @@ is_start (Moment m) = false
 is_start (Halt how contents) = false
 
 -- what a program must do next: after this past, newest event first, at this moment, with this ready
-abbrev pub next_of : Program → List Own → ℕ → Ready → Due
+abbrev pub next_of : Program → List Own → ℕ → Ready → NeedData
 next_of (Injector args) past now ready = Next args past now ready
 
 -- the moment at which a program was started
@@ -126,7 +128,7 @@ called s a read ready call told wrote (Some x) = record {
   now = s.now;
   actors = put_at s.actors a (Some (record {
     program = x.program;
-    past = (record { read = read; ready = ready; did = Called call told.answer told.bytes }) ∷ x.past;
+    past = (record { read = read; ready = ready; due = needs.File call; came = Answered told }) ∷ x.past;
     life = x.life;
   }));
   books = booked_by s.books a x.program call told.answer;
@@ -203,7 +205,7 @@ pub record MayStart (s : State) (a : List ℕ) (program : Program) : Type 0 wher
 pub record MayCall (s : State) (a : List ℕ) (read : ℕ) (ready : Ready) (call : CallData) (told : Told) (wrote : ℕ) : Type 0 where
   pub actor : Actor
   pub reads : MayRead s a actor read
-  pub due : next_of actor.program actor.past read ready ≡ Due.File call
+  pub due : next_of actor.program actor.past read ready ≡ needs.File call
   pub fits : Fits s.disk call told.answer wrote
   pub bytes : IsReadBy s.disk call told
 
@@ -211,7 +213,7 @@ pub record MayCall (s : State) (a : List ℕ) (read : ℕ) (ready : Ready) (call
 pub record MayEnd (s : State) (a : List ℕ) (read : ℕ) (ready : Ready) (status : ℕ) : Type 0 where
   pub actor : Actor
   pub reads : MayRead s a actor read
-  pub due : next_of actor.program actor.past read ready ≡ Due.Ended status
+  pub due : next_of actor.program actor.past read ready ≡ needs.Ended status
 
 pub record IsLiving (s : State) (a : List ℕ) : Type 0 where
   pub actor : Actor

@@ -1,16 +1,16 @@
 // One actor: its machine, and what it has open.
 ghost use Rattle.std.specs.Prelude.{◌≡◌, ◌++◌, ◌∷◌, ◌+◌, ◌<◌, [], List, ℕ, IfOk, IsTrue, OnOk, OnErr, Some, None, false, length, vec_len, vec_capacity};
-ghost use Rattle.call_fs.specs.declared.calls.CallData.{CallData as Made};
+ghost use Rattle.call_fs.specs.Columns.{IsMomentIn};
 ghost use Rattle.mail_bytes.specs.Moments.{IsMoment};
 ghost use Rattle.mail_bytes.specs.Told.{OnTold, Meets};
-ghost use Rattle.call_fs.specs.Program.{Own};
+ghost use Rattle.call_fs.specs.declared.past.Own.{Own};
 ghost use Rattle.queue_inject.specs.Machine.{due_now, is_call};
 ghost use Rattle.mail_world.specs.declared.event.Program.{Program};
 ghost use Rattle.mail_world.specs.declared.event.Program.TheVariants.{Injector as Injecting};
 ghost use Rattle.mail_world.specs.History.{next_of};
 ghost use Rattle.mail_world.specs.World.{mail, input_ready, GoesByPlan};
 ghost use Rattle.mail_world.specs.Inside.{Follows};
-ghost use Rattle.mail_world.specs.Acting.{MayAct, AreOpen, due_by, IsMade, IsPlannedCame, IsCutOff, AreCutOff, HasActed, HasLooked, IsFinished, with_call, opened, shut};
+ghost use Rattle.mail_world.specs.Acting.{MayAct, AreOpen, due_by, HasMoment, IsMade, IsPlannedCame, IsCutOff, AreCutOff, HasActed, HasLooked, IsFinished, with_call, opened, shut};
 ghost use Rattle.mail_world.specs.declared.event.Event.TheVariants as kept;
 ghost use Rattle.mail_world.specs.Kept.{events_of, HasRoom};
 
@@ -78,6 +78,7 @@ impl Actor {
         ensures present { OnOk result (self.new.machine.injector.present ≡ now) }
         ensures ready { OnOk result (self.new.machine.injector.ready ≡ input_ready) }
         ensures due_now { IfOk result (λ came. due_now self.new.machine.injector ≡ due_by came) }
+        ensures stated { IfOk result (λ came. HasMoment came) }
 
         // The rest stays.
         ensures name { self.new.name ≡ self.old.name }
@@ -151,13 +152,14 @@ impl Actor {
         }
     }
 
-    /// Hands the answer to its call to its machine, and keeps what was opened. The conditions: a call is due, and there
-    /// is room for a descriptor.
+    /// Hands the answer to its call to its machine, and keeps what was opened. The conditions: a call is due, what a
+    /// stat tells is a moment, and there is room for a descriptor.
     fn take(&mut self, answer: Answer)
         requires due { IsTrue (is_call (due_now self.old.machine.injector)) }
+        requires stated { IsMomentIn answer }
         requires room { vec_len self.old.descriptors < vec_capacity self.old.descriptors }
-        ensures follows { (program : Program) (past : List Own) (call : Made) → Follows self.old.machine program past
-            → Follows self.new.machine program (with_call self.old.machine past call answer) }
+        ensures follows { (program : Program) (past : List Own) → Follows self.old.machine program past
+            → Follows self.new.machine program (with_call self.old.machine past answer) }
         ensures descriptors { self.new.descriptors.items ≡ self.old.descriptors.items ++ opened answer }
         ensures name { self.new.name ≡ self.old.name }
         ensures ended { self.new.ended ≡ self.old.ended }

@@ -1,8 +1,9 @@
 // A mail's injector, with the input that it is fed as it goes.
 ghost use Rattle.std.specs.Prelude.{◌≡◌, ◌∷◌, [], List, ℕ, IfOk, IsTrue};
-ghost use Rattle.call_fs.specs.declared.calls.CallData.{CallData};
+ghost use Rattle.call_fs.specs.Columns.{IsMomentIn};
 ghost use Rattle.mail_bytes.specs.Moments.{IsMoment};
-ghost use Rattle.call_fs.specs.Program.{Own, due_of};
+ghost use Rattle.call_fs.specs.declared.past.Own.{Own};
+ghost use Rattle.call_fs.specs.Program.{due_of};
 ghost use Rattle.queue_inject.specs.declared.injection.Arguments.{Arguments};
 ghost use Rattle.queue_inject.specs.Machine.{due_now, is_call, room_of};
 ghost use Rattle.queue_inject.specs.Rows.{part_in};
@@ -84,11 +85,12 @@ impl Mailer {
         self.injector.need()
     }
 
-    /// Hands in the answer to its call. The condition: a call is due.
+    /// Hands in the answer to its call. The conditions: a call is due, and what a stat tells is a moment.
     pub fn done(&mut self, answer: Answer)
-        requires { IsTrue (is_call (due_now self.old.injector)) }
-        ensures { (program : Program) (past : List Own) (call : CallData) → Follows self.old program past
-            → Follows self.new program (with_call self.old past call answer) }
+        requires due { IsTrue (is_call (due_now self.old.injector)) }
+        requires stated { IsMomentIn answer }
+        ensures { (program : Program) (past : List Own) → Follows self.old program past
+            → Follows self.new program (with_call self.old past answer) }
     {
         self.injector.done(Got::File(answer, &[])).unwrap();
     }

@@ -7,7 +7,7 @@ use Rattle.call_fs.specs.Maps.{put}
 use Rattle.call_fs.specs.Disk.{File, Open}
 use Rattle.mem_fs.specs.MemFile.{no_file}
 use Rattle.mem_fs.specs.Tables.{at_number, AreNamesInOrder, AreNumbersInOrder}
-use Rattle.mem_fs.specs.MemDisk.{Held, file_at, links_of, holds_of, count_of, names_of, opens_of, IsSound}
+use Rattle.mem_fs.specs.MemDisk.{Held, file_at, links_of, holds_of, count_of, names_of, opens_counted, IsSound}
 use Rattle.call_fs.proofs.Maps.{put_cases, put-there, after_put}
 
 abbrev pub file_of : Option Inode → File
@@ -42,14 +42,14 @@ pub sound-put : {h : Held} → IsSound h → (k : Held) (n : ℕ) (i : Inode)
     → AreNamesInOrder k.names → AreNumbersInOrder k.files → AreNumbersInOrder k.opens
     → at_number k.files ≡ put (at_number h.files) n (Some i)
     → i.links ≡ names_of k.names n → ((m : ℕ) → m ≢ n → names_of k.names m ≡ names_of h.names m)
-    → i.opens ≡ opens_of k.opens n → ((m : ℕ) → m ≢ n → opens_of k.opens m ≡ opens_of h.opens m)
+    → i.opens ≡ opens_counted k.opens n → ((m : ℕ) → m ≢ n → opens_counted k.opens m ≡ opens_counted h.opens m)
     → IsSound k
 sound-put {h} sound k n i names files opens is links other_links holds other_holds = record {
   names = names;
   files = files;
   opens = opens;
   links = λ m. ⊎_elim (λ s. s.1 ∙ links ∙ ap (names_of k.names) (sym s.0)) (λ s. s.1 ∙ sound.links m ∙ sym (other_links m s.0)) (links_put h.files k.files n i is m);
-  holds = λ m. ⊎_elim (λ s. s.1 ∙ holds ∙ ap (opens_of k.opens) (sym s.0)) (λ s. s.1 ∙ sound.holds m ∙ sym (other_holds m s.0)) (holds_put h.files k.files n i is m);
+  holds = λ m. ⊎_elim (λ s. s.1 ∙ holds ∙ ap (opens_counted k.opens) (sym s.0)) (λ s. s.1 ∙ sound.holds m ∙ sym (other_holds m s.0)) (holds_put h.files k.files n i is m);
 }
 
 -- one more of a number, and none of another

@@ -10,7 +10,7 @@ use Rattle.call_fs.specs.declared.calls.CallData.TheVariants.{CreateExcl, Open, 
 use Rattle.call_fs.specs.declared.calls.Answer.TheVariants as answer
 use Rattle.call_fs.specs.Apply.{changed, effect, empty_file}
 use Rattle.mem_fs.specs.Tables.{at_name, at_number, AreNamesInOrder, AreNumbersInOrder}
-use Rattle.mem_fs.specs.MemDisk.{Held, disk_of, file_at, holds_of, IsOpenOn, IsSound, IsIdle, Changes, on_file, linked, unlinked, opened, closed, IsGreatestFree, PlacesNew, Places}
+use Rattle.mem_fs.specs.MemDisk.{Held, disk_of, file_at, holds_of, IsOpenOn, IsSound, IsIdle, Changes, on_file, linked_inode, unlinked_inode, opened_inode, closed_inode, IsGreatestFree, PlacesNew, Places}
 use Rattle.mem_fs.specs.MemFile.{settled_file}
 use Rattle.call_fs.proofs.Maps.{put-there}
 use Rattle.mem_fs.proofs.FileTable.{links-there, holds-there}
@@ -94,43 +94,43 @@ sound-placed {h} sound names files n file idle names_in named files_in made =
 -- ---- a name or a descriptor more or less
 
 pub sound-linked : {h : Held} → IsSound h → (names : List (List ℕ × ℕ)) (files : List (ℕ × Inode)) (n : ℕ) → IsSome (at_number h.files n)
-    → AreNamesInOrder names → NamesGain h.names names n → Changes h.files files n linked
+    → AreNamesInOrder names → NamesGain h.names names n → Changes h.files files n linked_inode
     → IsSound (record { dirs = h.dirs; names = names; files = files; opens = h.opens })
 sound-linked {h} sound names files n there names_in named changes =
     let entry = some_of (at_number h.files n) there in
     let i = entry.0 in
-    sound-put sound (record { dirs = h.dirs; names = names; files = files; opens = h.opens }) n (linked i) names_in changes.in_order sound.opens (changes.value i entry.1)
+    sound-put sound (record { dirs = h.dirs; names = names; files = files; opens = h.opens }) n (linked_inode i) names_in changes.in_order sound.opens (changes.value i entry.1)
     (omega (arith, gain_here (λ (k : ℕ). k) h.names names n named, sound.links n, links-there h.files n i entry.1)) (gain_there (λ (k : ℕ). k) h.names names n named)
     (sym (holds-there h.files n i entry.1) ∙ sound.holds n) (λ m apart. refl)
 
 pub sound-unlinked : {h : Held} → IsSound h → (names : List (List ℕ × ℕ)) (files : List (ℕ × Inode)) (n : ℕ) → IsSome (at_number h.files n)
-    → AreNamesInOrder names → NamesGain names h.names n → Changes h.files files n unlinked
+    → AreNamesInOrder names → NamesGain names h.names n → Changes h.files files n unlinked_inode
     → IsSound (record { dirs = h.dirs; names = names; files = files; opens = h.opens })
 sound-unlinked {h} sound names files n there names_in named changes =
     let entry = some_of (at_number h.files n) there in
     let i = entry.0 in
-    sound-put sound (record { dirs = h.dirs; names = names; files = files; opens = h.opens }) n (unlinked i) names_in changes.in_order sound.opens (changes.value i entry.1)
+    sound-put sound (record { dirs = h.dirs; names = names; files = files; opens = h.opens }) n (unlinked_inode i) names_in changes.in_order sound.opens (changes.value i entry.1)
     (omega (arith, gain_here (λ (k : ℕ). k) names h.names n named, sound.links n, links-there h.files n i entry.1)) (λ m apart. sym (gain_there (λ (k : ℕ). k) names h.names n named m apart))
     (sym (holds-there h.files n i entry.1) ∙ sound.holds n) (λ m apart. refl)
 
 pub sound-closed : {h : Held} → IsSound h → (files : List (ℕ × Inode)) (opens : List (ℕ × OpenFile)) (n : ℕ) → IsSome (at_number h.files n)
-    → AreNumbersInOrder opens → OpensGain opens h.opens n → Changes h.files files n closed
+    → AreNumbersInOrder opens → OpensGain opens h.opens n → Changes h.files files n closed_inode
     → IsSound (record { dirs = h.dirs; names = h.names; files = files; opens = opens })
 sound-closed {h} sound files opens n there opens_in held changes =
     let entry = some_of (at_number h.files n) there in
     let i = entry.0 in
-    sound-put sound (record { dirs = h.dirs; names = h.names; files = files; opens = opens }) n (closed i) sound.names changes.in_order opens_in (changes.value i entry.1)
+    sound-put sound (record { dirs = h.dirs; names = h.names; files = files; opens = opens }) n (closed_inode i) sound.names changes.in_order opens_in (changes.value i entry.1)
     (sym (links-there h.files n i entry.1) ∙ sound.links n) (λ m apart. refl)
     (omega (arith, gain_here (λ (x : OpenFile). x.number) opens h.opens n held, sound.holds n, holds-there h.files n i entry.1)) (λ m apart. sym (gain_there (λ (x : OpenFile). x.number) opens h.opens n held m apart))
 
 pub sound-opened : {h : Held} → IsSound h → (files : List (ℕ × Inode)) (opens : List (ℕ × OpenFile)) (n : ℕ) (o : OpenFile) → IsSome (at_number h.files n)
-    → AreNumbersInOrder opens → OpensGain h.opens opens o.number → o.number ≡ n → Changes h.files files n opened
+    → AreNumbersInOrder opens → OpensGain h.opens opens o.number → o.number ≡ n → Changes h.files files n opened_inode
     → IsSound (record { dirs = h.dirs; names = h.names; files = files; opens = opens })
 sound-opened {h} sound files opens n o there opens_in opened_on is changes =
     let held = subst (λ (k : ℕ). OpensGain h.opens opens k) is opened_on in
     let entry = some_of (at_number h.files n) there in
     let i = entry.0 in
-    sound-put sound (record { dirs = h.dirs; names = h.names; files = files; opens = opens }) n (opened i) sound.names changes.in_order opens_in (changes.value i entry.1)
+    sound-put sound (record { dirs = h.dirs; names = h.names; files = files; opens = opens }) n (opened_inode i) sound.names changes.in_order opens_in (changes.value i entry.1)
     (sym (links-there h.files n i entry.1) ∙ sound.links n) (λ m apart. refl)
     (omega (arith, gain_here (λ (x : OpenFile). x.number) h.opens opens n held, sound.holds n, holds-there h.files n i entry.1)) (gain_there (λ (x : OpenFile). x.number) h.opens opens n held)
 

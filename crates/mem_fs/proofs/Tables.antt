@@ -8,7 +8,7 @@ use Rattle.std.specs.Cmp.{IsTotalOrder}
 use Rattle.std.proofs.lemmas.Cmp.{tied_itself, alike_right}
 use Rattle.std.proofs.lemmas.Bool.{cases_lt, cases_eq}
 use Rattle.std.proofs.lemmas.List.Edits.{length-insert, get_or-insert_below, get_or-insert_at, get_or-insert_above, length-remove, get_or-remove_below, get_or-remove_above}
-use Rattle.mem_fs.specs.Tables.{IsInOrder, IsAt, IsGapFor, IsPlace}
+use Rattle.mem_fs.specs.Tables.{AreKeysInOrder, IsAt, IsGapFor, IsPlace}
 
 -- an entry of a list that isn't empty
 abbrev pub some_entry : {X : Type 0} (xs : List X) → 1 ≤ length xs → X
@@ -103,7 +103,7 @@ lower_differs : {K : Type 0} (R : K → K → Ordering) → IsTotalOrder R → (
 lower_differs R total x y less is = let self : R x y ≡ Equal = ap (R x) (sym is) ∙ tied_itself total x in absurd cc
 
 module _ {K V : Type 0} (R : K → K → Ordering) (total : IsTotalOrder R) (exact : (x y : K) → R x y ≡ Equal → x ≡ y) where
-  comparisons_rise : (es : List (K × V)) → IsInOrder R es → (k : K) → IsNonDecreasingBy (λ e. ordering_index (R e.0 k)) es
+  comparisons_rise : (es : List (K × V)) → AreKeysInOrder R es → (k : K) → IsNonDecreasingBy (λ e. ordering_index (R e.0 k)) es
   comparisons_rise es in_order k i j d le within =
       ⊎_elim
       (λ lt. rise (get_or es i d).0 (get_or es j d).0 (in_order i j d lt within))
@@ -118,7 +118,7 @@ module _ {K V : Type 0} (R : K → K → Ordering) (total : IsTotalOrder R) (exa
       ] refl
 
   -- where a binary search ends
-  pub searched : (es : List (K × V)) → IsInOrder R es → (k : K) (r : Result ℕ ℕ) → IsSearchInRange r (length es) → IsBinarySearchResult (λ e. R e.0 k) es r → IsPlace R es k r
+  pub searched : (es : List (K × V)) → AreKeysInOrder R es → (k : K) (r : Result ℕ ℕ) → IsSearchInRange r (length es) → IsBinarySearchResult (λ e. R e.0 k) es r → IsPlace R es k r
   searched es in_order k (Ok i) within equal = record { within = within; has_key = λ d. exact _ _ (equal d) }
   searched es in_order k (Err i) within parted = record {
     within = within;
@@ -126,10 +126,10 @@ module _ {K V : Type 0} (R : K → K → Ordering) (total : IsTotalOrder R) (exa
     after = λ j d le lt. total.antisymm k (get_or es j d).0 ∙ ap ordering_reverse ((parted (comparisons_rise es in_order k)).1 j d le lt);
   }
 
-  pub none_before_at : (es : List (K × V)) → IsInOrder R es → (k : K) (i : ℕ) → IsAt es k i → NoneBefore es k i
+  pub none_before_at : (es : List (K × V)) → AreKeysInOrder R es → (k : K) (i : ℕ) → IsAt es k i → NoneBefore es k i
   none_before_at es in_order k i at j d lt within is = lower_differs R total _ _ (in_order j i d lt at.within) (is ∙ sym (at.has_key d))
 
-  pub none_behind_at : (es : List (K × V)) → IsInOrder R es → (k : K) (i : ℕ) → IsAt es k i → NoneBehind es k i
+  pub none_behind_at : (es : List (K × V)) → AreKeysInOrder R es → (k : K) (i : ℕ) → IsAt es k i → NoneBehind es k i
   none_behind_at es in_order k i at j d lt within is = lower_differs R total _ _ (in_order i j d lt within) (at.has_key d ∙ sym is)
 
   pub none_in_gap : (es : List (K × V)) (k : K) (i : ℕ) → IsGapFor R es k i → NoneBefore es k (length es)
@@ -144,7 +144,7 @@ module _ {K V : Type 0} (R : K → K → Ordering) where
   join : {x y a b : K × V} → x ≡ a → y ≡ b → R a.0 b.0 ≡ Less → R x.0 y.0 ≡ Less
   join {x} {y} {a} {b} p q h = ap (λ (z : K × V). R z.0 y.0) p ∙ ap (λ (z : K × V). R a.0 z.0) q ∙ h
 
-  pub in_order-insert : (es : List (K × V)) → IsInOrder R es → (k : K) (v : V) (i : ℕ) → IsGapFor R es k i → IsInOrder R (insert es i (k, v))
+  pub in_order-insert : (es : List (K × V)) → AreKeysInOrder R es → (k : K) (v : V) (i : ℕ) → IsGapFor R es k i → AreKeysInOrder R (insert es i (k, v))
   in_order-insert es in_order k v at gap i j d lt within =
       let size = length-insert es at (k, v) gap.within in
       let below : (n : ℕ) → n < at → get_or (insert es at (k, v)) n d ≡ get_or es n d = λ n low. get_or-insert_below es at (k, v) d n low gap.within in
@@ -176,14 +176,14 @@ module _ {K V : Type 0} (R : K → K → Ordering) where
       (λ differs. ap (λ (e : K × V). e.0) (get_or-set_other es at i (k, v) d differs))
       (cases_eq i at)
 
-  pub in_order-set : (es : List (K × V)) → IsInOrder R es → (k : K) (v : V) (at : ℕ) → IsAt es k at → IsInOrder R (set es at (k, v))
+  pub in_order-set : (es : List (K × V)) → AreKeysInOrder R es → (k : K) (v : V) (at : ℕ) → IsAt es k at → AreKeysInOrder R (set es at (k, v))
   in_order-set es in_order k v at is i j d lt within =
       let size = length-set es at (k, v) in
       ap (λ (x : K). R x (get_or (set es at (k, v)) j d).0) (key-set es k v at is i d)
       ∙ ap (R (get_or es i d).0) (key-set es k v at is j d)
       ∙ in_order i j d lt (omega arith)
 
-  pub in_order-remove : (es : List (K × V)) → IsInOrder R es → (at : ℕ) → at < length es → IsInOrder R (remove es at)
+  pub in_order-remove : (es : List (K × V)) → AreKeysInOrder R es → (at : ℕ) → at < length es → AreKeysInOrder R (remove es at)
   in_order-remove es in_order at within i j d lt bound =
       let size = length-remove es at within in
       let below : (n : ℕ) → n < at → get_or (remove es at) n d ≡ get_or es n d = λ n low. get_or-remove_below es at d n low within in

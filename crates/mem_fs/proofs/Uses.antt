@@ -9,7 +9,7 @@ use Rattle.mem_fs.specs.declared.file.Inode.{Inode}
 use Rattle.call_fs.specs.Disk.{Open, Mode, IsUnused}
 use Rattle.mem_fs.specs.Tables.{at_name, at_number}
 use Rattle.call_fs.specs.Free.{IsFree, IsLeastFree}
-use Rattle.mem_fs.specs.MemDisk.{Held, disk_of, links_of, holds_of, count_of, names_of, opens_of, IsSound, IsIdle, IsGreatestFree, NoneFree}
+use Rattle.mem_fs.specs.MemDisk.{Held, disk_of, links_of, holds_of, count_of, names_of, opens_counted, IsSound, IsIdle, IsGreatestFree, NoneFree}
 use Rattle.call_fs.proofs.Maps.{bytes_eq-decides}
 use Rattle.mem_fs.proofs.Tables.{place_of_found}
 use Rattle.mem_fs.proofs.NameTable.{name-at}
@@ -43,7 +43,7 @@ name_counted names name n found =
     let place = place_of_found bytes_eq bytes_eq-decides names name n found in
     count-there (λ (k : ℕ). k) names n place.0 (name, n) place.1 (place.2 (name, n)) refl
 
-pub open_counted : (opens : List (ℕ × Open)) (fd : ℕ) (o : Open) → at_number opens fd ≡ Some o → 1 ≤ opens_of opens o.number
+pub open_counted : (opens : List (ℕ × Open)) (fd : ℕ) (o : Open) → at_number opens fd ≡ Some o → 1 ≤ opens_counted opens o.number
 open_counted opens fd o found =
     let place = place_of_found nat_eq Decides-eqb opens fd o found in
     count-there (λ (x : Open). x.number) opens o.number place.0 (fd, o) place.1 (place.2 (fd, o)) refl

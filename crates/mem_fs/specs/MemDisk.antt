@@ -44,8 +44,8 @@ count_of number es n = count_by (λ e. number e.1 == n) es
 abbrev pub names_of : List (List ℕ × ℕ) → ℕ → ℕ
 names_of names n = count_of (λ (k : ℕ). k) names n
 
-abbrev pub opens_of : List (ℕ × Open) → ℕ → ℕ
-opens_of opens n = count_of (λ (o : Open). o.number) opens n
+abbrev pub opens_counted : List (ℕ × Open) → ℕ → ℕ
+opens_counted opens n = count_of (λ (o : Open). o.number) opens n
 
 -- the lists are in order, and each entry of a file counts what uses it
 pub record IsSound (h : Held) : Type 0 where
@@ -53,7 +53,7 @@ pub record IsSound (h : Held) : Type 0 where
   pub files : AreNumbersInOrder h.files
   pub opens : AreNumbersInOrder h.opens
   pub links : (n : ℕ) → links_of h.files n ≡ names_of h.names n
-  pub holds : (n : ℕ) → holds_of h.files n ≡ opens_of h.opens n
+  pub holds : (n : ℕ) → holds_of h.files n ≡ opens_counted h.opens n
 
 -- no higher number may be taken, below the end of the numbers
 pub record IsGreatestFree (d : Disk) (n : ℕ) : Type 0 where
@@ -65,14 +65,14 @@ pub record IsGreatestFree (d : Disk) (n : ℕ) : Type 0 where
 abbrev pub NoneFree : Disk → Type 0
 NoneFree d = (n : ℕ) → n < 2 ^ 64 → ¬ (IsFree d n)
 
--- The number that a new file takes, and the picks that are left then: the next pick where that is free, else the least
+-- The number that a new file takes, and the picks that are left then: the next pick if that is free, else the least
 -- free number. A pick that isn't free is used up.
 abbrev pub IsNextNumber : Disk → List ℕ → ℕ → List ℕ → Type 0
 IsNextNumber d [] n left = IsLeastFree d n × (left ≡ [])
 IsNextNumber d (pick ∷ picks) n left =
     ((IsFree d pick × (n ≡ pick)) ⊎ ((¬ (IsFree d pick)) × IsLeastFree d n)) × (left ≡ picks)
 
--- the same where a number is picked for this file alone: it comes before the picks of the disk, and none is used up
+-- the same if a number is picked for this file alone: it comes before the picks of the disk, and none is used up
 abbrev pub IsPickedNumber : Disk → Option ℕ → List ℕ → ℕ → List ℕ → Type 0
 IsPickedNumber d None picks n left = IsNextNumber d picks n left
 IsPickedNumber d (Some pick) picks n left =
@@ -86,17 +86,17 @@ IsIdle files n = (links_of files n ≡ 0) × (holds_of files n ≡ 0)
 abbrev pub on_file : (File → File) → Inode → Inode
 on_file f i = record { links = i.links; opens = i.opens; file = f i.file }
 
-abbrev pub linked : Inode → Inode
-linked i = record { links = i.links + 1; opens = i.opens; file = i.file }
+abbrev pub linked_inode : Inode → Inode
+linked_inode i = record { links = i.links + 1; opens = i.opens; file = i.file }
 
-abbrev pub unlinked : Inode → Inode
-unlinked i = record { links = i.links - 1; opens = i.opens; file = i.file }
+abbrev pub unlinked_inode : Inode → Inode
+unlinked_inode i = record { links = i.links - 1; opens = i.opens; file = i.file }
 
-abbrev pub opened : Inode → Inode
-opened i = record { links = i.links; opens = i.opens + 1; file = i.file }
+abbrev pub opened_inode : Inode → Inode
+opened_inode i = record { links = i.links; opens = i.opens + 1; file = i.file }
 
-abbrev pub closed : Inode → Inode
-closed i = record { links = i.links; opens = i.opens - 1; file = i.file }
+abbrev pub closed_inode : Inode → Inode
+closed_inode i = record { links = i.links; opens = i.opens - 1; file = i.file }
 
 -- the entry of this number changed so, and no other
 pub record Changes (old new : List (ℕ × Inode)) (n : ℕ) (change : Inode → Inode) : Type 0 where
@@ -104,8 +104,8 @@ pub record Changes (old new : List (ℕ × Inode)) (n : ℕ) (change : Inode →
   pub value : (i : Inode) → at_number old n ≡ Some i → at_number new ≡ put (at_number old) n (Some (change i))
 
 -- no directory, no name, nothing open
-abbrev pub nothing : Held
-nothing = record { dirs = []; names = []; files = []; opens = [] }
+abbrev pub held_nothing : Held
+held_nothing = record { dirs = []; names = []; files = []; opens = [] }
 
 -- the bytes of the file of a name
 abbrev pub bytes_at : Disk → List ℕ → Option (List ℕ)
@@ -143,13 +143,13 @@ pub record Planned : Type 0 where
   pub made : ℕ
   pub faults : ℕ
 
--- one more, where a u64 has room for it
+-- one more, if a u64 has room for it
 abbrev pub one_more : ℕ → ℕ
 one_more n = min (n + 1) (2 ^ 64 - 1)
 
 -- a disk in memory that holds nothing and has made no call
 abbrev pub fresh : List ℕ → List ℕ → Planned
-fresh picks plan = record { held = nothing; picks = picks; plan = plan; made = 0; faults = 0 }
+fresh picks plan = record { held = held_nothing; picks = picks; plan = plan; made = 0; faults = 0 }
 
 -- a fault was answered
 abbrev pub is_fault : {T : Type 0} → Result T FsError → Bool
@@ -159,8 +159,8 @@ is_fault (Err Exists) = false
 is_fault (Err Memory) = false
 is_fault (Ok x) = false
 
--- A call was counted. It failed with a fault exactly where it was planned, and then left the lists as they were.
-pub record Counts {T : Type 0} (old new : Planned) (result : Result T FsError) : Type 0 where
+-- A call was counted. It failed with a fault exactly if it was planned, and then left the lists as they were.
+pub record CountsCall {T : Type 0} (old new : Planned) (result : Result T FsError) : Type 0 where
   pub made : new.made ≡ one_more old.made
   pub plan : new.plan ≡ old.plan
   pub planned : IsTrue (is_fault result) ↔ Contains old.plan (one_more old.made)

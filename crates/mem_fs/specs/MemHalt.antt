@@ -6,7 +6,7 @@ use Rattle.call_fs.specs.Choices.{junked}
 use Rattle.call_fs.specs.Survival.{settled}
 use Rattle.mem_fs.specs.declared.file.Inode.{Inode}
 
--- the first x: the seed; where nothing is drawn it may be any
+-- the first x: the seed; if nothing is drawn it may be any
 abbrev pub seed_of : Survival → ℕ
 seed_of Keep = 0
 seed_of Lose = 0

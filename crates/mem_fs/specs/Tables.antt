@@ -14,16 +14,16 @@ abbrev pub at_number : {V : Type 0} → List (ℕ × V) → ℕ → Option V
 at_number es n = lookup (nat_eq n) es
 
 -- each key is below those after it
-abbrev pub IsInOrder : {K V : Type 0} → (K → K → Ordering) → List (K × V) → Type 0
-IsInOrder {K} {V} R es = (i j : ℕ) (d : K × V) → i < j → j < length es → R (slice_index_or es i d).0 (slice_index_or es j d).0 ≡ Less
+abbrev pub AreKeysInOrder : {K V : Type 0} → (K → K → Ordering) → List (K × V) → Type 0
+AreKeysInOrder {K} {V} R es = (i j : ℕ) (d : K × V) → i < j → j < length es → R (slice_index_or es i d).0 (slice_index_or es j d).0 ≡ Less
 
 -- the order of names is byte by byte
 abbrev pub AreNamesInOrder : {V : Type 0} → List (List ℕ × V) → Type 0
-AreNamesInOrder es = IsInOrder (slice_cmp nat_cmp) es
+AreNamesInOrder es = AreKeysInOrder (slice_cmp nat_cmp) es
 
 -- the numbers rise, and are from 1
 pub record AreNumbersInOrder {V : Type 0} (es : List (ℕ × V)) : Type 0 where
-  pub in_order : IsInOrder nat_cmp es
+  pub in_order : AreKeysInOrder nat_cmp es
   pub positive : (i : ℕ) (d : ℕ × V) → i < length es → 1 ≤ (slice_index_or es i d).0
 
 -- the key stands at place i

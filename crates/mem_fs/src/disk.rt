@@ -11,7 +11,7 @@ ghost use Rattle.call_fs.specs.Columns.{IsRead};
 ghost use Rattle.call_fs.specs.Choices.{Halts};
 ghost use Rattle.call_fs.specs.Told.{HasCause};
 ghost use Rattle.call_fs.specs.Free.{IsFree, IsNextDescriptor};
-ghost use Rattle.mem_fs.specs.MemDisk.{disk_of, fresh, with_dir, with_held, bytes_at, Places, Counts, NoneFree, IsNextNumber, IsPickedNumber, empty_plan};
+ghost use Rattle.mem_fs.specs.MemDisk.{disk_of, fresh, with_dir, with_held, bytes_at, Places, CountsCall, NoneFree, IsNextNumber, IsPickedNumber, empty_plan};
 
 use crate::picks::Picks;
 use crate::plan::Plan;
@@ -39,7 +39,7 @@ impl Model for MemFs {
 }
 
 impl MemFs {
-    /// An empty disk without directories. A new file takes the next of the picks where that is free, else the least free
+    /// An empty disk without directories. A new file takes the next of the picks if that is free, else the least free
     /// number from 1; a pick that isn't free is used up. The calls at the indexes of `faults` fail, counted from 1 over
     /// every call but `close`.
     pub fn new(alloc: Global, picks: Vec<u64>, faults: Vec<u64>) -> Result<MemFs, Memory>
@@ -76,7 +76,7 @@ impl MemFs {
         self.store.place(alloc, name, bytes)
     }
 
-    /// The least name in a directory after that one in byte order; None exactly where there is none.
+    /// The least name in a directory after that one in byte order; None exactly if there is none.
     pub fn name_after(&self, dir: &[u8], after: &[u8]) -> Option<&[u8]>
         ensures some { IfSome result (λ name. IsNextName (disk_of self.now.held) dir.now after.now name.now) }
         ensures none { IfNone result (IsLastName (disk_of self.now.held) dir.now after.now) }
@@ -84,7 +84,7 @@ impl MemFs {
         self.store.next_name(dir, after)
     }
 
-    /// The bytes of the file of a name; None exactly where the name is missing.
+    /// The bytes of the file of a name; None exactly if the name is missing.
     pub fn bytes_of(&self, name: &[u8]) -> Option<&[u8]>
         ensures { option_copied result ≡ bytes_at (disk_of self.now.held) name.now }
     {
@@ -98,7 +98,7 @@ impl MemFs {
         self.store.is_free(number)
     }
 
-    /// Makes a new file as `create_excl` does; where a number is picked here and is free, it takes that one, and no pick
+    /// Makes a new file as `create_excl` does; if a number is picked here and is free, it takes that one, and no pick
     /// of the disk is used up.
     pub fn create_picked(
         &mut self,
@@ -111,7 +111,7 @@ impl MemFs {
         ensures told { Apply (disk_of self.old.held) now (call.CreateExcl name.now) (created result) (disk_of self.new.held) }
         ensures from_one { IfOk result (λ made. 1 ≤ made.1) }
         ensures cause { HasCause self.old.faults self.new.faults result }
-        ensures counts { Counts self.old self.new result }
+        ensures counts { CountsCall self.old self.new result }
         ensures number { IfOk result (λ made. IsPickedNumber (disk_of self.old.held) pick self.old.picks made.1 self.new.picks) }
         ensures descriptor { IfOk result (λ made. IsNextDescriptor (disk_of self.old.held) made.0.0) }
         ensures picks { OnErr result (self.new.picks ≡ self.old.picks) }
@@ -145,8 +145,8 @@ impl MemFs {
     }
 }
 
-/// The number that a new file takes, and how many picks are used up then: the picked one where that is free. None
-/// only where each u64 from 1 is used.
+/// The number that a new file takes, and how many picks are used up then: the picked one if that is free. None
+/// only if each u64 from 1 is used.
 fn picked_number(store: &Store, picks: &[u64], pick: Option<u64>) -> Option<(u64, usize)>
     ensures number { IfSome result (λ next. IsPickedNumber (disk_of store.now) pick picks.now next.0 (drop next.1 picks.now)) }
     ensures free { IfSome result (λ next. IsFree (disk_of store.now) next.0) }
@@ -162,7 +162,7 @@ fn picked_number(store: &Store, picks: &[u64], pick: Option<u64>) -> Option<(u64
     next_number(store, picks)
 }
 
-/// The number that a new file takes, and how many picks are used up then; None only where each u64 from 1 is used.
+/// The number that a new file takes, and how many picks are used up then; None only if each u64 from 1 is used.
 fn next_number(store: &Store, picks: &[u64]) -> Option<(u64, usize)>
     ensures number { IfSome result (λ next. IsNextNumber (disk_of store.now) picks.now next.0 (drop next.1 picks.now)) }
     ensures free { IfSome result (λ next. IsFree (disk_of store.now) next.0) }
@@ -208,7 +208,7 @@ impl CallFs for MemFs {
         ensures told { Apply (disk_of self.old.held) now (call.CreateExcl name.now) (created result) (disk_of self.new.held) }
         ensures from_one { IfOk result (λ made. 1 ≤ made.1) }
         ensures cause { HasCause self.old.faults self.new.faults result }
-        ensures counts { Counts self.old self.new result }
+        ensures counts { CountsCall self.old self.new result }
         ensures number { IfOk result (λ made. IsNextNumber (disk_of self.old.held) self.old.picks made.1 self.new.picks) }
         ensures descriptor { IfOk result (λ made. IsNextDescriptor (disk_of self.old.held) made.0.0) }
         ensures picks { OnErr result (self.new.picks ≡ self.old.picks) }
@@ -221,7 +221,7 @@ impl CallFs for MemFs {
         ensures told { Apply (disk_of self.old.held) 0 (call.Open name.now how) (opened result)
             (disk_of self.new.held) }
         ensures cause { HasCause self.old.faults self.new.faults result }
-        ensures counts { Counts self.old self.new result }
+        ensures counts { CountsCall self.old self.new result }
         ensures descriptor { IfOk result (λ fd. IsNextDescriptor (disk_of self.old.held) fd.0) }
         ensures picks { self.new.picks ≡ self.old.picks }
     {
@@ -242,7 +242,7 @@ impl CallFs for MemFs {
             (disk_of self.new.held) }
         ensures read { IfOk result (λ count. IsRead (disk_of self.old.held) fd.0 at (length into.old) count into.new) }
         ensures cause { HasCause self.old.faults self.new.faults result }
-        ensures counts { Counts self.old self.new result }
+        ensures counts { CountsCall self.old self.new result }
         ensures picks { self.new.picks ≡ self.old.picks }
     {
         self.plan.begin()?;
@@ -262,7 +262,7 @@ impl CallFs for MemFs {
         ensures told { Apply (disk_of self.old.held) now (call.WriteAt fd at bytes.now) (done result)
             (disk_of self.new.held) }
         ensures cause { HasCause self.old.faults self.new.faults result }
-        ensures counts { Counts self.old self.new result }
+        ensures counts { CountsCall self.old self.new result }
         ensures picks { self.new.picks ≡ self.old.picks }
     {
         self.plan.begin()?;
@@ -275,7 +275,7 @@ impl CallFs for MemFs {
         requires fits { MayAppend (disk_of self.old.held) fd.0 }
         ensures told { Apply (disk_of self.old.held) now (call.Append fd bytes.now) (done result) (disk_of self.new.held) }
         ensures cause { HasCause self.old.faults self.new.faults result }
-        ensures counts { Counts self.old self.new result }
+        ensures counts { CountsCall self.old self.new result }
         ensures picks { self.new.picks ≡ self.old.picks }
     {
         self.plan.begin()?;
@@ -287,7 +287,7 @@ impl CallFs for MemFs {
         requires { MayCut (disk_of self.old.held) fd.0 }
         ensures told { Apply (disk_of self.old.held) 0 (call.Truncate fd len) (done result) (disk_of self.new.held) }
         ensures cause { HasCause self.old.faults self.new.faults result }
-        ensures counts { Counts self.old self.new result }
+        ensures counts { CountsCall self.old self.new result }
         ensures picks { self.new.picks ≡ self.old.picks }
     {
         self.plan.begin()?;
@@ -299,7 +299,7 @@ impl CallFs for MemFs {
         requires { MayUse (disk_of self.old.held) fd.0 }
         ensures told { Apply (disk_of self.old.held) 0 (call.Sync fd) (done result) (disk_of self.new.held) }
         ensures cause { HasCause self.old.faults self.new.faults result }
-        ensures counts { Counts self.old self.new result }
+        ensures counts { CountsCall self.old self.new result }
         ensures picks { self.new.picks ≡ self.old.picks }
     {
         self.plan.begin()?;
@@ -321,7 +321,7 @@ impl CallFs for MemFs {
     fn link(&mut self, alloc: Global, old: &[u8], new: &[u8]) -> Result<(), FsError>
         ensures told { Apply (disk_of self.old.held) 0 (call.Link old.now new.now) (done result) (disk_of self.new.held) }
         ensures cause { HasCause self.old.faults self.new.faults result }
-        ensures counts { Counts self.old self.new result }
+        ensures counts { CountsCall self.old self.new result }
         ensures picks { self.new.picks ≡ self.old.picks }
     {
         self.plan.begin()?;
@@ -338,7 +338,7 @@ impl CallFs for MemFs {
     fn unlink(&mut self, name: &[u8]) -> Result<(), FsError>
         ensures told { Apply (disk_of self.old.held) 0 (call.Unlink name.now) (done result) (disk_of self.new.held) }
         ensures cause { HasCause self.old.faults self.new.faults result }
-        ensures counts { Counts self.old self.new result }
+        ensures counts { CountsCall self.old self.new result }
         ensures picks { self.new.picks ≡ self.old.picks }
     {
         self.plan.begin()?;
@@ -353,7 +353,7 @@ impl CallFs for MemFs {
         ensures told { Apply (disk_of self.old.held) 0 (call.Stat name.now) (stated result) (disk_of self.new.held) }
         ensures moment { IfOk result (λ stat. IsMoment stat.moment) }
         ensures cause { HasCause self.old.faults self.new.faults result }
-        ensures counts { Counts self.old self.new result }
+        ensures counts { CountsCall self.old self.new result }
         ensures picks { self.new.picks ≡ self.old.picks }
     {
         self.plan.begin()?;
@@ -366,7 +366,7 @@ impl CallFs for MemFs {
     fn next_name(&mut self, dir: &[u8], after: &[u8], into: &mut NameBuf) -> Result<bool, FsError>
         ensures told { Apply (disk_of self.old.held) 0 (call.NextName dir.now after.now) (next_found result into.new) (disk_of self.new.held) }
         ensures cause { HasCause self.old.faults self.new.faults result }
-        ensures counts { Counts self.old self.new result }
+        ensures counts { CountsCall self.old self.new result }
         ensures picks { self.new.picks ≡ self.old.picks }
     {
         self.plan.begin()?;

@@ -3,7 +3,7 @@ ghost use Rattle.std.specs.Prelude.{◌≡◌, ◌≢◌, ◌≤◌, ◌<◌, �
 ghost use Rattle.mail_bytes.specs.Moments.{IsMoment};
 ghost use Rattle.call_fs.specs.Apply.{grown, overwritten, cut, synced};
 ghost use Rattle.mem_fs.specs.Tables.{at_number, AreNumbersInOrder};
-ghost use Rattle.mem_fs.specs.MemDisk.{file_at, links_of, holds_of, IsIdle, Changes, on_file, linked, unlinked, opened, closed};
+ghost use Rattle.mem_fs.specs.MemDisk.{file_at, links_of, holds_of, IsIdle, Changes, on_file, linked_inode, unlinked_inode, opened_inode, closed_inode};
 
 use crate::file::{FileData, Inode};
 use crate::numbers;
@@ -97,7 +97,7 @@ pub fn add_link(files: &mut Vec<(u64, Inode)>, number: u64)
     requires in_order { AreNumbersInOrder files.old.items }
     requires there { IsSome (at_number files.old.items number) }
     requires room { links_of files.old.items number + 1 < 2 ^ 64 }
-    ensures { Changes files.old.items files.new.items number linked }
+    ensures { Changes files.old.items files.new.items number linked_inode }
 {
     let at = numbers::index_of(files, number);
     let entry = &mut files[at];
@@ -109,7 +109,7 @@ pub fn drop_link(files: &mut Vec<(u64, Inode)>, number: u64)
     requires in_order { AreNumbersInOrder files.old.items }
     requires there { IsSome (at_number files.old.items number) }
     requires linked { 1 ≤ links_of files.old.items number }
-    ensures { Changes files.old.items files.new.items number unlinked }
+    ensures { Changes files.old.items files.new.items number unlinked_inode }
 {
     let at = numbers::index_of(files, number);
     let entry = &mut files[at];
@@ -121,7 +121,7 @@ pub fn add_open(files: &mut Vec<(u64, Inode)>, number: u64)
     requires in_order { AreNumbersInOrder files.old.items }
     requires there { IsSome (at_number files.old.items number) }
     requires room { holds_of files.old.items number + 1 < 2 ^ 64 }
-    ensures { Changes files.old.items files.new.items number opened }
+    ensures { Changes files.old.items files.new.items number opened_inode }
 {
     let at = numbers::index_of(files, number);
     let entry = &mut files[at];
@@ -133,7 +133,7 @@ pub fn drop_open(files: &mut Vec<(u64, Inode)>, number: u64)
     requires in_order { AreNumbersInOrder files.old.items }
     requires there { IsSome (at_number files.old.items number) }
     requires open { 1 ≤ holds_of files.old.items number }
-    ensures { Changes files.old.items files.new.items number closed }
+    ensures { Changes files.old.items files.new.items number closed_inode }
 {
     let at = numbers::index_of(files, number);
     let entry = &mut files[at];
@@ -151,7 +151,7 @@ pub fn is_idle(files: &[(u64, Inode)], number: u64) -> bool
     }
 }
 
-/// The least number from 1 that nothing uses; None only where every u64 is used.
+/// The least number from 1 that nothing uses; None only if every u64 is used.
 pub fn least_idle(files: &[(u64, Inode)]) -> Option<u64>
     requires { AreNumbersInOrder files.now }
     ensures some { IfSome result (λ n. (1 ≤ n) × IsIdle files.now n
@@ -167,7 +167,7 @@ pub fn least_idle(files: &[(u64, Inode)]) -> Option<u64>
     (files.len() as u64).checked_add(1)
 }
 
-/// The greatest u64 that nothing uses; None only where every u64 from 1 is used.
+/// The greatest u64 that nothing uses; None only if every u64 from 1 is used.
 pub fn greatest_idle(files: &[(u64, Inode)]) -> Option<u64>
     requires { AreNumbersInOrder files.now }
     ensures fits { IfSome result (λ n. n < 2 ^ 64) }

@@ -1,5 +1,5 @@
 // Bytes that are drawn for a file at a machine stop.
-ghost use Rattle.std.specs.Prelude.{◌≡◌, ◌<◌, ◌^◌, IfOk, length};
+ghost use Rattle.std.specs.Prelude.{◌≡◌, ◌<◌, ◌^◌, IfOk, OnOk, length};
 ghost use Rattle.call_fs.specs.Choices.{drawn, values_at, junk_byte, junk_bytes, junked};
 
 use crate::file::FileData;
@@ -15,13 +15,14 @@ fn drawn(x: u64) -> u64
     (75 * x + 74) % 65537
 }
 
-/// The value that a place had at the last sync and those that it was given since; none past the synced length.
-fn values_at(alloc: Global, file: &FileData, place: usize) -> Result<Vec<u8>, Memory>
-    ensures { IfOk result (λ values. values.items ≡ values_at file.now place) }
+/// Puts the value that a place had at the last sync and those that it was given since into a buffer, in place of what
+/// that had; none past the synced length.
+fn read_values(file: &FileData, place: usize, values: &mut Vec<u8>) -> Result<(), Memory>
+    ensures { OnOk result (values.new.items ≡ values_at file.now place) }
 {
-    let mut values = Vec::new(alloc);
+    values.clear();
     let Some(kept) = file.kept().get(place) else {
-        return Ok(values);
+        return Ok(());
     };
     values.push(*kept)?;
     for given in file.given() {
@@ -30,7 +31,7 @@ fn values_at(alloc: Global, file: &FileData, place: usize) -> Result<Vec<u8>, Me
             values.push(value)?;
         }
     }
-    Ok(values)
+    Ok(())
 }
 
 /// A byte for a place that had these values, and the x that follows.
@@ -64,9 +65,10 @@ fn junk_bytes(
     ensures small { IfOk result (λ made. made.1 < 2 ^ 32) }
 {
     let mut bytes = Vec::new(alloc);
+    let mut values = Vec::new(alloc);
     let mut next = x;
     for place in 0..count {
-        let values = values_at(alloc, file, place)?;
+        read_values(file, place, &mut values)?;
         let (byte, following) = junk_byte(&values, next);
         bytes.push(byte)?;
         next = following;

@@ -41,7 +41,7 @@ pub fn insert<V: Drop>(entries: &mut Vec<(u64, V)>, number: u64, value: V)
     ensures in_order { AreNumbersInOrder entries.new.items }
     ensures value { at_number entries.new.items ≡ put (at_number entries.old.items) number (Some value) }
 
-    // Where the number had no value there is one pair more.
+    // If the number had no value there is one pair more.
     ensures count { (test : ℕ × V → Bool) → at_number entries.old.items number ≡ None
         → count_by test entries.new.items ≡ count_by test entries.old.items + (if test (number, value) then 1 else 0) }
 {
@@ -68,7 +68,7 @@ pub fn remove<V: Drop>(entries: &mut Vec<(u64, V)>, number: u64)
     entries.remove(at);
 }
 
-/// The least number from 1 that has no value; None only where every u64 has one.
+/// The least number from 1 that has no value; None only if every u64 has one.
 pub fn least_missing<V>(entries: &[(u64, V)]) -> Option<u64>
     requires { AreNumbersInOrder entries.now }
     ensures some { IfSome result (λ n. (1 ≤ n) × (at_number entries.now n ≡ None)

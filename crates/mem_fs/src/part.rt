@@ -25,7 +25,7 @@ pub fn dir_of(name: &[u8]) -> &[u8]
     &name[..end.saturating_sub(1)]
 }
 
-/// What stands behind the directory and a `/`, where it is one part of a name.
+/// What stands after the directory and a `/`, if it is one part of a name.
 pub fn part_of<'a>(name: &'a [u8], dir: &[u8]) -> Option<&'a [u8]>
     ensures found { IfSome result (λ part. (name.now ≡ dir.now ++ 47 ∷ part.now) × (¬ (Contains part.now 47)) × (length part.now ≤ 255)) }
     ensures none { IfNone result ((part : List ℕ) → name.now ≡ dir.now ++ 47 ∷ part → ¬ (Contains part 47) → length part ≤ 255 → ⊥) }

@@ -17,7 +17,7 @@ pub struct Plan {
 }
 
 impl Plan {
-    /// Counts a call; `Fault` exactly where it was planned.
+    /// Counts a call; `Fault` exactly if it was planned.
     pub fn begin(&mut self) -> Result<(), FsError>
         ensures plan { self.new.at.items ≡ self.old.at.items }
         ensures made { self.new.made ≡ one_more self.old.made }

@@ -10,7 +10,7 @@ ghost use Rattle.call_fs.specs.Apply.{effect, IsStat, IsNextName, IsLastName};
 ghost use Rattle.call_fs.specs.Columns.{IsRead};
 ghost use Rattle.call_fs.specs.Choices.{Halts};
 ghost use Rattle.call_fs.specs.Free.{IsFree, IsLeastFree, IsNextDescriptor};
-ghost use Rattle.mem_fs.specs.MemDisk.{disk_of, nothing, IsOpenOn, bytes_at, IsGreatestFree, NoneFree, AllOpen, with_dir, Places, PlacesNew};
+ghost use Rattle.mem_fs.specs.MemDisk.{disk_of, held_nothing, IsOpenOn, bytes_at, IsGreatestFree, NoneFree, AllOpen, with_dir, Places, PlacesNew};
 
 use crate::file::{FileData, Inode};
 use crate::open_file::OpenFile;
@@ -43,7 +43,7 @@ impl Model for Store {
 impl Store {
     /// Holds nothing. Takes no memory.
     pub fn new(alloc: Global) -> Self
-        ensures { result ≡ nothing }
+        ensures { result ≡ held_nothing }
     {
         Store {
             dirs: Vec::new(alloc),
@@ -81,7 +81,7 @@ impl Store {
         number != 0 && files::is_idle(&self.files, number)
     }
 
-    /// The least number that a new file may take; None only where each u64 from 1 is used.
+    /// The least number that a new file may take; None only if each u64 from 1 is used.
     pub fn least_free(&self) -> Option<u64>
         ensures some { IfSome result (IsLeastFree (disk_of self.now)) }
         ensures none { IfNone result (NoneFree (disk_of self.now)) }
@@ -89,7 +89,7 @@ impl Store {
         files::least_idle(&self.files)
     }
 
-    /// The greatest number that a new file may take; None only where each u64 from 1 is used.
+    /// The greatest number that a new file may take; None only if each u64 from 1 is used.
     pub fn greatest_free(&self) -> Option<u64>
         ensures some { IfSome result (IsGreatestFree (disk_of self.now)) }
         ensures none { IfNone result (NoneFree (disk_of self.now)) }
@@ -97,7 +97,7 @@ impl Store {
         files::greatest_idle(&self.files)
     }
 
-    /// The least descriptor that isn't open; None only where each u64 from 1 is open.
+    /// The least descriptor that isn't open; None only if each u64 from 1 is open.
     pub fn least_descriptor(&self) -> Option<Fd>
         ensures some { IfSome result (λ fd. IsNextDescriptor (disk_of self.now) fd.0) }
         ensures none { IfNone result (AllOpen (disk_of self.now)) }
@@ -185,7 +185,7 @@ impl Store {
         files::append(&mut self.files, number, now, bytes)
     }
 
-    /// Cuts an open file to a length, where it is longer.
+    /// Cuts an open file to a length, if it is longer.
     pub fn truncate(&mut self, fd: Fd, len: u64)
         requires { IsSome ((disk_of self.old).opens fd.0) }
         ensures { disk_of self.new ≡ effect (disk_of self.old) 0 (call.Truncate fd len) answer.Done 0 }
@@ -257,7 +257,7 @@ impl Store {
         Some((number, &inode.file))
     }
 
-    /// What the file of a name is; None exactly where the name is missing.
+    /// What the file of a name is; None exactly if the name is missing.
     pub fn stat(&self, name: &[u8]) -> Option<Stat>
         ensures some { IfSome result (IsStat (disk_of self.now) name.now) }
         ensures moment { IfSome result (λ stat. IsMoment stat.moment) }
@@ -271,7 +271,7 @@ impl Store {
         })
     }
 
-    /// The bytes of the file of a name; None exactly where the name is missing.
+    /// The bytes of the file of a name; None exactly if the name is missing.
     pub fn bytes_of(&self, name: &[u8]) -> Option<&[u8]>
         ensures { option_copied result ≡ bytes_at (disk_of self.now) name.now }
     {
@@ -279,7 +279,7 @@ impl Store {
         Some(file.as_slice())
     }
 
-    /// The least name in a directory after that one; None exactly where there is none.
+    /// The least name in a directory after that one; None exactly if there is none.
     pub fn next_name(&self, dir: &[u8], after: &[u8]) -> Option<&[u8]>
         ensures some { IfSome result (λ name. IsNextName (disk_of self.now) dir.now after.now name.now) }
         ensures none { IfNone result (IsLastName (disk_of self.now) dir.now after.now) }

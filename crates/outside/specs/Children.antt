@@ -25,7 +25,7 @@ abbrev pub FillsFront : Post → ℕ → Type 0
 FillsFront (post.Bytes chan len) room = (0 < len) × (len ≤ room)
 FillsFront other room = Unit {0}
 
--- a post put its bytes at the front of `into`: what was waiting before it, and what is waiting after it
+-- a post put its bytes at the start of `into`: what was waiting before it, and what is waiting after it
 abbrev pub Receives : Post → List ℕ → List Arrival → List Arrival → Type 0
 Receives (post.Bytes chan len) into before after = before ≡ map (Byte chan) (take len into) ++ after
 Receives (post.End chan) into before after = before ≡ End chan ∷ after
@@ -39,8 +39,8 @@ is_failure (post.End chan) = false
 is_failure post.Turn = false
 is_failure (post.Failed chan) = true
 
-abbrev pub IsFailure : Post → Type 0
-IsFailure answer = is_failure answer ≡ true
+abbrev pub IsFailedPost : Post → Type 0
+IsFailedPost answer = is_failure answer ≡ true
 
 -- a call for a post: what was answered, and the bytes that came
 pub record Posted : Type 0 where

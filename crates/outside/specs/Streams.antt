@@ -6,27 +6,33 @@ use Rattle.outside.specs.declared.sink.Gave.{Gave}
 use Rattle.outside.specs.declared.sink.Gave.TheVariants as gave
 use Rattle.mail_bytes.specs.Told.{Rose}
 
--- The count never falls, and a failure comes only where it rose.
-pub record Counts (before now : ℕ) (Failure : Type 0) : Type 0 where
+-- The count never falls; it rose, or stands at its last value, if this was a failure, and is as it was if it was none.
+pub record CountsFailures (before now : ℕ) (Failure : Type 0) : Type 0 where
   pub later : before ≤ now
   pub rose : Failure → Rose before now
+  pub still : ¬ Failure → now ≡ before
 
--- no more bytes came than there is room for, and some where there is room
+-- no more bytes came than there is room for, and some if there is room
 abbrev pub FitsInto : Took → ℕ → Type 0
 FitsInto (took.Got k) room = (k ≤ room) × (0 < room → 0 < k)
 FitsInto took.End room = Unit {0}
 FitsInto took.Failed room = Unit {0}
 
--- a taking put these bytes at the front of `into`: what was left before it, and what is left after it
-abbrev pub Takes : Took → List ℕ → List ℕ → List ℕ → Type 0
-Takes (took.Got k) into before after = before ≡ take k into ++ after
-Takes took.End into before after = (before ≡ []) × (after ≡ [])
-Takes took.Failed into before after = after ≡ before
+-- a taking put these bytes at the start of `into`: what was left before it, and what is left after it
+abbrev pub TakesBytes : Took → List ℕ → List ℕ → List ℕ → Type 0
+TakesBytes (took.Got k) into before after = before ≡ take k into ++ after
+TakesBytes took.End into before after = (before ≡ []) × (after ≡ [])
+TakesBytes took.Failed into before after = after ≡ before
 
 -- a giving of these bytes: what was taken before it, and what is taken after it
 abbrev pub Gives : Gave → List ℕ → List ℕ → List ℕ → Type 0
 Gives gave.Done bytes before after = after ≡ before ++ bytes
 Gives gave.Failed bytes before after = (k : ℕ) × (k ≤ length bytes) × (after ≡ before ++ take k bytes)
+
+-- a taking told the end, or failed
+abbrev pub took_end : Took → Bool
+took_end took.End = true
+took_end other = false
 
 abbrev pub took_failed : Took → Bool
 took_failed took.Failed = true

@@ -9,7 +9,7 @@ use std::marker::Model;
 
 /// The moment, and the number of this process.
 pub trait Clock {
-    /// The moments that it has told so far, in order, where it keeps them.
+    /// The moments that it has told so far, in order, if it keeps them.
     ghost calls: { Self → Option (List ℕ) };
 
     /// No moment that it tells is earlier than this one: the last one that it has told.

@@ -13,9 +13,9 @@ pub struct FaultPlan {
 }
 
 impl Model for FaultPlan {
-    ghost use Rattle.outside.specs.Forms.{Plan};
+    ghost use Rattle.outside.specs.Forms.{FailurePlan};
 
-    ghost Value = { Plan };
+    ghost Value = { FailurePlan };
 
     ghost view = { λ p. record { calls = p.calls; failing = p.failing.items; faults = p.faults } };
 }

@@ -2,11 +2,12 @@
 //! and a gate at which threads can be held.
 //!
 //! Each is a trait with a form in memory, which tests use and which stands for what a command doesn't touch. The
-//! contract of this crate is what each trait tells of its calls. Where one can fail it counts its failures, and
-//! answers a failure only where that count rose in the call, or stands at its last value. The calls are those of
+//! contract of this crate is what each trait tells of its calls. If one can fail it counts its failures, and
+//! answers a failure only if that count rose in the call, or stands at its last value. The calls are those of
 //! read(2), write(2), time(2), getpid(2), execvp(3) and wait(2).
 #![tactic(auto)]
 
+mod bounded;
 mod clock;
 mod fault_plan;
 mod gate;

@@ -1,9 +1,9 @@
 // What children and the program's own input send.
 ghost use Rattle.std.specs.Prelude.{◌≡◌, ◌<◌, ℕ, List, [], Option, flat_map, if◌then◌else◌, length, map, slice_index_or};
 ghost use Rattle.mail_bytes.specs.Told.{Meets, Records};
-ghost use Rattle.outside.specs.Streams.{Counts};
-ghost use Rattle.outside.specs.Children.{Arrival, FillsFront, IsFailure, Posted, Receives, arrivals, is_failure, posted};
-ghost use Rattle.outside.specs.Forms.{IsWithin, raised, rest_of};
+ghost use Rattle.outside.specs.Streams.{CountsFailures};
+ghost use Rattle.outside.specs.Children.{Arrival, FillsFront, IsFailedPost, Posted, Receives, arrivals, is_failure, posted};
+ghost use Rattle.outside.specs.Forms.{IsWithin, raised, rest_from};
 
 use crate::source::copy_front;
 use mail_bytes::ByteText;
@@ -35,10 +35,10 @@ pub enum Post {
 
 /// What children and the program's own input send, in the order in which it comes.
 pub trait Posts {
-    /// What is waiting, the first one first, where it tells.
+    /// What is waiting, the first one first, if it tells.
     ghost waiting: { Self → Option (List Arrival) };
 
-    /// The calls for posts so far with their answers, in order, where it keeps them.
+    /// The calls for posts so far with their answers, in order, if it keeps them.
     ghost calls: { Self → Option (List Posted) };
 
     /// How often it has failed; the count never falls, and stands still at u64's last value.
@@ -48,14 +48,14 @@ pub trait Posts {
     fn faults(&self) -> u64
         ensures { result ≡ faults self.now };
 
-    /// The next post, its bytes at the front of `into`: at least one, and as many as there is room for at most.
-    /// `Turn` where nothing is waiting. The condition: there is room.
+    /// The next post, its bytes at the start of `into`: at least one, and at most as many as there is room for.
+    /// `Turn` if nothing is waiting. The condition: there is room.
     fn next(&mut self, into: &mut [u8]) -> Post
         requires { 0 < length into.old }
         ensures fits { FillsFront result (length into.old) }
         ensures came { Meets (waiting self.old) (waiting self.new) (Receives result into.new) }
         ensures told { Records (calls self.old) (calls self.new) (posted result into.new) }
-        ensures cause { Counts (faults self.old) (faults self.new) (IsFailure result) };
+        ensures cause { CountsFailures (faults self.old) (faults self.new) (IsFailedPost result) };
 }
 
 /// A post of a form in memory.
@@ -92,11 +92,11 @@ pub struct MemPosts {
 impl Model for MemPosts {
     ghost use Rattle.std.specs.Prelude.{map};
     ghost use Rattle.outside.specs.Children.{arrivals};
-    ghost use Rattle.outside.specs.Forms.{PostsForm, IsWithin, rest_of};
+    ghost use Rattle.outside.specs.Forms.{PostsForm, IsWithin, rest_from};
 
     ghost Value = { PostsForm };
 
-    ghost view = { λ p. record { waiting = rest_of (map arrivals p.posts.items) p.at p.given; faults = p.faults } };
+    ghost view = { λ p. record { waiting = rest_from (map arrivals p.posts.items) p.at p.given; faults = p.faults } };
 
     ghost invariant = { λ p. IsWithin (map arrivals p.posts.items) p.at p.given };
 }
@@ -132,7 +132,7 @@ impl Posts for MemPosts {
         requires { 0 < length into.old }
         ensures fits { FillsFront result (length into.old) }
         ensures came { Receives result into.new self.old.waiting self.new.waiting }
-        ensures cause { Counts self.old.faults self.new.faults (IsFailure result) }
+        ensures cause { CountsFailures self.old.faults self.new.faults (IsFailedPost result) }
         ensures counted { self.new.faults ≡ (if is_failure result then raised self.old.faults else self.old.faults) }
     {
         let (at, given) = next_waiting(self.posts.as_slice(), self.at, self.given);
@@ -161,11 +161,11 @@ impl Posts for MemPosts {
     }
 }
 
-/// The first post from `at` on that isn't used up, and how much of it is given; past the end where there is none. The
+/// The first post from `at` on that isn't used up, and how much of it is given; past the end if there is none. The
 /// condition: of the post at `at` no more is given than it has.
 fn next_waiting(posts: &[Waiting], mut at: usize, mut given: usize) -> (usize, usize)
     requires { IsWithin (map arrivals posts.now) at given }
-    ensures same { rest_of (map arrivals posts.now) result.0 result.1 ≡ rest_of (map arrivals posts.now) at given }
+    ensures same { rest_from (map arrivals posts.now) result.0 result.1 ≡ rest_from (map arrivals posts.now) at given }
     ensures within { IsWithin (map arrivals posts.now) result.0 result.1 }
     ensures more { result.0 < length posts.now
         → result.1 < length (slice_index_or (map arrivals posts.now) result.0 []) }

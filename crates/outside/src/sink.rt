@@ -1,10 +1,12 @@
 // Where bytes go to.
-ghost use Rattle.std.specs.Prelude.{◌≡◌, ℕ, List, [], Option};
+ghost use Rattle.std.specs.Prelude.{◌≡◌, ◌<◌, ◌⊎◌, ◌↔◌, ℕ, List, [], Option, IfOk, length};
 ghost use Rattle.mail_bytes.specs.Told.{Meets};
-ghost use Rattle.outside.specs.Streams.{Counts, Gives, gave_failed};
-ghost use Rattle.outside.specs.Forms.{FailsNext, after_call, new_plan};
+ghost use Rattle.outside.specs.Streams.{CountsFailures, Gives, gave_failed};
+ghost use Rattle.outside.specs.Forms.{FailsNext, failed_sink, filled_sink, new_plan};
 
+use crate::bounded::BoundedBytes;
 use crate::fault_plan::FaultPlan;
+use mail_bytes::Memory;
 use std::alloc::Global;
 use std::marker::Model;
 
@@ -13,13 +15,13 @@ use std::marker::Model;
 pub enum Gave {
     /// All were taken.
     Done,
-    /// A front of them was taken at most; the sink has counted it.
+    /// At most a prefix of them was taken; the sink has counted it.
     Failed,
 }
 
 /// Where bytes go to, as a program's standard output.
 pub trait Sink {
-    /// The bytes that it took so far, where it tells.
+    /// The bytes that it took so far, if it tells.
     ghost taken: { Self → Option (List ℕ) };
 
     /// How often it has failed; the count never falls, and stands still at u64's last value.
@@ -32,13 +34,14 @@ pub trait Sink {
     /// Gives it bytes, as write(2) called until all are written. After `Failed` it took a prefix of them.
     fn give(&mut self, bytes: &[u8]) -> Gave
         ensures told { Meets (taken self.old) (taken self.new) (Gives result bytes.now) }
-        ensures cause { Counts (faults self.old) (faults self.new) (result ≡ Gave.Failed) };
+        ensures cause { CountsFailures (faults self.old) (faults self.new) (result ≡ Gave.Failed) };
 }
 
-/// A sink in memory, which keeps what it took.
+/// A sink in memory, which keeps what it took. It has room for so many bytes, as a disk that fills up; of bytes for which
+/// there is no room it takes those that fit, and fails. A call that is planned to fail takes nothing.
 #[derive(Drop)]
 pub struct MemSink {
-    taken: Vec<u8>,
+    taken: BoundedBytes,
     plan: FaultPlan,
 }
 
@@ -47,18 +50,18 @@ impl Model for MemSink {
 
     ghost Value = { SinkForm };
 
-    ghost view = { λ s. record { taken = s.taken.items; plan = s.plan } };
+    ghost view = { λ s. record { taken = s.taken.bytes; room = s.taken.room; plan = s.plan } };
 }
 
 impl MemSink {
-    /// A sink that took nothing yet, and whose calls with these numbers fail, counted from 1. Takes no memory.
-    pub fn new(alloc: Global, failing: Vec<u64>) -> Self
-        ensures { result ≡ record { taken = []; plan = new_plan failing.items } }
+    /// A sink that took nothing yet, has room for so many bytes, and whose calls with these numbers fail, counted from 1.
+    pub fn new(alloc: Global, room: usize, failing: Vec<u64>) -> Result<Self, Memory>
+        ensures { IfOk result (λ s. s ≡ record { taken = []; room = room; plan = new_plan failing.items }) }
     {
-        MemSink {
-            taken: Vec::new(alloc),
+        Ok(MemSink {
+            taken: BoundedBytes::new(alloc, room)?,
             plan: FaultPlan::new(failing),
-        }
+        })
     }
 
     /// What it took so far.
@@ -80,20 +83,22 @@ impl Sink for MemSink {
         self.plan.faults()
     }
 
-    // It also fails where there is no memory, and then takes nothing.
     fn give(&mut self, bytes: &[u8]) -> Gave
         ensures told { Gives result bytes.now self.old.taken self.new.taken }
-        ensures cause { Counts self.old.plan.faults self.new.plan.faults (result ≡ Gave.Failed) }
-        ensures fails { FailsNext self.old.plan → result ≡ Gave.Failed }
-        ensures counted { self.new.plan ≡ after_call (gave_failed result) self.old.plan }
+        ensures cause { CountsFailures self.old.plan.faults self.new.plan.faults (result ≡ Gave.Failed) }
+
+        // it fails exactly if the call was planned to, or if there isn't room for all; and what it holds then
+        ensures fails { (result ≡ Gave.Failed) ↔ (FailsNext self.old.plan ⊎ (self.old.room < length bytes.now)) }
+        ensures planned { FailsNext self.old.plan → self.new ≡ failed_sink self.old }
+        ensures unplanned { ¬ (FailsNext self.old.plan) → self.new ≡ filled_sink bytes.now (gave_failed result) self.old }
     {
         if self.plan.call_fails() {
             return Gave::Failed;
         }
-        if self.taken.extend_from_slice(bytes).is_err() {
+        let gave = self.taken.take(bytes);
+        if gave == Gave::Failed {
             self.plan.count_failure();
-            return Gave::Failed;
         }
-        Gave::Done
+        gave
     }
 }

@@ -1,5 +1,5 @@
 // Taking more from a source than one call gives.
-ghost use Rattle.std.specs.Prelude.{◌≡◌, ◌≤◌, ◌++◌, [], List, ℕ, IfOk, length};
+ghost use Rattle.std.specs.Prelude.{◌≡◌, ◌≤◌, ◌++◌, [], List, ℕ, true, IfOk, length};
 ghost use Rattle.mail_bytes.specs.Told.{Meets, OnTold, Rose};
 
 use crate::source::{Source, Took};
@@ -18,19 +18,20 @@ pub enum Stopped {
 }
 
 /// Takes bytes of a source until so many have come, or it ends or fails; answers them, and why no more were taken. Fails
-/// only for want of memory; some bytes may then be lost.
+/// only if memory runs out; some bytes may then be lost.
 pub fn take_up_to<S: Source>(
     alloc: Global,
     source: &mut S,
     most: usize,
 ) -> Result<(Vec<u8>, Stopped), Memory>
     ensures later { S.faults source.old ≤ S.faults source.new }
-    ensures front { Meets (S.left source.old) (S.left source.new)
-        (λ before after. (front : List ℕ) × (before ≡ front ++ after)) }
+    ensures bounded { Meets (S.left source.old) (S.left source.new)
+        (λ before after. (taken : List ℕ) × (length taken ≤ most) × (before ≡ taken ++ after)) }
     ensures taken { IfOk result (λ got. Meets (S.left source.old) (S.left source.new)
         (λ before after. before ≡ got.0.items ++ after)) }
     ensures fits { IfOk result (λ got. length got.0.items ≤ most) }
     ensures end { IfOk result (λ got. got.1 ≡ Stopped.End → OnTold (S.left source.new) (λ after. after ≡ [])) }
+    ensures end_told { IfOk result (λ got. got.1 ≡ Stopped.End → OnTold (S.ended source.new) (λ ended. ended ≡ true)) }
     ensures full { IfOk result (λ got. got.1 ≡ Stopped.Full → length got.0.items ≡ most) }
     ensures failed { IfOk result (λ got. got.1 ≡ Stopped.Failed → Rose (S.faults source.old) (S.faults source.new)) }
 {

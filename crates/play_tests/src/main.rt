@@ -9,6 +9,9 @@ use outside::{MemClock, MemPosts, MemSink, MemSource, MemSpawner, OpenGate};
 use qmail_top::{qmail, status};
 use std::{fs, io};
 
+/// How many bytes the output and the log have room for.
+const MOST_PRINTED: usize = 1_000_000;
+
 fn main(rt: HostRuntime) -> io::Result<()> {
     for name in &script_names(&rt)? {
         let verdict = if plays_as_expected(&rt, name)? {
@@ -64,14 +67,21 @@ fn play(rt: &HostRuntime, script: Vec<u8>) -> io::Result<Played> {
     let alloc = rt.alloc();
     let words = vec![in alloc; String::from_str(alloc, "play")?]?;
     let pieces = vec![in alloc; ByteText::from_vec(script)]?;
-    Ok(call(rt, &words, pieces))
+    let out = MemSink::new(alloc, MOST_PRINTED, Vec::new(alloc))?;
+    let log = MemSink::new(alloc, MOST_PRINTED, Vec::new(alloc))?;
+    Ok(call(rt, &words, pieces, out, log))
 }
 
-/// Calls `qmail` with these words and a message of these pieces. It holds forms of every kind, so nothing branches here.
-fn call(rt: &HostRuntime, words: &[String], pieces: Vec<ByteText>) -> Played {
+/// Calls `qmail` with these words, a message of these pieces, and this output and log. It holds forms of every kind, so
+/// nothing branches here.
+fn call(
+    rt: &HostRuntime,
+    words: &[String],
+    pieces: Vec<ByteText>,
+    mut out: MemSink,
+    mut log: MemSink,
+) -> Played {
     let alloc = rt.alloc();
-    let mut out = MemSink::new(alloc, Vec::new(alloc));
-    let mut log = MemSink::new(alloc, Vec::new(alloc));
     let status = qmail(
         rt,
         alloc,

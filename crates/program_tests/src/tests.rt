@@ -2,6 +2,7 @@
 // can't be made shows in the answer.
 mod byte_texts;
 mod channel_files;
+mod cleaner;
 mod clocks;
 mod decimals;
 mod envelopes;

@@ -6,7 +6,7 @@ pub record ClockState : Type 0 where
   pub last : ℕ
   pub pid : ℕ
 
--- The moment that it tells next, by the seconds that the system tells, where it does: they are cut to the last moment of
+-- The moment that it tells next, by the seconds that the system tells, if it does: they are cut to the last moment of
 -- all, and no moment comes that is earlier than the last one told.
 abbrev pub next_moment : ℕ → Option ℕ → ℕ
 next_moment last None = last

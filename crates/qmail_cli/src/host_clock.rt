@@ -9,7 +9,7 @@ use std::marker::Model;
 use std::process;
 use std::time::{SystemTime, UNIX_EPOCH};
 
-/// The clock of the system, and the number of this process; it doesn't tell its calls. Where the system's clock falls,
+/// The clock of the system, and the number of this process; it doesn't tell its calls. If the system's clock falls,
 /// or can't be read, or stands before 1970, it tells the moment that it told last, 0 at first.
 #[derive(Drop)]
 pub struct HostClock {
@@ -41,14 +41,14 @@ impl HostClock {
         }
     }
 
-    /// The seconds since 1970 by the system's clock; None where it can't be read, or stands before 1970.
+    /// The seconds since 1970 by the system's clock; None if it can't be read, or stands before 1970.
     fn seconds(&self) -> Option<u64> {
         let now = SystemTime::now(&self.rt).ok()?;
         Some(now.duration_since(UNIX_EPOCH).ok()?.as_secs())
     }
 }
 
-/// The moment to be told where the system tells these seconds, and this moment was told last.
+/// The moment to be told if the system tells these seconds and this moment was told last.
 fn next_moment(last: u64, seconds: Option<u64>) -> u64
     ensures { result ≡ next_moment last seconds }
 {

@@ -2,7 +2,7 @@
 //!
 //! The words of the command line name the file of the envelope and the directory of the queue. Without a directory the
 //! disk is an empty one in memory. What no command touches yet is handed in as empty forms in memory. The exit status is
-//! the call's; want of memory before the call ends with 51.
+//! the call's; if memory runs out before the call it is 51.
 #![tactic(auto)]
 
 mod host_clock;
@@ -24,11 +24,18 @@ use qmail_top::{qmail, status};
 use reader_source::ReaderSource;
 use std::alloc::{AllocError, Global};
 use std::process::ExitCode;
+#[cfg(test)]
+use std::test::Fail;
 use std::{env, io};
 use writer_sink::WriterSink;
 
 fn main(rt: HostRuntime) -> ExitCode {
-    match run(&rt, rt.alloc()) {
+    program(&rt)
+}
+
+/// All that the program does, and its exit status.
+fn program(rt: &HostRuntime) -> ExitCode {
+    match run(rt, rt.alloc()) {
         Ok(status) => ExitCode::from(status),
         Err(_) => ExitCode::from(status::MEMORY),
     }
@@ -40,7 +47,7 @@ fn run(rt: &HostRuntime, alloc: Global) -> Result<u8, Memory> {
     run_words(rt, alloc, &words, &mut ReaderSource::new(rt.stdin()))
 }
 
-/// The words after the program's name. Where one isn't UTF-8 there are none, which is no command.
+/// The words after the program's name. If one isn't UTF-8 there are none, which is no command.
 fn words_of(rt: &HostRuntime, alloc: Global) -> Result<Vec<String>, Memory> {
     match env::args(rt) {
         Ok(words) => words.skip(1).collect(alloc),
@@ -93,4 +100,19 @@ fn run_over<D: CallFs, M: Source, E: Source>(
         &mut MemSpawner::new(alloc, Vec::new(alloc), Vec::new(alloc)),
         &OpenGate,
     )
+}
+
+// The tests of the program's streams start their own executable again, with words that begin with the test's name; so
+// they are named as commands are. `tests/streams.rt` says how.
+
+#[cfg(test)]
+#[test]
+fn play(rt: HostRuntime) -> Result<ExitCode, Fail> {
+    tests::streams::check(rt, &tests::streams::PLAY)
+}
+
+#[cfg(test)]
+#[test]
+fn nosuch(rt: HostRuntime) -> Result<ExitCode, Fail> {
+    tests::streams::check(rt, &tests::streams::NOSUCH)
 }

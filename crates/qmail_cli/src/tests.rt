@@ -1,11 +1,12 @@
 // The adapters over real files, readers that are interrupted, and a message that is queued in a real directory.
+use crate::host_clock::HostClock;
 use crate::late_file::LateFile;
 use crate::reader_source::ReaderSource;
 use crate::run_words;
 use call_fs::{CallFs, FsError};
 use host_fs::HostFs;
 use mail_bytes::{ByteText, LAST_MOMENT, Memory, NameBuf, undec};
-use outside::{MemSource, Source, Took};
+use outside::{Clock, MemSource, Source, Took};
 use received_line::{Invoked, received};
 use std::alloc::Global;
 use std::io::{self, ErrorKind, Read};
@@ -13,6 +14,8 @@ use std::os::unix::fs::MetadataExt;
 use std::test::Fail;
 use std::time::{SystemTime, UNIX_EPOCH};
 use std::{env, fs, process};
+
+pub mod streams;
 
 /// A reader that is interrupted so often, and then gives one byte.
 #[derive(Drop)]
@@ -78,6 +81,7 @@ fn scratch(rt: &HostRuntime) -> Result<String, Fail> {
     Ok(root)
 }
 
+/// Fails, and says what was looked at, if it doesn't hold.
 fn is(holds: bool, what: &str) -> Result<(), Fail> {
     if holds { Ok(()) } else { Err(Fail::new(what)) }
 }
@@ -92,6 +96,7 @@ fn taking(source: &mut ReaderSource<LateFile>, room: usize) -> Taking {
     (source.take(&mut into[..room]), source.faults(), into)
 }
 
+/// A buffer into which nothing was read.
 const NOTHING: [u8; 8] = [0; 8];
 
 /// Before the file is made: nothing is asked for, then it is missing.
@@ -127,6 +132,21 @@ fn takings(rt: &HostRuntime, place: ByteText, path: &str) -> ([Taking; 2], [Taki
 /// The seconds that the system's clock tells.
 fn seconds(rt: &HostRuntime) -> Result<u64, Fail> {
     Ok(SystemTime::now(rt)?.duration_since(UNIX_EPOCH)?.as_secs())
+}
+
+#[test]
+fn the_clock_tells_the_seconds_of_the_system(rt: HostRuntime) -> Result<(), Fail> {
+    let mut clock = HostClock::new(&rt);
+    let before = seconds(&rt)?;
+    let first = clock.now();
+    let second = clock.now();
+    let after = seconds(&rt)?;
+    assert!(rt;
+        before <= first && first <= second && second <= after,
+        "{before} {first} {second} {after}"
+    );
+    assert_eq!(rt; clock.pid(), process::id(rt.process()));
+    Ok(())
 }
 
 /// Queues a message, and looks for its files.

@@ -7,8 +7,8 @@ use Rattle.qmail_top.specs.declared.play_command.Failure.{Failure}
 use Rattle.qmail_top.specs.declared.play_command.Failure.TheVariants.{Memory, Output, Input, Malformed}
 use Rattle.scenario.specs.Lines.{IsScript, IsBadLine, IsRefused, most_bytes}
 use Rattle.mem_fs.proofs.InTurn.{told_weaker}
-use Rattle.qmail_top.specs.Command.{Counted, HasCause, status_of, IsReading, IsChecked}
-use Rattle.scenario.specs.Text.{BeginsAtMost, IsFrontAtMost, script_line, IsTaken, PrintsBadLine}
+use Rattle.qmail_top.specs.Command.{Counted, HasReason, status_of, IsReading, IsChecked}
+use Rattle.scenario.specs.Text.{BeginsAtMost, IsFrontAtMost, script_line, IsTakenText, PrintsBadLine}
 use Rattle.scenario.proofs.Scripts.{no_refusal}
 use Rattle.scenario.proofs.WholePlays.{front_at_most}
 
@@ -58,7 +58,7 @@ still-bad before after bytes number reading (inr line) = ⊎_elim
     (λ over. let most = line.0 in absurd (omega arith))
     reading.enough
 
-pub bad_line_printed : (P : Type 0) (before after old new : Option (List ℕ)) (bytes : List ℕ) (number : ℕ) (Failed : Type 0) → Meets before after (λ script rest. IsReading script rest bytes) → IsBadLine bytes number → Meets old new (λ x y. (text : List ℕ) × IsTaken (script_line number) text Failed × (y ≡ x ++ text))
+pub bad_line_printed : (P : Type 0) (before after old new : Option (List ℕ)) (bytes : List ℕ) (number : ℕ) (Failed : Type 0) → Meets before after (λ script rest. IsReading script rest bytes) → IsBadLine bytes number → Meets old new (λ x y. (text : List ℕ) × IsTakenText (script_line number) text Failed × (y ≡ x ++ text))
     → OnTold before (λ script. P → Meets old new (λ x y. (text : List ℕ) × PrintsBadLine script text Failed × (y ≡ x ++ text)))
 bad_line_printed P (Some before) (Some after) old new bytes number Failed reading bad took = λ p. told_weaker old new
     (λ x y h. (h.0, record { number = number; is_bad = still-bad before after bytes number reading bad; is_taken = h.1 }, h.2))
@@ -67,7 +67,7 @@ bad_line_printed P (Some before) None old new bytes number Failed reading bad to
 bad_line_printed P None after old new bytes number Failed reading bad took = tt
 
 -- A script that was read, with no failure, is played or lacks memory.
-pub completes : (why : Failure) (left : Option (List ℕ)) (source sink : Counted) → HasCause why source sink → OnTold left (λ script. IsChecked script (Err why))
+pub completes : (why : Failure) (left : Option (List ℕ)) (source sink : Counted) → HasReason why source sink → OnTold left (λ script. IsChecked script (Err why))
     → OnTold left (λ script. (content : Content) → IsScript script content → ¬ (Rose source.before source.after) → ¬ (Rose sink.before sink.after) → (status_of why ≡ 0) ⊎ (status_of why ≡ 51))
 completes Memory (Some script) source sink cause checked = λ content is calm quiet. inr refl
 completes Output (Some script) source sink cause checked = λ content is calm quiet. absurd (quiet cause)

@@ -1,10 +1,10 @@
 // The command `play`: reads a script, checks it and plays it.
-ghost use Rattle.std.specs.Prelude.{◌≡◌, ◌≢◌, ◌⊎◌, ◌++◌, ◌∷◌, [], List, ℕ, IsOk, IfOk, IfErr, OnOk, Contains, Err, length, ◌<◌};
+ghost use Rattle.std.specs.Prelude.{◌≡◌, ◌≢◌, ◌⊎◌, ◌++◌, ◌∷◌, [], List, ℕ, true, IsOk, IfOk, IfErr, OnOk, Contains, Err, length, ◌<◌};
 ghost use Rattle.mail_bytes.specs.Told.{Rose, Meets, OnTold};
 ghost use Rattle.scenario.specs.Contents.{Content};
 ghost use Rattle.scenario.specs.Lines.{IsScript, IsRefused, most_bytes};
 ghost use Rattle.scenario.specs.Text.{Prints, BeginsAtMost, IsFrontAtMost, PrintsBadLine};
-ghost use Rattle.qmail_top.specs.Command.{IsReading, IsChecked, HasCause, IsBeforeOutput, status_of};
+ghost use Rattle.qmail_top.specs.Command.{IsReading, IsChecked, IsPrintedAtEnd, HasReason, NoneFailed, IsBeforeOutput, status_of};
 
 use crate::refusing::refuse;
 use crate::status::{DONE, INPUT, MALFORMED, MEMORY, OUTPUT};
@@ -17,6 +17,8 @@ pub fn play_script<M: Source, O: Sink>(alloc: Global, message: &mut M, out: &mut
     // the causes of the statuses
     ensures input { result ≡ INPUT → Rose (M.faults message.old) (M.faults message.new) }
     ensures output { result ≡ OUTPUT → Rose (O.faults out.old) (O.faults out.new) }
+    ensures unfailed { result ≡ MEMORY → NoneFailed (record { before = M.faults message.old; after = M.faults message.new })
+        (record { before = O.faults out.old; after = O.faults out.new }) }
     ensures malformed { OnTold (M.left message.old) (λ script. result ≡ MALFORMED → IsRefused script) }
     ensures checked { OnTold (M.left message.old) (λ script. (result ≡ DONE) ⊎ (result ≡ OUTPUT) → ¬ (IsRefused script)) }
     ensures known { Contains (DONE ∷ MEMORY ∷ OUTPUT ∷ INPUT ∷ MALFORMED ∷ []) result }
@@ -35,7 +37,9 @@ pub fn play_script<M: Source, O: Sink>(alloc: Global, message: &mut M, out: &mut
         × (after ≡ before ++ text))) }
     ensures reached { Meets (M.left message.old) (M.left message.new) (λ script rest. rest ≢ []
         → (out.new ≡ out.old) ⊎ ((result ≡ MALFORMED) × (most_bytes < length script))) }
+    ensures unended { IsPrintedAtEnd (M.ended message.new) (out.new ≡ out.old) (result ≡ MALFORMED) (M.left message.old) }
     ensures ended { Meets (M.left message.old) (M.left message.new) (λ script rest. result ≡ DONE → rest ≡ []) }
+    ensures told_end { result ≡ DONE → OnTold (M.ended message.new) (λ is. is ≡ true) }
     ensures unwritten { result ≡ INPUT → out.new ≡ out.old }
 {
     match play_message(alloc, message, out) {
@@ -47,7 +51,7 @@ pub fn play_script<M: Source, O: Sink>(alloc: Global, message: &mut M, out: &mut
 /// Why a command didn't do all its work.
 #[derive(Clone, Copy)]
 enum Failure {
-    /// Want of memory.
+    /// Out of memory.
     Memory,
     /// The output failed.
     Output,
@@ -97,8 +101,10 @@ fn play_message<M: Source, O: Sink>(
         × (after ≡ before ++ text))) }
     ensures reached { Meets (M.left message.old) (M.left message.new) (λ script rest. rest ≢ []
         → (out.new ≡ out.old) ⊎ ((result ≡ Err Failure.Malformed) × (most_bytes < length script))) }
+    ensures unended { IsPrintedAtEnd (M.ended message.new) (out.new ≡ out.old) (result ≡ Err Failure.Malformed) (M.left message.old) }
     ensures ended { Meets (M.left message.old) (M.left message.new) (λ script rest. IsOk result → rest ≡ []) }
-    ensures cause { IfErr result (λ why. HasCause why (record { before = M.faults message.old; after = M.faults message.new })
+    ensures told_end { OnOk result (OnTold (M.ended message.new) (λ is. is ≡ true)) }
+    ensures cause { IfErr result (λ why. HasReason why (record { before = M.faults message.old; after = M.faults message.new })
         (record { before = O.faults out.old; after = O.faults out.new })) }
     ensures unwritten { IfErr result (λ why. IsBeforeOutput why → out.new ≡ out.old) }
     ensures checked { OnTold (M.left message.old) (λ bytes. IsChecked bytes result) }
@@ -124,7 +130,10 @@ fn read_whole<M: Source>(alloc: Global, message: &mut M) -> Result<Vec<u8>, Fail
     ensures tells { Meets (M.left message.old) (M.left message.new)
         (λ before after. (front : List ℕ) × (before ≡ front ++ after)) }
     ensures read { IfOk result (λ bytes. Meets (M.left message.old) (M.left message.new) (λ before after. IsReading before after bytes.items)) }
-    ensures cause { IfErr result (λ why. (why ≡ Failure.Memory) ⊎ ((why ≡ Failure.Input) × Rose (M.faults message.old) (M.faults message.new))) }
+    ensures told_end { IfOk result (λ bytes. (most_bytes < length bytes.items) ⊎ OnTold (M.ended message.new) (λ is. is ≡ true)) }
+    ensures unfailed { OnOk result (M.faults message.new ≡ M.faults message.old) }
+    ensures cause { IfErr result (λ why. ((why ≡ Failure.Memory) × (M.faults message.new ≡ M.faults message.old))
+        ⊎ ((why ≡ Failure.Input) × Rose (M.faults message.old) (M.faults message.new))) }
 {
     let mut bytes = Vec::new(alloc);
     let mut piece = [0; 8192];

@@ -1,15 +1,15 @@
-//! Exit statuses; where qmail-queue(8) has one for the same cause, it is that.
+//! Exit statuses; if qmail-queue(8) has one for the same cause, it is that.
 
 /// All was done.
 pub const DONE: u8 = 0;
 
-/// Want of memory.
+/// Out of memory.
 pub const MEMORY: u8 = 51;
 
 /// An output failed.
 pub const OUTPUT: u8 = 53;
 
-/// An input failed.
+/// An input failed, or a queue couldn't be looked at.
 pub const INPUT: u8 = 54;
 
 /// The input is malformed.

@@ -1,16 +1,19 @@
 // The one public call.
-ghost use Rattle.std.specs.Prelude.{◌≡◌, ◌≢◌, ◌⊎◌, ◌++◌, ◌∷◌, [], List, ℕ, Contains, None, length, ◌<◌, map, string_bytes};
+ghost use Rattle.std.specs.Prelude.{◌≡◌, ◌≢◌, ◌⊎◌, ◌++◌, ◌∷◌, [], List, ℕ, true, Contains, None, length, ◌<◌, map, string_bytes};
 ghost use Rattle.mail_bytes.specs.Told.{Rose, Meets, OnTold};
 ghost use Rattle.command_words.specs.declared.command.QueueWords.{QueueWords as Wanted};
 ghost use Rattle.command_words.specs.Reads.{IsNoCommand};
 ghost use Rattle.scenario.specs.Contents.{Content};
 ghost use Rattle.scenario.specs.Lines.{IsScript, IsRefused, most_bytes};
-ghost use Rattle.scenario.specs.Text.{Prints, IsFrontAtMost, IsTaken, PrintsBadLine};
-ghost use Rattle.qmail_top.specs.Command.{IsPlay, IsQueue, HasQueued, usage_line};
+ghost use Rattle.scenario.specs.Text.{Prints, IsFrontAtMost, IsTakenText, PrintsBadLine};
+ghost use Rattle.audit_command.specs.Audited.{HasAudited};
+ghost use Rattle.qmail_top.specs.Command.{IsPlay, IsPrintedAtEnd, IsQueue, IsAudit, IsClean, HasRunQueue, NoneFailed, WasCleaned, usage_line};
 
 use crate::play_command::play_script;
 use crate::status::{DONE, INPUT, MALFORMED, MEMORY, OUTPUT, USAGE};
+use audit_command::print_audit;
 use call_fs::CallFs;
+use clean_command::clean;
 use command_words::{Command, QueueWords, WordsError, read_words};
 use outside::{Clock, Gate, Posts, Sink, Source, Spawner};
 use queue_command::{Form, inject};
@@ -20,11 +23,19 @@ use std::alloc::Global;
 /// Does what the words after the program's name say, and answers the exit status.
 ///
 /// `play` reads a script whole from `message`, checks it whole and plays it over a disk in memory; `out` gets what it
-/// prints. 0: done. 51: want of memory. 53: `out` failed. 54: `message` failed. 91: a line isn't in the grammar, or the
+/// prints. 0: done. 51: out of memory. 53: `out` failed. 54: `message` failed. 91: a line isn't in the grammar, or the
 /// script has over 16,777,216 bytes; `out` gets `script K`, whether it takes it or not.
 ///
-/// `queue` injects the message that `message` gives, for the envelope that `envelope` gives, or where its word is `-` as
+/// `queue` injects the message that `message` gives, for the envelope that `envelope` gives, or if its word is `-` as
 /// the second netstring of `message`, into the queue on `disk`; its exit statuses are those of qmail-queue(8).
+///
+/// `audit` prints what the queue on `disk` holds to `out`: `pid COUNT`, then each number that has a file with its state, a
+/// line each. 0: all was printed. 51: out of memory. 53: `out` failed. 54: `disk` failed, or a directory of the queue is
+/// missing. It only searches for names.
+///
+/// `clean` runs the cleaner over the queue on `disk`, with commands from `message`; `out` gets a byte for each. It goes on
+/// as long as `message` does. 0: `message` ended. 51: out of memory, before anything was done. 53: `out` failed. 54:
+/// `message` failed. It is the program of qmail-clean(8).
 ///
 /// Other words write the line `usage` to `log`, with exit status 100. What a command doesn't use stays untouched.
 pub fn qmail<
@@ -52,26 +63,42 @@ pub fn qmail<
     spawn: &mut S,
     gate: &G,
 ) -> u8
-    // 100 exactly where the words are no command, want of memory aside
+    // 100 exactly if the words are no command, unless memory runs out
     ensures usage { result ≡ USAGE → IsNoCommand (map string_bytes words.now) }
     ensures no_command { IsNoCommand (map string_bytes words.now) → (result ≡ USAGE) ⊎ (result ≡ MEMORY) }
 
-    // then the log took the line `usage`, or a front of it where it failed
+    // then the log took the line `usage`, or a prefix of it if it failed
     ensures usage_line { result ≡ USAGE → Meets (L.taken log.old) (L.taken log.new)
-        (λ before after. (text : List ℕ) × IsTaken usage_line text (Rose (L.faults log.old) (L.faults log.new))
+        (λ before after. (text : List ℕ) × IsTakenText usage_line text (Rose (L.faults log.old) (L.faults log.new))
         × (after ≡ before ++ text)) }
 
     // `queue`: each file call, each reading of the clock, and why it ended so
-    ensures queue { (q : Wanted) → IsQueue words.now q → HasQueued q (K.pid clock.old)
+    ensures queue { (q : Wanted) → IsQueue words.now q → HasRunQueue q (K.pid clock.old)
         (record { old = M.left message.old; new = M.left message.new; faults_old = M.faults message.old; faults_new = M.faults message.new })
         (record { old = E.left envelope.old; new = E.left envelope.new; faults_old = E.faults envelope.old; faults_new = E.faults envelope.new })
         (record { disk = D.disk disk.old; calls = D.calls disk.old; faults = D.faults disk.old; moments = K.calls clock.old })
         (record { disk = D.disk disk.new; calls = D.calls disk.new; faults = D.faults disk.new; moments = K.calls clock.new })
         result }
 
+    // `audit`: what it does to the disk, what it prints, and the causes of the statuses
+    ensures audit { IsAudit words.now → HasAudited
+        (record { disk = D.disk disk.old; calls = D.calls disk.old; faults = D.faults disk.old })
+        (record { disk = D.disk disk.new; calls = D.calls disk.new; faults = D.faults disk.new })
+        (record { old = O.taken out.old; new = O.taken out.new; faults_old = O.faults out.old; faults_new = O.faults out.new })
+        result }
+    ensures unaudited { IsAudit words.now → (result ≡ MEMORY) ⊎ (result ≡ INPUT) → out.new ≡ out.old }
+
+    // `clean`: each file call, each reading of the clock, what it took and gave, and why it ended so
+    ensures clean { IsClean words.now → WasCleaned
+        (record { disk = D.disk disk.old; calls = D.calls disk.old; disk_faults = D.faults disk.old; moments = K.calls clock.old; last = K.last clock.old; left = M.left message.old; input_faults = M.faults message.old; taken = O.taken out.old; output_faults = O.faults out.old })
+        (record { disk = D.disk disk.new; calls = D.calls disk.new; disk_faults = D.faults disk.new; moments = K.calls clock.new; last = K.last clock.new; left = M.left message.new; input_faults = M.faults message.new; taken = O.taken out.new; output_faults = O.faults out.new })
+        result }
+
     // `play`: the causes of the statuses
     ensures input { IsPlay words.now → result ≡ INPUT → Rose (M.faults message.old) (M.faults message.new) }
     ensures output { IsPlay words.now → result ≡ OUTPUT → Rose (O.faults out.old) (O.faults out.new) }
+    ensures unfailed { IsPlay words.now → result ≡ MEMORY → NoneFailed
+        (record { before = M.faults message.old; after = M.faults message.new }) (record { before = O.faults out.old; after = O.faults out.new }) }
     ensures malformed { IsPlay words.now → OnTold (M.left message.old) (λ script. result ≡ MALFORMED → IsRefused script) }
     ensures checked { IsPlay words.now → OnTold (M.left message.old)
         (λ script. (result ≡ DONE) ⊎ (result ≡ OUTPUT) → ¬ (IsRefused script)) }
@@ -80,7 +107,7 @@ pub fn qmail<
         → ¬ (Rose (M.faults message.old) (M.faults message.new)) → ¬ (Rose (O.faults out.old) (O.faults out.new))
         → (result ≡ DONE) ⊎ (result ≡ MEMORY)) }
 
-    // What `play` prints: the text of the script, whose history is legal, and safe at each prefix; or a front of that text;
+    // What `play` prints: the text of the script, whose history is legal, and safe at each prefix; or a prefix of that text;
     // or the number of the first bad line; and nothing before the script was read to its end, or is too long.
     ensures prints { IsPlay words.now → OnTold (M.left message.old) (λ script. result ≡ DONE
         → Meets (O.taken out.old) (O.taken out.new)
@@ -95,25 +122,33 @@ pub fn qmail<
     ensures reached { IsPlay words.now → Meets (M.left message.old) (M.left message.new) (λ script rest. rest ≢ []
         → (out.new ≡ out.old) ⊎ ((result ≡ MALFORMED) × (most_bytes < length script))) }
 
+    // the same if the source tells whether it has ended, also if it has no more bytes to give
+    ensures unended { IsPlay words.now → IsPrintedAtEnd (M.ended message.new) (out.new ≡ out.old) (result ≡ MALFORMED) (M.left message.old) }
+
     // 0 of `play` says that the script was read to its end
     ensures ended { IsPlay words.now → Meets (M.left message.old) (M.left message.new)
         (λ script rest. result ≡ DONE → rest ≡ []) }
+    ensures told_end { IsPlay words.now → result ≡ DONE → OnTold (M.ended message.new) (λ is. is ≡ true) }
 
     // what stays untouched
-    ensures unread { IsNoCommand (map string_bytes words.now) → message.new ≡ message.old }
+    ensures unread { IsNoCommand (map string_bytes words.now) ⊎ IsAudit words.now → message.new ≡ message.old }
     ensures unwritten { IsNoCommand (map string_bytes words.now) ⊎ (IsPlay words.now × (result ≡ INPUT)) → out.new ≡ out.old }
     ensures unprinted { (q : Wanted) → IsQueue words.now q → out.new ≡ out.old }
     ensures unlogged { result ≢ USAGE → log.new ≡ log.old }
     ensures disk { IsNoCommand (map string_bytes words.now) ⊎ IsPlay words.now → disk.new ≡ disk.old }
-    ensures envelope { IsNoCommand (map string_bytes words.now) ⊎ IsPlay words.now → envelope.new ≡ envelope.old }
+    ensures envelope { IsNoCommand (map string_bytes words.now) ⊎ (IsPlay words.now ⊎ (IsAudit words.now ⊎ IsClean words.now))
+        → envelope.new ≡ envelope.old }
     ensures beside { (q : Wanted) → IsQueue words.now q → q.env ≡ None → envelope.new ≡ envelope.old }
-    ensures clock { IsNoCommand (map string_bytes words.now) ⊎ IsPlay words.now → clock.new ≡ clock.old }
+    ensures clock { IsNoCommand (map string_bytes words.now) ⊎ (IsPlay words.now ⊎ IsAudit words.now)
+        → clock.new ≡ clock.old }
     ensures posts { posts.new ≡ posts.old }
     ensures spawn { spawn.new ≡ spawn.old }
 {
     match read_words(alloc, words) {
         Ok(Command::Play) => play_script(alloc, message, out),
         Ok(Command::Queue(queue)) => queue_message(alloc, queue, disk, message, envelope, clock),
+        Ok(Command::Audit(_)) => print_audit(alloc, disk, out),
+        Ok(Command::Clean(_)) => clean(alloc, disk, message, out, clock),
         Err(WordsError::Usage) => {
             let _ = log.give(b"usage\n");
             USAGE
@@ -131,7 +166,7 @@ fn queue_message<D: CallFs, M: Source, E: Source, K: Clock>(
     envelope: &mut E,
     clock: &mut K,
 ) -> u8
-    ensures queued { HasQueued queue (K.pid clock.old)
+    ensures queued { HasRunQueue queue (K.pid clock.old)
         (record { old = M.left message.old; new = M.left message.new; faults_old = M.faults message.old; faults_new = M.faults message.new })
         (record { old = E.left envelope.old; new = E.left envelope.new; faults_old = E.faults envelope.old; faults_new = E.faults envelope.new })
         (record { disk = D.disk disk.old; calls = D.calls disk.old; faults = D.faults disk.old; moments = K.calls clock.old })

@@ -4,7 +4,8 @@ use Rattle.std.proofs.lemmas.Bool.{ltb-true, leb-true}
 use Rattle.call_fs.specs.declared.calls.Answer.{Answer}
 use Rattle.call_fs.specs.declared.calls.Answer.TheVariants as told
 use Rattle.call_fs.specs.declared.calls.FsError.TheVariants.{NotThere, Exists}
-use Rattle.call_fs.specs.Program.{Due}
+use Rattle.call_fs.specs.declared.past.NeedData.{NeedData}
+use Rattle.call_fs.specs.declared.past.NeedData.TheVariants as needs
 use Rattle.queue_inject.specs.declared.row.Row.{Row}
 use Rattle.queue_inject.specs.declared.row.Row.TheVariants as at
 use Rattle.queue_inject.specs.Table.{Work, past_piece, in_message, in_todo, piece_size, settled, goes_to, asked}
@@ -60,8 +61,8 @@ in_todo_below work n fd done bound h =
     (λ more. (more, h)) (tt, omega arith) (λ status. (tt, omega arith))
 
 -- it asks for a call
-abbrev pub IsFile : Due → Type 0
-IsFile (Due.File call) = Unit {0}
+abbrev pub IsFile : NeedData → Type 0
+IsFile (needs.File call) = Unit {0}
 IsFile other = ⊥
 
 -- an answer leads nearer to the end

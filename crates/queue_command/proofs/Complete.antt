@@ -19,8 +19,11 @@ use Rattle.call_fs.specs.declared.calls.Answer.TheVariants.{Created, Done, Refus
 use Rattle.call_fs.specs.Disk.{Disk, dir_of}
 use Rattle.call_fs.specs.Apply.{Apply, Fits, effect}
 use Rattle.mail_bytes.specs.Told.{Meets}
-use Rattle.call_fs.specs.Program.{Due, Did, Own}
-use Rattle.call_fs.specs.Program.Did.{Called}
+use Rattle.call_fs.specs.declared.calls.Told.{Told}
+use Rattle.call_fs.specs.declared.past.GotData.TheVariants.{Answered}
+use Rattle.call_fs.specs.declared.past.NeedData.{NeedData}
+use Rattle.call_fs.specs.declared.past.NeedData.TheVariants as needs
+use Rattle.call_fs.specs.declared.past.Own.{Own}
 use Rattle.envelope_records.specs.Envelope.{Reading}
 use Rattle.envelope_records.proofs.Envelopes.{read_whole}
 use Rattle.queue_paths.specs.Names.{path}
@@ -29,13 +32,15 @@ use Rattle.queue_inject.specs.declared.injection.Arguments.{Arguments}
 use Rattle.queue_inject.specs.declared.row.Row.{Row}
 use Rattle.queue_inject.specs.declared.row.Row.TheVariants as at
 use Rattle.queue_inject.specs.Texts.{Text, limit, message_end, envelope_text, message_text, intd_text, envelope_of}
-use Rattle.queue_inject.specs.Table.{work_of, piece_size, in_message, in_todo, settled, moved, row_after, after_own, call_of}
+use Rattle.queue_inject.specs.Table.{work_of, piece_size, in_message, in_todo, settled, moved, row_after, after_came, call_of}
 use Rattle.queue_inject.proofs.Pieces.{either, past_by}
+use Rattle.queue_inject.proofs.Asks.{call_at_due}
 use Rattle.queue_inject.proofs.Runs.{timely}
-use Rattle.queue_inject.specs.Run.{IsDue, IsRun, HoldsOf, HasCall}
+use Rattle.queue_inject.specs.Run.{IsDue, IsRun}
+use Rattle.call_fs.specs.Past.{HoldsOf, HasCall}
 use Rattle.queue_inject.specs.Causes.{first_fault, pid_name, IsTry, IsTaken, IsFailure, IsCausedBy}
 use Rattle.queue_inject.proofs.Failures.{pid_is_no_part}
-use Rattle.queue_command.specs.Runs.{LeadsTo, Makes, IsFault}
+use Rattle.call_fs.specs.Past.{LeadsTo, Makes, IsFault}
 use Rattle.queue_command.specs.Injected.{IsHomeless, HasPidName, IsOutOfPlace, MayBeQueued}
 
 -- The pid names lie in one directory
@@ -88,7 +93,7 @@ module _ (first last : Disk) where
       past_by (Still first last) text.bytes text.fault done (at.AppendTodo n (record { 0 = fd }) done) (at.SyncTodo n (record { 0 = fd })) (λ status. at.CleanIntd n status) tt tt (λ status. tt)
 
 moves_still : (args : Arguments) (first mid last : Disk) (read : ℕ) (row : Row) (call : CallData) (answer : Answer)
-    → call_of args row ≡ Due.File call → Still first mid row → Apply mid read call answer last → Still first last (moved args row answer)
+    → call_of args row ≡ needs.File call → Still first mid row → Apply mid read call answer last → Still first last (moved args row answer)
 moves_still args first mid last read (at.Create k) call (Refused Exists) due here applied =
     let same : call ≡ CreateExcl (pid_name args k) = cc in
     either (λ row. Still first last (settled (work_of args) row)) (nat_lt k 9) (at.Create (k + 1)) (at.Failed 63)
@@ -104,18 +109,26 @@ moves_still args first mid last read (at.LinkTodo n) call Done due here applied 
 moves_still args first mid last read (at.CleanIntd n cause) call (Refused NotThere) due here applied = tt
 moves_still args first mid last read row call answer due here applied = tt
 
+-- what an event did to the disk that was a call with this answer
+made_call : (call : CallData) (told : Told) (before after : Disk) (event : Own) → event.due ≡ needs.File call → event.came ≡ Answered told
+    → Makes before event.read event.due event.came after → Makes before event.read (needs.File call) (Answered told) after
+made_call call told before after event due came made =
+    subst (λ c. Makes before event.read (needs.File call) c after) came (subst (λ d. Makes before event.read d event.came after) due made)
+
 still_at : (args : Arguments) (first last : Disk) (past : List Own) → IsRun args past → LeadsTo first past last → Still first last (row_after args past)
 still_at args first last [] run led = led
-still_at args first last (event ∷ before) (run, due) (mid, led, made) = newest (still_at args first mid before run led) event.did due made where
-  newest : Still first mid (row_after args before) → (did : Did) → IsDue args before event.read event.ready did → Makes mid event.read did last
-      → Still first last (after_own args (row_after args before) did)
-  newest here (Called call answer bytes) due made = moves_still args first mid last event.read (row_after args before) call answer (timely _ _ _ call due.0) here made.0
+still_at args first last (event ∷ before) (run, due) (mid, led, made) =
+    let c = call_at_due args before event due in
+    let here = still_at args first mid before run led in
+    let did : Makes mid event.read (needs.File c.call) (Answered c.told) last = made_call c.call c.told mid last event c.due c.came made in
+    subst (λ came. Still first last (after_came args (row_after args before) came)) (sym c.came)
+    (moves_still args first mid last event.read (row_after args before) c.call c.told.answer (timely _ _ _ c.call c.next) here did.0)
 
 -- a pid name is tried on the first disk
-tried_first : (args : Arguments) (first mid : Disk) (row : Row) (k : ℕ) → call_of args row ≡ Due.File (CreateExcl (pid_name args k)) → Still first mid row → mid ≡ first
+tried_first : (args : Arguments) (first mid : Disk) (row : Row) (k : ℕ) → call_of args row ≡ needs.File (CreateExcl (pid_name args k)) → Still first mid row → mid ≡ first
 tried_first args first mid (at.Create i) k due here = here
 tried_first args first mid (at.CreateIntd n) k due here = absurd (pid_is_no_part args k n Intd (created _ _ (sym due))) where
-  created : (a b : List ℕ) → ◌≡◌ {A = Due} (Due.File (CreateExcl a)) (Due.File (CreateExcl b)) → a ≡ b
+  created : (a b : List ℕ) → ◌≡◌ {A = NeedData} (needs.File (CreateExcl a)) (needs.File (CreateExcl b)) → a ≡ b
   created a b e = cc
 tried_first args first mid row k due here = absurd (cc)
 
@@ -125,16 +138,16 @@ module _ (args : Arguments) (first : Disk) (P : CallData → Answer → Type 0) 
     → (k : ℕ) × (why : FsError) × (call ≡ CreateExcl (pid_name args k)) × (answer ≡ Refused why) × ((wrote : ℕ) → Fits first (CreateExcl (pid_name args k)) (Refused why) wrote → R)) where
   tells : (last : Disk) (past : List Own) → IsRun args past → LeadsTo first past last → HasCall past P → R
   tells last [] run led h = absurd h
-  tells last (event ∷ before) (run, due) (mid, led, made) h = ⊎_elim (newest event.did due made) (tells mid before run led) h where
-    newest : (did : Did) → IsDue args before event.read event.ready did → Makes mid event.read did last → HoldsOf P did → R
-    newest (Called call answer bytes) due made h =
-        let t = by call answer h in
-        let same : mid ≡ first = tried_first args first mid (row_after args before) t.0 (timely _ _ _ call due.0 ∙ ap Due.File t.2) (still_at args first mid before run led) in
-        let applied = made.0 in
+  tells last (event ∷ before) (run, due) (mid, led, made) h = ⊎_elim newest (tells mid before run led) h where
+    newest : HoldsOf P event → R
+    newest h =
+        let t = by h.call h.told.answer h.holds in
+        let same : mid ≡ first = tried_first args first mid (row_after args before) t.0 (timely _ _ _ h.call (due.0 ∙ h.due) ∙ ap needs.File t.2) (still_at args first mid before run led) in
+        let applied = (made_call h.call h.told mid last event h.due h.came made).0 in
         t.4 applied.0
         (subst (λ d. Fits d (CreateExcl (pid_name args t.0)) (Refused t.1) applied.0) same
         (subst (λ a. Fits mid (CreateExcl (pid_name args t.0)) a applied.0) t.3
-        (subst (λ c. Fits mid c answer applied.0) t.2 applied.1)))
+        (subst (λ c. Fits mid c h.told.answer applied.0) t.2 applied.1)))
 
 -- No try fails where a pid name is free
 
@@ -173,12 +186,18 @@ none_fails : (args : Arguments) (past : List Own)
     → ¬ (HasCall past (λ call answer. IsFailure args call answer × (answer ≢ Refused Memory)))
 none_fails args [] calm placed home free h = h
 none_fails args (event ∷ before) calm placed home free h = ⊎_elim
-    (newest event.did (λ x. calm (inl x)) (λ x. placed (inl x)) (λ x. home (inl x)) (λ x. free (inl x)))
+    newest
     (none_fails args before (λ x. calm (inr x)) (λ x. placed (inr x)) (λ x. home (inr x)) (λ x. free (inr x)))
     h where
-      newest : (did : Did) → ¬ (HoldsOf IsFault did) → ¬ (HoldsOf (IsOutOfPlace args) did) → ¬ (HoldsOf (IsHomeless args) did) → ¬ (HoldsOf (IsTaken args 9) did)
-          → ¬ (HoldsOf (λ call answer. IsFailure args call answer × (answer ≢ Refused Memory)) did)
-      newest (Called call answer bytes) calm placed home free (failure, other) = fails_none args call answer failure.why failure.refused failure other calm placed home free
+      held : (h : HoldsOf (λ call answer. IsFailure args call answer × (answer ≢ Refused Memory)) event) → (P : CallData → Answer → Type 0) → P h.call h.told.answer → HoldsOf P event
+      held h P p = record { call = h.call; told = h.told; due = h.due; came = h.came; holds = p }
+
+      newest : ¬ (HoldsOf (λ call answer. IsFailure args call answer × (answer ≢ Refused Memory)) event)
+      newest h = fails_none args h.call h.told.answer h.holds.0.why h.holds.0.refused h.holds.0 h.holds.1
+          (λ x. calm (inl (held h IsFault x)))
+          (λ x. placed (inl (held h (IsOutOfPlace args) x)))
+          (λ x. home (inl (held h (IsHomeless args) x)))
+          (λ x. free (inl (held h (IsTaken args 9) x)))
 
 -- The input has no fault
 

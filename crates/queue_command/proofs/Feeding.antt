@@ -1,7 +1,7 @@
 -- An injector that is fed its arguments' input as it goes.
 use Rattle.std.proofs.Common.{◌≡◌, ℕ, ◌+◌, ◌-◌, ◌≤◌, min, List, length, take, drop, Bool, true, false, Option, Some, None, refl, sym, ap, ◌∙◌, subst, arith, length-drop, drop_of_length-le}
 use Rattle.std.proofs.lemmas.List.{take_all, take-append-drop}
-use Rattle.call_fs.specs.Program.{Own}
+use Rattle.call_fs.specs.declared.past.Own.{Own}
 use Rattle.queue_inject.specs.declared.injection.Arguments.{Arguments}
 use Rattle.queue_inject.specs.declared.injection.InputEnd.{InputEnd}
 use Rattle.queue_inject.specs.declared.row.Row.{Row}

@@ -5,7 +5,7 @@ use Rattle.call_fs.specs.declared.calls.CallData.TheVariants as call
 use Rattle.call_fs.specs.declared.calls.Answer.{Answer}
 use Rattle.call_fs.specs.declared.calls.Answer.TheVariants as told
 use Rattle.call_fs.specs.declared.calls.Recorded.{Recorded}
-use Rattle.call_fs.specs.Calls.{bytes_read, entry_with}
+use Rattle.call_fs.specs.Calls.{bytes_read, entry, entry_with, without_bytes}
 use Rattle.call_fs.specs.Columns.{IsAnswerTo}
 use Rattle.call_fs.specs.Disk.{Disk}
 use Rattle.mail_bytes.specs.Moments.{IsMoment}
@@ -13,16 +13,21 @@ use Rattle.call_fs.specs.Apply.{Apply, effect, MayCall}
 use Rattle.call_fs.specs.Told.{AnswerHasCause}
 use Rattle.mail_bytes.specs.Told.{Meets, OnTold, Records, Rose}
 use Rattle.call_fs.specs.declared.program.Ready.{Ready}
-use Rattle.call_fs.specs.Program.{Due, Own, due_of}
-use Rattle.call_fs.specs.Program.Did.{Called}
+use Rattle.call_fs.specs.declared.past.GotData.TheVariants.{Answered}
+use Rattle.call_fs.specs.declared.past.NeedData.{NeedData}
+use Rattle.call_fs.specs.declared.past.NeedData.TheVariants as needs
+use Rattle.call_fs.specs.declared.past.Own.{Own}
+use Rattle.call_fs.specs.Program.{due_of}
 use Rattle.queue_inject.specs.declared.injection.Arguments.{Arguments}
 use Rattle.queue_inject.specs.declared.row.Row.{Row}
 use Rattle.call_fs.specs.declared.program.Need.{Need}
 use Rattle.queue_inject.specs.Table.{Next, row_after, call_of, work_of, settled, is_late}
-use Rattle.queue_inject.specs.Machine.{Machine}
+use Rattle.queue_inject.specs.Machine.{Machine, due_now}
 use Rattle.queue_inject.specs.Stands.{Stands}
 use Rattle.queue_inject.proofs.Runs.{timely}
-use Rattle.queue_inject.specs.Run.{IsRun, HasCall}
+use Rattle.queue_inject.specs.Run.{IsRun}
+use Rattle.call_fs.specs.Past.{HasCall, HoldsOf}
+use Rattle.call_fs.specs.declared.calls.FsError.TheVariants.{Fault}
 use Rattle.mail_world.specs.declared.event.Program.TheVariants.{Injector}
 use Rattle.mail_world.specs.History.{held_by}
 use Rattle.mail_world.specs.World.{input_ready}
@@ -30,7 +35,8 @@ use Rattle.mail_world.specs.Inside.{HasNeeds}
 use Rattle.mail_world.proofs.Opens.{IsPlain, IsAct, MayDo, Opens, opens_by, has_made, needs_stay, needs_move, needs_none, next_may, next_act}
 use Rattle.mail_world.proofs.Histories.{reads_none}
 use Rattle.mem_fs.proofs.InTurn.{told_weaker, told_then}
-use Rattle.queue_command.specs.Runs.{Outside, AreKept, kept_as, calls_of, moments_of, LeadsTo, Makes, FindsInput, latest_from, InOrder, IsFault, HasRun}
+use Rattle.call_fs.specs.Past.{kept_as, calls_of, moments_of, LeadsTo, Makes, latest_from, InOrder, IsFault}
+use Rattle.queue_command.specs.Runs.{Outside, AreKept, FindsInput, HasRun}
 use Rattle.queue_command.proofs.Ahead.{ahead, HasMore, IsFile, falls}
 
 -- what its calls need is open, in somebody's hands
@@ -94,7 +100,7 @@ no_bytes (call.NextName dir after) (told.Count n) into plain kind = absurd kind
 
 -- The next call
 
-module _ (args : Arguments) (past : List Own) (now : ℕ) (c : CallData) (due : Next args past now input_ready ≡ Due.File c) where
+module _ (args : Arguments) (past : List Own) (now : ℕ) (c : CallData) (due : Next args past now input_ready ≡ needs.File c) where
   pub is_plain : IsPlain c
   is_plain = subst IsAct due (next_act (Injector args) past now)
 
@@ -102,12 +108,12 @@ module _ (args : Arguments) (past : List Own) (now : ℕ) (c : CallData) (due : 
   may_call None opens = tt
   may_call (Some d) opens = (subst (MayDo d) due (next_may d opens.0 [] (Injector args) past now input_ready opens.1)).0
 
-  its_call : call_of args (row_after args past) ≡ Due.File c
+  its_call : call_of args (row_after args past) ≡ needs.File c
   its_call = timely true (is_late args now) (call_of args (row_after args past)) c due
 
   module _ (answer : Answer) where
     abbrev with_event : List Own
-    with_event = record { read = now; ready = input_ready; did = Called c answer [] } ∷ past
+    with_event = record { read = now; ready = input_ready; due = needs.File c; came = Answered (without_bytes answer) } ∷ past
 
     pub more_still : HasMore (work_of args) (row_after args past) → HasMore (work_of args) (row_after args with_event)
     more_still more = (falls (work_of args) (row_after args past) answer (subst IsFile (sym its_call) tt) more).0
@@ -138,7 +144,7 @@ module _ (args : Arguments) (past : List Own) (now : ℕ) (c : CallData) (due : 
 
     pub leads_on : (a b n : Option Disk) → Meets a b (λ d e. LeadsTo d past e) → Meets b n (λ d e. Apply d now c answer e) → Meets a n (λ d e. LeadsTo d with_event e)
     leads_on a b n led made =
-        told_then (λ d e. LeadsTo d past e) (λ d e. Makes d now (Called c answer []) e) a b n led
+        told_then (λ d e. LeadsTo d past e) (λ d e. Makes d now (needs.File c) (Answered (without_bytes answer)) e) a b n led
         (told_weaker b n (λ d e applied. (applied, reads_none d c answer is_plain)) made)
 
 -- What a machine that looked asks for, and what it is told
@@ -147,10 +153,11 @@ module _ (args : Arguments) (was k : Machine) where
   asks past now r looked is =
       is ∙ ap (λ n. Next args past n k.ready) (ap (λ (m : Machine). m.present) looked) ∙ ap (λ (x : Ready). Next args past now x) (ap (λ (m : Machine). m.ready) looked)
 
-  pub answered : (n : Machine) (past : List Own) (now : ℕ) (c : CallData) (answer : Answer) → k ≡ record was { present = now; ready = input_ready }
-      → Stands n args ((record { read = k.present; ready = k.ready; did = Called c answer [] }) ∷ past) → Stands n args ((record { read = now; ready = input_ready; did = Called c answer [] }) ∷ past)
-  answered n past now c answer looked =
-      subst (λ (m : Machine). Stands n args ((record { read = m.present; ready = m.ready; did = Called c answer [] }) ∷ past)) looked
+  pub answered : (n : Machine) (past : List Own) (now : ℕ) (c : CallData) (answer : Answer) → k ≡ record was { present = now; ready = input_ready } → due_now k ≡ needs.File c
+      → Stands n args ((record { read = k.present; ready = k.ready; due = due_now k; came = Answered (without_bytes answer) }) ∷ past) → Stands n args ((record { read = now; ready = input_ready; due = needs.File c; came = Answered (without_bytes answer) }) ∷ past)
+  answered n past now c answer looked due s =
+      subst (λ (m : Machine). Stands n args ((record { read = m.present; ready = m.ready; due = needs.File c; came = Answered (without_bytes answer) }) ∷ past)) looked
+      (subst (λ (d : NeedData). Stands n args ((record { read = k.present; ready = k.ready; due = d; came = Answered (without_bytes answer) }) ∷ past)) due s)
 
 -- Counts of failures
 
@@ -191,35 +198,43 @@ begins args m o last stands later = record {
   cause = λ h. absurd h;
 }
 
+-- a call that is said to have failed did
+fault_is : (now : ℕ) (c : CallData) (answer : Answer) → HoldsOf IsFault (record { read = now; ready = input_ready; due = needs.File c; came = Answered (without_bytes answer) })
+    → answer ≡ told.Refused Fault
+fault_is now c answer h = let came : Answered (without_bytes answer) ≡ Answered h.told = h.came in let same : answer ≡ h.told.answer = cc in same ∙ h.holds
+
+abbrev kept_call : CallData → Answer → List ℕ → Recorded
+kept_call c answer bytes = record { call = c; told = record { answer = answer; bytes = bytes } }
+
 -- after one call more
 pub goes_on : (args : Arguments) (m n : Machine) (old b a : Outside) (last now : ℕ) (c : CallData) (answer : Answer) (into : List ℕ) (r : IsRunning args m old b last)
-    → last ≤ now → IsMoment now → Next args r.past now input_ready ≡ Due.File c → IsAnswerTo c answer
-    → Stands n args ((record { read = now; ready = input_ready; did = Called c answer [] }) ∷ r.past)
+    → last ≤ now → IsMoment now → Next args r.past now input_ready ≡ needs.File c → IsAnswerTo c answer
+    → Stands n args ((record { read = now; ready = input_ready; due = needs.File c; came = Answered (without_bytes answer) }) ∷ r.past)
     → Records b.calls a.calls (entry_with c answer into) → Records b.moments a.moments now
     → Meets b.disk a.disk (λ d e. Apply d now c answer e) → AnswerHasCause b.faults a.faults answer
     → IsRunning args n old a now
 goes_on args m n old b a last now c answer into r later moment due kind stands called read made counted =
-    let entry : entry_with c answer into ≡ kept_as (Called c answer []) = ap (λ (bytes : List ℕ). kept_as (Called c answer bytes)) (no_bytes c answer into (is_plain args r.past now c due) kind) in
+    let same : entry_with c answer into ≡ entry c answer = ap (λ (bytes : List ℕ). kept_call c answer bytes) (no_bytes c answer into (is_plain args r.past now c due) kind) in
     record {
-      past = (record { read = now; ready = input_ready; did = Called c answer [] }) ∷ r.past;
+      past = (record { read = now; ready = input_ready; due = needs.File c; came = Answered (without_bytes answer) }) ∷ r.past;
       stands = stands;
       run = (r.run, (due, kind));
       more = more_still args r.past now c due answer r.more;
       ready = (refl, r.ready);
       in_order = (let h = r.later in omega arith, moment, r.in_order);
       later = omega arith;
-      calls = kept_more old.calls b.calls a.calls (calls_of r.past) _ r.calls (subst (λ (e : Recorded). Records b.calls a.calls e) entry called);
+      calls = kept_more old.calls b.calls a.calls (calls_of r.past) _ r.calls (subst (λ (e : Recorded). Records b.calls a.calls e) same called);
       moments = kept_more old.moments b.moments a.moments (moments_of r.past) now r.moments read;
       disk = leads_on args r.past now c due answer old.disk b.disk a.disk r.disk made;
       opens = opens_still args r.past now c due answer b.disk a.disk r.opens made;
       counts = let h = r.counts in let k = counted.later in omega arith;
-      cause = λ some. ⊎_elim (λ fault. rose_earlier old.faults b.faults a.faults r.counts (counted.rose fault))
+      cause = λ some. ⊎_elim (λ fault. rose_earlier old.faults b.faults a.faults r.counts (counted.rose (fault_is now c answer fault)))
           (λ before. rose_later old.faults b.faults a.faults (r.cause before) counted.later) some;
     }
 
 -- at its end
 pub ends : (args : Arguments) (m : Machine) (old b : Outside) (moments : Option (List ℕ)) (last now status : ℕ) (r : IsRunning args m old b last)
-    → last ≤ now → Next args r.past now input_ready ≡ Due.Ended status → Records b.moments moments now → HasRun args old (record b { moments = moments }) status
+    → last ≤ now → Next args r.past now input_ready ≡ needs.Ended status → Records b.moments moments now → HasRun args old (record b { moments = moments }) status
 ends args m old b moments last now status r later due read = record {
   past = r.past;
   last = now;

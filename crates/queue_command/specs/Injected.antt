@@ -7,17 +7,18 @@ use Rattle.call_fs.specs.declared.calls.Answer.{Answer}
 use Rattle.call_fs.specs.declared.calls.Answer.TheVariants.{Refused}
 use Rattle.call_fs.specs.Disk.{Disk, HasDir}
 use Rattle.mail_bytes.specs.Told.{Records}
-use Rattle.call_fs.specs.Program.{Own}
+use Rattle.call_fs.specs.declared.past.Own.{Own}
 use Rattle.envelope_records.specs.Envelope.{HasEnvelope}
 use Rattle.queue_inject.specs.declared.injection.Arguments.{Arguments}
 use Rattle.queue_inject.specs.declared.injection.InputEnd.TheVariants.{Whole}
 use Rattle.received_line.specs.declared.line.Invoked.{Invoked}
 use Rattle.queue_inject.specs.Texts.{limit}
-use Rattle.queue_inject.specs.Run.{HasCall}
+use Rattle.call_fs.specs.Past.{HasCall}
 use Rattle.queue_inject.specs.Causes.{pid_name, IsTry, IsTaken, IsCleanUp, IsCutShort, IsCausedBy}
 use Rattle.queue_command.specs.declared.input.Form.{Form}
 use Rattle.queue_command.specs.Inputs.{Stream, AreInputs}
-use Rattle.queue_command.specs.Runs.{Outside, IsFault, HasRun}
+use Rattle.call_fs.specs.Past.{IsFault}
+use Rattle.queue_command.specs.Runs.{Outside, HasRun}
 
 -- Which messages are queued
 
@@ -58,7 +59,7 @@ pub record Who : Type 0 where
   pub invoked : Invoked
 
 -- The input was read of its sources, and the injector was run with it, which this clock's first reading started.
-pub record IsInjected (who : Who) (form : Form) (message envelope : Stream) (old new : Outside) (status : ℕ) : Type 0 where
+pub record HasReadAndRun (who : Who) (form : Form) (message envelope : Stream) (old new : Outside) (status : ℕ) : Type 0 where
   pub args : Arguments
   pub uid_is : args.uid ≡ who.uid
   pub pid_is : args.pid ≡ who.pid
@@ -83,4 +84,4 @@ pub record IsCutOff (old new : Outside) (status : ℕ) : Type 0 where
   pub faults : new.faults ≡ old.faults
 
 abbrev pub HasInjected : Who → Form → Stream → Stream → Outside → Outside → ℕ → Type 0
-HasInjected who form message envelope old new status = IsInjected who form message envelope old new status ⊎ IsCutOff old new status
+HasInjected who form message envelope old new status = HasReadAndRun who form message envelope old new status ⊎ IsCutOff old new status

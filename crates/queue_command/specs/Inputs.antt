@@ -9,21 +9,25 @@ use Rattle.queue_command.specs.declared.input.Form.{Form}
 use Rattle.queue_command.specs.declared.input.Form.TheVariants.{Beside, Netstrings}
 use Rattle.queue_command.specs.declared.netstring.Input.{Input}
 
--- At most so many bytes of an input are read: one byte past the limit tells that it is too long.
+-- At most so many bytes of an input are taken: one byte past the limit tells that it is too long.
 abbrev pub most : ℕ
 most = limit + 1
 
+-- These bytes were taken, and no more than an input may go.
+abbrev pub IsTakenWithin : List ℕ → List ℕ → List ℕ → Type 0
+IsTakenWithin before after bytes = (before ≡ bytes ++ after) × (length bytes ≤ most)
+
 -- A source was read to its end, or as far as an input may go, or until it failed.
 abbrev pub IsAll : InputEnd → List ℕ → List ℕ → List ℕ → Type 0 → Type 0
-IsAll Whole before after bytes Failed = (before ≡ bytes ++ after) × ((after ≡ []) ⊎ (length bytes ≡ most))
-IsAll Unread before after bytes Failed = (before ≡ bytes ++ after) × Failed
+IsAll Whole before after bytes Failed = IsTakenWithin before after bytes × ((after ≡ []) ⊎ (length bytes ≡ most))
+IsAll Unread before after bytes Failed = IsTakenWithin before after bytes × Failed
 IsAll Malformed before after bytes Failed = ⊥
 
 -- Netstrings (`5:hello,`)
 
--- the head, the value, and a comma
+-- the head, a value that an input may have, and a comma
 abbrev pub IsNetstring : List ℕ → List ℕ → List ℕ → Type 0
-IsNetstring before after value = before ≡ head (length value) ++ (value ++ 44 ∷ after)
+IsNetstring before after value = (length value ≤ limit) × (before ≡ head (length value) ++ (value ++ 44 ∷ after))
 
 -- the head promises more than an input may have, and the value was read as far as shows that
 pub record IsOverlong (before after value : List ℕ) : Type 0 where
@@ -41,8 +45,9 @@ pub record HasBadHead (before after value : List ℕ) : Type 0 where
   pub text : before ≡ part ++ byte ∷ after
   pub no_value : value ≡ []
 
--- another byte in place of the comma
+-- another byte in place of the comma, after a value that an input may have
 pub record HasBadComma (before after value : List ℕ) : Type 0 where
+  pub short : length value ≤ limit
   pub byte : ℕ
   pub other : byte ≢ 44
   pub text : before ≡ head (length value) ++ (value ++ byte ∷ after)
@@ -51,9 +56,10 @@ pub record HasBadComma (before after value : List ℕ) : Type 0 where
 abbrev pub IsCutInHead : List ℕ → List ℕ → List ℕ → Type 0
 IsCutInHead before after value = (part : List ℕ) × IsPartOfHead part × (before ≡ part ++ after) × (value ≡ [])
 
--- it is cut in its value, or before its comma
+-- it is cut in its value, or before its comma, and isn't too long as far as it was read
 abbrev pub IsCutBehindHead : List ℕ → List ℕ → List ℕ → Type 0
-IsCutBehindHead before after value = (promised : ℕ) × (length value ≤ promised) × (before ≡ head promised ++ (value ++ after))
+IsCutBehindHead before after value =
+    (promised : ℕ) × (length value ≤ promised) × (length value ≤ limit) × (before ≡ head promised ++ (value ++ after))
 
 -- A source was read as a netstring with this value, or with this part of a value.
 abbrev pub IsValue : InputEnd → List ℕ → List ℕ → List ℕ → Type 0 → Type 0

@@ -6,6 +6,7 @@ use Rattle.queue_inject.specs.declared.injection.InputEnd.TheVariants.{Whole, Un
 use Rattle.queue_command.specs.declared.netstring.Head.{Head}
 use Rattle.queue_command.specs.declared.netstring.Head.TheVariants as was
 use Rattle.queue_command.specs.declared.netstring.Input.{Input}
+use Rattle.queue_inject.specs.Texts.{limit}
 use Rattle.queue_command.specs.Inputs.{most}
 
 -- a stream has no more, or failed
@@ -39,13 +40,15 @@ IsCommaRead Whole before after Failed = before ≡ 44 ∷ after
 IsCommaRead Malformed before after Failed = (byte : ℕ) × (byte ≢ 44) × (before ≡ byte ∷ after)
 IsCommaRead Unread before after Failed = (before ≡ after) × IsOver after Failed
 
--- what came behind a head that promised so many bytes
+-- what came after a head that promised so many bytes
 abbrev pub IsValueBy : InputEnd → List ℕ → ℕ → List ℕ → List ℕ → Type 0 → Type 0
 IsValueBy Whole value promised before after Failed =
-    ((length value ≡ promised) × (before ≡ value ++ 44 ∷ after)) ⊎ ((length value ≡ most) × (most ≤ promised) × (before ≡ value ++ after))
+    ((length value ≡ promised) × (promised ≤ limit) × (before ≡ value ++ 44 ∷ after))
+    ⊎ ((length value ≡ most) × (most ≤ promised) × (before ≡ value ++ after))
 IsValueBy Malformed value promised before after Failed =
-    (length value ≡ promised) × (byte : ℕ) × (byte ≢ 44) × (before ≡ value ++ byte ∷ after)
-IsValueBy Unread value promised before after Failed = (length value ≤ promised) × (before ≡ value ++ after) × IsOver after Failed
+    (length value ≡ promised) × (promised ≤ limit) × (byte : ℕ) × (byte ≢ 44) × (before ≡ value ++ byte ∷ after)
+IsValueBy Unread value promised before after Failed =
+    (length value ≤ promised) × (length value ≤ limit) × (before ≡ value ++ after) × IsOver after Failed
 
 abbrev pub IsValueRead : Input → ℕ → List ℕ → List ℕ → Type 0 → Type 0
 IsValueRead input promised before after Failed = IsValueBy input.end input.bytes promised before after Failed

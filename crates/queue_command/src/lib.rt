@@ -7,12 +7,12 @@
 //! status is the one that its table ends with, and the disk and the clock were asked for nothing else.
 #![tactic(auto)]
 
-mod injection;
+mod injecting;
 mod input;
 mod netstring;
 mod running;
 
-pub use injection::inject;
+pub use injecting::inject;
 pub use input::{Form, read_input};
 pub use netstring::{Input, take_netstring};
 pub use running::run;

@@ -1,7 +1,7 @@
 // Running an injector over a disk and a clock.
 ghost use Rattle.std.specs.Prelude.{◌≡◌, ◌≤◌, List, None, IfOk, OnErr};
 ghost use Rattle.mail_bytes.specs.Moments.{IsMoment};
-ghost use Rattle.call_fs.specs.Program.{Own};
+ghost use Rattle.call_fs.specs.declared.past.Own.{Own};
 ghost use Rattle.queue_inject.specs.declared.injection.Arguments.{Arguments};
 ghost use Rattle.queue_inject.specs.Machine.{asks, room_of};
 ghost use Rattle.queue_inject.specs.Rows.{part_in};

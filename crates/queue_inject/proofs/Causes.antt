@@ -7,7 +7,9 @@ use Rattle.call_fs.specs.declared.calls.CallData.{CallData}
 use Rattle.call_fs.specs.declared.calls.Answer.TheVariants.{Refused}
 use Rattle.call_fs.specs.declared.calls.FsError.TheVariants.{Memory}
 use Rattle.call_fs.specs.declared.program.Ready.{Ready}
-use Rattle.call_fs.specs.Program.{Due, Own}
+use Rattle.call_fs.specs.declared.past.NeedData.{NeedData}
+use Rattle.call_fs.specs.declared.past.NeedData.TheVariants as needs
+use Rattle.call_fs.specs.declared.past.Own.{Own}
 use Rattle.envelope_records.specs.declared.envelope.EnvFault.{EnvFault}
 use Rattle.envelope_records.specs.declared.envelope.EnvFault.TheVariants.{Format, TooLong, EndEarly}
 use Rattle.envelope_records.specs.Envelope.{Step, step, Reading, read_envelope}
@@ -20,7 +22,8 @@ use Rattle.queue_inject.specs.declared.row.Row.{Row}
 use Rattle.queue_inject.specs.declared.row.Row.TheVariants as at
 use Rattle.queue_inject.specs.Texts.{limit, message_text, end_status, message_end, fault_status, past_limit, envelope_text, envelope_of, intd_text}
 use Rattle.queue_inject.specs.Table.{row_after, call_of, has_input, is_late, in_time, Next}
-use Rattle.queue_inject.specs.Run.{IsRun, HasCall}
+use Rattle.queue_inject.specs.Run.{IsRun}
+use Rattle.call_fs.specs.Past.{HasCall}
 use Rattle.queue_inject.specs.Causes.{first_fault, IsTry, IsTaken, IsQueuing, IsFailure, FailsWith, IsCutShort, is_of_input, is_of_call, IsCausedBy}
 use Rattle.queue_inject.proofs.Failures.{IsOfKind, kind_of_call, by_memory, fails, has_or, has_gives, has_failure}
 use Rattle.queue_inject.proofs.Runs.{IsEnding, IsAt, run_at, tried}
@@ -85,21 +88,21 @@ unqueued_at : (args : Arguments) (past : List Own) (status : ℕ) → IsEnding a
 unqueued_at args past status (ByInput clear fault) = clear.unqueued
 unqueued_at args past status (ByCall unqueued f one) = unqueued
 
-out_of_time : (input late : Bool) (call : CallData) (status : ℕ) → in_time input late (Due.File call) ≡ Due.Ended status → (late ≡ true) × (52 ≡ status)
+out_of_time : (input late : Bool) (call : CallData) (status : ℕ) → in_time input late (needs.File call) ≡ needs.Ended status → (late ≡ true) × (52 ≡ status)
 out_of_time true true call status e = (refl, cc)
 out_of_time true false call status e = absurd (cc)
 out_of_time false late call status e = absurd (cc)
 
 module _ (args : Arguments) (past : List Own) (now : ℕ) (input : Bool) (status : ℕ) where
   abbrev EndsAt : Row → Type 0
-  EndsAt row = in_time input (is_late args now) (call_of args row) ≡ Due.Ended status
+  EndsAt row = in_time input (is_late args now) (call_of args row) ≡ needs.Ended status
 
-  cut_short : (row : Row) (call : CallData) → row_after args past ≡ row → call_of args row ≡ Due.File call → ¬ (HasCall past IsQueuing) → EndsAt row → Outcome args past now status
+  cut_short : (row : Row) (call : CallData) → row_after args past ≡ row → call_of args row ≡ needs.File call → ¬ (HasCall past IsQueuing) → EndsAt row → Outcome args past now status
   cut_short row call is due unqueued end =
       let told = out_of_time input (is_late args now) call status (ap (in_time input (is_late args now)) (sym due) ∙ end) in
       CutShort (record { next = call; due = ap (call_of args) is ∙ due; late = ltb-true (args.start + 86400) now told.0 }) unqueued told.1
 
-  uncut : (row : Row) (last : ℕ) → row_after args past ≡ row → call_of args row ≡ Due.Ended last → ¬ (IsCutShort args past now)
+  uncut : (row : Row) (last : ℕ) → row_after args past ≡ row → call_of args row ≡ needs.Ended last → ¬ (IsCutShort args past now)
   uncut row last is end cut = let due = cut.due in let at_row = ap (call_of args) is in absurd (cc)
 
   ends_at : (row : Row) → row_after args past ≡ row → IsAt args past row → EndsAt row → Outcome args past now status
@@ -191,5 +194,5 @@ module _ (args : Arguments) (past : List Own) (now : ℕ) (run : IsRun args past
         complete = λ none no_cut only. ⊎_elim (λ is. inr is) (λ other. absurd (only other)) (blame args status past f);
       }
 
-pub caused : (args : Arguments) (past : List Own) (now : ℕ) (ready : Ready) (status : ℕ) → IsRun args past → Next args past now ready ≡ Due.Ended status → IsCausedBy args past now status
+pub caused : (args : Arguments) (past : List Own) (now : ℕ) (ready : Ready) (status : ℕ) → IsRun args past → Next args past now ready ≡ needs.Ended status → IsCausedBy args past now status
 caused args past now ready status run end = causes args past now run status (ends_at args past now (has_input ready) status (row_after args past) refl (run_at args past run) end)

@@ -7,14 +7,13 @@ use Rattle.call_fs.specs.declared.calls.Answer.{Answer}
 use Rattle.call_fs.specs.declared.calls.Answer.TheVariants.{Refused}
 use Rattle.call_fs.specs.declared.calls.FsError.{FsError}
 use Rattle.call_fs.specs.declared.calls.FsError.TheVariants.{NotThere, Exists, Fault, Memory}
-use Rattle.call_fs.specs.Program.{Did, Own}
-use Rattle.call_fs.specs.Program.Did.{Called}
+use Rattle.call_fs.specs.declared.past.Own.{Own}
 use Rattle.queue_paths.specs.Names.{Name, Part, path, parse}
 use Rattle.queue_paths.specs.Names.Name.{Pid, Of}
 use Rattle.queue_paths.specs.Names.Part.{Mess, Intd, Todo}
 use Rattle.queue_paths.proofs.Paths.{exact}
 use Rattle.queue_inject.specs.declared.injection.Arguments.{Arguments}
-use Rattle.queue_inject.specs.Run.{HoldsOf, HasCall}
+use Rattle.call_fs.specs.Past.{HoldsOf, HasCall}
 use Rattle.queue_inject.specs.Causes.{pid_name, IsTaken, IsQueuing, IsCleanUp, IsFailure, FailsWith, is_of_input, is_of_call}
 use Rattle.queue_inject.specs.Causes.FailsWith.{WantsMemory, Appends, Syncs, TakesAll, MakesPid, LeavesPid, LinksMess, MakesIntd, LinksTodo}
 
@@ -200,23 +199,24 @@ by_memory (LinksTodo n why given) = inr (λ e. given (cc))
 
 -- In a past
 
-such_or : (P Q : CallData → Answer → Type 0) (R : Type 0) → ((call : CallData) (answer : Answer) → P call answer → R ⊎ Q call answer) → (did : Did) → HoldsOf P did → R ⊎ HoldsOf Q did
-such_or P Q R to (Called call answer bytes) h = to call answer h
+such_or : (P Q : CallData → Answer → Type 0) (R : Type 0) → ((call : CallData) (answer : Answer) → P call answer → R ⊎ Q call answer) → (event : Own) → HoldsOf P event → R ⊎ HoldsOf Q event
+such_or P Q R to event h = ⊎_elim
+    (λ r. inl r)
+    (λ q. inr (record { call = h.call; told = h.told; due = h.due; came = h.came; holds = q }))
+    (to h.call h.told.answer h.holds)
 
 -- each such call gives this, or is also such
 pub has_or : (P Q : CallData → Answer → Type 0) (R : Type 0) → ((call : CallData) (answer : Answer) → P call answer → R ⊎ Q call answer) → (past : List Own)
     → HasCall past P → R ⊎ HasCall past Q
 has_or P Q R to [] h = absurd h
 has_or P Q R to (event ∷ before) h = ⊎_elim
-    (λ here. ⊎_elim (λ r. inl r) (λ q. inr (inl q)) (such_or P Q R to event.did here))
+    (λ here. ⊎_elim (λ r. inl r) (λ q. inr (inl q)) (such_or P Q R to event here))
     (λ there. ⊎_elim (λ r. inl r) (λ q. inr (inr q)) (has_or P Q R to before there))
     h
 
 has_none : (past : List Own) → ¬ (HasCall past (λ call answer. ⊥))
 has_none [] h = h
-has_none (event ∷ before) h = ⊎_elim (none event.did) (has_none before) h where
-  none : (did : Did) → ¬ (HoldsOf (λ call answer. ⊥) did)
-  none (Called call answer bytes) h = h
+has_none (event ∷ before) h = ⊎_elim (λ here. here.holds) (has_none before) h
 
 pub has_gives : (P : CallData → Answer → Type 0) (R : Type 0) → ((call : CallData) (answer : Answer) → P call answer → R) → (past : List Own) → HasCall past P → R
 has_gives P R to past h = ⊎_elim (λ r. r) (λ none. absurd (has_none past none)) (has_or P (λ call answer. ⊥) R (λ call answer p. inl (to call answer p)) past h)

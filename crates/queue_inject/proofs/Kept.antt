@@ -4,7 +4,7 @@ use Rattle.std.specs.Prelude.{if◌then◌else◌, nat_lt, slice_get}
 use Rattle.std.proofs.lemmas.List.{take_all, take-append-drop, take-append-le, drop-append-le, length-take-le, append_assoc, append-nil}
 use Rattle.std.proofs.lemmas.Bool.{cases_lt, lt-ltb, le-ltb, ltb-true, ltb-false}
 use Rattle.std.proofs.Math.Seq.{take-append-add, take-append_seam}
-use Rattle.call_fs.specs.Program.{Own}
+use Rattle.call_fs.specs.declared.past.Own.{Own}
 use Rattle.envelope_records.specs.Envelope.{Reading, read_envelope, todo_head}
 use Rattle.envelope_records.specs.Envelope.Reading.{Whole, Open, Broken}
 use Rattle.queue_inject.specs.declared.injection.Arguments.{Arguments}

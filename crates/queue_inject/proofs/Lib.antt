@@ -14,3 +14,9 @@ pub mod Runs
 pub mod Needs
 -- what is true of an injector at any time
 pub mod InStep
+-- what an injector asks for, and what comes of it
+pub mod Asks
+-- its calls use what it holds open
+pub mod Holds
+-- how the end comes nearer
+pub mod Nearer

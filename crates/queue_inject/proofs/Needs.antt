@@ -3,13 +3,16 @@ use Rattle.std.proofs.Common.{◌≡◌, ℕ, ◌+◌, ◌-◌, ◌≤◌, min, 
 use Rattle.std.specs.Prelude.{IsTrue, nat_lt}
 use Rattle.std.proofs.lemmas.Bool.{lt-ltb, ltb-true}
 use Rattle.call_fs.specs.declared.calls.Answer.{Answer}
+use Rattle.call_fs.specs.declared.calls.Told.{Told}
+use Rattle.call_fs.specs.declared.past.GotData.TheVariants.{Answered}
 use Rattle.call_fs.specs.declared.calls.Answer.TheVariants.{Created, Done, Refused}
 use Rattle.call_fs.specs.declared.calls.FsError.TheVariants.{NotThere, Exists}
 use Rattle.call_fs.specs.declared.calls.CallData.{CallData}
 use Rattle.call_fs.specs.declared.calls.CallData.TheVariants as call
 use Rattle.call_fs.specs.declared.program.Ready.{Ready}
-use Rattle.call_fs.specs.Program.{Due, Own}
-use Rattle.call_fs.specs.Program.Did.{Called}
+use Rattle.call_fs.specs.declared.past.NeedData.{NeedData}
+use Rattle.call_fs.specs.declared.past.NeedData.TheVariants as needs
+use Rattle.call_fs.specs.declared.past.Own.{Own}
 use Rattle.envelope_records.specs.Envelope.{todo_head}
 use Rattle.queue_inject.specs.declared.injection.Arguments.{Arguments}
 use Rattle.queue_inject.specs.declared.injection.Part.{Part}
@@ -19,7 +22,7 @@ use Rattle.queue_inject.specs.declared.intake.Verdict.TheVariants as verdict
 use Rattle.queue_inject.specs.declared.row.Row.{Row}
 use Rattle.queue_inject.specs.declared.row.Row.TheVariants as at
 use Rattle.queue_inject.specs.Texts.{Text, limit, message_text, intd_text}
-use Rattle.queue_inject.specs.Table.{work_of, piece_size, goes_to, settled, row_after, after_own, call_at, call_of, has_input, is_late, in_time, Next}
+use Rattle.queue_inject.specs.Table.{work_of, piece_size, goes_to, settled, row_after, after_came, call_at, call_of, has_input, is_late, in_time, Next}
 use Rattle.queue_inject.specs.Machine.{Heard, Machine, asks_by, room_by, room_of, is_call, row_now, late_now, call_now, due_now, new_todo, heard_after, gone_on}
 use Rattle.queue_inject.specs.Rows.{is_open, part_in, has_piece, past_text, row_by}
 use Rattle.queue_inject.specs.Inside.{IsInStep}
@@ -77,7 +80,7 @@ in_message_is h args n fd done k =
     record {
       row_is = sym (row_is h.verdict h.piece text done more end bad k.next k.full);
       call_is = past_by (λ r. call_at args.pid args.start h.piece r ≡ call_of args r) text.bytes text.fault done more end bad
-          (ap (λ p. Due.File (call.Append (record { 0 = fd }) p)) (sym (piece_is h.verdict h.piece text done k.next k.full k.short))) refl (λ status. refl);
+          (ap (λ p. needs.File (call.Append (record { 0 = fd }) p)) (sym (piece_is h.verdict h.piece text done k.next k.full k.short))) refl (λ status. refl);
     }
 
 in_todo_is : (h : Heard) (args : Arguments) (n fd done : ℕ) → IsKnown h (intd_text args) done → IsRow h args (at.AppendTodo n (record { 0 = fd }) done)
@@ -89,7 +92,7 @@ in_todo_is h args n fd done k =
     record {
       row_is = sym (row_is h.verdict h.piece text done more end bad k.next k.full);
       call_is = past_by (λ r. call_at args.pid args.start h.piece r ≡ call_of args r) text.bytes text.fault done more end bad
-          (ap (λ p. Due.File (call.Append (record { 0 = fd }) p)) (sym (piece_is h.verdict h.piece text done k.next k.full k.short))) refl (λ status. refl);
+          (ap (λ p. needs.File (call.Append (record { 0 = fd }) p)) (sym (piece_is h.verdict h.piece text done k.next k.full k.short))) refl (λ status. refl);
     }
 
 message_known : (h : Heard) (args : Arguments) (n done : ℕ) (fd : ℕ) → HearsMessage h.verdict h args done → room_by (asks_by (is_open h.verdict) (at.AppendMess n (record { 0 = fd }) done)) h ≡ 0
@@ -116,14 +119,14 @@ row_at h args _ here none short = record { row_is = refl; call_is = refl }
 -- What is due
 
 -- it makes no call while its input isn't ready
-idle : (late : Bool) (a b : Due) → is_call a ≡ true → is_call b ≡ true → in_time false late a ≡ in_time false late b
-idle late (Due.File c) (Due.File d) x y = refl
-idle late (Due.File c) (Due.Take port) x y = absurd (cc)
-idle late (Due.File c) (Due.Give port bytes) x y = absurd (cc)
-idle late (Due.File c) (Due.Start child) x y = absurd (cc)
-idle late (Due.File c) (Due.Command bytes) x y = absurd (cc)
-idle late (Due.File c) Due.Wait x y = absurd (cc)
-idle late (Due.File c) (Due.Ended status) x y = absurd (cc)
+idle : (late : Bool) (a b : NeedData) → is_call a ≡ true → is_call b ≡ true → in_time false late a ≡ in_time false late b
+idle late (needs.File c) (needs.File d) x y = refl
+idle late (needs.File c) (needs.Take port) x y = absurd (cc)
+idle late (needs.File c) (needs.Give port bytes) x y = absurd (cc)
+idle late (needs.File c) (needs.Start child) x y = absurd (cc)
+idle late (needs.File c) (needs.Command bytes) x y = absurd (cc)
+idle late (needs.File c) needs.Wait x y = absurd (cc)
+idle late (needs.File c) (needs.Ended status) x y = absurd (cc)
 idle late _ b x y = absurd (cc)
 
 unready_at : (h : Heard) (args : Arguments) (late : Bool) (row : Row)
@@ -154,15 +157,15 @@ due_stands m args past k s =
     ∙ ap (λ r. in_time (has_input m.ready) (is_late args m.present) (call_of args r)) (sym s.row)
 
 -- it makes a call only if its input is ready
-pub call_ready : (input late : Bool) (due : Due) → is_call (in_time input late due) ≡ true → input ≡ true
+pub call_ready : (input late : Bool) (due : NeedData) → is_call (in_time input late due) ≡ true → input ≡ true
 call_ready true late due e = refl
-call_ready false late (Due.File call) e = absurd (cc)
-call_ready false late (Due.Ended status) e = absurd (cc)
-call_ready false late (Due.Take port) e = absurd (cc)
-call_ready false late (Due.Give port bytes) e = absurd (cc)
-call_ready false late (Due.Start child) e = absurd (cc)
-call_ready false late (Due.Command bytes) e = absurd (cc)
-call_ready false late Due.Wait e = absurd (cc)
+call_ready false late (needs.File call) e = absurd (cc)
+call_ready false late (needs.Ended status) e = absurd (cc)
+call_ready false late (needs.Take port) e = absurd (cc)
+call_ready false late (needs.Give port bytes) e = absurd (cc)
+call_ready false late (needs.Start child) e = absurd (cc)
+call_ready false late (needs.Command bytes) e = absurd (cc)
+call_ready false late needs.Wait e = absurd (cc)
 
 -- After an answer
 
@@ -261,44 +264,44 @@ next_at m args (at.AppendTodo n fd done) uid pid here none short =
     (past_text_by (λ r. HasNext r m args) h.verdict (at.SyncTodo n fd) (λ status. at.CleanIntd n status) tt (λ status. tt))
 next_at m args _ uid pid here none short = tt
 
-pub stands_answered : (m : Machine) (args : Arguments) (past : List Own) (event : Own) (call : CallData) (answer : Answer) (bytes : List ℕ) → IsInStep m → Stands m args past → is_call (due_now m) ≡ true
-    → event.did ≡ Called call answer bytes → Stands (gone_on m answer) args (event ∷ past)
-stands_answered m args past event call answer bytes k s due did =
+pub stands_answered : (m : Machine) (args : Arguments) (past : List Own) (event : Own) (told : Told) → IsInStep m → Stands m args past → is_call (due_now m) ≡ true
+    → event.came ≡ Answered told → Stands (gone_on m told.answer) args (event ∷ past)
+stands_answered m args past event told k s due came =
     let none : room_of m ≡ 0 = k.given (call_ready (has_input m.ready) (late_now m) (call_now m) due) in
     let is = row_at m.heard args m.row s.hears none k.short in
     record {
       uid = s.uid;
       pid = s.pid;
       start = s.start;
-      hears = hears_next (row_now m) m args answer (next_at m args m.row s.uid s.pid s.hears none k.short);
-      row = ap (λ d. after_own args (row_after args past) d) did
-          ∙ ap (λ r. settled (work_of args) (goes_to r answer)) (s.row ∙ sym is.row_is);
+      hears = hears_next (row_now m) m args told.answer (next_at m args m.row s.uid s.pid s.hears none k.short);
+      row = ap (λ d. after_came args (row_after args past) d) came
+          ∙ ap (λ r. settled (work_of args) (goes_to r told.answer)) (s.row ∙ sym is.row_is);
     }
 
 -- an injector that has ended stays so
 
-at_end : (input late : Bool) (status : ℕ) → in_time input late (Due.Ended status) ≡ Due.Ended status
+at_end : (input late : Bool) (status : ℕ) → in_time input late (needs.Ended status) ≡ needs.Ended status
 at_end true true status = refl
 at_end true false status = refl
 at_end false late status = refl
 
-pub ended_by_row : (input late : Bool) (due : Due) (status : ℕ) → due ≡ Due.Ended status → in_time input late due ≡ Due.Ended status
+pub ended_by_row : (input late : Bool) (due : NeedData) (status : ℕ) → due ≡ needs.Ended status → in_time input late due ≡ needs.Ended status
 ended_by_row input late due status e = ap (in_time input late) e ∙ at_end input late status
 
-ended_goes_on : (was is late later : Bool) (due : Due) (status : ℕ) → in_time was late due ≡ Due.Ended status → (IsTrue was → IsTrue is) → (late ≡ true → later ≡ true)
-    → in_time is later due ≡ Due.Ended status
-ended_goes_on true is true later (Due.File c) status e more on =
-    ap (λ i. in_time i later (Due.File c)) (more refl) ∙ ap (λ l. in_time true l (Due.File c)) (on refl) ∙ e
-ended_goes_on true is false later (Due.File c) status e more on = absurd (cc)
-ended_goes_on false is late later (Due.File c) status e more on = absurd (cc)
-ended_goes_on was is late later (Due.Ended last) status e more on = at_end is later last ∙ sym (at_end was late last) ∙ e
+ended_goes_on : (was is late later : Bool) (due : NeedData) (status : ℕ) → in_time was late due ≡ needs.Ended status → (IsTrue was → IsTrue is) → (late ≡ true → later ≡ true)
+    → in_time is later due ≡ needs.Ended status
+ended_goes_on true is true later (needs.File c) status e more on =
+    ap (λ i. in_time i later (needs.File c)) (more refl) ∙ ap (λ l. in_time true l (needs.File c)) (on refl) ∙ e
+ended_goes_on true is false later (needs.File c) status e more on = absurd (cc)
+ended_goes_on false is late later (needs.File c) status e more on = absurd (cc)
+ended_goes_on was is late later (needs.Ended last) status e more on = at_end is later last ∙ sym (at_end was late last) ∙ e
 ended_goes_on was is late later due status e more on = e
 
 later_too : (start now next : ℕ) → now ≤ next → nat_lt start now ≡ true → nat_lt start next ≡ true
 later_too start now next order late = let w = ltb-true start now late in lt-ltb start next (omega arith)
 
-pub ended_stays : (m : Machine) (now : ℕ) (ready : Ready) (status : ℕ) → due_now m ≡ Due.Ended status → m.present ≤ now → (IsTrue (has_input m.ready) → IsTrue (has_input ready))
-    → due_now (record m { present = now; ready = ready }) ≡ Due.Ended status
+pub ended_stays : (m : Machine) (now : ℕ) (ready : Ready) (status : ℕ) → due_now m ≡ needs.Ended status → m.present ≤ now → (IsTrue (has_input m.ready) → IsTrue (has_input ready))
+    → due_now (record m { present = now; ready = ready }) ≡ needs.Ended status
 ended_stays m now ready status e order more =
     ended_goes_on (has_input m.ready) (has_input ready) (late_now m) (nat_lt (m.start + 86400) now) (call_now m) status e more
     (later_too (m.start + 86400) m.present now order)

@@ -12,8 +12,11 @@ use Rattle.call_fs.specs.declared.calls.FsError.{FsError}
 use Rattle.call_fs.specs.declared.calls.FsError.TheVariants.{NotThere, Exists, Fault, Memory}
 use Rattle.call_fs.specs.declared.program.Ready.{Ready}
 use Rattle.call_fs.specs.Columns.{IsAnswerTo}
-use Rattle.call_fs.specs.Program.{Due, Did, Own}
-use Rattle.call_fs.specs.Program.Did.{Called}
+use Rattle.call_fs.specs.declared.past.GotData.{GotData}
+use Rattle.call_fs.specs.declared.past.GotData.TheVariants.{Answered}
+use Rattle.call_fs.specs.declared.past.NeedData.{NeedData}
+use Rattle.call_fs.specs.declared.past.NeedData.TheVariants as needs
+use Rattle.call_fs.specs.declared.past.Own.{Own}
 use Rattle.queue_paths.specs.Names.{path}
 use Rattle.queue_paths.specs.Names.Part.{Mess, Intd, Todo}
 use Rattle.queue_paths.specs.Names.Name.{Of}
@@ -21,9 +24,11 @@ use Rattle.queue_inject.specs.declared.injection.Arguments.{Arguments}
 use Rattle.queue_inject.specs.declared.row.Row.{Row}
 use Rattle.queue_inject.specs.declared.row.Row.TheVariants as at
 use Rattle.queue_inject.specs.Texts.{message_text, intd_text}
-use Rattle.queue_inject.specs.Table.{work_of, piece_size, failure, past_piece, in_message, in_todo, settled, moved, row_after, after_own, call_of, in_time}
+use Rattle.queue_inject.specs.Table.{work_of, piece_size, failure, past_piece, in_message, in_todo, settled, moved, row_after, call_of, in_time}
 use Rattle.queue_inject.proofs.Pieces.{either}
-use Rattle.queue_inject.specs.Run.{IsDue, IsRun, HoldsOf, HasCall}
+use Rattle.queue_inject.proofs.Asks.{call_at_due}
+use Rattle.queue_inject.specs.Run.{IsDue, IsRun}
+use Rattle.call_fs.specs.Past.{HoldsOf, HasCall}
 use Rattle.queue_inject.specs.Causes.{first_fault, pid_name, IsTry, IsTaken, IsQueuing, IsCleanUp, IsFailure, FailsWith}
 use Rattle.queue_inject.specs.Causes.FailsWith.{WantsMemory, Appends, Syncs, TakesAll, MakesPid, LeavesPid, LinksMess, MakesIntd, LinksTodo}
 use Rattle.queue_inject.proofs.Failures.{no_clean_up, pid_stays, pid_is_no_part, same_try, clean_queues_none, refused_queues_none, fails, one_status, has_failure}
@@ -77,11 +82,28 @@ in_todo_at args past n fd done clear whole =
 
 -- One event more, of a call and its answer
 module _ (args : Arguments) (before : List Own) (read : ℕ) (ready : Ready) (bytes : List ℕ) where
+  abbrev called : CallData → Answer → Own
+  called call answer = record { read = read; ready = ready; due = needs.File call; came = Answered (record { answer = answer; bytes = bytes }) }
+
   abbrev with_call : CallData → Answer → List Own
-  with_call call answer = record { read = read; ready = ready; did = Called call answer bytes } ∷ before
+  with_call call answer = called call answer ∷ before
+
+  held : (P : CallData → Answer → Type 0) (call : CallData) (answer : Answer) → P call answer → HoldsOf P (called call answer)
+  held P call answer p = record { call = call; told = record { answer = answer; bytes = bytes }; due = refl; came = refl; holds = p }
+
+  of_held : (P : CallData → Answer → Type 0) (call : CallData) (answer : Answer) → HoldsOf P (called call answer) → P call answer
+  of_held P call answer h =
+      let due : needs.File call ≡ needs.File h.call = h.due in
+      let came : Answered (record { answer = answer; bytes = bytes }) ≡ Answered h.told = h.came in
+      let of_call : h.call ≡ call = cc in
+      let of_answer : h.told.answer ≡ answer = cc in
+      subst (λ a. P call a) of_answer (subst (λ c. P c h.told.answer) of_call h.holds)
 
   clear_on : (call : CallData) (answer : Answer) → IsClear args before → ¬ (IsFailure args call answer) → ¬ (IsQueuing call answer) → IsClear args (with_call call answer)
-  clear_on call answer clear well other = record { unfailed = ⊎_elim well clear.unfailed; unqueued = ⊎_elim other clear.unqueued }
+  clear_on call answer clear well other = record {
+    unfailed = ⊎_elim (λ h. well (of_held (IsFailure args) call answer h)) clear.unfailed;
+    unqueued = ⊎_elim (λ h. other (of_held IsQueuing call answer h)) clear.unqueued;
+  }
 
   made : (call : CallData) (fd : Fd) (n : ℕ) → IsClear args before → IsClear args (with_call call (Created fd n))
   made call fd n clear = clear_on call (Created fd n) clear (λ f. let told = f.refused in cc) (λ q. let told = q.2 in cc)
@@ -91,9 +113,9 @@ module _ (args : Arguments) (before : List Own) (read : ℕ) (ready : Ready) (by
 
   failed_at : (status : ℕ) (call : CallData) (why : FsError) → IsClear args before → FailsWith args status call (Refused why) → IsEnding args (with_call call (Refused why)) status
   failed_at status call why clear f = ByCall
-      (⊎_elim (refused_queues_none call why) clear.unqueued)
-      (inl f)
-      (λ other. ⊎_elim (λ g. one_status g f) (λ there. absurd (clear.unfailed (has_failure args other before there))))
+      (⊎_elim (λ h. refused_queues_none call why (of_held IsQueuing call (Refused why) h)) clear.unqueued)
+      (inl (held (FailsWith args status) call (Refused why) f))
+      (λ other. ⊎_elim (λ g. one_status (of_held (FailsWith args other) call (Refused why) g) f) (λ there. absurd (clear.unfailed (has_failure args other before there))))
 
   refused_at : (status : ℕ) (call : CallData) (why : FsError) → IsClear args before → ¬ (IsCleanUp call)
       → (why ≢ Memory → FailsWith args status call (Refused why)) → IsEnding args (with_call call (Refused why)) (failure (Refused why) status)
@@ -105,9 +127,9 @@ module _ (args : Arguments) (before : List Own) (read : ℕ) (ready : Ready) (by
   cleaned : (status : ℕ) (call : CallData) (answer : Answer) → IsCleanUp call → IsEnding args before status → IsEnding args (with_call call answer) status
   cleaned status call answer clean (ByInput clear fault) = ByInput (clear_on call answer clear (λ f. f.needed clean) (clean_queues_none call answer clean)) fault
   cleaned status call answer clean (ByCall unqueued f one) = ByCall
-      (⊎_elim (clean_queues_none call answer clean) unqueued)
+      (⊎_elim (λ h. clean_queues_none call answer clean (of_held IsQueuing call answer h)) unqueued)
       (inr f)
-      (λ other. ⊎_elim (λ g. absurd ((fails g).needed clean)) (one other))
+      (λ other. ⊎_elim (λ g. absurd ((fails (of_held (FailsWith args other) call answer g)).needed clean)) (one other))
 
   -- the row after it
   abbrev Keeps : Row → CallData → Type 0
@@ -123,7 +145,7 @@ module _ (args : Arguments) (before : List Own) (read : ℕ) (ready : Ready) (by
         (omega arith, omega arith),
         λ j from to. ⊎_elim
             (λ less. inr (below j from less))
-            (λ more. let is : k ≡ j = omega arith in inl (subst (λ i. IsTaken args i (CreateExcl (pid_name args k)) (Refused Exists)) is here))
+            (λ more. let is : k ≡ j = omega arith in inl (held (IsTaken args j) _ _ (subst (λ i. IsTaken args i (CreateExcl (pid_name args k)) (Refused Exists)) is here)))
             (cases_lt j k),
       )
   taken k false more (clear, in_range, below) =
@@ -179,7 +201,7 @@ module _ (args : Arguments) (before : List Own) (read : ℕ) (ready : Ready) (by
   syncs_todo n fd _ here fit = absurd fit
 
   links_todo : (n : ℕ) → Keeps (at.LinkTodo n) (Link (path (Of Intd n)) (path (Of Todo n)))
-  links_todo n Done (clear, none) fit = (none, ⊎_elim (λ f. let told = f.refused in cc) clear.unfailed, inl (n, refl, refl))
+  links_todo n Done (clear, none) fit = (none, ⊎_elim (λ h. let f = of_held (IsFailure args) _ Done h in let told = f.refused in cc) clear.unfailed, inl (held IsQueuing _ _ (n, refl, refl)))
   links_todo n (Refused why) (clear, none) fit = refused_at 66 (Link (path (Of Intd n)) (path (Of Todo n))) why clear (no_clean_up (Link (path (Of Intd n)) (path (Of Todo n))) (λ name e. cc)) (LinksTodo n why)
   links_todo n _ here fit = absurd fit
 
@@ -192,10 +214,10 @@ module _ (args : Arguments) (before : List Own) (read : ℕ) (ready : Ready) (by
   cleans_mess : (n : ℕ) (status : ℕ) → Keeps (at.CleanMess n status) (Unlink (path (Of Mess n)))
   cleans_mess n status answer here fit = cleaned _ (Unlink (path (Of Mess n))) answer (n, inr refl) here
 
-  due_keeps : (row : Row) (own call : CallData) → ◌≡◌ {A = Due} (Due.File own) (Due.File call) → Keeps row own → Keeps row call
+  due_keeps : (row : Row) (own call : CallData) → ◌≡◌ {A = NeedData} (needs.File own) (needs.File call) → Keeps row own → Keeps row call
   due_keeps row own call due h = let same : own ≡ call = cc in subst (Keeps row) same h
 
-  row_keeps : (row : Row) (call : CallData) → call_of args row ≡ Due.File call → Keeps row call
+  row_keeps : (row : Row) (call : CallData) → call_of args row ≡ needs.File call → Keeps row call
   row_keeps (at.Create k) call due = due_keeps (at.Create k) _ call due (creates k)
   row_keeps (at.LinkMess k n fd) call due = due_keeps (at.LinkMess k n fd) _ call due (links_mess k n fd)
   row_keeps (at.UnlinkPid k n fd) call due = due_keeps (at.UnlinkPid k n fd) _ call due (unlinks_pid k n fd)
@@ -210,31 +232,36 @@ module _ (args : Arguments) (before : List Own) (read : ℕ) (ready : Ready) (by
   row_keeps at.Queued call due = absurd (cc)
   row_keeps (at.Failed status) call due = absurd (cc)
 
-pub timely : (input late : Bool) (due : Due) (call : CallData) → in_time input late due ≡ Due.File call → due ≡ Due.File call
-timely true true (Due.File own) call h = absurd (cc)
-timely true false (Due.File own) call h = h
-timely false late (Due.File own) call h = absurd (cc)
+pub timely : (input late : Bool) (due : NeedData) (call : CallData) → in_time input late due ≡ needs.File call → due ≡ needs.File call
+timely true true (needs.File own) call h = absurd (cc)
+timely true false (needs.File own) call h = h
+timely false late (needs.File own) call h = absurd (cc)
 timely input late due call h = absurd (cc)
 
 -- whole runs
 
-did_at : (args : Arguments) (before : List Own) (read : ℕ) (ready : Ready) (did : Did) → IsAt args before (row_after args before) → IsDue args before read ready did
-    → IsAt args (record { read = read; ready = ready; did = did } ∷ before) (after_own args (row_after args before) did)
-did_at args before read ready (Called call answer bytes) here (due, fit) = row_keeps args before read ready bytes (row_after args before) call (timely _ _ _ call due) answer here fit
+event_at : (args : Arguments) (before : List Own) (event : Own) → IsAt args before (row_after args before) → IsDue args before event → IsAt args (event ∷ before) (row_after args (event ∷ before))
+event_at args before event here due =
+    let c = call_at_due args before event due in
+    let is : event ≡ called args before event.read event.ready c.told.bytes c.call c.told.answer =
+    ap (λ (d : NeedData). record { read = event.read; ready = event.ready; due = d; came = event.came }) c.due
+    ∙ ap (λ (g : GotData). record { read = event.read; ready = event.ready; due = needs.File c.call; came = g }) c.came in
+    subst (λ e. IsAt args (e ∷ before) (row_after args (e ∷ before))) (sym is)
+    (row_keeps args before event.read event.ready c.told.bytes (row_after args before) c.call (timely _ _ _ c.call c.next) c.told.answer here c.fits)
 
 pub run_at : (args : Arguments) (past : List Own) → IsRun args past → IsAt args past (row_after args past)
 run_at args [] run = (record { unfailed = λ h. h; unqueued = λ h. h }, (omega arith, omega arith), λ j from to. absurd (omega arith))
-run_at args (event ∷ before) (run, due) = did_at args before event.read event.ready event.did (run_at args before run) due
+run_at args (event ∷ before) (run, due) = event_at args before event (run_at args before run) due
 
 -- the pid names below one that was tried were taken
-below_taken : (args : Arguments) (before : List Own) (k : ℕ) (row : Row) → call_of args row ≡ Due.File (CreateExcl (pid_name args k)) → IsAt args before row
+below_taken : (args : Arguments) (before : List Own) (k : ℕ) (row : Row) → call_of args row ≡ needs.File (CreateExcl (pid_name args k)) → IsAt args before row
     → (j : ℕ) → 1 ≤ j → j < k → HasCall before (IsTaken args j)
 below_taken args before k (at.Create i) due (clear, in_range, below) j from to =
     let is : i ≡ k = same_try args i k (created _ _ due) in below j from (omega arith) where
-      created : (a b : List ℕ) → ◌≡◌ {A = Due} (Due.File (CreateExcl a)) (Due.File (CreateExcl b)) → a ≡ b
+      created : (a b : List ℕ) → ◌≡◌ {A = NeedData} (needs.File (CreateExcl a)) (needs.File (CreateExcl b)) → a ≡ b
       created a b e = cc
 below_taken args before k (at.CreateIntd n) due here j from to = absurd (pid_is_no_part args k n Intd (created _ _ (sym due))) where
-  created : (a b : List ℕ) → ◌≡◌ {A = Due} (Due.File (CreateExcl a)) (Due.File (CreateExcl b)) → a ≡ b
+  created : (a b : List ℕ) → ◌≡◌ {A = NeedData} (needs.File (CreateExcl a)) (needs.File (CreateExcl b)) → a ≡ b
   created a b e = cc
 below_taken args before k row due here j from to = absurd (cc)
 
@@ -242,11 +269,11 @@ pub tried : (args : Arguments) (past : List Own) (k : ℕ) → IsRun args past �
 tried args [] k run h j from to = absurd h
 tried args (event ∷ before) k (run, due) h j from to = ⊎_elim
     (λ here. ⊎_elim
-    (λ less. inr (newest event.did due here j from less))
+    (λ less. inr (newest due here j from less))
     (λ more. let is : k ≡ j = omega arith in subst (λ i. HasCall (event ∷ before) (IsTaken args i)) is h)
     (cases_lt j k))
     (λ there. inr (tried args before k run there j from to))
     h where
-      newest : (did : Did) → IsDue args before event.read event.ready did → HoldsOf (IsTaken args k) did → (i : ℕ) → 1 ≤ i → i < k → HasCall before (IsTaken args i)
-      newest (Called call answer bytes) (next, fit) (is, why) =
-          below_taken args before k (row_after args before) (timely _ _ _ call next ∙ ap Due.File is) (run_at args before run)
+      newest : IsDue args before event → HoldsOf (IsTaken args k) event → (i : ℕ) → 1 ≤ i → i < k → HasCall before (IsTaken args i)
+      newest (next, fit) taken =
+          below_taken args before k (row_after args before) (timely _ _ _ taken.call (next ∙ taken.due) ∙ ap needs.File taken.holds.0) (run_at args before run)

@@ -8,14 +8,16 @@ use Rattle.call_fs.specs.declared.calls.Answer.TheVariants.{Done, Refused}
 use Rattle.call_fs.specs.declared.calls.Fd.{Fd}
 use Rattle.call_fs.specs.declared.calls.FsError.{FsError}
 use Rattle.call_fs.specs.declared.calls.FsError.TheVariants.{Exists, Fault, Memory}
-use Rattle.call_fs.specs.Program.{Due, Own}
+use Rattle.call_fs.specs.declared.past.NeedData.{NeedData}
+use Rattle.call_fs.specs.declared.past.NeedData.TheVariants as needs
+use Rattle.call_fs.specs.declared.past.Own.{Own}
 use Rattle.queue_paths.specs.Names.{path}
 use Rattle.queue_paths.specs.Names.Name.{Pid, Of}
 use Rattle.queue_paths.specs.Names.Part.{Mess, Intd, Todo}
 use Rattle.queue_inject.specs.declared.injection.Arguments.{Arguments}
 use Rattle.queue_inject.specs.Texts.{message_text, intd_text}
 use Rattle.queue_inject.specs.Table.{row_after, call_of}
-use Rattle.queue_inject.specs.Run.{HasCall}
+use Rattle.call_fs.specs.Past.{HasCall}
 
 -- The input
 
@@ -74,7 +76,7 @@ pub data FailsWith (args : Arguments) : ℕ → CallData → Answer → Type 0 w
 -- a call is due, be it a clean up, and it has run for more than a day
 pub record IsCutShort (args : Arguments) (past : List Own) (now : ℕ) : Type 0 where
   pub next : CallData
-  pub due : call_of args (row_after args past) ≡ Due.File next
+  pub due : call_of args (row_after args past) ≡ needs.File next
   pub late : args.start + 86400 < now
 
 -- the statuses of a fault of the input: an address is too long, a message or an envelope is too long, it could not be

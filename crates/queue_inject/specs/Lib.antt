@@ -14,3 +14,5 @@ pub mod Inside
 pub mod Run
 -- which exit status comes when, and why
 pub mod Causes
+-- what an injector holds open
+pub mod Held

@@ -1,10 +1,9 @@
 -- An injector as contracts see it.
 use Rattle.std.specs.Prelude.{◌≡◌, ℕ, ◌+◌, ◌-◌, min, List, [], ◌∷◌, ◌++◌, length, take, Option, Some, None, Bool, true, false, if◌then◌else◌, nat_lt}
 use Rattle.call_fs.specs.declared.calls.Answer.{Answer}
-use Rattle.call_fs.specs.declared.program.Got.{Got}
-use Rattle.call_fs.specs.declared.program.Got.TheVariants as got
 use Rattle.call_fs.specs.declared.program.Ready.{Ready}
-use Rattle.call_fs.specs.Program.{Due}
+use Rattle.call_fs.specs.declared.past.NeedData.{NeedData}
+use Rattle.call_fs.specs.declared.past.NeedData.TheVariants as needs
 use Rattle.envelope_records.specs.Envelope.{Reader, reader_of, read_envelope, todo_head}
 use Rattle.queue_inject.specs.declared.injection.InputEnd.{InputEnd}
 use Rattle.queue_inject.specs.declared.injection.Part.{Part}
@@ -79,25 +78,25 @@ abbrev pub row_now : Machine → Row
 row_now m = row_by m.heard.verdict (length m.heard.piece) m.row
 
 -- it needs a file call
-abbrev pub is_call : Due → Bool
-is_call (Due.File call) = true
-is_call (Due.Take port) = false
-is_call (Due.Give port bytes) = false
-is_call (Due.Start child) = false
-is_call (Due.Command bytes) = false
-is_call Due.Wait = false
-is_call (Due.Ended status) = false
+abbrev pub is_call : NeedData → Bool
+is_call (needs.File call) = true
+is_call (needs.Take port) = false
+is_call (needs.Give port bytes) = false
+is_call (needs.Start child) = false
+is_call (needs.Command bytes) = false
+is_call needs.Wait = false
+is_call (needs.Ended status) = false
 
 -- it has run for more than a day
 abbrev pub late_now : Machine → Bool
 late_now m = nat_lt (m.start + 86400) m.present
 
 -- its call, or its end, at whatever time
-abbrev pub call_now : Machine → Due
+abbrev pub call_now : Machine → NeedData
 call_now m = call_at m.pid m.start m.heard.piece (row_now m)
 
 -- what the injector needs
-abbrev pub due_now : Machine → Due
+abbrev pub due_now : Machine → NeedData
 due_now m = in_time (has_input m.ready) (late_now m) (call_now m)
 
 -- After an answer
@@ -116,26 +115,27 @@ heard_after row uid pid h = h
 abbrev pub gone_on : Machine → Answer → Machine
 gone_on m answer = record m { heard = heard_after (row_now m) m.uid m.pid m.heard; row = goes_to (row_now m) answer; ready = unready }
 
--- it is the answer to a file call
-abbrev pub is_answer : Got → Bool
-is_answer (got.File answer bytes) = true
-is_answer (got.Took bytes) = false
-is_answer got.End = false
-is_answer (got.Ended status) = false
-is_answer got.Crashed = false
-is_answer got.Gave = false
-is_answer (got.Started pid) = false
-is_answer got.Failed = false
-is_answer got.Memory = false
+-- How far it is from its end
 
--- it is this answer, with these bytes of a read
-abbrev pub IsFileAnswer : Got → Answer → List ℕ → Type 0
-IsFileAnswer (got.File given read) answer bytes = (given ≡ answer) × (read.now ≡ bytes)
-IsFileAnswer (got.Took read) answer bytes = ⊥
-IsFileAnswer got.End answer bytes = ⊥
-IsFileAnswer (got.Ended status) answer bytes = ⊥
-IsFileAnswer got.Crashed answer bytes = ⊥
-IsFileAnswer got.Gave answer bytes = ⊥
-IsFileAnswer (got.Started pid) answer bytes = ⊥
-IsFileAnswer got.Failed answer bytes = ⊥
-IsFileAnswer got.Memory answer bytes = ⊥
+-- a text has no more bytes than this
+abbrev pub text_bound : ℕ
+text_bound = limit + 65536
+
+-- at most so many calls are ahead of the call of a row, its own among them
+abbrev pub ahead_by : Row → ℕ
+ahead_by (at.Create seq) = (9 - seq) + (11 + (text_bound + text_bound))
+ahead_by (at.LinkMess seq n fd) = 10 + (text_bound + text_bound)
+ahead_by (at.UnlinkPid seq n fd) = 9 + (text_bound + text_bound)
+ahead_by (at.AppendMess n fd done) = (text_bound - done) + (8 + text_bound)
+ahead_by (at.SyncMess n fd) = 7 + text_bound
+ahead_by (at.CreateIntd n) = 6 + text_bound
+ahead_by (at.AppendTodo n fd done) = (text_bound - done) + 5
+ahead_by (at.SyncTodo n fd) = 4
+ahead_by (at.LinkTodo n) = 3
+ahead_by (at.CleanIntd n status) = 2
+ahead_by (at.CleanMess n status) = 1
+ahead_by at.Queued = 0
+ahead_by (at.Failed status) = 0
+
+abbrev pub ahead_of : Machine → ℕ
+ahead_of m = ahead_by m.row

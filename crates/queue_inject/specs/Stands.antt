@@ -1,6 +1,6 @@
 -- Which injector stands for which past, that it doesn't store.
 use Rattle.std.specs.Prelude.{◌≡◌, ℕ, ◌≤◌, List, ◌++◌, length, take, drop, Option, Some, None, slice_get}
-use Rattle.call_fs.specs.Program.{Own}
+use Rattle.call_fs.specs.declared.past.Own.{Own}
 use Rattle.envelope_records.specs.Envelope.{step, bytes_to, records_of, Reading, read_envelope, todo_head, HasRead}
 use Rattle.envelope_records.specs.Envelope.Reading.{Whole, Open, Broken}
 use Rattle.queue_inject.specs.declared.injection.Arguments.{Arguments}

@@ -6,8 +6,11 @@ use Rattle.call_fs.specs.declared.calls.Answer.{Answer}
 use Rattle.call_fs.specs.declared.calls.Answer.TheVariants.{Created, Done, Refused}
 use Rattle.call_fs.specs.declared.calls.FsError.TheVariants.{NotThere, Exists, Memory}
 use Rattle.call_fs.specs.declared.program.Ready.{Ready}
-use Rattle.call_fs.specs.Program.{Due, Did, Own}
-use Rattle.call_fs.specs.Program.Did.{Called}
+use Rattle.call_fs.specs.declared.past.NeedData.{NeedData}
+use Rattle.call_fs.specs.declared.past.NeedData.TheVariants as needs
+use Rattle.call_fs.specs.declared.past.Own.{Own}
+use Rattle.call_fs.specs.declared.past.GotData.{GotData}
+use Rattle.call_fs.specs.declared.past.GotData.TheVariants.{Answered}
 use Rattle.queue_inject.specs.declared.injection.Arguments.{Arguments}
 use Rattle.queue_inject.specs.declared.row.Row.{Row}
 use Rattle.queue_inject.specs.declared.row.Row.TheVariants as at
@@ -91,14 +94,15 @@ answered work row answer = settled work (goes_to row answer)
 abbrev pub moved : Arguments → Row → Answer → Row
 moved args row answer = answered (work_of args) row answer
 
--- the row after one event of the past
-abbrev pub after_own : Arguments → Row → Did → Row
-after_own args row (Called call answer bytes) = moved args row answer
+-- the row after what came of a call; nothing else comes to an injector
+abbrev pub after_came : Arguments → Row → GotData → Row
+after_came args row (Answered told) = moved args row told.answer
+after_came args row other = row
 
 -- the row after a past, newest event first
 abbrev pub row_after : Arguments → List Own → Row
 row_after args [] = at.Create 1
-row_after args (event ∷ before) = after_own args (row_after args before) event.did
+row_after args (event ∷ before) = after_came args (row_after args before) event.came
 
 -- the bytes that the append of a row writes
 abbrev pub next_piece : Work → Row → List ℕ
@@ -107,25 +111,25 @@ next_piece work (at.AppendTodo n fd done) = take piece_size (drop done work.todo
 next_piece work row = []
 
 -- the call of a row, by the process number, the start and the bytes that its append writes, or the end
-abbrev pub call_at : ℕ → ℕ → List ℕ → Row → Due
-call_at pid start piece (at.Create seq) = Due.File (call.CreateExcl (path (Pid pid start seq)))
-call_at pid start piece (at.LinkMess seq n fd) = Due.File (call.Link (path (Pid pid start seq)) (path (Of Mess n)))
-call_at pid start piece (at.UnlinkPid seq n fd) = Due.File (call.Unlink (path (Pid pid start seq)))
-call_at pid start piece (at.AppendMess n fd done) = Due.File (call.Append fd piece)
-call_at pid start piece (at.SyncMess n fd) = Due.File (call.Sync fd)
-call_at pid start piece (at.CreateIntd n) = Due.File (call.CreateExcl (path (Of Intd n)))
-call_at pid start piece (at.AppendTodo n fd done) = Due.File (call.Append fd piece)
-call_at pid start piece (at.SyncTodo n fd) = Due.File (call.Sync fd)
-call_at pid start piece (at.LinkTodo n) = Due.File (call.Link (path (Of Intd n)) (path (Of Todo n)))
-call_at pid start piece (at.CleanIntd n status) = Due.File (call.Unlink (path (Of Intd n)))
-call_at pid start piece (at.CleanMess n status) = Due.File (call.Unlink (path (Of Mess n)))
-call_at pid start piece at.Queued = Due.Ended 0
-call_at pid start piece (at.Failed status) = Due.Ended status
+abbrev pub call_at : ℕ → ℕ → List ℕ → Row → NeedData
+call_at pid start piece (at.Create seq) = needs.File (call.CreateExcl (path (Pid pid start seq)))
+call_at pid start piece (at.LinkMess seq n fd) = needs.File (call.Link (path (Pid pid start seq)) (path (Of Mess n)))
+call_at pid start piece (at.UnlinkPid seq n fd) = needs.File (call.Unlink (path (Pid pid start seq)))
+call_at pid start piece (at.AppendMess n fd done) = needs.File (call.Append fd piece)
+call_at pid start piece (at.SyncMess n fd) = needs.File (call.Sync fd)
+call_at pid start piece (at.CreateIntd n) = needs.File (call.CreateExcl (path (Of Intd n)))
+call_at pid start piece (at.AppendTodo n fd done) = needs.File (call.Append fd piece)
+call_at pid start piece (at.SyncTodo n fd) = needs.File (call.Sync fd)
+call_at pid start piece (at.LinkTodo n) = needs.File (call.Link (path (Of Intd n)) (path (Of Todo n)))
+call_at pid start piece (at.CleanIntd n status) = needs.File (call.Unlink (path (Of Intd n)))
+call_at pid start piece (at.CleanMess n status) = needs.File (call.Unlink (path (Of Mess n)))
+call_at pid start piece at.Queued = needs.Ended 0
+call_at pid start piece (at.Failed status) = needs.Ended status
 
-abbrev pub asked : Work → Row → Due
+abbrev pub asked : Work → Row → NeedData
 asked work row = call_at work.pid work.start (next_piece work row) row
 
-abbrev pub call_of : Arguments → Row → Due
+abbrev pub call_of : Arguments → Row → NeedData
 call_of args row = asked (work_of args) row
 
 -- the first of some links, false where there is none
@@ -142,13 +146,13 @@ abbrev pub is_late : Arguments → ℕ → Bool
 is_late args now = nat_lt (args.start + 86400) now
 
 -- An injector that has ended stays so. It waits while its input isn't ready, and makes no call after a day.
-abbrev pub in_time : Bool → Bool → Due → Due
-in_time input late (Due.Ended status) = Due.Ended status
-in_time true true (Due.File call) = Due.Ended 52
-in_time true false (Due.File call) = Due.File call
-in_time false late (Due.File call) = Due.Wait
+abbrev pub in_time : Bool → Bool → NeedData → NeedData
+in_time input late (needs.Ended status) = needs.Ended status
+in_time true true (needs.File call) = needs.Ended 52
+in_time true false (needs.File call) = needs.File call
+in_time false late (needs.File call) = needs.Wait
 in_time input late due = due
 
 -- what an injector with these arguments does next: after this past, newest event first, at this moment, with this ready
-abbrev pub Next : Arguments → List Own → ℕ → Ready → Due
+abbrev pub Next : Arguments → List Own → ℕ → Ready → NeedData
 Next args past now ready = in_time (has_input ready) (is_late args now) (call_of args (row_after args past))

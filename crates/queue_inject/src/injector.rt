@@ -1,23 +1,24 @@
 // The injector as a machine.
-ghost use Rattle.std.specs.Prelude.{◌≡◌, ◌≢◌, ◌≤◌, ◌+◌, ◌∷◌, [], List, ℕ, None, Some, IfOk, IsOk, IsTrue, length, if◌then◌else◌};
-ghost use Rattle.call_fs.specs.declared.calls.CallData.{CallData};
+ghost use Rattle.std.specs.Prelude.{◌≡◌, ◌≢◌, ◌≤◌, ◌<◌, ◌+◌, ◌∷◌, [], List, ℕ, None, Some, IfOk, IsOk, IsTrue, length, if◌then◌else◌};
+ghost use Rattle.call_fs.specs.declared.calls.Told.{Told};
 ghost use Rattle.mail_bytes.specs.Moments.{IsMoment};
-ghost use Rattle.call_fs.specs.Program.{due_of, Own};
-ghost use Rattle.call_fs.specs.Program.Due.{Ended, Wait};
-ghost use Rattle.call_fs.specs.Program.Did.{Called};
+ghost use Rattle.call_fs.specs.declared.past.Own.{Own};
+ghost use Rattle.call_fs.specs.Program.{due_of, came_of, IsKind};
+ghost use Rattle.call_fs.specs.declared.past.GotData.TheVariants.{Answered};
+ghost use Rattle.call_fs.specs.declared.past.NeedData.TheVariants.{Ended, Wait};
 ghost use Rattle.queue_inject.specs.declared.injection.Arguments.{Arguments};
 ghost use Rattle.queue_inject.specs.Texts.{limit};
 ghost use Rattle.queue_inject.specs.Table.{Next, has_input};
 ghost use Rattle.queue_inject.specs.Inside.{IsInStep as InStep};
-ghost use Rattle.queue_inject.specs.Machine.{asks, room_of, over_by, row_now, late_now, call_now, due_now, is_call, is_answer, IsFileAnswer, gone_on};
+ghost use Rattle.queue_inject.specs.Machine.{asks, room_of, over_by, row_now, late_now, call_now, due_now, is_call, gone_on, ahead_of};
 ghost use Rattle.queue_inject.specs.declared.intake.Verdict.TheVariants.{Whole};
 ghost use Rattle.queue_inject.specs.Stands.{Stands, IsStartedBy, Continues, Ends};
 
 use crate::intake::Intake;
 use crate::named_row::NamedRow;
 use crate::steps::after;
-use crate::{InputEnd, Part, Row};
-use call_fs::{Answer, Got, Need, PIECE, Ready};
+use crate::{Arguments, InputEnd, Part, Row};
+use call_fs::{Answer, Got, Machine, Need, PIECE, Ready};
 use mail_bytes::Memory;
 use received_line::{Invoked, received};
 use std::alloc::{AllocError, Global};
@@ -245,20 +246,20 @@ impl Injector {
     }
 
     /// Hands in the answer to its call. It takes no memory and never answers `Memory`. Before its next call it is to be told
-    /// again what is ready. The conditions: it needs a file call, and this is the answer to one.
+    /// again what is ready. The condition: this is of the kind of its need, so that is a file call.
     pub fn done(&mut self, got: Got<'_>) -> Result<(), Memory>
-        requires due { IsTrue (is_call (due_now self.old)) }
-        requires kind { IsTrue (is_answer got) }
+        requires kind { IsKind (due_now self.old) (came_of got) }
         ensures ok { IsOk result }
-        // The table reads of an event its answer alone.
-        ensures stands { (args : Arguments) (past : List Own) (call : CallData) (answer : _) (bytes : List ℕ)
-            → Stands self.old args past → IsFileAnswer got.entry answer bytes
-            → Stands self.new args (record { read = self.old.present; ready = self.old.ready; did = Called call answer bytes } ∷ past) }
-        ensures on { (answer : _) (bytes : List ℕ) → IsFileAnswer got.entry answer bytes → self.new ≡ gone_on self.old answer }
+        ensures stands { (args : Arguments) (past : List Own) → Stands self.old args past → Stands self.new args
+            (record { read = self.old.present; ready = self.old.ready; due = due_now self.old; came = came_of got.entry } ∷ past) }
+        // The end comes nearer with each call.
+        ensures nearer { ahead_of self.new < ahead_of self.old }
+        ensures on { (told : Told) → came_of got.entry ≡ Answered told → self.new ≡ gone_on self.old told.answer }
     {
         let _ = &self.uid;
-        if let Got::File(answer, _) = got {
-            self.go_on(&answer);
+        match got {
+            Got::File(answer, _) => self.go_on(&answer),
+            _ => unreachable!(),
         }
         Ok(())
     }
@@ -273,4 +274,57 @@ impl Injector {
         self.place.go(after(row, answer));
         self.ready = UNREADY;
     }
+}
+
+impl Machine for Injector {
+    ghost use Rattle.std.specs.Prelude.{◌≡◌, true, Some, IsTrue};
+    ghost use Rattle.call_fs.specs.declared.calls.Told.{Told};
+    ghost use Rattle.call_fs.specs.declared.past.GotData.TheVariants.{Answered};
+    ghost use Rattle.queue_inject.specs.Machine.{room_of, due_now, ahead_of, gone_on};
+    ghost use Rattle.queue_inject.specs.Stands.{Stands};
+    ghost use Rattle.queue_inject.specs.Table.{Next, has_input};
+
+    type Arguments = Arguments;
+
+    ghost present = { λ m. m.present };
+
+    ghost found = { λ m. m.ready };
+
+    ghost looked = { λ _. true };
+
+    ghost can_find = { λ m ready. IsTrue (has_input ready) → room_of m ≡ 0 };
+
+    ghost due = { due_now };
+
+    ghost takes_at_most = { λ _. 0 };
+
+    ghost has_room = { λ _. Unit {0} };
+
+    ghost ahead = { λ m. Some (ahead_of m) };
+
+    ghost next = { Next };
+
+    ghost looks = { λ m now ready n. n ≡ record m { present = now; ready = ready } };
+
+    ghost goes = { λ m came n. (told : Told) → came ≡ Answered told → n ≡ gone_on m told.answer };
+
+    ghost stands = { Stands };
+
+    fn look(&mut self, now: u64, ready: Ready) {
+        self.look(now, ready)
+    }
+
+    fn need(&self) -> Need<'_> {
+        self.need()
+    }
+
+    fn taking_room(&self) -> usize {
+        0
+    }
+
+    fn done(&mut self, _alloc: Global, got: Got<'_>) -> Result<(), Memory> {
+        self.done(got)
+    }
+
+    fn uses_held() {}
 }

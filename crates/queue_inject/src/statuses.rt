@@ -1,7 +1,9 @@
 // Which exit status of an injector comes when, and why (qmail-queue(8)).
 ghost use Rattle.std.specs.Prelude.{◌≡◌, List, ℕ};
 ghost use Rattle.call_fs.specs.declared.program.Ready.{Ready};
-ghost use Rattle.call_fs.specs.Program.{Due, Own};
+ghost use Rattle.call_fs.specs.declared.past.NeedData.{NeedData};
+ghost use Rattle.call_fs.specs.declared.past.NeedData.TheVariants as needs;
+ghost use Rattle.call_fs.specs.declared.past.Own.{Own};
 ghost use Rattle.queue_inject.specs.declared.injection.Arguments.{Arguments};
 ghost use Rattle.queue_inject.specs.Table.{Next};
 ghost use Rattle.queue_inject.specs.Run.{IsRun};
@@ -29,5 +31,5 @@ ghost use Rattle.queue_inject.specs.Causes.{IsCausedBy};
 /// Where a call is due after a day, a clean up too, the status is 52 whatever came before.
 pub fn statuses_have_causes()
     ensures { (args : Arguments) (past : List Own) (now : ℕ) (ready : Ready) (status : ℕ) → IsRun args past
-        → Next args past now ready ≡ Due.Ended status → IsCausedBy args past now status }
+        → Next args past now ready ≡ needs.Ended status → IsCausedBy args past now status }
 {}

@@ -1,7 +1,7 @@
 //! The names of the queue's files, and the directories that they lie in.
 //!
 //! The contract of this crate, `names_are_exact`: each name has one text, and each text is at most one name's. A text
-//! is read as a name exactly where the queue uses that name and writes it so. The names are those of qmail's INTERNALS,
+//! is read as a name exactly if the queue uses that name and writes it so. The names are those of qmail's INTERNALS,
 //! "Queue structure".
 #![tactic(auto)]
 

@@ -60,7 +60,7 @@ pub fn path(name: &Name, into: &mut NameBuf)
     }
 }
 
-// Puts the name that an injector makes first at the end.
+/// Puts the name that an injector makes first at the end.
 #[tactic(auto, unfolding(crate::specs::Names::path))]
 fn extend_pid(into: &mut NameBuf, pid: u32, start: u64, seq: u8)
     requires { length into.old ≤ 100 }
@@ -74,7 +74,7 @@ fn extend_pid(into: &mut NameBuf, pid: u32, start: u64, seq: u8)
     extend_number(into, u64::from(seq));
 }
 
-// Puts a number's digits at the end.
+/// Puts a number's digits at the end.
 fn extend_number(into: &mut NameBuf, n: u64)
     requires { length into.old ≤ 200 }
     ensures text { into.new ≡ into.old ++ digits n }
@@ -85,7 +85,7 @@ fn extend_number(into: &mut NameBuf, n: u64)
     put(into, &text[..len]);
 }
 
-// Puts a directory and a number at the end.
+/// Puts a directory and a number at the end.
 fn extend_flat(into: &mut NameBuf, dir: &[u8], n: u64)
     requires { length into.old + length dir.now ≤ 100 }
     ensures { into.new ≡ into.old ++ (dir.now ++ digits n) }
@@ -94,7 +94,7 @@ fn extend_flat(into: &mut NameBuf, dir: &[u8], n: u64)
     extend_number(into, n);
 }
 
-// Puts a directory, a number's split and the number at the end.
+/// Puts a directory, a number's split and the number at the end.
 fn extend_split(into: &mut NameBuf, dir: &[u8], n: u64)
     requires { length into.old + length dir.now ≤ 100 }
     ensures { into.new ≡ into.old ++ (dir.now ++ split_text n) }
@@ -105,7 +105,7 @@ fn extend_split(into: &mut NameBuf, dir: &[u8], n: u64)
     extend_number(into, n);
 }
 
-// Puts bytes at the end. The condition: there is room for them.
+/// Puts bytes at the end. The condition: there is room for them.
 fn put(into: &mut NameBuf, bytes: &[u8])
     requires { length into.old + length bytes.now ≤ 255 }
     ensures { into.new ≡ into.old ++ bytes.now }
@@ -113,7 +113,7 @@ fn put(into: &mut NameBuf, bytes: &[u8])
     into.extend(bytes).unwrap();
 }
 
-/// The name that the queue uses with this text; `None` exactly where it uses none with it. Takes no memory.
+/// The name that the queue uses with this text; `None` exactly if it uses none with it. Takes no memory.
 pub fn parse(text: &[u8]) -> Option<Name>
     ensures { option_map name_of result ≡ used_name text.now }
 {
@@ -127,14 +127,14 @@ pub fn parse(text: &[u8]) -> Option<Name>
         .or(flat_number(text, b"bounce/").map(Name::Bounce))
 }
 
-// The number of a text that is a directory and a message number.
+/// The number of a text that is a directory and a message number.
 fn flat_number(text: &[u8], dir: &[u8]) -> Option<u64>
     ensures { (n : ℕ) → (result ≡ Some n) ↔ (IsTrue (is_number n) × (text.now ≡ dir.now ++ digits n)) }
 {
     number(behind(text, dir)?)
 }
 
-// The number of a text that is a directory, a message number's split and that number.
+/// The number of a text that is a directory, a message number's split and that number.
 fn split_number(text: &[u8], dir: &[u8]) -> Option<u64>
     ensures { (n : ℕ) → (result ≡ Some n) ↔ (IsTrue (is_number n) × (text.now ≡ dir.now ++ split_text n)) }
 {
@@ -147,7 +147,7 @@ fn split_number(text: &[u8], dir: &[u8]) -> Option<u64>
     }
 }
 
-// The name that an injector makes first.
+/// The name that an injector makes first.
 fn pid_name(text: &[u8]) -> Option<Name>
     ensures read { (name : _) → result ≡ Some name → IsTrue (is_used (name_of name)) × (text.now ≡ path (name_of name)) }
     ensures all { (pid start seq : ℕ) → IsTrue (is_used (PidName pid start seq)) → text.now ≡ path (PidName pid start seq)
@@ -166,7 +166,7 @@ fn pid_name(text: &[u8]) -> Option<Name>
     })
 }
 
-// A message number.
+/// A message number.
 fn number(text: &[u8]) -> Option<u64>
     ensures { (n : ℕ) → (result ≡ Some n) ↔ (IsTrue (is_number n) × (text.now ≡ digits n)) }
 {
@@ -174,14 +174,14 @@ fn number(text: &[u8]) -> Option<u64>
     if n > 0 { Some(n) } else { None }
 }
 
-// What stands behind a directory's name.
+/// What stands after a directory's name.
 fn behind<'a>(text: &'a [u8], dir: &[u8]) -> Option<&'a [u8]>
     ensures { MatchOption result ((rest : List ℕ) → text.now ≢ dir.now ++ rest) (λ rest. text.now ≡ dir.now ++ rest.now) }
 {
     text.strip_prefix(dir)
 }
 
-// What stands before and after the first such byte.
+/// What stands before and after the first such byte.
 fn cut(text: &[u8], sep: u8) -> Option<(&[u8], &[u8])>
     ensures { MatchOption result ((front rest : List ℕ) → text.now ≢ front ++ (sep ∷ rest))
         (λ parts. (parts.0.now ≡ before sep text.now) × (parts.1.now ≡ after sep text.now)
@@ -191,7 +191,7 @@ fn cut(text: &[u8], sep: u8) -> Option<(&[u8], &[u8])>
     Some((&text[..at], &text[at + 1..]))
 }
 
-// The place of the first such byte.
+/// The place of the first such byte.
 fn first(text: &[u8], sep: u8) -> Option<usize>
     ensures { MatchOption result (EachIndex text.now (λ k. slice_index text.now k ≢ sep))
         (λ at. (at < length text.now) × (slice_index text.now at ≡ sep) × ((k : ℕ) → k < at → slice_index text.now k ≢ sep)) }

@@ -1,6 +1,7 @@
 //! The states of a message number, by which of its seven files are there.
 ghost use Rattle.std.specs.Prelude.{◌≡◌};
 ghost use Rattle.queue_states.specs.States.{state_by_all};
+ghost use Rattle.queue_states.specs.Lines.{state_word};
 
 /// The state of a message number (INTERNALS, "Queue structure").
 #[derive(Clone, Copy)]
@@ -17,6 +18,22 @@ pub enum State {
     S5,
     /// A combination that no legal history leads to.
     Other,
+}
+
+impl State {
+    /// Its name: `S1` to `S5`, or `other`. Takes no memory.
+    pub fn word(self) -> &'static [u8]
+        ensures { result.now ≡ state_word self }
+    {
+        match self {
+            State::S1 => b"S1",
+            State::S2 => b"S2",
+            State::S3 => b"S3",
+            State::S4 => b"S4",
+            State::S5 => b"S5",
+            State::Other => b"other",
+        }
+    }
 }
 
 /// The state of a number, by which of its files are there: mess, intd, todo, info, local, remote, bounce. Takes no

@@ -21,7 +21,7 @@ pub enum Invoked {
 }
 
 /// The date of a moment in UTC, as `1 Jan 1970 00:00:00 -0000`. The condition: a clock may tell the moment. Fails only
-/// for want of memory.
+/// if memory runs out.
 pub fn date(alloc: Global, moment: u64) -> Result<Vec<u8>, Memory>
     requires { IsMoment moment }
     ensures { IfOk result (λ v. v.items ≡ date_text moment) }
@@ -32,7 +32,7 @@ pub fn date(alloc: Global, moment: u64) -> Result<Vec<u8>, Memory>
 }
 
 /// The first line of a message file with its newline, as `Received: (qmail 77 invoked by uid 1000); DATE`: who put the
-/// message into the queue, and when. The condition: a clock may tell the moment. Fails only for want of memory.
+/// message into the queue, and when. The condition: a clock may tell the moment. Fails only if memory runs out.
 pub fn received(alloc: Global, pid: u32, invoked: Invoked, moment: u64) -> Result<Vec<u8>, Memory>
     requires { IsMoment moment }
     ensures { IfOk result (λ v. v.items ≡ received_text pid invoked moment) }
@@ -47,6 +47,7 @@ pub fn received(alloc: Global, pid: u32, invoked: Invoked, moment: u64) -> Resul
     Ok(line)
 }
 
+/// Puts by whom, or for what, the injector was invoked at the end.
 fn put_invoked(text: &mut Vec<u8>, invoked: Invoked) -> Result<(), Memory>
     ensures { OnOk result (text.new.items ≡ text.old.items ++ invoked_text invoked) }
 {
@@ -59,6 +60,7 @@ fn put_invoked(text: &mut Vec<u8>, invoked: Invoked) -> Result<(), Memory>
     }
 }
 
+/// Puts the date and the time of a moment in UTC at the end.
 fn put_date(text: &mut Vec<u8>, moment: u64) -> Result<(), Memory>
     requires { IsMoment moment }
     ensures { OnOk result (text.new.items ≡ text.old.items ++ date_text moment) }
@@ -68,7 +70,7 @@ fn put_date(text: &mut Vec<u8>, moment: u64) -> Result<(), Memory>
     put_clock(text, utc)
 }
 
-// What a calendar and a clock in UTC show.
+/// What a calendar and a clock in UTC show.
 fn in_utc(moment: u64) -> DateTime
     requires { IsMoment moment }
     ensures day { day_of moment ≡ record {
@@ -83,6 +85,7 @@ fn in_utc(moment: u64) -> DateTime
     Offset::UTC.to_datetime(Timestamp::from_second(moment as i64).unwrap())
 }
 
+/// Puts the day, the month and the year at the end: `1 Jan 1970`.
 fn put_day(text: &mut Vec<u8>, utc: DateTime) -> Result<(), Memory>
     ensures { OnOk result (text.new.items ≡ text.old.items ++ (digits utc.date.day
         ++ (32 ∷ (month_name (utc.date.month - 1) ++ (32 ∷ four (unsigned_abs utc.date.year)))))) }
@@ -96,6 +99,7 @@ fn put_day(text: &mut Vec<u8>, utc: DateTime) -> Result<(), Memory>
     put_two(text, (year % 100) as u8)
 }
 
+/// Puts a space, the time and the zone at the end: ` 00:00:00 -0000`.
 fn put_clock(text: &mut Vec<u8>, utc: DateTime) -> Result<(), Memory>
     ensures { OnOk result (text.new.items ≡ text.old.items ++ (32 ∷ (two utc.time.hour
         ++ (58 ∷ (two utc.time.minute ++ (58 ∷ (two utc.time.second ++ codes " -0000"))))))) }
@@ -109,6 +113,7 @@ fn put_clock(text: &mut Vec<u8>, utc: DateTime) -> Result<(), Memory>
     text.extend_from_slice(b" -0000")
 }
 
+/// Puts a number in two digits at the end. The condition: it has no more.
 fn put_two(text: &mut Vec<u8>, number: u8) -> Result<(), Memory>
     requires { number < 100 }
     ensures { OnOk result (text.new.items ≡ text.old.items ++ two number) }
@@ -116,6 +121,7 @@ fn put_two(text: &mut Vec<u8>, number: u8) -> Result<(), Memory>
     text.extend_from_slice(&[b'0' + number / 10, b'0' + number % 10])
 }
 
+/// Puts a decimal number at the end.
 fn put_number(text: &mut Vec<u8>, number: u32) -> Result<(), Memory>
     ensures { OnOk result (text.new.items ≡ text.old.items ++ digits number) }
 {
@@ -123,7 +129,7 @@ fn put_number(text: &mut Vec<u8>, number: u32) -> Result<(), Memory>
     text.extend_from_slice(buffer.format(number).as_bytes())
 }
 
-// Of months counted from 0.
+/// Of months counted from 0.
 fn month_name(month: u8) -> &'static [u8]
     requires { month < 12 }
     ensures { result.now ≡ month_name month }

@@ -6,8 +6,10 @@ use Rattle.call_fs.specs.declared.program.Ready.{Ready}
 use Rattle.call_fs.specs.Disk.{Disk}
 use Rattle.mail_bytes.specs.Moments.{IsMoment}
 use Rattle.call_fs.specs.Apply.{Fits}
-use Rattle.call_fs.specs.Program.{Due, Own}
-use Rattle.call_fs.specs.Program.Did.{Called}
+use Rattle.call_fs.specs.declared.past.GotData.TheVariants.{Answered}
+use Rattle.call_fs.specs.declared.past.NeedData.{NeedData}
+use Rattle.call_fs.specs.declared.past.NeedData.TheVariants as needs
+use Rattle.call_fs.specs.declared.past.Own.{Own}
 use Rattle.call_fs.specs.Maps.{put_at}
 use Rattle.call_fs.proofs.Maps.{put_at_cases}
 use Rattle.queue_inject.specs.declared.row.Row.{Row}
@@ -42,12 +44,12 @@ pub record Carries (s : State) : Type 0 where
 -- A step of a living actor: a call with an answer, or its end.
 abbrev pub HasCalled : Plan → State → List ℕ → Actor → Event → Type 0
 HasCalled plan s a x e =
-    (c : CallData) × (got : Told) × (next_of x.program x.past s.now input_ready ≡ Due.File c)
+    (c : CallData) × (got : Told) × (next_of x.program x.past s.now input_ready ≡ needs.File c)
     × Answers plan s.disk c got × (e ≡ Call a s.now input_ready c got 0)
 
 abbrev pub HasEnded : State → List ℕ → Actor → Event → Type 0
 HasEnded s a x e =
-    (status : ℕ) × (next_of x.program x.past s.now input_ready ≡ Due.Ended status)
+    (status : ℕ) × (next_of x.program x.past s.now input_ready ≡ needs.Ended status)
     × (e ≡ End a s.now input_ready status)
 
 pub record HasStepped (plan : Plan) (s : State) (a : List ℕ) (e : Event) : Type 0 where
@@ -59,16 +61,16 @@ pub record HasStepped (plan : Plan) (s : State) (a : List ℕ) (e : Event) : Typ
 same_event : (e f : Event) → Happens e ≡ Happens f → e ≡ f
 same_event e f h = cc
 
-stepped_due : (plan : Plan) (s : State) (a : List ℕ) (x : Actor) (due : Due) (e : Event)
+stepped_due : (plan : Plan) (s : State) (a : List ℕ) (x : Actor) (due : NeedData) (e : Event)
     → next_of x.program x.past s.now input_ready ≡ due → DoesNext plan s a due (Happens e)
     → HasCalled plan s a x e ⊎ HasEnded s a x e
-stepped_due plan s a x (Due.File c) e next h = inl (c, h.0, next, h.1, same_event e _ h.2)
-stepped_due plan s a x (Due.Ended status) e next h = inr (status, next, same_event e _ h)
-stepped_due plan s a x (Due.Take port) e next h = absurd (cc)
-stepped_due plan s a x (Due.Give port bytes) e next h = absurd (cc)
-stepped_due plan s a x (Due.Start child) e next h = absurd (cc)
-stepped_due plan s a x (Due.Command bytes) e next h = absurd (cc)
-stepped_due plan s a x Due.Wait e next h = absurd (cc)
+stepped_due plan s a x (needs.File c) e next h = inl (c, h.0, next, h.1, same_event e _ h.2)
+stepped_due plan s a x (needs.Ended status) e next h = inr (status, next, same_event e _ h)
+stepped_due plan s a x (needs.Take port) e next h = absurd (cc)
+stepped_due plan s a x (needs.Give port bytes) e next h = absurd (cc)
+stepped_due plan s a x (needs.Start child) e next h = absurd (cc)
+stepped_due plan s a x (needs.Command bytes) e next h = absurd (cc)
+stepped_due plan s a x needs.Wait e next h = absurd (cc)
 
 stepped_life : (plan : Plan) (s : State) (a : List ℕ) (x : Actor) (life : Life) (e : Event) → s.actors a ≡ Some x → x.life ≡ life
     → DoesAlive plan s a x life (Happens e) → HasStepped plan s a e
@@ -102,7 +104,7 @@ module _ (s : State) (a : List ℕ) (x : Actor) (carries : Carries s) (is : s.ac
       → Fits s.disk c got.answer 0 → Carries (called s a s.now ready c got 0 (Some x))
   called_carries ready c got alive none fits =
       let t = called s a s.now ready c got 0 (Some x) in
-      let own : Own = record { read = s.now; ready = ready; did = Called c got.answer got.bytes } in
+      let own : Own = record { read = s.now; ready = ready; due = needs.File c; came = Answered got } in
       let opens = opens_by s.disk s.now c got.answer 0 s.holder a none fits in
       let stay = λ (b : List ℕ) (y : Actor) (h : HasNeeds s.disk s.holder b y.program y.past).
       needs_stay s.disk t.disk s.holder t.holder a b got.answer y.program y.past opens h in
@@ -216,7 +218,7 @@ goes_step d h plan a e x so is alive (inl (c, got, due, given, same)) =
     let s = after d h in
     let carries = so.carries in
     let f : Event = Call a s.now input_ready c got 0 in
-    let may : MayDo s.disk (Due.File c) =
+    let may : MayDo s.disk (needs.File c) =
     subst (MayDo s.disk) due
     (next_may s.disk s.holder a x.program x.past s.now input_ready (carries.needs a x is alive)) in
     subst (λ (e : Event). Goes d (e ∷ h)) (sym same) (record {

@@ -17,6 +17,7 @@ use Rattle.queue_paths.specs.Names.Part.{Mess, Intd, Todo, Info, Local, Remote, 
 use Rattle.queue_paths.specs.Names.Name.{Of}
 use Rattle.queue_paths.proofs.Paths.{path-parse, used_name-path, is_number_tells}
 use Rattle.queue_states.specs.States.{is_there}
+use Rattle.queue_states.proofs.MessageFiles.{is_part, is_file}
 use Rattle.scenario.specs.Shown.{AreNamesIn}
 
 -- a name has one number
@@ -92,20 +93,9 @@ gathering_passed d dir seen name old new g is = record {
   each = All-push (IsListed dir new) seen name g.each (λ part n e. let none = (is n).1 (part, e) in absurd (cc));
 }
 
--- a name in use is one of a message number
-used_tells : (o : Option Name) (part : Part) (n : ℕ) → used o ≡ Some (Of part n) → (o ≡ Some (Of part n)) × IsTrue (is_number n)
-used_tells None part n e = absurd (cc)
-used_tells (Some x) part n e = used_by (is_used x) x refl e
-  where
-    used_by : (b : Bool) (x : Name) → is_used x ≡ b → (if b then Some x else None) ≡ Some (Of part n) → (Some x ≡ Some (Of part n)) × IsTrue (is_number n)
-    used_by true x h e = (e, let same : x ≡ Of part n = cc in subst (λ y. is_used y ≡ true) same h)
-    used_by false x h e = absurd (cc)
-
 -- a name in use that stands on the disk shows that its number has a file
 has_file : (d : Disk) (text : List ℕ) (part : Part) (n : ℕ) → IsSome (d.names text) → used_name text ≡ Some (Of part n) → HasFile d n
-has_file d text part n there e =
-    let w = used_tells (parse text) part n e in
-    (w.1, part, subst (λ t. IsSome (d.names t)) (path-parse text (Of part n) w.0) there)
+has_file d text part n there e = let file = is_file d text part n there e in (file.0, part, file.1)
 
 -- a name with a number adds that
 gathering_more : (d : Disk) (dir : List ℕ) (seen : List (List ℕ)) (name old new : List ℕ) (m : ℕ) → Gathering d dir seen old new
@@ -120,25 +110,6 @@ gathering_more d dir seen name old new m g there is =
       each = All-push (IsListed dir (new ++ m ∷ [])) seen name
           (All-weaker (IsListed dir new) (IsListed dir (new ++ m ∷ [])) (λ other listed part n e. Contains-append_left new (m ∷ []) n (listed part n e)) seen g.each)
           (λ part n e. let same : m ≡ n = let some = (is n).1 (part, e) in cc in subst (Contains (new ++ m ∷ [])) same (Contains-push new m));
-    }
-
--- the digits of a number may stand as a name
-no_slash : (text : List ℕ) → All IsDigit text → ¬ (Contains text 47)
-no_slash text only here = let digit = All-contains IsDigit text 47 only here in omega arith
-
-later : (text : List ℕ) → 0 < length text → slice_cmp nat_cmp [] text ≡ Less
-later [] some = absurd (omega arith)
-later (b ∷ text) some = refl
-
-is_part : (n : ℕ) → n < 2 ^ 64 → IsLater [] (digits n)
-is_part n small =
-    let low : n < 10 ^ 20 = omega arith in
-    let len = ap length (decimal-digits n small) in
-    let short = length-decimal-le 20 n (omega arith) low small in
-    record {
-      whole = no_slash (digits n) (digits_all n);
-      short = omega arith;
-      later = later (digits n) (number-digits n small).some;
     }
 
 -- every number with a file in this directory was added

@@ -10,7 +10,9 @@ use Rattle.call_fs.specs.declared.program.Ready.{Ready}
 use Rattle.call_fs.specs.Calls.{without_bytes}
 use Rattle.call_fs.specs.Disk.{Disk, HasDir, dir_of}
 use Rattle.call_fs.specs.Apply.{Fits, MayCall}
-use Rattle.call_fs.specs.Program.{Due, Own}
+use Rattle.call_fs.specs.declared.past.NeedData.{NeedData}
+use Rattle.call_fs.specs.declared.past.NeedData.TheVariants as needs
+use Rattle.call_fs.specs.declared.past.Own.{Own}
 use Rattle.call_fs.specs.Free.{IsFree}
 use Rattle.call_fs.specs.Plan.{Plan, Takes, TakesNumber}
 use Rattle.mail_world.proofs.Tests.{tells_number}
@@ -112,8 +114,8 @@ unlink_given plan other d name =
     (some_or_none (d.names name))
 
 -- a file call that may be made has an answer
-abbrev pub IsGiven : Plan → Disk → Due → Type 0
-IsGiven plan d (Due.File c) = MayCall d c → (got : Told) × Answers plan d c got
+abbrev pub IsGiven : Plan → Disk → NeedData → Type 0
+IsGiven plan d (needs.File c) = MayCall d c → (got : Told) × Answers plan d c got
 IsGiven plan d other = Unit {0}
 
 row_passed : (plan : Plan) → plan.fault ≢ Some 1 → (d : Disk) (args : Arguments) (row : Row) → IsFinite d → IsGiven plan d (call_of args row)
@@ -149,16 +151,16 @@ row_failed plan due d args (at.Failed cause) = tt
 row_given : (plan : Plan) (d : Disk) (args : Arguments) (row : Row) → IsFinite d → IsGiven plan d (call_of args row)
 row_given plan d args row f = ⊎_elim (λ due. row_failed plan due d args row) (λ other. row_passed plan other d args row f) (tells_number plan.fault 1)
 
-in_time_given : (plan : Plan) (d : Disk) (input late : Bool) (due : Due) → IsGiven plan d due → IsGiven plan d (in_time input late due)
-in_time_given plan d true true (Due.File c) given = tt
-in_time_given plan d true false (Due.File c) given = given
-in_time_given plan d false late (Due.File c) given = tt
-in_time_given plan d input late (Due.Take port) given = tt
-in_time_given plan d input late (Due.Give port bytes) given = tt
-in_time_given plan d input late (Due.Start child) given = tt
-in_time_given plan d input late (Due.Command bytes) given = tt
-in_time_given plan d input late Due.Wait given = tt
-in_time_given plan d input late (Due.Ended status) given = tt
+in_time_given : (plan : Plan) (d : Disk) (input late : Bool) (due : NeedData) → IsGiven plan d due → IsGiven plan d (in_time input late due)
+in_time_given plan d true true (needs.File c) given = tt
+in_time_given plan d true false (needs.File c) given = given
+in_time_given plan d false late (needs.File c) given = tt
+in_time_given plan d input late (needs.Take port) given = tt
+in_time_given plan d input late (needs.Give port bytes) given = tt
+in_time_given plan d input late (needs.Start child) given = tt
+in_time_given plan d input late (needs.Command bytes) given = tt
+in_time_given plan d input late needs.Wait given = tt
+in_time_given plan d input late (needs.Ended status) given = tt
 
 pub next_given : (plan : Plan) (d : Disk) (program : Program) (past : List Own) (now : ℕ) (ready : Ready) → IsFinite d
     → IsGiven plan d (next_of program past now ready)

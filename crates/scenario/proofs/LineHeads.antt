@@ -10,7 +10,7 @@ use Rattle.mail_bytes.specs.Decimal.{digits}
 use Rattle.mail_bytes.specs.Moments.{IsMoment}
 use Rattle.script_words.specs.declared.entry.Entry.{Entry}
 use Rattle.script_words.specs.declared.entry.Entry.TheVariants.{File, Dir}
-use Rattle.script_words.specs.Entries.{IsEntry}
+use Rattle.script_words.specs.Entries.{IsEntryLine}
 use Rattle.scenario.specs.declared.line.Line.{Line}
 use Rattle.scenario.specs.declared.line.Line.TheVariants.{Mail, Step, Run, Stop, Halt, Fault, Number, Moment, Trace, Cat, Show}
 use Rattle.script_words.specs.Words.{joined, StandsFor, survival_text, IsSeeded, IsCounted}
@@ -144,7 +144,7 @@ no_keyword key none here =
     false≢true (ap not (sym same) ∙ other)
 
 -- a text of an entry is none of a line
-pub no_entry_line : (text : List ℕ) (entry : Entry) (line : Line) → IsEntry text entry → ¬ (IsLine text line)
+pub no_entry_line : (text : List ℕ) (entry : Entry) (line : Line) → IsEntryLine text entry → ¬ (IsLine text line)
 no_entry_line text (File path bytes) line h is =
     let rest : List ℕ = (h.word ++ 32 ∷ codes ":") ++ h.rest in
     no_keyword (codes "file") refl (is_keyword (codes "file") rest line (begins (codes "file") rest line (lacks (codes "file") 32 refl) (subst (λ (t : List ℕ). IsLine t line) h.words is)))

@@ -12,7 +12,9 @@ use Rattle.call_fs.specs.declared.calls.Told.{Told}
 use Rattle.call_fs.specs.declared.program.Ready.{Ready}
 use Rattle.call_fs.specs.Disk.{Disk}
 use Rattle.call_fs.specs.Maps.{put_at}
-use Rattle.call_fs.specs.Program.{Due, Own}
+use Rattle.call_fs.specs.declared.past.NeedData.{NeedData}
+use Rattle.call_fs.specs.declared.past.NeedData.TheVariants as needs
+use Rattle.call_fs.specs.declared.past.Own.{Own}
 use Rattle.queue_inject.specs.declared.injection.Arguments.{Arguments}
 use Rattle.queue_inject.specs.declared.row.Row.{Row}
 use Rattle.queue_inject.specs.declared.row.Row.TheVariants as at
@@ -66,10 +68,10 @@ begins_todo n = refl
 to_todo : (n : ℕ) → is_to_todo (path (Of Intd n)) (parse (path (Of Todo n))) ≡ queues (Link (path (Of Intd n)) (path (Of Todo n))) Done
 to_todo n = ap (is_to_todo (path (Of Intd n))) (exact.parse_path (Of Todo n)) ∙ same_text (path (Of Intd n)) ∙ sym (begins_todo n)
 
-due_agrees : (own call : CallData) → ◌≡◌ {A = Due} (Due.File own) (Due.File call) → Agrees own → Agrees call
+due_agrees : (own call : CallData) → ◌≡◌ {A = NeedData} (needs.File own) (needs.File call) → Agrees own → Agrees call
 due_agrees own call due h = let same : own ≡ call = cc in subst Agrees same h
 
-row_agrees : (args : Arguments) (row : Row) (call : CallData) → call_of args row ≡ Due.File call → Agrees call
+row_agrees : (args : Arguments) (row : Row) (call : CallData) → call_of args row ≡ needs.File call → Agrees call
 row_agrees args (at.Create seq) call due = due_agrees _ call due (λ answer. refl)
 row_agrees args (at.LinkMess seq n fd) call due = due_agrees _ call due (link_agrees (path (Pid args.pid args.start seq)) (path (Of Mess n)) (to_mess (path (Pid args.pid args.start seq)) n))
 row_agrees args (at.UnlinkPid seq n fd) call due = due_agrees _ call due (λ answer. refl)
@@ -84,13 +86,13 @@ row_agrees args (at.CleanMess n cause) call due = due_agrees _ call due (λ answ
 row_agrees args at.Queued call due = absurd (cc)
 row_agrees args (at.Failed cause) call due = absurd (cc)
 
-timely : (input late : Bool) (due : Due) (call : CallData) → in_time input late due ≡ Due.File call → due ≡ Due.File call
-timely true true (Due.File own) call h = absurd (cc)
-timely true false (Due.File own) call h = h
-timely false late (Due.File own) call h = absurd (cc)
+timely : (input late : Bool) (due : NeedData) (call : CallData) → in_time input late due ≡ needs.File call → due ≡ needs.File call
+timely true true (needs.File own) call h = absurd (cc)
+timely true false (needs.File own) call h = h
+timely false late (needs.File own) call h = absurd (cc)
 timely input late due call h = absurd (cc)
 
-next_agrees : (program : Program) (past : List Own) (read : ℕ) (ready : Ready) (call : CallData) → next_of program past read ready ≡ Due.File call → Agrees call
+next_agrees : (program : Program) (past : List Own) (read : ℕ) (ready : Ready) (call : CallData) → next_of program past read ready ≡ needs.File call → Agrees call
 next_agrees (Injector args) past read ready call due = row_agrees args _ call (timely _ _ _ call due)
 
 call_agrees : (s : State) (a : List ℕ) (read : ℕ) (ready : Ready) (call : CallData) (got : Told) (wrote : ℕ)

@@ -1,4 +1,4 @@
--- The names of a directory, one after the other.
+-- The names of a directory come to an end.
 use Rattle.std.proofs.Common.{◌≡◌, ◌⊎◌, ℕ, ◌+◌, ◌<◌, ◌≤◌, List, [], ◌∷◌, ◌++◌, get_or, All, Contains, Some, IsSome, Bool, true, false, cond, bytes_eq, nat_cmp, Ordering, Less, Equal, Greater, refl, sym, ◌∙◌, ap, subst, inl, inr, ⊎_elim, arith}
 use Rattle.std.specs.Cmp.Lexicographic.{slice_cmp}
 use Rattle.std.specs.List.{AllPairs}
@@ -73,60 +73,3 @@ fewer low high (e ∷ names) less there = fewer-by-case (bytes_eq high e.0) low 
 -- so the names of a directory come to an end
 pub fewer_names : (dir last name : List ℕ) (names : List (List ℕ × ℕ)) → slice_cmp nat_cmp last name ≡ Less → IsSome (at_name names (dir ++ 47 ∷ name)) → count_after (dir ++ 47 ∷ name) names < count_after (dir ++ 47 ∷ last) names
 fewer_names dir last name names less there = fewer (dir ++ 47 ∷ last) (dir ++ 47 ∷ name) names (slice_cmp-prefix dir (47 ∷ last) (47 ∷ name) ∙ slice_cmp-prefix (47 ∷ []) last name ∙ less) there
-
-abbrev pub Below : List ℕ → List ℕ → Type 0
-Below low high = slice_cmp nat_cmp low high ≡ Less
-
--- not above
-abbrev pub UpTo : List ℕ → List ℕ → Type 0
-UpTo low high = is_gt (slice_cmp nat_cmp low high) ≡ false
-
--- The names up to this one were found.
-pub record Found (d : Disk) (dir : List ℕ) (names : List (List ℕ)) (last : List ℕ) : Type 0 where
-  pub each : All (StandsAfter d dir []) names
-  pub rising : AllPairs Below names
-  pub up_to : All (λ name. UpTo name last) names
-  pub others : (name : List ℕ) → StandsAfter d dir [] name → Contains names name ⊎ StandsAfter d dir last name
-
--- a later name isn't empty
-not-first : (low text : List ℕ) → Below low text → Below [] text
-not-first low [] less = absurd (nothing-below low less)
-  where
-    nothing-below : (t : List ℕ) → Below t [] → ⊥
-    nothing-below [] h = cc
-    nothing-below (b ∷ t) h = cc
-not-first low (b ∷ text) less = refl
-
--- below what is below or the same
-below-by : (o : Ordering) (a b c : List ℕ) → slice_cmp nat_cmp a b ≡ o → is_gt o ≡ false → Below b c → Below a c
-below-by Less a b c e upto less = nat_list_cmp_total.trans a b c e less
-below-by Equal a b c e upto less = nat_list_cmp_total.congr a b c e ∙ less
-below-by Greater a b c e upto less = absurd (false≢true (sym upto))
-
-below-from : (a b c : List ℕ) → UpTo a b → Below b c → Below a c
-below-from a b c upto less = below-by (slice_cmp nat_cmp a b) a b c refl upto less
-
--- texts that compare as equal are one
-pub same-text : (a b : List ℕ) → slice_cmp nat_cmp a b ≡ Equal → a ≡ b
-same-text a b e = (bytes_eq-Decides a b).0 (sym (is_eq-slice_cmp a b) ∙ ap is_eq e)
-
--- a text that stands after the last one stands after the next, or is it
-next-or-later : (o : Ordering) (d : Disk) (dir : List ℕ) (names : List (List ℕ)) (name other : List ℕ) → slice_cmp nat_cmp name other ≡ o → is_gt o ≡ false → StandsAfter d dir [] other → Contains (names ++ name ∷ []) other ⊎ StandsAfter d dir name other
-next-or-later Less d dir names name other e upto stands = inr (stands.0, record { whole = stands.1.whole; short = stands.1.short; later = e })
-next-or-later Equal d dir names name other e upto stands = inl (subst (Contains (names ++ name ∷ [])) (same-text name other e) (Contains-push names name))
-next-or-later Greater d dir names name other e upto stands = absurd (false≢true (sym upto))
-
-pub found_more : (d : Disk) (dir : List ℕ) (names : List (List ℕ)) (last name : List ℕ) → Found d dir names last → IsNextName d dir last name → Found d dir (names ++ name ∷ []) name
-found_more d dir names last name found next =
-    let less = next.stands.1.later in
-    record {
-      each = All-push (StandsAfter d dir []) names name found.each (next.stands.0, record { whole = next.stands.1.whole; short = next.stands.1.short; later = not-first last name less });
-      rising = all_pairs_push Below names name found.rising (λ k e within. below-from (get_or names k e) last name (found.up_to k e within) less);
-      up_to = All-push (λ n. UpTo n name) names name
-          (All-weaker (λ n. UpTo n last) (λ n. UpTo n name) (λ n upto. ap is_gt (below-from n last name upto less)) names found.up_to)
-          (ap is_gt (tied_itself nat_list_cmp_total name));
-      others = λ other stands. ⊎_elim
-          (λ here. inl (Contains-append_left names (name ∷ []) other here))
-          (λ later. next-or-later (slice_cmp nat_cmp name other) d dir names name other refl (next.least other later) stands)
-          (found.others other stands);
-    }

@@ -4,22 +4,23 @@ use Rattle.std.proofs.lemmas.Bool.{cases_lt}
 use Rattle.call_fs.specs.declared.calls.Told.{Told}
 use Rattle.call_fs.specs.Disk.{Disk}
 use Rattle.call_fs.specs.Plan.{Plan}
-use Rattle.call_fs.specs.Program.{Due}
+use Rattle.call_fs.specs.declared.past.NeedData.{NeedData}
+use Rattle.call_fs.specs.declared.past.NeedData.TheVariants as needs
 use Rattle.queue_inject.specs.declared.injection.Arguments.{Arguments}
 use Rattle.mail_world.specs.History.{Event, Life, State, Actor, next_of, after}
 use Rattle.mail_world.specs.History.Event.{Call}
 use Rattle.mail_world.specs.History.Life.{Alive, Over, Stopped}
 use Rattle.mail_world.specs.World.{input_ready}
-use Rattle.scenario.specs.Played.{Refusal, Outcome, DoesNext, DoesAlive, DoesStep, StepsTo, MailComesTo, AreSteps, plan_through, most_steps, Stops, IsRun, stop_text}
+use Rattle.scenario.specs.Played.{Refusal, Outcome, DoesNext, DoesAlive, DoesStep, StepsTo, MailComesTo, AreSteps, plan_through, most_steps, Stops, IsRunOf, stop_text}
 use Rattle.scenario.specs.Played.Outcome.{Happens, Is}
 use Rattle.scenario.proofs.OneAnswer.{one_answer}
 
 -- Steps
 
-does_one : (plan : Plan) (s : State) (a : List ℕ) (due : Due) (o p : Outcome) → DoesNext plan s a due o → DoesNext plan s a due p → o ≡ p
-does_one plan s a (Due.File call) o p h k =
+does_one : (plan : Plan) (s : State) (a : List ℕ) (due : NeedData) (o p : Outcome) → DoesNext plan s a due o → DoesNext plan s a due p → o ≡ p
+does_one plan s a (needs.File call) o p h k =
     h.2 ∙ ap (λ (t : Told). Happens (Call a s.now input_ready call t 0)) (one_answer plan s.disk call h.0 k.0 h.1 k.1) ∙ sym k.2
-does_one plan s a (Due.Ended status) o p h k = h ∙ sym k
+does_one plan s a (needs.Ended status) o p h k = h ∙ sym k
 does_one plan s a due o p h k = h ∙ sym k
 
 alive_one : (plan : Plan) (s : State) (a : List ℕ) (x : Actor) (life : Life) (o p : Outcome) → DoesAlive plan s a x life o → DoesAlive plan s a x life p → o ≡ p
@@ -75,7 +76,7 @@ stops_all : (plan : Plan) (s : State) (a : List ℕ) (n m : ℕ) (text : List �
 stops_all plan s a n m text event (inl h) less most step = not_refused plan s a event h.0 step h.1
 stops_all plan s a n m text event (inr h) less most step = let full = h.0 in absurd (omega arith)
 
-not_longer : (d : Disk) (h : List Event) (plan : Plan) (a : List ℕ) (e f : List Event) (t u : List ℕ) → IsRun d h plan a e t → IsRun d h plan a f u → length e < length f → ⊥
+not_longer : (d : Disk) (h : List Event) (plan : Plan) (a : List ℕ) (e f : List Event) (t u : List ℕ) → IsRunOf d h plan a e t → IsRunOf d h plan a f u → length e < length f → ⊥
 not_longer d h plan a e f t u p q less =
     let step = one_more d h plan a e f p.are_steps q.are_steps less in
     stops_all (plan_through plan e) (after d (e ++ h)) a (length e) (length f) t step.0 p.stops less q.within step.1
@@ -91,7 +92,7 @@ one_stop plan s a n t u (inr h) (inl k) =
     ⊎_elim (λ less. let full = h.0 in absurd (omega arith)) (λ gone. absurd (h.1 (subst (λ (r : Refusal). StepsTo plan s a (Is r)) gone k.1))) k.2
 one_stop plan s a n t u (inr h) (inr k) = h.2 ∙ sym k.2
 
-pub one_run : (d : Disk) (h : List Event) (plan : Plan) (a : List ℕ) (e f : List Event) (t u : List ℕ) → IsRun d h plan a e t → IsRun d h plan a f u → (e ≡ f) × (t ≡ u)
+pub one_run : (d : Disk) (h : List Event) (plan : Plan) (a : List ℕ) (e f : List Event) (t u : List ℕ) → IsRunOf d h plan a e t → IsRunOf d h plan a f u → (e ≡ f) × (t ≡ u)
 one_run d h plan a e f t u p q =
     let same : e ≡ f = ⊎_elim (λ less. absurd (not_longer d h plan a e f t u p q less))
     (λ more. ⊎_elim (λ less. absurd (not_longer d h plan a f e u t q p less)) (λ least. same_steps d h plan a e f p.are_steps q.are_steps (omega arith)) (cases_lt (length f) (length e)))

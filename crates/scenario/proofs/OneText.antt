@@ -14,7 +14,7 @@ use Rattle.scenario.specs.declared.line.Line.{Line}
 use Rattle.scenario.specs.declared.line.Line.TheVariants as line
 use Rattle.scenario.specs.Contents.{Content}
 use Rattle.scenario.specs.FirstDisk.{IsFirstDisk}
-use Rattle.scenario.specs.Played.{Outcome, StopsAlive, StopComesTo, MomentComesTo, NumberComesTo, plan_after, added, printed, next_pid, Plays, PlaysAll}
+use Rattle.scenario.specs.Played.{Outcome, StopsAlive, StopComesTo, MomentComesTo, NumberComesTo, plan_after, outcome_events, printed, next_pid, Plays, PlaysAll}
 use Rattle.scenario.specs.Traced.{traced_after, traced_text}
 use Rattle.scenario.specs.Text.{IsPlayed, Prints, IsBegun, BeginsToPrint, IsFront}
 use Rattle.scenario.proofs.OneStep.{one_step, one_start, one_run}
@@ -32,8 +32,8 @@ one_named d xs ys p q =
 -- Lines
 
 -- by what an outcome adds and prints
-by_outcome : (name : List ℕ) (o p : Outcome) (e f : List Event) (t u : List ℕ) → o ≡ p → e ≡ added o → f ≡ added p → t ≡ printed name o → u ≡ printed name p → (e ≡ f) × (t ≡ u)
-by_outcome name o p e f t u same add add' print print' = (add ∙ ap added same ∙ sym add', print ∙ ap (printed name) same ∙ sym print')
+by_outcome : (name : List ℕ) (o p : Outcome) (e f : List Event) (t u : List ℕ) → o ≡ p → e ≡ outcome_events o → f ≡ outcome_events p → t ≡ printed name o → u ≡ printed name p → (e ≡ f) × (t ≡ u)
+by_outcome name o p e f t u same add add' print print' = (add ∙ ap outcome_events same ∙ sym add', print ∙ ap (printed name) same ∙ sym print')
 
 one_life : (a : List ℕ) (life : Life) (o p : Outcome) → StopsAlive a life o → StopsAlive a life p → o ≡ p
 one_life a Alive o p h k = h ∙ sym k

@@ -6,10 +6,10 @@ use Rattle.std.proofs.lemmas.List.Elements.{All-nil, All-cons}
 use Rattle.std.proofs.lemmas.Slice.Zip.{AllZip-long}
 use Rattle.mail_bytes.specs.Lists.{last_of}
 use Rattle.script_words.specs.declared.entry.Entry.{Entry}
-use Rattle.script_words.specs.Entries.{IsEntry, IsEntryPath, path_of}
+use Rattle.script_words.specs.Entries.{IsEntryLine, IsEntryPath, path_of}
 use Rattle.script_words.proofs.EntryTexts.{entry_path}
 use Rattle.scenario.specs.Contents.{Content, HaveEntryPaths}
-use Rattle.scenario.specs.Lines.{IsScript, AreContent, kept, is_remark, completed, ended}
+use Rattle.scenario.specs.Lines.{IsScript, AreContent, kept_texts, is_remark, completed, ended}
 use Rattle.scenario.proofs.OneLine.{one_ended}
 use Rattle.scenario.proofs.ContentTexts.{one_content}
 
@@ -19,7 +19,7 @@ one_script script a b p q =
     one_content q.texts a b (subst (λ (l : List (List ℕ)). AreContent l a) same p.are) q.are
 
 -- the paths of entries that were read
-entry_paths : (texts : List (List ℕ)) (entries : List Entry) → AllZip IsEntry texts entries → HaveEntryPaths entries
+entry_paths : (texts : List (List ℕ)) (entries : List Entry) → AllZip IsEntryLine texts entries → HaveEntryPaths entries
 entry_paths [] [] h = All-nil (λ entry. IsEntryPath (path_of entry))
 entry_paths [] (entry ∷ entries) h = absurd h
 entry_paths (text ∷ texts) [] h = absurd h
@@ -30,11 +30,11 @@ pub said_paths : (script : List ℕ) (content : Content) → IsScript script con
 said_paths script content says = entry_paths says.are.first content.opening says.are.are_entries
 
 -- there are no more texts than bytes
-length_kept : (texts : List (List ℕ)) → length (kept texts) ≤ length texts
+length_kept : (texts : List (List ℕ)) → length (kept_texts texts) ≤ length texts
 length_kept [] = omega arith
 length_kept (text ∷ texts) = by (not (is_remark text)) (length_kept texts)
   where
-    by : (b : Bool) → length (kept texts) ≤ length texts → length (cond b (text ∷ kept texts) (kept texts)) ≤ length (text ∷ texts)
+    by : (b : Bool) → length (kept_texts texts) ≤ length texts → length (cond b (text ∷ kept_texts texts) (kept_texts texts)) ≤ length (text ∷ texts)
     by true less = omega arith
     by false less = omega arith
 
@@ -56,7 +56,7 @@ length_completed (b ∷ bytes) = by (last_of b bytes == 10)
 
 pub said_few : (script : List ℕ) (content : Content) → IsScript script content → length content.opening < 2 ^ 64
 said_few script content says =
-    let entries = AllZip-long IsEntry says.are.first content.opening says.are.are_entries in
+    let entries = AllZip-long IsEntryLine says.are.first content.opening says.are.are_entries in
     let split = ap length says.are.split ∙ length-append says.are.first says.are.later in
     let some = length_kept says.texts in
     let texts = length_ended says.texts in

@@ -23,7 +23,7 @@ use Rattle.scenario.specs.declared.line.Line.{Line}
 use Rattle.scenario.specs.declared.line.Line.TheVariants as line
 use Rattle.scenario.specs.Contents.{HaveEntryPaths}
 use Rattle.scenario.specs.FirstDisk.{IsFirstDisk}
-use Rattle.scenario.specs.Played.{plan_after, Refusal, IsRefusalOf, Plays, PlaysAll, cat_line, refused, next_pid}
+use Rattle.scenario.specs.Played.{plan_after, Refusal, IsRefusalOf, Plays, PlaysAll, cat_line, refusal_line, next_pid}
 use Rattle.scenario.specs.Played.Outcome.{Happens, Is}
 use Rattle.scenario.specs.Playing.{IsPlaying, HasStepped, HasPlayed, HasPrinted, IsRefusedAs}
 use Rattle.scenario.specs.Shown.{IsShown}
@@ -47,10 +47,10 @@ step_played d new plan a ended text h step = record {
 }
 
 abbrev pub step_refused : (d : Disk) (w : Seen Crash) (plan : Plan) (a : List ℕ) (text : List ℕ) (why : WorldError) (r : Refusal) (h : List Event) → IsPlaying d w plan h
-    → IsRefusedAs why d plan a h → IsRefusalOf why r → HasPlayed d w (line.Step a) text (text ++ refused r a) plan h
+    → IsRefusedAs why d plan a h → IsRefusalOf why r → HasPlayed d w (line.Step a) text (text ++ refusal_line r a) plan h
 step_refused d w plan a text why r h playing seen is = record {
   events = [];
-  own = refused r a;
+  own = refusal_line r a;
   plays = (Is r, refused_with why r d plan a h seen is, refl, refl);
   playing = playing;
   text = refl;
@@ -74,10 +74,10 @@ only_taken (error.Past now) r one is = ⊎_elim (λ e. absurd (cc)) (λ e. absur
 only_taken error.Memory r one is = absurd is
 
 abbrev pub mail_refused : (d : Disk) (w : Seen Crash) (plan : Plan) (name message envelope text : List ℕ) (h : List Event) → IsPlaying d w plan h
-    → (was_started w.events name ≡ true) ⊎ (¬ (IsMailName name)) → HasPlayed d w (line.Mail name message envelope) text (text ++ refused Refusal.Taken name) plan h
+    → (was_started w.events name ≡ true) ⊎ (¬ (IsMailName name)) → HasPlayed d w (line.Mail name message envelope) text (text ++ refusal_line Refusal.Taken name) plan h
 mail_refused d w plan name message envelope text h playing why = record {
   events = [];
-  own = refused Refusal.Taken name;
+  own = refusal_line Refusal.Taken name;
   plays = (
     Is Refusal.Taken,
     inr (⊎_elim (λ used. inl (sym (started_is d h w.events name playing.is.told) ∙ used)) (λ bad. inr bad) why, refl),

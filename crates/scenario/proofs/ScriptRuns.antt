@@ -9,7 +9,7 @@ use Rattle.mail_world.specs.declared.error.WorldError.TheVariants as error
 use Rattle.mail_world.specs.History.{Event, IsLiving, after}
 use Rattle.mail_world.specs.World.{Seen}
 use Rattle.scenario.specs.declared.line.Line.TheVariants as line
-use Rattle.scenario.specs.Played.{Refusal, IsRefusalOf, StepsTo, AreSteps, plan_through, most_steps, stop_text, refused}
+use Rattle.scenario.specs.Played.{Refusal, IsRefusalOf, StepsTo, AreSteps, plan_through, most_steps, stop_text, refusal_line}
 use Rattle.scenario.specs.Played.Outcome.{Is}
 use Rattle.scenario.specs.Playing.{IsPlaying, HasStepped, HasPlayed, IsRefusedAs}
 use Rattle.scenario.proofs.ScriptSteps.{alive_waits}
@@ -89,7 +89,7 @@ run_ends d h plan a w v n text status run within step = record {
   text = sym (append-nil text);
 }
 
-refusal_text : (n : ℕ) (r : Refusal) (a : List ℕ) → n ≡ 0 → r ≢ Refusal.NotWaiting → refused r a ≡ stop_text n r a
+refusal_text : (n : ℕ) (r : Refusal) (a : List ℕ) → n ≡ 0 → r ≢ Refusal.NotWaiting → refusal_line r a ≡ stop_text n r a
 refusal_text zero Refusal.Unknown a none other = refl
 refusal_text zero Refusal.Gone a none other = refl
 refusal_text zero Refusal.NotWaiting a none other = absurd (other refl)
@@ -99,7 +99,7 @@ refusal_text zero Refusal.Steps a none other = refl
 refusal_text (suc n) r a none other = absurd (omega arith)
 
 pub run_refused : (d : Disk) (h : List Event) (plan : Plan) (a : List ℕ) (w : Seen Crash) (n : ℕ) (text : List ℕ) (why : WorldError) (r : Refusal) (run : HasRun d h plan a w n) → n < most_steps
-    → IsRefusedAs why d (plan_through plan run.events) a (run.events ++ h) → IsRefusalOf why r → ((name : List ℕ) → why ≢ error.NotWaiting name) → HasPlayed d w (line.Run a) text (text ++ refused r a) plan h
+    → IsRefusedAs why d (plan_through plan run.events) a (run.events ++ h) → IsRefusalOf why r → ((name : List ℕ) → why ≢ error.NotWaiting name) → HasPlayed d w (line.Run a) text (text ++ refusal_line r a) plan h
 run_refused d h plan a w n text why r run within seen is waits =
     let now = plan_through plan run.events in
     let refuses : StepsTo now (after d (run.events ++ h)) a (Is r) = refused_with why r d now a (run.events ++ h) seen is in
@@ -107,7 +107,7 @@ run_refused d h plan a w n text why r run within seen is waits =
     let none : n ≡ 0 = ⊎_elim (λ e. e) (λ living. absurd (other (alive_waits (plan_through plan run.events) (after d (run.events ++ h)) a living.actor r living.is living.alive refuses))) run.living in
     record {
       events = run.events;
-      own = refused r a;
+      own = refusal_line r a;
       plays = record {
         are_steps = run.are_steps;
         within = let same = run.count in omega arith;
@@ -121,10 +121,10 @@ not_gone : Refusal.Gone ≢ Refusal.NotWaiting
 not_gone e = absurd (cc)
 
 pub run_full : (d : Disk) (h : List Event) (plan : Plan) (a : List ℕ) (w : Seen Crash) (n : ℕ) (text : List ℕ) (run : HasRun d h plan a w n) → n ≡ most_steps
-    → HasPlayed d w (line.Run a) text (text ++ refused Refusal.Steps a) plan h
+    → HasPlayed d w (line.Run a) text (text ++ refusal_line Refusal.Steps a) plan h
 run_full d h plan a w n text run full = record {
   events = run.events;
-  own = refused Refusal.Steps a;
+  own = refusal_line Refusal.Steps a;
   plays = record {
     are_steps = run.are_steps;
     within = let same = run.count in omega arith;

@@ -9,7 +9,8 @@ use Rattle.call_fs.specs.declared.calls.FsError.TheVariants.{Memory}
 use Rattle.call_fs.specs.declared.calls.Told.{Told}
 use Rattle.call_fs.specs.declared.program.Ready.{Ready}
 use Rattle.call_fs.specs.Disk.{Disk}
-use Rattle.call_fs.specs.Program.{Due}
+use Rattle.call_fs.specs.declared.past.NeedData.{NeedData}
+use Rattle.call_fs.specs.declared.past.NeedData.TheVariants as needs
 use Rattle.call_fs.specs.Plan.{Plan, Takes, CallKeepsPlan}
 use Rattle.call_fs.specs.Apply.{effect}
 use Rattle.crash_fs.specs.Crash.{Crash, crash_disk, crash_plan}
@@ -84,22 +85,22 @@ moment_told m (Halt how contents) told = absurd (cc)
 
 -- What a living actor does next
 
-does : (plan : Plan) (s : State) (a : List ℕ) (p : ℕ) (x : Actor) (due : Due) (outcome : Outcome) → s.actors a ≡ Some x → x.life ≡ Alive → s.now ≡ p
+does : (plan : Plan) (s : State) (a : List ℕ) (p : ℕ) (x : Actor) (due : NeedData) (outcome : Outcome) → s.actors a ≡ Some x → x.life ≡ Alive → s.now ≡ p
     → next_of x.program x.past p input_ready ≡ due → DoesNext plan s a due outcome → StepsTo plan s a outcome
 does plan s a p x due outcome is alive now next h =
     subst (λ (o : Option Actor). DoesStep plan s a o outcome) (sym is)
     (subst (λ (life : Life). DoesAlive plan s a x life outcome) (sym alive)
-    (subst (λ (due : Due). DoesNext plan s a due outcome) (sym (ap (λ q. next_of x.program x.past q input_ready) now ∙ next)) h))
+    (subst (λ (due : NeedData). DoesNext plan s a due outcome) (sym (ap (λ q. next_of x.program x.past q input_ready) now ∙ next)) h))
 
 -- a living one isn't refused as gone, or as unknown
-next_not : (plan : Plan) (s : State) (a : List ℕ) (due : Due) (why : Refusal) → DoesNext plan s a due (Is why) → why ≡ Refusal.NotWaiting
-next_not plan s a (Due.File call) why h = let e = h.2 in absurd (cc)
-next_not plan s a (Due.Take port) why h = cc
-next_not plan s a (Due.Give port bytes) why h = cc
-next_not plan s a (Due.Start child) why h = cc
-next_not plan s a (Due.Command bytes) why h = cc
-next_not plan s a Due.Wait why h = cc
-next_not plan s a (Due.Ended status) why h = absurd (cc)
+next_not : (plan : Plan) (s : State) (a : List ℕ) (due : NeedData) (why : Refusal) → DoesNext plan s a due (Is why) → why ≡ Refusal.NotWaiting
+next_not plan s a (needs.File call) why h = let e = h.2 in absurd (cc)
+next_not plan s a (needs.Take port) why h = cc
+next_not plan s a (needs.Give port bytes) why h = cc
+next_not plan s a (needs.Start child) why h = cc
+next_not plan s a (needs.Command bytes) why h = cc
+next_not plan s a needs.Wait why h = cc
+next_not plan s a (needs.Ended status) why h = absurd (cc)
 
 pub alive_waits : (plan : Plan) (s : State) (a : List ℕ) (x : Actor) (why : Refusal) → s.actors a ≡ Some x → x.life ≡ Alive → StepsTo plan s a (Is why) → why ≡ Refusal.NotWaiting
 alive_waits plan s a x why is alive h =
@@ -141,7 +142,7 @@ call_steps o d d' plan left events p h a call got e was memory keeps is =
     let living = call_actor s a p input_ready call got 0 may.actor may.reads.is in (
       record {
         event = f;
-        steps = does plan s a p may.actor (Due.File call) (Happens f) may.reads.is may.reads.alive was.moment may.due (
+        steps = does plan s a p may.actor (needs.File call) (Happens f) may.reads.is may.reads.alive was.moment may.due (
           got,
           record {
             fits = may.fits;
@@ -193,7 +194,7 @@ end_steps o d d' plan left events p h a status e planned was is =
     let over = end_actor s a (Over status) may.actor may.reads.is in (
       record {
         event = f;
-        steps = does plan s a p may.actor (Due.Ended status) (Happens f) may.reads.is may.reads.alive was.moment may.due (ap (λ q. Happens (End a q input_ready status)) (sym was.moment));
+        steps = does plan s a p may.actor (needs.Ended status) (Happens f) may.reads.is may.reads.alive was.moment may.due (ap (λ q. Happens (End a q input_ready status)) (sym was.moment));
         planned = planned;
         is = now;
       },

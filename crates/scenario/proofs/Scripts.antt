@@ -8,7 +8,7 @@ use Rattle.std.proofs.lemmas.List.Elements.{All-push, All-head, All-tail}
 use Rattle.std.proofs.lemmas.Grind.{flat_map-append}
 use Rattle.scenario.specs.Contents.{Content}
 use Rattle.scenario.specs.Lines.{is_remark, AreContent, IsScript, IsRefused, HasBadLine, IsUnbroken, completed, ended}
-use Rattle.scenario.specs.Reading.{IsFirstLine, IsRead}
+use Rattle.scenario.specs.Reading.{IsFirstLine, IsTextRead}
 use Rattle.script_words.specs.Reading.{IsCut}
 use Rattle.script_words.proofs.Cuts.{contains-head, contains-tail, not-cut, same-cut}
 use Rattle.scenario.proofs.ContentTexts.{one_more_read, last_read, front_read, one_content}
@@ -56,7 +56,7 @@ whole-push bytes rest text behind texts whole first =
     whole ∙ ap (λ t. ended texts ++ t) first.whole ∙ sym (append_assoc (ended texts) (text ++ 10 ∷ []) (completed behind))
     ∙ ap (λ t. t ++ completed behind) (ap (λ t. ended texts ++ t) (sym (append-nil (text ++ 10 ∷ []))) ∙ sym (flat_map-append (λ t. t ++ 10 ∷ []) texts (text ∷ [])))
 
-abbrev pub read_more : (bytes rest text behind : List ℕ) (old new : Content) (number : ℕ) → HasRead bytes rest old number → IsFirstLine rest text behind → IsRead text old new → HasRead bytes behind new (number + 1)
+abbrev pub read_more : (bytes rest text behind : List ℕ) (old new : Content) (number : ℕ) → HasRead bytes rest old number → IsFirstLine rest text behind → IsTextRead text old new → HasRead bytes behind new (number + 1)
 read_more bytes rest text behind old new number read first is = record {
   texts = read.texts ++ text ∷ [];
   whole = whole-push bytes rest text behind read.texts read.whole first;
@@ -67,13 +67,13 @@ read_more bytes rest text behind old new number read first is = record {
 }
 
 -- a text that can't be read behind those before it
-not_longer : (texts : List (List ℕ)) (text : List ℕ) (content : Content) → AreContent texts content → ((longer : Content) → ¬ (IsRead text content longer)) → (longer : Content) → ¬ (AreContent (texts ++ text ∷ []) longer)
+not_longer : (texts : List (List ℕ)) (text : List ℕ) (content : Content) → AreContent texts content → ((longer : Content) → ¬ (IsTextRead text content longer)) → (longer : Content) → ¬ (AreContent (texts ++ text ∷ []) longer)
 not_longer texts text content are bad longer is =
     let last = last_read texts text longer is in
     let same = one_content texts last.old content last.are are in
-    bad longer (subst (λ c. IsRead text c longer) same last.last)
+    bad longer (subst (λ c. IsTextRead text c longer) same last.last)
 
-pub bad_line : (bytes rest text behind : List ℕ) (content : Content) (number : ℕ) → HasRead bytes rest content number → IsFirstLine rest text behind → ((longer : Content) → ¬ (IsRead text content longer)) → HasBadLine bytes (number + 1)
+pub bad_line : (bytes rest text behind : List ℕ) (content : Content) (number : ℕ) → HasRead bytes rest content number → IsFirstLine rest text behind → ((longer : Content) → ¬ (IsTextRead text content longer)) → HasBadLine bytes (number + 1)
 bad_line bytes rest text behind content number read first bad = record {
   before = read.texts;
   text = text;

@@ -17,7 +17,7 @@ use Rattle.mail_world.specs.History.Life.{Alive, Over, Stopped}
 use Rattle.mail_world.specs.World.{Seen, IsHistory, GoesOn, GoesOnWith, IsStop, Tells, EndsAt, GoesByPlan, IsHalt, moment_world, was_started}
 use Rattle.mail_world.proofs.Lives.{ended_is}
 use Rattle.scenario.specs.declared.line.Line.TheVariants as line
-use Rattle.scenario.specs.Played.{Refusal, IsRefusalOf, StopsAlive, StopComesTo, refused}
+use Rattle.scenario.specs.Played.{Refusal, IsRefusalOf, StopsAlive, StopComesTo, refusal_line}
 use Rattle.scenario.specs.Played.Outcome.{Happens, Is}
 use Rattle.scenario.specs.Playing.{IsPlaying, HasPlayed}
 use Rattle.scenario.proofs.ScriptSteps.{last_told, stop_told, moment_told, moved, never_started, tells}
@@ -95,10 +95,10 @@ stop_comes d w plan a why r h playing is unknown gone (inr e) =
 
 pub stop_refused : (d : Disk) (w : Seen Crash) (plan : Plan) (a text : List ℕ) (why : WorldError) (r : Refusal) (h : List Event) → IsPlaying d w plan h → IsRefusalOf why r
     → (why ≡ error.Unknown → was_started w.events a ≡ false) → ((name : List ℕ) (at : ℕ) → why ≡ error.Gone name at → EndsAt w.events a at)
-    → (why ≡ error.Unknown) ⊎ ((name : List ℕ) × (at : ℕ) × (why ≡ error.Gone name at)) → HasPlayed d w (line.Stop a) text (text ++ refused r a) plan h
+    → (why ≡ error.Unknown) ⊎ ((name : List ℕ) × (at : ℕ) × (why ≡ error.Gone name at)) → HasPlayed d w (line.Stop a) text (text ++ refusal_line r a) plan h
 stop_refused d w plan a text why r h playing is unknown gone only = record {
   events = [];
-  own = refused r a;
+  own = refusal_line r a;
   plays = (Is r, stop_comes d w plan a why r h playing is unknown gone only, refl, refl);
   playing = playing;
   text = refl;
@@ -146,10 +146,10 @@ number_played d old new plan n text h playing met unused disk events present = r
 pub number_refused : (d : Disk) (old new : Seen Crash) (plan : Plan) (n : ℕ) (text : List ℕ) (h : List Event) → IsPlaying d old plan h
     → crash_plan new.disk ≡ crash_plan old.disk → (¬ (IsUnused (crash_disk old.disk) n))
     → tells new.disk ≡ tells old.disk → new.events ≡ old.events → new.present ≡ old.present
-    → HasPlayed d new (line.Number n) text (text ++ refused Refusal.Taken (digits n)) plan h
+    → HasPlayed d new (line.Number n) text (text ++ refusal_line Refusal.Taken (digits n)) plan h
 number_refused d old new plan n text h playing same_plan used disk events present = record {
   events = [];
-  own = refused Refusal.Taken (digits n);
+  own = refusal_line Refusal.Taken (digits n);
   plays = (refl, inr (subst (λ (now : Disk). ¬ (IsUnused now n)) (sym playing.is.disk) used, refl));
   playing = replanned d old new plan plan h playing disk events present (same_plan ∙ playing.planned);
   text = refl;
@@ -171,13 +171,13 @@ moment_came d old new plan m text h playing came goes by =
     }
 
 pub moment_refused : (d : Disk) (w : Seen Crash) (plan : Plan) (m : ℕ) (text : List ℕ) (h : List Event) → IsPlaying d w plan h → m < w.present
-    → HasPlayed d w (line.Moment m) text (text ++ refused Refusal.Past (digits w.present)) plan h
+    → HasPlayed d w (line.Moment m) text (text ++ refusal_line Refusal.Past (digits w.present)) plan h
 moment_refused d w plan m text h playing earlier =
     let present = playing.is.moment in
     record {
       events = [];
-      own = refused Refusal.Past (digits w.present);
-      plays = (Is Refusal.Past, inr (subst (λ now. m < now) (sym present) earlier, refl), refl, ap (λ now. refused Refusal.Past (digits now)) (sym present));
+      own = refusal_line Refusal.Past (digits w.present);
+      plays = (Is Refusal.Past, inr (subst (λ now. m < now) (sym present) earlier, refl), refl, ap (λ now. refusal_line Refusal.Past (digits now)) (sym present));
       playing = playing;
       text = refl;
     }

@@ -5,7 +5,8 @@ use Rattle.std.specs.List.{AllZip}
 use Rattle.mail_bytes.specs.Decimal.{digits}
 use Rattle.call_fs.specs.Disk.{Disk}
 use Rattle.mail_bytes.specs.Moments.{IsMoment}
-use Rattle.call_fs.specs.Program.{Due}
+use Rattle.call_fs.specs.declared.past.NeedData.{NeedData}
+use Rattle.call_fs.specs.declared.past.NeedData.TheVariants as needs
 use Rattle.mem_fs.specs.MemDisk.{bytes_at}
 use Rattle.queue_inject.specs.declared.injection.Arguments.{Arguments}
 use Rattle.mail_world.specs.declared.event.Program.TheVariants.{Injector}
@@ -23,7 +24,7 @@ use Rattle.scenario.specs.Contents.{Content, HaveEntryPaths}
 use Rattle.scenario.specs.Lines.{IsScript}
 use Rattle.scenario.specs.FirstDisk.{IsFirstDisk}
 use Rattle.scenario.specs.Lines.{IsLine}
-use Rattle.scenario.specs.Played.{Outcome, DoesNext, DoesAlive, DoesStep, StepsTo, MailComesTo, AreSteps, IsRun, StopsAlive, StopComesTo, MomentComesTo, NumberComesTo, plan_through, plan_after, Plays, PlaysAll, added, cat_line, printed, refused, stop_text, most_steps, next_pid}
+use Rattle.scenario.specs.Played.{Outcome, DoesNext, DoesAlive, DoesStep, StepsTo, MailComesTo, AreSteps, IsRunOf, StopsAlive, StopComesTo, MomentComesTo, NumberComesTo, plan_through, plan_after, Plays, PlaysAll, outcome_events, cat_line, printed, refusal_line, stop_text, most_steps, next_pid}
 use Rattle.scenario.specs.Played.Outcome.{Happens, Is}
 use Rattle.scenario.specs.Played.Refusal.{Unknown, Gone, NotWaiting, Taken, Past, Steps}
 use Rattle.scenario.specs.Shown.{IsShown, pid_line, number_line, all_mail_lines}
@@ -45,17 +46,17 @@ use Rattle.scenario.proofs.Showings.{safe_pending}
 
 -- Steps
 
-step_due : (plan : Plan) (s : State) (a : List ℕ) (due : Due) → MayDo s.disk due → IsGiven plan s.disk due
+step_due : (plan : Plan) (s : State) (a : List ℕ) (due : NeedData) → MayDo s.disk due → IsGiven plan s.disk due
     → (outcome : Outcome) × DoesNext plan s a due outcome
-step_due plan s a (Due.File c) may given =
+step_due plan s a (needs.File c) may given =
     let got = given may.0 in
     (Happens (Call a s.now input_ready c got.0 0), (got.0, got.1, refl))
-step_due plan s a (Due.Ended status) may given = (Happens (End a s.now input_ready status), refl)
-step_due plan s a (Due.Take port) may given = (Is NotWaiting, refl)
-step_due plan s a (Due.Give port bytes) may given = (Is NotWaiting, refl)
-step_due plan s a (Due.Start child) may given = (Is NotWaiting, refl)
-step_due plan s a (Due.Command bytes) may given = (Is NotWaiting, refl)
-step_due plan s a Due.Wait may given = (Is NotWaiting, refl)
+step_due plan s a (needs.Ended status) may given = (Happens (End a s.now input_ready status), refl)
+step_due plan s a (needs.Take port) may given = (Is NotWaiting, refl)
+step_due plan s a (needs.Give port bytes) may given = (Is NotWaiting, refl)
+step_due plan s a (needs.Start child) may given = (Is NotWaiting, refl)
+step_due plan s a (needs.Command bytes) may given = (Is NotWaiting, refl)
+step_due plan s a needs.Wait may given = (Is NotWaiting, refl)
 
 step_life : (plan : Plan) (s : State) (a : List ℕ) (x : Actor) (life : Life) → Carries s → s.actors a ≡ Some x → x.life ≡ life
     → (outcome : Outcome) × DoesAlive plan s a x life outcome
@@ -122,7 +123,7 @@ mail_comes s name args = ⊎_elim
 record Runs (d : Disk) (h : List Event) (plan : Plan) (a : List ℕ) : Type 0 where
   events : List Event
   text : List ℕ
-  run : IsRun d h plan a events text
+  run : IsRunOf d h plan a events text
 
 -- a run stops at a refusal, or goes on
 run_by : (d : Disk) (h : List Event) (plan : Plan) (a : List ℕ) (events : List Event) → AreSteps d h plan a events
@@ -147,7 +148,7 @@ run_on zero d h plan a events so steps count = ⊎_elim
     })
     (λ lives. record {
       events = events;
-      text = refused Steps a;
+      text = refusal_line Steps a;
       run = record { are_steps = steps; within = omega arith; stops = inr (omega arith, lives, refl) };
     })
     (is_gone (plan_through plan events) (after d (events ++ h)) a)
@@ -198,7 +199,7 @@ moment_comes now m = ⊎_elim
 number_comes : (d : Disk) (n : ℕ) → IsFinite d → (text : List ℕ) × NumberComesTo d n text
 number_comes d n f = ⊎_elim
     (λ unused. ([], inl (unused, refl)))
-    (λ used. (refused Taken (digits n), inr (used, refl)))
+    (λ used. (refusal_line Taken (digits n), inr (used, refl)))
     (is_unused d f n)
 
 -- Lines
@@ -208,14 +209,14 @@ plays_line : (d : Disk) (h : List Event) (plan : Plan) (one : Line) → Goes d h
 plays_line d h plan (line.Mail name message envelope) so =
     let s = after d h in
     let comes = mail_comes s name (mail (next_pid h) s.now message envelope) in
-    (added comes.0, printed name comes.0, (comes.0, comes.1, refl, refl))
+    (outcome_events comes.0, printed name comes.0, (comes.0, comes.1, refl, refl))
 plays_line d h plan (line.Step a) so =
     let comes = step_comes plan (after d h) a so.carries in
-    (added comes.0, printed a comes.0, (comes.0, comes.1, refl, refl))
+    (outcome_events comes.0, printed a comes.0, (comes.0, comes.1, refl, refl))
 plays_line d h plan (line.Run a) so = let r = runs d h plan a so in (r.events, r.text, r.run)
 plays_line d h plan (line.Stop a) so =
     let comes = stop_comes a ((after d h).actors a) in
-    (added comes.0, printed a comes.0, (comes.0, comes.1, refl, refl))
+    (outcome_events comes.0, printed a comes.0, (comes.0, comes.1, refl, refl))
 plays_line d h plan (line.Halt how) so =
     let now = (after d h).disk in
     let named = numbers_named now so.carries.finite in
@@ -227,7 +228,7 @@ plays_line d h plan (line.Number n) so =
 plays_line d h plan (line.Moment m) so =
     let now = (after d h).now in
     let comes = moment_comes now m in
-    (added comes.0, printed (digits now) comes.0, (comes.0, comes.1, refl, refl))
+    (outcome_events comes.0, printed (digits now) comes.0, (comes.0, comes.1, refl, refl))
 plays_line d h plan line.Trace so = ([], [], (refl, refl))
 plays_line d h plan (line.Cat path) so = ([], cat_line path (bytes_at (after d h).disk path), (refl, refl))
 plays_line d h plan line.Show so = let shown = shows d h so in ([], shown.0, (refl, shown.1))
@@ -236,17 +237,17 @@ same_events : (d : Disk) (h events new : List Event) → events ≡ new → Goes
 same_events d h events new is so = subst (λ (l : List Event). Goes d (l ++ h)) (sym is) so
 
 outcome_kept : (d : Disk) (h : List Event) (plan : Plan) (a : List ℕ) (outcome : Outcome) → Goes d h → StepsTo plan (after d h) a outcome
-    → Goes d (added outcome ++ h)
+    → Goes d (outcome_events outcome ++ h)
 outcome_kept d h plan a (Happens e) so steps = goes_on d h plan a e so steps
 outcome_kept d h plan a (Is why) so steps = so
 
 start_kept : (d : Disk) (h : List Event) (name message envelope : List ℕ) (outcome : Outcome) → Goes d h
     → MailComesTo (after d h) name (mail (next_pid h) (after d h).now message envelope) outcome
-    → Goes d (added outcome ++ h)
+    → Goes d (outcome_events outcome ++ h)
 start_kept d h name message envelope outcome so comes = ⊎_elim
-    (λ good. subst (λ (o : Outcome). Goes d (added o ++ h)) (sym good.2)
+    (λ good. subst (λ (o : Outcome). Goes d (outcome_events o ++ h)) (sym good.2)
     (goes_started d h name (Injector (mail (next_pid h) (after d h).now message envelope)) so good.1 (omega arith)))
-    (λ bad. subst (λ (o : Outcome). Goes d (added o ++ h)) (sym bad.1) so)
+    (λ bad. subst (λ (o : Outcome). Goes d (outcome_events o ++ h)) (sym bad.1) so)
     comes
 
 steps_kept : (d : Disk) (h : List Event) (plan : Plan) (a : List ℕ) (events : List Event) → Goes d h → AreSteps d h plan a events
@@ -255,22 +256,22 @@ steps_kept d h plan a [] so steps = so
 steps_kept d h plan a (e ∷ events) so steps = goes_on d (events ++ h) (plan_through plan events) a e (steps_kept d h plan a events so steps.0) steps.1
 
 stop_kept_life : (d : Disk) (h : List Event) (a : List ℕ) (x : Actor) (life : Life) (outcome : Outcome) → Goes d h
-    → (after d h).actors a ≡ Some x → x.life ≡ life → StopsAlive a life outcome → Goes d (added outcome ++ h)
+    → (after d h).actors a ≡ Some x → x.life ≡ life → StopsAlive a life outcome → Goes d (outcome_events outcome ++ h)
 stop_kept_life d h a x Alive outcome so is alive comes =
-    subst (λ (o : Outcome). Goes d (added o ++ h)) (sym comes) (goes_stopped d h a x so is alive)
-stop_kept_life d h a x (Over status) outcome so is over comes = subst (λ (o : Outcome). Goes d (added o ++ h)) (sym comes) so
-stop_kept_life d h a x Stopped outcome so is over comes = subst (λ (o : Outcome). Goes d (added o ++ h)) (sym comes) so
+    subst (λ (o : Outcome). Goes d (outcome_events o ++ h)) (sym comes) (goes_stopped d h a x so is alive)
+stop_kept_life d h a x (Over status) outcome so is over comes = subst (λ (o : Outcome). Goes d (outcome_events o ++ h)) (sym comes) so
+stop_kept_life d h a x Stopped outcome so is over comes = subst (λ (o : Outcome). Goes d (outcome_events o ++ h)) (sym comes) so
 
 stop_kept : (d : Disk) (h : List Event) (a : List ℕ) (o : Option Actor) (outcome : Outcome) → Goes d h
-    → (after d h).actors a ≡ o → StopComesTo a o outcome → Goes d (added outcome ++ h)
-stop_kept d h a None outcome so is comes = subst (λ (o : Outcome). Goes d (added o ++ h)) (sym comes) so
+    → (after d h).actors a ≡ o → StopComesTo a o outcome → Goes d (outcome_events outcome ++ h)
+stop_kept d h a None outcome so is comes = subst (λ (o : Outcome). Goes d (outcome_events o ++ h)) (sym comes) so
 stop_kept d h a (Some x) outcome so is comes = stop_kept_life d h a x x.life outcome so is refl comes
 
 moment_kept : (d : Disk) (h : List Event) (m : ℕ) (outcome : Outcome) → Goes d h → IsMoment m
-    → MomentComesTo (after d h).now m outcome → Goes d (added outcome ++ h)
+    → MomentComesTo (after d h).now m outcome → Goes d (outcome_events outcome ++ h)
 moment_kept d h m outcome so moment comes = ⊎_elim
-    (λ late. subst (λ (o : Outcome). Goes d (added o ++ h)) (sym late.1) (goes_moment d h m so moment late.0))
-    (λ early. subst (λ (o : Outcome). Goes d (added o ++ h)) (sym early.1) so)
+    (λ late. subst (λ (o : Outcome). Goes d (outcome_events o ++ h)) (sym late.1) (goes_moment d h m so moment late.0))
+    (λ early. subst (λ (o : Outcome). Goes d (outcome_events o ++ h)) (sym early.1) so)
     comes
 
 -- the number of a line that sets the moment is one
@@ -317,18 +318,18 @@ moments_in (one ∷ first) later have = let rest = moments_in first later have.1
 line_kept : (d : Disk) (h : List Event) (plan : Plan) (one : Line) (events : List Event) (text : List ℕ) → Goes d h → HasMoment one
     → Plays d h plan one events text → Goes d (events ++ h)
 line_kept d h plan (line.Mail name message envelope) events text so fits plays =
-    same_events d h events (added plays.0) plays.2 (start_kept d h name message envelope plays.0 so plays.1)
+    same_events d h events (outcome_events plays.0) plays.2 (start_kept d h name message envelope plays.0 so plays.1)
 line_kept d h plan (line.Step a) events text so fits plays =
-    same_events d h events (added plays.0) plays.2 (outcome_kept d h plan a plays.0 so plays.1)
+    same_events d h events (outcome_events plays.0) plays.2 (outcome_kept d h plan a plays.0 so plays.1)
 line_kept d h plan (line.Run a) events text so fits plays = steps_kept d h plan a events so plays.are_steps
 line_kept d h plan (line.Stop a) events text so fits plays =
-    same_events d h events (added plays.0) plays.2 (stop_kept d h a ((after d h).actors a) plays.0 so refl plays.1)
+    same_events d h events (outcome_events plays.0) plays.2 (stop_kept d h a ((after d h).actors a) plays.0 so refl plays.1)
 line_kept d h plan (line.Halt how) events text so fits plays =
     same_events d h events (Halt how (contents_by how (after d h).disk plays.0) ∷ []) plays.2 (goes_halted d h how plays.0 so)
 line_kept d h plan (line.Fault k) events text so fits plays = same_events d h events [] plays.0 so
 line_kept d h plan (line.Number n) events text so fits plays = same_events d h events [] plays.0 so
 line_kept d h plan (line.Moment m) events text so fits plays =
-    same_events d h events (added plays.0) plays.2 (moment_kept d h m plays.0 so fits plays.1)
+    same_events d h events (outcome_events plays.0) plays.2 (moment_kept d h m plays.0 so fits plays.1)
 line_kept d h plan line.Trace events text so fits plays = same_events d h events [] plays.0 so
 line_kept d h plan (line.Cat path) events text so fits plays = same_events d h events [] plays.0 so
 line_kept d h plan line.Show events text so fits plays = same_events d h events [] plays.0 so

@@ -54,11 +54,11 @@ cut_off told.Alive = told.Stopped
 cut_off (told.Ended status) = told.Ended status
 cut_off told.Stopped = told.Stopped
 
--- the fates that it leaves, where these events were before it
+-- the fates that it leaves, if these events were before it
 abbrev pub all_cut_off : List Kept → (List ℕ → Fate) → List ℕ → Fate
 all_cut_off before fates name = if was_started before name then left_as (cut_off (fates name).life) (fates name) else fates name
 
--- the fates after one event more, where these events were before it
+-- the fates after one event more, if these events were before it
 abbrev pub fate_by : Kept → List Kept → (List ℕ → Fate) → List ℕ → Fate
 fate_by (kept.Start a program) before fates = fates
 fate_by (kept.Call a read ready call told) before fates = if queues call told.answer then put_at fates a (accepted (fates a)) else fates

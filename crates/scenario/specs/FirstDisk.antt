@@ -24,19 +24,19 @@ pub record IsBareDisk (d : Disk) : Type 0 where
   pub fresh : (n : ℕ) → d.files n ≡ empty_file 0
   pub shut : (fd : ℕ) → d.opens fd ≡ None
 
--- a directory is made where it is missing
+-- a directory is made if it is missing
 abbrev pub HasMade : Disk → List ℕ → Disk → Type 0
 HasMade old dir new =
     (Contains old.dirs dir × (new ≡ old)) ⊎ ((¬ (Contains old.dirs dir)) × (new ≡ with_dir old dir))
 
--- directories are made where they are missing, one after the other
+-- directories are made if they are missing, one after the other
 abbrev pub AreMade : Disk → List (List ℕ) → Disk → Type 0
 AreMade old [] new = new ≡ old
 AreMade old (dir ∷ dirs) new = (mid : Disk) × HasMade old dir mid × AreMade mid dirs new
 
--- An entry is put on a disk, and the directories above its path are made where they are missing: `home/j` for
+-- An entry is put on a disk, and the directories above its path are made if they are missing: `home/j` for
 -- `home/j/.qmail`, since `home` is there. A file is all on the disk, and a new one takes the greatest free number;
--- where an earlier entry has the same path, its file has these bytes instead.
+-- if an earlier entry has the same path, its file has these bytes instead.
 abbrev pub Enters : Disk → Entry → Disk → Type 0
 Enters old (File path bytes) new = (mid : Disk) × AreMade old (dirs_above path) mid × Places mid path bytes new
 Enters old (Dir path) new = AreMade old (dirs_above path ++ path ∷ []) new

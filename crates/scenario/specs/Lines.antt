@@ -4,11 +4,11 @@ use Rattle.std.specs.List.{AllZip, filter}
 use Rattle.mail_bytes.specs.Decimal.{digits}
 use Rattle.mail_bytes.specs.Lists.{last_of}
 use Rattle.mail_bytes.specs.Moments.{IsMoment}
-use Rattle.script_words.specs.Words.{joined, StandsFor, StandsForText, HasBody, envelope_of, IsCount, IsCounted, survival_text, IsSeeded}
+use Rattle.script_words.specs.Words.{joined, StandsFor, StandsForText, HasBody, envelope_text, IsCount, IsCounted, survival_text, IsSeeded}
 use Rattle.mail_world.specs.MailNames.{IsMailName, members}
 use Rattle.scenario.specs.declared.error.ScriptError.{ScriptError}
 use Rattle.scenario.specs.declared.error.ScriptError.TheVariants as fault
-use Rattle.script_words.specs.Entries.{IsEntry, AllAgree}
+use Rattle.script_words.specs.Entries.{IsEntryLine, AllAgree}
 use Rattle.scenario.specs.Contents.{Content}
 use Rattle.scenario.specs.declared.line.Line.{Line}
 use Rattle.scenario.specs.declared.line.Line.TheVariants.{Mail, Step, Run, Stop, Halt, Fault, Number, Moment, Trace, Cat, Show}
@@ -53,7 +53,7 @@ pub record IsRawLine (text name envelope body : List ℕ) : Type 0 where
 -- one of a `raw` line. A moment is a decimal text without leading zeros.
 abbrev pub IsLine : List ℕ → Line → Type 0
 IsLine text (Mail name message envelope) =
-    ((sender : List ℕ) × (recipients : List (List ℕ)) × IsMailLine text name sender recipients message × (envelope ≡ envelope_of sender recipients))
+    ((sender : List ℕ) × (recipients : List (List ℕ)) × IsMailLine text name sender recipients message × (envelope ≡ envelope_text sender recipients))
     ⊎ IsRawLine text name envelope message
 IsLine text (Step actor) = (text ≡ joined (codes "step" ∷ actor ∷ [])) × IsActorName actor
 IsLine text (Run actor) = (text ≡ joined (codes "run" ∷ actor ∷ [])) × IsActorName actor
@@ -80,8 +80,8 @@ is_remark [] = true
 is_remark (first ∷ rest) = first == 35
 
 -- the texts that aren't passed over
-abbrev pub kept : List (List ℕ) → List (List ℕ)
-kept texts = filter (λ text. not (is_remark text)) texts
+abbrev pub kept_texts : List (List ℕ) → List (List ℕ)
+kept_texts texts = filter (λ text. not (is_remark text)) texts
 
 -- Texts that are entries and lines of a script: of those that aren't passed over the first are these entries, which may
 -- stand on one disk, and the later ones these lines.
@@ -89,12 +89,12 @@ pub record AreContent (texts : List (List ℕ)) (content : Content) : Type 0 whe
   pub within : All IsShort texts
   pub first : List (List ℕ)
   pub later : List (List ℕ)
-  pub split : kept texts ≡ first ++ later
-  pub are_entries : AllZip IsEntry first content.opening
+  pub split : kept_texts texts ≡ first ++ later
+  pub are_entries : AllZip IsEntryLine first content.opening
   pub agree : AllAgree content.opening
   pub are_lines : AllZip IsLine later content.lines
 
--- the bytes with a newline behind a last line that lacks one
+-- the bytes with a newline after a last line that lacks one
 abbrev pub completed : List ℕ → List ℕ
 completed [] = []
 completed (b ∷ bytes) = (b ∷ bytes) ++ (if last_of b bytes == 10 then [] else 10 ∷ [])
@@ -119,7 +119,7 @@ pub record IsScript (bytes : List ℕ) (content : Content) : Type 0 where
   pub each : All IsUnbroken texts
   pub are : AreContent texts content
 
--- The k-th text, counted from 1, isn't in the grammar behind those before it, which are; one that is passed over counts.
+-- The k-th text, counted from 1, isn't in the grammar after those before it, which are; one that is passed over counts.
 pub record HasBadLine (bytes : List ℕ) (k : ℕ) : Type 0 where
   pub before : List (List ℕ)
   pub text : List ℕ
@@ -131,7 +131,7 @@ pub record HasBadLine (bytes : List ℕ) (k : ℕ) : Type 0 where
   pub bad : (longer : Content) → ¬ (AreContent (before ++ text ∷ []) longer)
   pub number : k ≡ length before + 1
 
--- the number that bytes which are no script are refused with: 0 where they are too many, else that of the line
+-- the number that bytes which are no script are refused with: 0 if they are too many, else that of the line
 abbrev pub IsBadLine : List ℕ → ℕ → Type 0
 IsBadLine bytes k = ((k ≡ 0) × (most_bytes < length bytes)) ⊎ ((length bytes ≤ most_bytes) × HasBadLine bytes k)
 
@@ -139,7 +139,7 @@ IsBadLine bytes k = ((k ≡ 0) × (most_bytes < length bytes)) ⊎ ((length byte
 abbrev pub IsRefused : List ℕ → Type 0
 IsRefused bytes = (k : ℕ) × IsBadLine bytes k
 
--- why bytes aren't read as a script; want of memory has no cause in them
+-- why bytes aren't read as a script; that memory ran out has no cause in them
 abbrev pub IsScriptFault : List ℕ → ScriptError → Type 0
 IsScriptFault bytes (fault.Line k) = IsBadLine bytes k
 IsScriptFault bytes fault.Memory = Unit {0}

@@ -12,7 +12,8 @@ use Rattle.call_fs.specs.Apply.{Fits, IsReadBy}
 use Rattle.call_fs.specs.Disk.{Disk, IsUnused}
 use Rattle.call_fs.specs.Plan.{Plan, Takes, plan_left, with_fault, with_pick}
 use Rattle.call_fs.specs.Choices.{AreNamed, contents_by}
-use Rattle.call_fs.specs.Program.{Due}
+use Rattle.call_fs.specs.declared.past.NeedData.{NeedData}
+use Rattle.call_fs.specs.declared.past.NeedData.TheVariants as needs
 use Rattle.mem_fs.specs.MemDisk.{bytes_at}
 use Rattle.queue_inject.specs.declared.injection.Arguments.{Arguments}
 use Rattle.mail_world.specs.declared.error.WorldError.{WorldError}
@@ -63,7 +64,7 @@ refusal_word Taken = codes "taken"
 refusal_word Past = codes "past"
 refusal_word Steps = codes "steps"
 
--- what the world's own refusals say; want of memory is none of a script's
+-- what the world's own refusals say; that memory ran out is none of a script's
 abbrev pub IsRefusalOf : WorldError → Refusal → Type 0
 IsRefusalOf (error.Gone name at) why = why ≡ Gone
 IsRefusalOf (error.NotWaiting name) why = why ≡ NotWaiting
@@ -73,8 +74,8 @@ IsRefusalOf (error.Past present) why = why ≡ Past
 IsRefusalOf error.Memory why = ⊥
 
 -- `refused WORD NAME`; a moment is refused by the present one, `refused past N`
-abbrev pub refused : Refusal → List ℕ → List ℕ
-refused why name = codes "refused " ++ line_of (refusal_word why) name
+abbrev pub refusal_line : Refusal → List ℕ → List ℕ
+refusal_line why name = codes "refused " ++ line_of (refusal_word why) name
 
 -- what a step comes to: an event, or a refusal
 pub data Outcome : Type 0 where
@@ -82,9 +83,9 @@ pub data Outcome : Type 0 where
   Is : Refusal → Outcome
 
 -- by what the actor must do next, whether it lives, and whether it was started
-abbrev pub DoesNext : Plan → State → List ℕ → Due → Outcome → Type 0
-DoesNext plan s a (Due.File call) outcome = (told : Told) × Answers plan s.disk call told × (outcome ≡ Happens (Call a s.now input_ready call told 0))
-DoesNext plan s a (Due.Ended status) outcome = outcome ≡ Happens (End a s.now input_ready status)
+abbrev pub DoesNext : Plan → State → List ℕ → NeedData → Outcome → Type 0
+DoesNext plan s a (needs.File call) outcome = (told : Told) × Answers plan s.disk call told × (outcome ≡ Happens (Call a s.now input_ready call told 0))
+DoesNext plan s a (needs.Ended status) outcome = outcome ≡ Happens (End a s.now input_ready status)
 DoesNext plan s a due outcome = outcome ≡ Is NotWaiting
 
 abbrev pub DoesAlive : Plan → State → List ℕ → Actor → Life → Outcome → Type 0
@@ -103,20 +104,20 @@ StepsTo plan s a outcome = DoesStep plan s a (s.actors a) outcome
 abbrev pub next_pid : List Event → ℕ
 next_pid h = pid_after (count_by is_start h)
 
--- What the start of a mail comes to: it is refused where its name was used, or is none that a mail may have.
+-- What the start of a mail comes to: it is refused if its name was used, or is none that a mail may have.
 abbrev pub MailComesTo : State → List ℕ → Arguments → Outcome → Type 0
 MailComesTo s name args outcome =
     (IsMailName name × (s.actors name ≡ None) × (outcome ≡ Happens (Start name (Injector args))))
     ⊎ ((IsSome (s.actors name) ⊎ (¬ (IsMailName name))) × (outcome ≡ Is Taken))
 
 -- what an outcome adds to the history, and what is printed of it
-abbrev pub added : Outcome → List Event
-added (Happens event) = event ∷ []
-added (Is why) = []
+abbrev pub outcome_events : Outcome → List Event
+outcome_events (Happens event) = event ∷ []
+outcome_events (Is why) = []
 
 abbrev pub printed : List ℕ → Outcome → List ℕ
 printed name (Happens event) = []
-printed name (Is why) = refused why name
+printed name (Is why) = refusal_line why name
 
 -- what is left of a plan after an event; only a call uses it up
 abbrev pub plan_by : Event → Plan → Plan
@@ -141,21 +142,21 @@ AreSteps d h plan a (event ∷ before) = AreSteps d h plan a before × StepsTo (
 abbrev pub most_steps : ℕ
 most_steps = 1000000
 
--- What a run prints that stops since its next step is refused so: nothing where the actor waits, or has ended by one of
+-- What a run prints that stops since its next step is refused so: nothing if the actor waits, or has ended by one of
 -- its steps.
 abbrev pub stop_text : ℕ → Refusal → List ℕ → List ℕ
 stop_text steps NotWaiting a = []
-stop_text zero why a = refused why a
+stop_text zero why a = refusal_line why a
 stop_text (suc steps) why a = []
 
--- A run stops where its next step is refused, or where it has made the most steps and the actor hasn't ended.
+-- A run stops if its next step is refused, or if it has made the most steps and the actor hasn't ended.
 abbrev pub Stops : Plan → State → List ℕ → ℕ → List ℕ → Type 0
 Stops plan s a steps text =
     ((why : Refusal) × StepsTo plan s a (Is why) × ((steps < most_steps) ⊎ (why ≡ Gone)) × (text ≡ stop_text steps why a))
-    ⊎ ((steps ≡ most_steps) × (¬ (StepsTo plan s a (Is Gone))) × (text ≡ refused Steps a))
+    ⊎ ((steps ≡ most_steps) × (¬ (StepsTo plan s a (Is Gone))) × (text ≡ refusal_line Steps a))
 
 -- these events, newest first, are what a run adds, and this is what it prints
-pub record IsRun (d : Disk) (h : List Event) (plan : Plan) (a : List ℕ) (events : List Event) (text : List ℕ) : Type 0 where
+pub record IsRunOf (d : Disk) (h : List Event) (plan : Plan) (a : List ℕ) (events : List Event) (text : List ℕ) : Type 0 where
   pub are_steps : AreSteps d h plan a events
   pub within : length events ≤ most_steps
   pub stops : Stops (plan_through plan events) (after d (events ++ h)) a (length events) text
@@ -170,49 +171,49 @@ abbrev pub StopComesTo : List ℕ → Option Actor → Outcome → Type 0
 StopComesTo a None outcome = outcome ≡ Is Unknown
 StopComesTo a (Some x) outcome = StopsAlive a x.life outcome
 
--- what a moment comes to: it is refused where it lies before the present one
+-- what a moment comes to: it is refused if it lies before the present one
 abbrev pub MomentComesTo : ℕ → ℕ → Outcome → Type 0
 MomentComesTo present m outcome = ((present ≤ m) × (outcome ≡ Happens (Moment m))) ⊎ ((m < present) × (outcome ≡ Is Past))
 
--- `PATH : TEXT`, or `PATH none` where there is no such file
+-- `PATH : TEXT`, or `PATH none` if there is no such file
 abbrev pub cat_line : List ℕ → Option (List ℕ) → List ℕ
 cat_line path (Some bytes) = line_of (escaped path) (codes ": " ++ escaped bytes)
 cat_line path None = line_of (escaped path) (codes "none")
 
--- what the pick of a number comes to: it is refused where a name or an open descriptor uses it
+-- what the pick of a number comes to: it is refused if a name or an open descriptor uses it
 abbrev pub NumberComesTo : Disk → ℕ → List ℕ → Type 0
-NumberComesTo d n text = (IsUnused d n × (text ≡ [])) ⊎ ((¬ (IsUnused d n)) × (text ≡ refused Taken (digits n)))
+NumberComesTo d n text = (IsUnused d n × (text ≡ [])) ⊎ ((¬ (IsUnused d n)) × (text ≡ refusal_line Taken (digits n)))
 
 -- What a line adds to a history, newest event first, and what it prints.
 abbrev pub Plays : Disk → List Event → Plan → Line → List Event → List ℕ → Type 0
 Plays d h plan (line.Mail name message envelope) events text =
     (outcome : Outcome) × MailComesTo (after d h) name (mail (next_pid h) (after d h).now message envelope) outcome
-    × (events ≡ added outcome) × (text ≡ printed name outcome)
+    × (events ≡ outcome_events outcome) × (text ≡ printed name outcome)
 Plays d h plan (line.Step actor) events text =
-    (outcome : Outcome) × StepsTo plan (after d h) actor outcome × (events ≡ added outcome) × (text ≡ printed actor outcome)
-Plays d h plan (line.Run actor) events text = IsRun d h plan actor events text
+    (outcome : Outcome) × StepsTo plan (after d h) actor outcome × (events ≡ outcome_events outcome) × (text ≡ printed actor outcome)
+Plays d h plan (line.Run actor) events text = IsRunOf d h plan actor events text
 Plays d h plan (line.Stop actor) events text =
-    (outcome : Outcome) × StopComesTo actor ((after d h).actors actor) outcome × (events ≡ added outcome) × (text ≡ printed actor outcome)
+    (outcome : Outcome) × StopComesTo actor ((after d h).actors actor) outcome × (events ≡ outcome_events outcome) × (text ≡ printed actor outcome)
 Plays d h plan (line.Halt how) events text =
     let now = (after d h).disk in
     (named : List ℕ) × AreNamed now named × (events ≡ Halt how (contents_by how now named) ∷ []) × (text ≡ [])
 Plays d h plan (line.Fault k) events text = (events ≡ []) × (text ≡ [])
 Plays d h plan (line.Number n) events text = (events ≡ []) × NumberComesTo (after d h).disk n text
 Plays d h plan (line.Moment m) events text =
-    (outcome : Outcome) × MomentComesTo (after d h).now m outcome × (events ≡ added outcome) × (text ≡ printed (digits (after d h).now) outcome)
+    (outcome : Outcome) × MomentComesTo (after d h).now m outcome × (events ≡ outcome_events outcome) × (text ≡ printed (digits (after d h).now) outcome)
 Plays d h plan line.Trace events text = (events ≡ []) × (text ≡ [])
 Plays d h plan (line.Cat path) events text = (events ≡ []) × (text ≡ cat_line path (bytes_at (after d h).disk path))
 Plays d h plan line.Show events text = (events ≡ []) × IsShown d h text
 
--- What is chosen of the disk behind a line that added these events and printed this: another call that is to fail, another
--- number, where it wasn't refused, or what the events left.
+-- What is chosen of the disk after a line that added these events and printed this: another call that is to fail, another
+-- number, if it wasn't refused, or what the events left.
 abbrev pub plan_after : Plan → Line → List Event → List ℕ → Plan
 plan_after plan (line.Fault k) events text = with_fault k plan
 plan_after plan (line.Number n) events [] = with_pick n plan
 plan_after plan (line.Number n) events (b ∷ text) = plan
 plan_after plan other events text = plan_through plan events
 
--- The history after these lines, from that one on, what is chosen of the disk then, and what they print; where events are
+-- The history after these lines, from that one on, what is chosen of the disk then, and what they print; if events are
 -- traced, a line first prints the events that it adds.
 abbrev pub PlaysAll : Disk → List Event → Plan → Bool → List Line → List Event → Plan → List ℕ → Type 0
 PlaysAll d h plan traced [] end left text = (end ≡ h) × (left ≡ plan) × (text ≡ [])

@@ -62,7 +62,7 @@ pub record HasPlayed (d : Disk) (new : Seen Crash) (line : Line) (before after :
   pub playing : IsPlaying d new (plan_after plan line events own) (events ++ h)
   pub text : after ≡ before ++ own
 
--- what is printed of a line that was played: where events are traced, first those that it added
+-- what is printed of a line that was played: if events are traced, first those that it added
 pub record HasPrinted (d : Disk) (new : Seen Crash) (traced : Bool) (line : Line) (text : List ℕ) (plan : Plan) (h : List Event) : Type 0 where
   pub own : List ℕ
   pub played : HasPlayed d new line [] own plan h

@@ -4,7 +4,7 @@ use Rattle.script_words.specs.Reading.{form_text}
 use Rattle.scenario.specs.declared.reading.Keyword.{Keyword}
 use Rattle.scenario.specs.declared.reading.Keyword.TheVariants as keyword
 use Rattle.script_words.specs.declared.entry.Entry.{Entry}
-use Rattle.script_words.specs.Entries.{IsEntry, Agree}
+use Rattle.script_words.specs.Entries.{IsEntryLine, Agree}
 use Rattle.scenario.specs.declared.line.Line.{Line}
 use Rattle.scenario.specs.Contents.{Content, with_entry, with_line}
 use Rattle.scenario.specs.Lines.{IsLine, IsShort, is_remark, completed, IsUnbroken}
@@ -29,7 +29,7 @@ keyword_texts =
 abbrev pub lone_texts : List (List ℕ)
 lone_texts = codes "trace" ∷ codes "show" ∷ []
 
--- the first line of some bytes, and what stands behind its newline
+-- the first line of some bytes, and what stands after its newline
 pub record IsFirstLine (bytes text behind : List ℕ) : Type 0 where
   pub whole : completed bytes ≡ (text ++ 10 ∷ []) ++ completed behind
   pub unbroken : IsUnbroken text
@@ -39,10 +39,10 @@ pub record IsFirstLine (bytes text behind : List ℕ) : Type 0 where
 abbrev pub MayFollow : Content → Entry → Type 0
 MayFollow before entry = (before.lines ≡ []) × All (λ earlier. Agree earlier entry) before.opening
 
--- What reading a text makes of what was read before it: nothing where it is passed over, else one entry more, where
+-- What reading a text makes of what was read before it: nothing if it is passed over, else one entry more, if
 -- it may follow, or one line more.
-pub record IsRead (text : List ℕ) (before after : Content) : Type 0 where
+pub record IsTextRead (text : List ℕ) (before after : Content) : Type 0 where
   pub short : IsShort text
   pub says : ((is_remark text ≡ true) × (after ≡ before))
-      ⊎ (((is_remark text ≡ false) × (entry : Entry) × IsEntry text entry × MayFollow before entry × (after ≡ with_entry before entry))
+      ⊎ (((is_remark text ≡ false) × (entry : Entry) × IsEntryLine text entry × MayFollow before entry × (after ≡ with_entry before entry))
       ⊎ ((is_remark text ≡ false) × (line : Line) × IsLine text line × (after ≡ with_line before line)))

@@ -18,18 +18,14 @@ use Rattle.queue_paths.specs.Names.Name.{Of}
 use Rattle.queue_paths.specs.Names.Part.{Intd, Todo}
 use Rattle.queue_inject.specs.Texts.{recipients_of}
 use Rattle.mail_world.specs.declared.event.Program.TheVariants.{Injector}
-use Rattle.queue_states.specs.declared.state.State.{State as StateOf}
-use Rattle.queue_states.specs.declared.state.State.TheVariants.{S1, S2, S3, S4, S5, Other}
+use Rattle.queue_states.specs.declared.state.State.TheVariants.{S1}
 use Rattle.queue_states.specs.States.{state_of, is_there}
+pub use Rattle.queue_states.specs.Listing.{AreNamesIn}
+pub use Rattle.queue_states.specs.Lines.{line_of, count_line, state_line}
 use Rattle.mail_world.specs.History.{Event, Life, State, Actor, Injection, after}
 use Rattle.mail_world.specs.History.Event.{Start, Call, End, Stop, Moment, Halt}
 use Rattle.mail_world.specs.History.Life.{Alive, Over, Stopped}
 use Rattle.mail_world.specs.Headline.{IsInjected}
-
--- the names of a directory, in byte order
-pub record AreNamesIn (d : Disk) (dir : List ℕ) (names : List (List ℕ)) : Type 0 where
-  pub each : (name : List ℕ) → Contains names name ↔ StandsAfter d dir [] name
-  pub rising : AllPairs (λ low high. slice_cmp nat_cmp low high ≡ Less) names
 
 -- the numbers that aren't in S1, in order; a message number is a u64 from 1
 pub record AreNumbersIn (d : Disk) (numbers : List ℕ) : Type 0 where
@@ -37,25 +33,13 @@ pub record AreNumbersIn (d : Disk) (numbers : List ℕ) : Type 0 where
   pub only : All (λ n. (1 ≤ n) × (n < 2 ^ 64)) numbers
   pub rising : IsStrictlyIncreasing numbers
 
-abbrev pub state_word : StateOf → List ℕ
-state_word S1 = codes "S1"
-state_word S2 = codes "S2"
-state_word S3 = codes "S3"
-state_word S4 = codes "S4"
-state_word S5 = codes "S5"
-state_word Other = codes "other"
-
--- a line of words, parted by spaces
-abbrev pub line_of : List ℕ → List ℕ → List ℕ
-line_of word more = word ++ 32 ∷ (more ++ 10 ∷ [])
-
 -- `pid COUNT`
 abbrev pub pid_line : List (List ℕ) → List ℕ
-pid_line names = line_of (codes "pid") (digits (length names))
+pid_line names = count_line (length names)
 
 -- `N Sk`, or `N other`
 abbrev pub number_line : Disk → ℕ → List ℕ
-number_line d n = line_of (digits n) (state_word (state_of d n))
+number_line d n = state_line n (state_of d n)
 
 -- an exit status, or whether it lives or was stopped
 abbrev pub life_word : Life → List ℕ
@@ -87,7 +71,7 @@ abbrev pub recipient_lines : List ℕ → ℕ → ℕ → List ℕ
 recipient_lines name k zero = []
 recipient_lines name k (suc more) = line_of (name ++ 46 ∷ digits k) (codes "pending") ++ recipient_lines name (k + 1) more
 
--- `NAME STATUS`, and a line for each recipient where the mail was accepted
+-- `NAME STATUS`, and a line for each recipient if the mail was accepted
 abbrev pub mail_lines : State → List Event → List ℕ → Arguments → Option Actor → List ℕ
 mail_lines s h name args None = []
 mail_lines s h name args (Some x) =

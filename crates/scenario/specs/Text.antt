@@ -30,11 +30,11 @@ pub record Prints (script text : List ℕ) : Type 0 where
   pub says : IsScript script content
   pub played : IsPlayed content.opening content.lines text
 
--- a text begins with this front
+-- a text begins with this prefix
 abbrev pub IsFront : List ℕ → List ℕ → Type 0
 IsFront front text = (rest : List ℕ) × (text ≡ front ++ rest)
 
--- Lines are played from the disk with these entries as far as they go: this is a front of what the first of them print.
+-- Lines are played from the disk with these entries as far as they go: this is a prefix of what the first of them print.
 pub record IsBegun (opening : List Entry) (lines : List Line) (text : List ℕ) : Type 0 where
   pub first : List Line
   pub later : List Line
@@ -54,7 +54,7 @@ pub record BeginsToPrint (script text : List ℕ) : Type 0 where
 abbrev pub BeginsAtMost : List ℕ → List ℕ → Type 0
 BeginsAtMost script text = (text ≡ []) ⊎ BeginsToPrint script text
 
--- nothing, or a front of the text of the script with these bytes
+-- nothing, or a prefix of the text of the script with these bytes
 abbrev pub IsFrontAtMost : List ℕ → List ℕ → Type 0
 IsFrontAtMost script text = (text ≡ []) ⊎ ((whole : List ℕ) × Prints script whole × IsFront text whole)
 
@@ -62,8 +62,8 @@ IsFrontAtMost script text = (text ≡ []) ⊎ ((whole : List ℕ) × Prints scri
 abbrev pub script_line : ℕ → List ℕ
 script_line number = line_of (codes "script") (digits number)
 
--- all of some bytes; or a front of them, where the output failed
-pub record IsTaken (whole text : List ℕ) (Failed : Type 0) : Type 0 where
+-- all of some bytes; or a prefix of them, if the output failed
+pub record IsTakenText (whole text : List ℕ) (Failed : Type 0) : Type 0 where
   pub rest : List ℕ
   pub split : whole ≡ text ++ rest
   pub all : (rest ≡ []) ⊎ Failed
@@ -72,4 +72,4 @@ pub record IsTaken (whole text : List ℕ) (Failed : Type 0) : Type 0 where
 pub record PrintsBadLine (script text : List ℕ) (Failed : Type 0) : Type 0 where
   pub number : ℕ
   pub is_bad : IsBadLine script number
-  pub is_taken : IsTaken (script_line number) text Failed
+  pub is_taken : IsTakenText (script_line number) text Failed

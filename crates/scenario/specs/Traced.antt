@@ -1,4 +1,4 @@
--- The lines of events, as a script prints them where it traces.
+-- The lines of events, as a script prints them if it traces.
 use Rattle.std.specs.Prelude.{ℕ, List, [], ◌∷◌, ◌++◌, length, reverse, Bool, true, false, codes, flat_map}
 use Rattle.mail_bytes.specs.Decimal.{digits}
 use Rattle.mail_bytes.specs.Escape.{escaped}
@@ -29,16 +29,16 @@ with_descriptor word fd = word ++ 32 ∷ 35 ∷ digits fd.0
 abbrev pub with_count : List ℕ → Fd → ℕ → List ℕ
 with_count word fd count = with_descriptor word fd ++ 32 ∷ digits count
 
--- how many bytes a read got, none where it was refused
-abbrev pub count_of : Answer → ℕ
-count_of (answer.Count count) = count
-count_of other = 0
+-- how many bytes a read got, none if it was refused
+abbrev pub count_told : Answer → ℕ
+count_told (answer.Count count) = count
+count_told other = 0
 
 -- a call; a read with the count that it got, a write with that of its bytes, a truncate with the length that it asks for
 abbrev pub call_text : CallData → Answer → List ℕ
 call_text (CreateExcl name) told = with_path (codes "create") name
 call_text (Open name how) told = with_path (codes "open") name
-call_text (ReadAt fd at len) told = with_count (codes "read") fd (count_of told)
+call_text (ReadAt fd at len) told = with_count (codes "read") fd (count_told told)
 call_text (WriteAt fd at bytes) told = with_count (codes "write") fd (length bytes)
 call_text (Append fd bytes) told = with_count (codes "append") fd (length bytes)
 call_text (Truncate fd len) told = with_count (codes "truncate") fd len
@@ -83,12 +83,12 @@ event_line (Stop a) = line_of a (codes "stop")
 event_line (Moment m) = line_of (codes "world") (codes "moment " ++ digits m)
 event_line (Halt how contents) = line_of (codes "world") (codes "halt " ++ survival_word how)
 
--- where events are traced, the lines of these, which are given the newest first, from the oldest on
+-- if events are traced, the lines of these, which are given the newest first, from the oldest on
 abbrev pub traced_text : Bool → List Event → List ℕ
 traced_text true events = flat_map event_line (reverse events)
 traced_text false events = []
 
--- whether events are traced behind a line
+-- whether events are traced after a line
 abbrev pub traced_after : Bool → Line → Bool
 traced_after traced (line.Mail name message envelope) = traced
 traced_after traced (line.Step actor) = traced

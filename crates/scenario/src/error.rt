@@ -6,10 +6,10 @@ use thiserror::Error;
 /// Why bytes are no script.
 #[derive(Debug, Drop, Error)]
 pub enum ScriptError {
-    /// The line with this number isn't in the grammar, counted from 1; 0 where the script is too long.
+    /// The line with this number isn't in the grammar, counted from 1; 0 if the script is too long.
     #[error("line {0}: not in the grammar of scripts")]
     Line(u64),
-    /// Want of memory.
+    /// Out of memory.
     #[error("out of memory")]
     Memory,
 }
@@ -20,7 +20,7 @@ pub enum PlayError {
     /// What it prints wasn't taken; the sink has counted it.
     #[error("the output failed")]
     Failed,
-    /// Want of memory.
+    /// Out of memory.
     #[error("out of memory")]
     Memory,
 }

@@ -83,7 +83,7 @@ impl Fates {
         }
     }
 
-    /// Takes one event more into account, where these were before it.
+    /// Takes one event more into account, if these were before it.
     fn note(&mut self, alloc: Global, event: &Event, before: &[Event]) -> Result<(), Memory>
         ensures { OnOk result ((name : List ℕ)
             → fate_of self.new name ≡ fate_by event.now before.now (fate_of self.old) name) }

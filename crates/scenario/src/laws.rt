@@ -8,13 +8,13 @@ ghost use Rattle.scenario.specs.Lines.{IsScript};
 ghost use Rattle.scenario.specs.FirstDisk.{IsFirstDisk};
 ghost use Rattle.scenario.specs.Text.{IsPlayed, Prints, BeginsToPrint, IsFront};
 
-/// Entries make one disk, where they are fewer than the numbers of files.
+/// Entries make one disk, if they are fewer than the numbers of files.
 pub fn one_disk()
     ensures some { (opening : List Entry) → length opening < 2 ^ 64 → (d : Disk) × IsFirstDisk opening d }
     ensures one { (opening : List Entry) (d e : Disk) → IsFirstDisk opening d → IsFirstDisk opening e → d ≡ e }
 {}
 
-/// Each script prints a text, and what it begins to print is a front of one.
+/// Each script prints a text, and what it begins to print is a prefix of one.
 pub fn has_text()
     ensures text { (script : List ℕ) (content : Content) → IsScript script content
         → (text : List ℕ) × Prints script text }
@@ -23,7 +23,7 @@ pub fn has_text()
 {}
 
 /// Lines that are played from the disk with some entries make one history, and a script prints one text; what it begins
-/// to print is a front of that.
+/// to print is a prefix of that.
 pub fn one_text()
     ensures history { (opening : List Entry) (lines : List Line) (t u : List ℕ)
         (p : IsPlayed opening lines t) (q : IsPlayed opening lines u) → p.history ≡ q.history }

@@ -90,7 +90,7 @@ fn gather(alloc: Global, disk: &CrashDisk, dir: &[u8], numbers: &mut Vec<u64>) -
     Ok(())
 }
 
-/// The message number of a name in a directory, where it has one.
+/// The message number of a name in a directory, if it has one.
 fn number_of(alloc: Global, dir: &[u8], name: &[u8]) -> Result<Option<u64>, Memory>
     ensures { IfOk result (λ number. (n : ℕ)
         → (number ≡ Some n) ↔ ((part : Part) × (used_name (dir.now ++ 47 ∷ name.now) ≡ Some (Of part n)))) }
@@ -101,7 +101,7 @@ fn number_of(alloc: Global, dir: &[u8], name: &[u8]) -> Result<Option<u64>, Memo
     Ok(number_in(parse(&whole)))
 }
 
-/// The message number of a name, where there is one and it has one.
+/// The message number of a name, if there is one and it has one.
 fn number_in(name: Option<Name>) -> Option<u64>
     ensures { (n : ℕ) → (result ≡ Some n) ↔ ((part : Part) × (option_map name_of name ≡ Some (Of part n))) }
 {

@@ -2,7 +2,7 @@
 ghost use Rattle.std.specs.Prelude.{◌≡◌, [], IfOk, OnOk, Some};
 ghost use Rattle.call_fs.specs.Plan.{no_plan};
 ghost use Rattle.crash_fs.specs.Crash.{crash_disk, crash_plan};
-ghost use Rattle.mem_fs.specs.MemDisk.{disk_of, nothing, with_held};
+ghost use Rattle.mem_fs.specs.MemDisk.{disk_of, held_nothing, with_held};
 ghost use Rattle.script_words.specs.Entries.{dirs_above};
 ghost use Rattle.scenario.specs.FirstDisk.{with_dirs, HasMade, AreMade, Enters, EntersAll, IsFirstDisk};
 
@@ -27,7 +27,7 @@ pub fn first_disk(alloc: Global, opening: &[Entry]) -> Result<CrashDisk, Memory>
 
 /// A disk with these directories and no file.
 fn disk_with(alloc: Global, dirs: &[ByteText]) -> Result<MemFs, Memory>
-    ensures disk { IfOk result (λ disk. disk_of disk.held ≡ with_dirs (disk_of nothing) dirs.now) }
+    ensures disk { IfOk result (λ disk. disk_of disk.held ≡ with_dirs (disk_of held_nothing) dirs.now) }
     ensures quiet { IfOk result (λ disk. (disk.picks ≡ []) × (disk.plan ≡ [])) }
 {
     let mut disk = MemFs::new(alloc, Vec::new(alloc), Vec::new(alloc))?;
@@ -78,7 +78,7 @@ fn enter(
     }
 }
 
-/// Makes the directories above a path where they are missing. The condition: these are the disk's directories.
+/// Makes the directories above a path if they are missing. The condition: these are the disk's directories.
 fn make_above(
     alloc: Global,
     disk: &mut MemFs,
@@ -98,7 +98,7 @@ fn make_above(
     Ok(())
 }
 
-/// Makes a directory where it is missing. The condition: these are the disk's directories.
+/// Makes a directory if it is missing. The condition: these are the disk's directories.
 fn make(alloc: Global, disk: &mut MemFs, dirs: &mut Vec<ByteText>, dir: &[u8]) -> Result<(), Memory>
     requires { dirs.old.items ≡ disk.old.held.dirs }
     ensures made { OnOk result (HasMade (disk_of disk.old.held) dir.now (disk_of disk.new.held)) }

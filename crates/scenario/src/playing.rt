@@ -1,5 +1,5 @@
 // Playing a script.
-ghost use Rattle.std.specs.Prelude.{◌≡◌, ◌≢◌, ◌≤◌, ◌++◌, ◌∷◌, [], List, ℕ, take, IfOk, IfErr, OnOk, OnErr, Err, codes};
+ghost use Rattle.std.specs.Prelude.{◌≡◌, ◌≢◌, ◌≤◌, ◌++◌, ◌∷◌, [], List, ℕ, take, IsOk, IfOk, IfErr, OnOk, OnErr, Err, codes};
 ghost use Rattle.mail_bytes.specs.Decimal.{digits};
 ghost use Rattle.call_fs.specs.Disk.{Disk};
 ghost use Rattle.call_fs.specs.Plan.{Plan};
@@ -8,7 +8,7 @@ ghost use Rattle.mail_world.specs.declared.event.Event.{Event as Kept};
 ghost use Rattle.mail_world.specs.History.{Event as Happening};
 ghost use Rattle.mail_world.specs.Kept.{events_of};
 ghost use Rattle.scenario.specs.declared.line.Line.TheVariants as LineOf;
-ghost use Rattle.scenario.specs.Played.{Refusal, IsRefusalOf, refused};
+ghost use Rattle.scenario.specs.Played.{Refusal, IsRefusalOf, refusal_line};
 ghost use Rattle.scenario.specs.Playing.{IsPlaying, HasStepped, HasPlayed, HasPrinted, IsRefusedAs, lacked_memory};
 ghost use Rattle.scenario.specs.Text.{IsPlayed, IsBegun};
 ghost use Rattle.scenario.specs.Shown.{line_of};
@@ -31,10 +31,12 @@ use std::alloc::{AllocError, Global};
 const MOST_STEPS: u32 = 1_000_000;
 
 /// Plays a script over a new disk in memory that holds its entries, and gives the sink what its lines print, one line
-/// after the other. `Failed` only where the sink's count of failures rose; it has then taken a prefix of the text.
-/// After `Memory` it has taken a front of the text of the first lines.
+/// after the other; a line that prints nothing gives it nothing. `Failed` only if the sink's count of failures rose; it
+/// has then taken a prefix of the text. After `Memory` it hasn't failed, and has taken a prefix of the text.
 pub fn play<O: Sink>(alloc: Global, script: Script, out: &mut O) -> Result<(), PlayError>
     ensures cause { IfErr result (λ why. why ≡ PlayError.Failed → Rose (O.faults out.old) (O.faults out.new)) }
+    ensures unfailed { result ≢ Err PlayError.Failed → O.faults out.new ≡ O.faults out.old }
+    ensures silent { OnOk result ((text : List ℕ) × IsPlayed script.opening script.lines text × (text ≡ [] → out.new ≡ out.old)) }
     ensures played { OnOk result (Meets (O.taken out.old) (O.taken out.new)
         (λ before after. (text : List ℕ) × IsPlayed script.opening script.lines text × (after ≡ before ++ text))) }
     ensures begun { OnErr result (Meets (O.taken out.old) (O.taken out.new)
@@ -52,13 +54,14 @@ pub fn play<O: Sink>(alloc: Global, script: Script, out: &mut O) -> Result<(), P
     Ok(())
 }
 
-/// Gives the sink what a line prints, where it prints anything.
+/// Gives the sink what a line prints, if that is anything. No memory is taken, so that only the sink can fail.
 fn give<O: Sink>(out: &mut O, text: &[u8]) -> Result<(), PlayError>
     ensures ok { OnOk result (Meets (O.taken out.old) (O.taken out.new) (λ before after. after ≡ before ++ text.now)) }
     ensures err { OnErr result (Meets (O.taken out.old) (O.taken out.new)
         (λ before after. (k : ℕ) × (after ≡ before ++ take k text.now))) }
-    ensures cause { IfErr result (λ why. why ≡ PlayError.Failed → Rose (O.faults out.old) (O.faults out.new)) }
-    ensures later { O.faults out.old ≤ O.faults out.new }
+    ensures failed { IfErr result (λ why. (why ≡ PlayError.Failed) × Rose (O.faults out.old) (O.faults out.new)) }
+    ensures unfailed { OnOk result (O.faults out.new ≡ O.faults out.old) }
+    ensures nothing { text.now ≡ [] → OnOk result (out.new ≡ out.old) × IsOk result }
 {
     if !text.is_empty() && out.give(text) == Gave::Failed {
         return Err(PlayError::Failed);
@@ -66,7 +69,7 @@ fn give<O: Sink>(out: &mut O, text: &[u8]) -> Result<(), PlayError>
     Ok(())
 }
 
-/// Plays one line, and gives what is printed of it: where events are traced those that it added, then its own text.
+/// Plays one line, and gives what is printed of it: if events are traced, those that it added; then its own text.
 fn printed(
     alloc: Global,
     world: &mut World<CrashDisk>,
@@ -165,7 +168,7 @@ fn stop(world: &mut World<CrashDisk>, actor: &ActorName, text: &mut Vec<u8>) -> 
     }
 }
 
-/// One step of an actor. The exit status, where the actor ended. `Memory` also where its call found no memory: then the
+/// One step of an actor. The exit status, if the actor ended. `Memory` also if its call found no memory: then the
 /// play is over, since a script plays on ample memory.
 fn step(
     alloc: Global,
@@ -259,7 +262,7 @@ fn pick(world: &mut World<CrashDisk>, number: Count, text: &mut Vec<u8>) -> Resu
 
 /// Puts the line of a number that is in use at the end of a text.
 fn put_taken(text: &mut Vec<u8>, number: u64) -> Result<(), Memory>
-    ensures { OnOk result (text.new.items ≡ text.old.items ++ refused Refusal.Taken (digits number)) }
+    ensures { OnOk result (text.new.items ≡ text.old.items ++ refusal_line Refusal.Taken (digits number)) }
 {
     text.extend_from_slice(b"refused taken ")?;
     put_number(text, number)?;
@@ -279,7 +282,7 @@ fn set_moment(
     match world.moment(moment.seconds()) {
         Ok(()) => Ok(()),
         Err(WorldError::Past(present)) => put_past(text, present),
-        // want of memory, and no other
+        // out of memory, and no other
         Err(WorldError::Gone(_, _) | WorldError::NotWaiting(_) | WorldError::Unknown) => {
             Err(AllocError)
         }
@@ -289,7 +292,7 @@ fn set_moment(
 
 /// Puts the line of a moment that lies before the present one at the end of a text.
 fn put_past(text: &mut Vec<u8>, present: u64) -> Result<(), Memory>
-    ensures { OnOk result (text.new.items ≡ text.old.items ++ refused Refusal.Past (digits present)) }
+    ensures { OnOk result (text.new.items ≡ text.old.items ++ refusal_line Refusal.Past (digits present)) }
 {
     text.extend_from_slice(b"refused past ")?;
     put_number(text, present)?;
@@ -297,9 +300,9 @@ fn put_past(text: &mut Vec<u8>, present: u64) -> Result<(), Memory>
     Ok(())
 }
 
-/// Puts the line of a refusal at the end of a text. Want of memory is no line.
+/// Puts the line of a refusal at the end of a text. That memory ran out is no line.
 fn refuse(text: &mut Vec<u8>, why: WorldError, name: &ActorName) -> Result<(), Memory>
-    ensures { OnOk result ((refusal : Refusal) × IsRefusalOf why refusal × (text.new.items ≡ text.old.items ++ refused refusal name.now)) }
+    ensures { OnOk result ((refusal : Refusal) × IsRefusalOf why refusal × (text.new.items ≡ text.old.items ++ refusal_line refusal name.now)) }
 {
     match why {
         WorldError::Gone(_, _) => put_refusal(text, b"gone", name),

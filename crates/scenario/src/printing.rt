@@ -2,9 +2,9 @@
 ghost use Rattle.std.specs.Prelude.{◌≡◌, ◌++◌, OnOk};
 ghost use Rattle.mail_bytes.specs.Decimal.{digits};
 ghost use Rattle.mail_bytes.specs.Escape.{escaped};
-ghost use Rattle.scenario.specs.Shown.{line_of};
 
 use mail_bytes::{Memory, dec, escape};
+pub use queue_states::put_line;
 use std::alloc::Global;
 
 /// Puts a decimal number at the end of a text.
@@ -14,17 +14,6 @@ pub fn put_number(text: &mut Vec<u8>, number: u64) -> Result<(), Memory>
     let mut into = [0; 20];
     let length = dec(number, &mut into);
     text.extend_from_slice(&into[..length])
-}
-
-/// Puts a line of two words at the end of a text, with a space between them.
-pub fn put_line(text: &mut Vec<u8>, word: &[u8], other: &[u8]) -> Result<(), Memory>
-    ensures { OnOk result (text.new.items ≡ text.old.items ++ line_of word.now other.now) }
-{
-    text.extend_from_slice(word)?;
-    text.push(b' ')?;
-    text.extend_from_slice(other)?;
-    text.push(b'\n')?;
-    Ok(())
 }
 
 /// Puts bytes at the end of a text, each but 33 to 126, and `%`, as `%` and two hexadecimal digits.

@@ -6,7 +6,7 @@ ghost use Rattle.mail_world.specs.MailNames.{IsMailName};
 ghost use Rattle.scenario.specs.declared.line.Line.{Line};
 ghost use Rattle.scenario.specs.Contents.{Content, with_entry};
 ghost use Rattle.scenario.specs.Lines.{IsActorName, IsChildName, child_kinds, is_remark, IsLine, IsScript, IsScriptFault};
-ghost use Rattle.scenario.specs.Reading.{keyword_text, keyword_texts, lone_texts, IsFirstLine, MayFollow, IsRead};
+ghost use Rattle.scenario.specs.Reading.{keyword_text, keyword_texts, lone_texts, IsFirstLine, MayFollow, IsTextRead};
 
 use crate::{Line, Script, ScriptError};
 use mail_bytes::ByteText;
@@ -23,7 +23,7 @@ pub const MAX_SCRIPT: usize = 16_777_216;
 /// The most bytes that a line may have, its newline not counted.
 const MAX_LINE: usize = 65_535;
 
-/// Reads a script. `Line(0)` exactly where it has over 16,777,216 bytes; else `Line(k)` for the first line that isn't in
+/// Reads a script. `Line(0)` exactly if it has over 16,777,216 bytes; else `Line(k)` for the first line that isn't in
 /// the grammar.
 pub fn read_script(alloc: Global, bytes: &[u8]) -> Result<Script, ScriptError>
     ensures ok { IfOk result (IsScript bytes.now) }
@@ -47,7 +47,7 @@ pub fn read_script(alloc: Global, bytes: &[u8]) -> Result<Script, ScriptError>
     Ok(script)
 }
 
-/// The first line, and what stands behind its newline. The condition: there are some bytes.
+/// The first line, and what stands after its newline. The condition: there are some bytes.
 fn first_line(bytes: &[u8]) -> (&[u8], &[u8])
     requires { bytes.now ≢ [] }
     ensures { IsFirstLine bytes.now result.0.now result.1.now }
@@ -60,10 +60,10 @@ fn first_line(bytes: &[u8]) -> (&[u8], &[u8])
 }
 
 /// Reads a line, and puts what it says at the end of the script; nothing of one that is passed over. `Malformed` also
-/// where it is too long, and where it says what the disk holds at the beginning and may not follow those before it.
+/// if it is too long, and if it says what the disk holds at the beginning and may not follow those before it.
 fn read_line(alloc: Global, text: &[u8], script: &mut Script) -> Result<(), WordError>
-    ensures ok { OnOk result (IsRead text.now script.old script.new) }
-    ensures err { IfErr result (λ why. why ≡ WordError.Malformed → (longer : Content) → ¬ (IsRead text.now script.old longer)) }
+    ensures ok { OnOk result (IsTextRead text.now script.old script.new) }
+    ensures err { IfErr result (λ why. why ≡ WordError.Malformed → (longer : Content) → ¬ (IsTextRead text.now script.old longer)) }
 {
     if text.len() > MAX_LINE {
         return Err(WordError::Malformed);
@@ -79,7 +79,7 @@ fn read_line(alloc: Global, text: &[u8], script: &mut Script) -> Result<(), Word
     Ok(())
 }
 
-/// Puts an entry at the end of a script, where it may stand there. The condition: its path lies below a directory for
+/// Puts an entry at the end of a script, if it may stand there. The condition: its path lies below a directory for
 /// entries.
 fn put_entry(script: &mut Script, entry: Entry) -> Result<(), WordError>
     requires { IsEntryPath (path_of entry) }
@@ -167,7 +167,7 @@ fn keyword_of(word: &[u8]) -> Option<Keyword>
     }
 }
 
-/// Reads a line by its first word and what stands behind the space.
+/// Reads a line by its first word and what stands after the space.
 fn read_words(alloc: Global, word: &[u8], rest: &[u8]) -> Result<Line, WordError>
     requires { ¬ (Contains word.now 32) }
     ensures ok { IfOk result (IsLine (word.now ++ 32 ∷ rest.now)) }

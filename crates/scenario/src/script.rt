@@ -37,7 +37,7 @@ impl Script {
         }
     }
 
-    /// Puts an entry behind the others. The condition: its path lies below a directory for entries.
+    /// Puts an entry after the others. The condition: its path lies below a directory for entries.
     pub(crate) fn put_entry(&mut self, entry: Entry) -> Result<(), Memory>
         requires { IsEntryPath (path_of entry) }
         ensures { OnOk result (self.new ≡ with_entry self.old entry) }
@@ -46,7 +46,7 @@ impl Script {
         Ok(())
     }
 
-    /// Puts a line behind the others.
+    /// Puts a line after the others.
     pub(crate) fn put_line(&mut self, line: Line) -> Result<(), Memory>
         ensures { OnOk result (self.new ≡ with_line self.old line) }
     {

@@ -7,7 +7,7 @@ ghost use Rattle.crash_fs.specs.Crash.{crash_disk};
 ghost use Rattle.queue_inject.specs.Texts.{recipients_of};
 ghost use Rattle.mail_world.specs.History.{Event as Happening};
 ghost use Rattle.mail_world.specs.World.{Happened};
-ghost use Rattle.scenario.specs.Shown.{IsShown, line_of, state_word, life_word, recipient_lines, number_line};
+ghost use Rattle.scenario.specs.Shown.{IsShown, line_of, life_word, recipient_lines, number_line};
 ghost use Rattle.scenario.specs.Played.{cat_line};
 ghost use Rattle.scenario.specs.Fates.{fate_of, life_of, fate_lines, start_lines};
 
@@ -19,7 +19,7 @@ use envelope_records::{EnvStep, EnvelopeReader};
 use mail_bytes::Memory;
 use mail_world::{Event, Program, World};
 use queue_inject::Arguments;
-use queue_states::State;
+use queue_states::{put_count_line, put_state_line};
 use std::alloc::Global;
 
 /// The most bytes of an envelope that an injector reads.
@@ -32,7 +32,7 @@ pub fn show(alloc: Global, world: &World<CrashDisk>, text: &mut Vec<u8>) -> Resu
         × ((d : Disk) (h : List Happening) → Happened (λ m. Some (crash_disk m)) d world.now h → IsShown d h own)) }
 {
     let pids = names_of(alloc, world.disk(), b"pid")?;
-    put_pids(text, pids.len())?;
+    put_count_line(text, pids.len() as u64)?;
     let numbers = numbers_of(alloc, world.disk())?;
     put_states(text, world.disk(), &numbers)?;
     let events = world.history().events();
@@ -60,7 +60,7 @@ fn put_states(text: &mut Vec<u8>, disk: &CrashDisk, numbers: &[u64]) -> Result<(
     ensures { OnOk result (text.new.items ≡ text.old.items ++ flat_map (number_line (crash_disk disk.now)) numbers.now) }
 {
     for number in numbers {
-        put_state(text, *number, state_on(disk, *number))?;
+        put_state_line(text, *number, state_on(disk, *number))?;
     }
     Ok(())
 }
@@ -75,7 +75,7 @@ fn put_mails(text: &mut Vec<u8>, fates: &Fates, events: &[Event]) -> Result<(), 
     Ok(())
 }
 
-/// Puts the lines of the mail that this event starts, where it does, at the end of a text.
+/// Puts the lines of the mail that this event starts, if it does, at the end of a text.
 fn put_mail(text: &mut Vec<u8>, fates: &Fates, event: &Event) -> Result<(), Memory>
     ensures { OnOk result (text.new.items ≡ text.old.items ++ start_lines (fate_of fates.now) event.now) }
 {
@@ -110,7 +110,7 @@ fn put_fate(
     Ok(())
 }
 
-/// How many recipients a mail has: none where no envelope ends within the limit.
+/// How many recipients a mail has: none if no envelope ends within the limit.
 fn recipients(arguments: &Arguments) -> u64
     ensures { result ≡ length (recipients_of arguments.now) }
 {
@@ -126,41 +126,6 @@ fn recipients(arguments: &Arguments) -> u64
         }
     }
     0
-}
-
-/// Puts the line of the names in `pid/` at the end of a text.
-fn put_pids(text: &mut Vec<u8>, count: usize) -> Result<(), Memory>
-    ensures { OnOk result (text.new.items ≡ text.old.items ++ line_of (codes "pid") (digits count)) }
-{
-    text.extend_from_slice(b"pid ")?;
-    put_number(text, count as u64)?;
-    text.push(b'\n')?;
-    Ok(())
-}
-
-/// Puts the line of a number's state at the end of a text.
-fn put_state(text: &mut Vec<u8>, number: u64, state: State) -> Result<(), Memory>
-    ensures { OnOk result (text.new.items ≡ text.old.items ++ line_of (digits number) (state_word state)) }
-{
-    put_number(text, number)?;
-    text.push(b' ')?;
-    text.extend_from_slice(word_of(state))?;
-    text.push(b'\n')?;
-    Ok(())
-}
-
-/// The word of a state.
-fn word_of(state: State) -> &'static [u8]
-    ensures { result.now ≡ state_word state }
-{
-    match state {
-        State::S1 => b"S1",
-        State::S2 => b"S2",
-        State::S3 => b"S3",
-        State::S4 => b"S4",
-        State::S5 => b"S5",
-        State::Other => b"other",
-    }
 }
 
 /// Puts the line of an injector at the end of a text: its exit status, or whether it lives or was stopped.

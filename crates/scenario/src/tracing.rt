@@ -5,7 +5,7 @@ ghost use Rattle.mail_bytes.specs.Decimal.{digits};
 ghost use Rattle.mail_world.specs.History.{Event as Happening};
 ghost use Rattle.mail_world.specs.World.{Tells};
 ghost use Rattle.scenario.specs.Shown.{line_of};
-ghost use Rattle.scenario.specs.Traced.{with_path, with_descriptor, with_count, call_text, answer_text, refusal_text, count_of, survival_word, event_line, traced_after};
+ghost use Rattle.scenario.specs.Traced.{with_path, with_descriptor, with_count, call_text, answer_text, refusal_text, count_told, survival_word, event_line, traced_after};
 
 use crate::Line;
 use crate::printing::{put_escaped, put_line, put_number};
@@ -14,7 +14,7 @@ use mail_bytes::Memory;
 use mail_world::{ActorName, Event};
 use std::alloc::Global;
 
-/// Whether events are traced behind a line, where before it they are, or aren't.
+/// Whether events are traced after a line, if before it they are, or aren't.
 pub fn traced_after(traced: bool, line: &Line) -> bool
     ensures { result ≡ traced_after traced line.now }
 {
@@ -27,7 +27,7 @@ pub fn traced_after(traced: bool, line: &Line) -> bool
     }
 }
 
-/// Puts the lines of the events behind the first so many at the end of a text, the oldest event first.
+/// Puts the lines of the events after the first so many at the end of a text, the oldest event first.
 pub fn put_events_behind(
     alloc: Global,
     text: &mut Vec<u8>,
@@ -162,9 +162,9 @@ fn put_call_text(
     }
 }
 
-/// How many bytes a read got; none where it was refused.
+/// How many bytes a read got; none if it was refused.
 fn count_of(answer: &Answer) -> u64
-    ensures { result ≡ count_of answer.now }
+    ensures { result ≡ count_told answer.now }
 {
     match answer {
         Answer::Count(count) => *count,

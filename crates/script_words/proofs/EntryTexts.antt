@@ -7,7 +7,7 @@ use Rattle.mail_bytes.specs.Escape.{unescaped}
 use Rattle.script_words.specs.declared.entry.Entry.{Entry}
 use Rattle.script_words.specs.declared.entry.Entry.TheVariants.{File, Dir}
 use Rattle.script_words.specs.Words.{joined, StandsFor, HasBody}
-use Rattle.script_words.specs.Entries.{IsEntryPath, IsFileLine, IsDirLine, IsEntry, path_of}
+use Rattle.script_words.specs.Entries.{IsEntryPath, IsFileLine, IsDirLine, IsEntryLine, path_of}
 use Rattle.script_words.specs.Reading.{IsCut, HasRecipients, kind_texts}
 use Rattle.script_words.proofs.Cuts.{same-cut, lacks, contains-cut}
 use Rattle.script_words.proofs.WordLists.{Ends}
@@ -61,17 +61,17 @@ pub dir_word : (words path : List ℕ) (h : IsDirLine (codes "dir" ++ 32 ∷ wor
 dir_word words path h = sym (append_cancel_left (codes "dir ") words h.word h.words)
 
 -- how the text of an entry begins
-pub entry_kind : (text word rest : List ℕ) (entry : Entry) → IsCut text 32 word (Some rest) → IsEntry text entry → Contains kind_texts word
+pub entry_kind : (text word rest : List ℕ) (entry : Entry) → IsCut text 32 word (Some rest) → IsEntryLine text entry → Contains kind_texts word
 entry_kind text word rest (File path bytes) cut h =
     (0, omega arith, (same-cut (codes "file") ((h.word ++ 32 ∷ codes ":") ++ h.rest) word rest 32 (lacks (codes "file") 32 refl) cut.without (sym h.words ∙ cut.parts)).0)
 entry_kind text word rest (Dir path) cut h =
     (1, omega arith, (same-cut (codes "dir") h.word word rest 32 (lacks (codes "dir") 32 refl) cut.without (sym h.words ∙ cut.parts)).0)
 
-pub entry_has_space : (text : List ℕ) (entry : Entry) → IsEntry text entry → Contains text 32
+pub entry_has_space : (text : List ℕ) (entry : Entry) → IsEntryLine text entry → Contains text 32
 entry_has_space text (File path bytes) h = subst (λ (t : List ℕ). Contains t 32) (sym h.words) (contains-cut (codes "file") ((h.word ++ 32 ∷ codes ":") ++ h.rest) 32)
 entry_has_space text (Dir path) h = subst (λ (t : List ℕ). Contains t 32) (sym h.words) (contains-cut (codes "dir") h.word 32)
 
-pub entry_path : (text : List ℕ) (entry : Entry) → IsEntry text entry → IsEntryPath (path_of entry)
+pub entry_path : (text : List ℕ) (entry : Entry) → IsEntryLine text entry → IsEntryPath (path_of entry)
 entry_path text (File path bytes) h = h.is_entry_path
 entry_path text (Dir path) h = h.is_entry_path
 
@@ -98,7 +98,7 @@ one_file text path path' bytes bytes' h k =
     ap (λ (p : List ℕ). File p bytes) (read_one k.word path path' (subst (λ (w : List ℕ). unescaped w ≡ Ok path) same.0 h.is_path.bytes) k.is_path.bytes)
     ∙ ap (λ (b : List ℕ). File path' b) (one_message k.rest bytes bytes' (subst (λ (r : List ℕ). HasBody r bytes) rests h.has_body) k.has_body)
 
-pub one_entry : (text : List ℕ) (a b : Entry) → IsEntry text a → IsEntry text b → a ≡ b
+pub one_entry : (text : List ℕ) (a b : Entry) → IsEntryLine text a → IsEntryLine text b → a ≡ b
 one_entry text (File path bytes) (File path' bytes') h k = one_file text path path' bytes bytes' h k
 one_entry text (Dir path) (Dir path') h k =
     let same : h.word ≡ k.word = append_cancel_left (codes "dir ") h.word k.word (sym h.words ∙ k.words) in
@@ -107,10 +107,10 @@ one_entry text (File path bytes) (Dir path') h k = absurd (other_first _ _ 102 1
 one_entry text (Dir path) (File path' bytes') h k = absurd (other_first _ _ 100 102 refl refl (λ e. omega arith) (sym h.words ∙ k.words))
 
 -- a text that begins so is a file, or a directory
-pub only_file : (words : List ℕ) (entry : Entry) → IsEntry (codes "file" ++ 32 ∷ words) entry → (path bytes : List ℕ) × IsFileLine (codes "file" ++ 32 ∷ words) path bytes
+pub only_file : (words : List ℕ) (entry : Entry) → IsEntryLine (codes "file" ++ 32 ∷ words) entry → (path bytes : List ℕ) × IsFileLine (codes "file" ++ 32 ∷ words) path bytes
 only_file words (File path bytes) h = (path, bytes, h)
 only_file words (Dir path) h = absurd (other_first _ _ 102 100 refl refl (λ e. omega arith) h.words)
 
-pub only_dir : (words : List ℕ) (entry : Entry) → IsEntry (codes "dir" ++ 32 ∷ words) entry → (path : List ℕ) × IsDirLine (codes "dir" ++ 32 ∷ words) path
+pub only_dir : (words : List ℕ) (entry : Entry) → IsEntryLine (codes "dir" ++ 32 ∷ words) entry → (path : List ℕ) × IsDirLine (codes "dir" ++ 32 ∷ words) path
 only_dir words (File path bytes) h = absurd (other_first _ _ 100 102 refl refl (λ e. omega arith) h.words)
 only_dir words (Dir path) h = (path, h)

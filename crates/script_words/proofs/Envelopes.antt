@@ -8,7 +8,7 @@ use Rattle.envelope_records.specs.Envelope.{record_of}
 use Rattle.script_words.specs.declared.envelope.Form.{Form}
 use Rattle.script_words.specs.declared.envelope.Form.TheVariants.{Written, Raw}
 use Rattle.script_words.specs.Words.{StandsFor, StandsForText, HasBody}
-use Rattle.script_words.specs.Reading.{IsCut, IsWrittenText, HasRecipients, HasEnvelope, HasRawEnvelope, HasEnvelopeAs}
+use Rattle.script_words.specs.Reading.{IsCut, IsWrittenText, HasRecipients, BeginsWithEnvelope, HasRawEnvelope, HasEnvelopeAs}
 use Rattle.script_words.proofs.Cuts.{same-cut, lacks, tail-same}
 use Rattle.script_words.proofs.WordLists.{front, joined-front, colon-alone, Passed, Ends, still}
 
@@ -59,7 +59,7 @@ one_body words body body' recipients recipients' h h' =
     same-body r.to r.recipients h.rest h'.rest body body' r.stand h.ends h'.ends r.text
 
 -- a sender and what follows are those before and behind the first space
-pub behind_sender : (words word rest envelope body : List ℕ) → IsCut words 32 word (Some rest) → (h : HasEnvelope words envelope body) → (h.from ≡ word) × (h.more ≡ rest)
+pub behind_sender : (words word rest envelope body : List ℕ) → IsCut words 32 word (Some rest) → (h : BeginsWithEnvelope words envelope body) → (h.from ≡ word) × (h.more ≡ rest)
 behind_sender words word rest envelope body cut h =
     same-cut h.from h.more word rest 32 (text_lacks h.from h.sender h.stands) cut.without (sym h.words ∙ cut.parts)
 

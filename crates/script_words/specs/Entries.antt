@@ -1,34 +1,20 @@
 -- What a script's disk holds at its beginning, and which paths it may have there.
-use Rattle.std.specs.Prelude.{◌≡◌, ◌≢◌, ◌⊎◌, ℕ, ◌≤◌, List, [], ◌∷◌, ◌++◌, length, map, All, Contains, codes, if◌then◌else◌, ◌==◌}
-use Rattle.std.specs.List.{join_with_byte}
+use Rattle.std.specs.Prelude.{◌≡◌, ◌⊎◌, ℕ, List, [], ◌∷◌, ◌++◌, map, All, Contains, codes, if◌then◌else◌, ◌==◌}
+use Rattle.call_fs.specs.Names.{AreParts}
 use Rattle.script_words.specs.Words.{joined, StandsFor, HasBody}
 use Rattle.script_words.specs.declared.entry.Entry.{Entry}
 use Rattle.script_words.specs.declared.entry.Entry.TheVariants.{File, Dir}
-
--- a part of a path: 1 to 255 bytes, none of them `/` or NUL
-pub record IsPart (part : List ℕ) : Type 0 where
-  pub some : part ≢ []
-  pub short : length part ≤ 255
-  pub whole : ¬ (Contains part 47)
-  pub no_nul : ¬ (Contains part 0)
 
 -- the directories below which a script's entries lie
 abbrev pub entry_dirs : List (List ℕ)
 entry_dirs = codes "control" ∷ codes "users" ∷ codes "home" ∷ codes "pid" ∷ []
 
--- parts with a `/` between each two: `j/.qmail`
-pub record IsJoined (text : List ℕ) : Type 0 where
-  pub part : List ℕ
-  pub more : List (List ℕ)
-  pub are_parts : All IsPart (part ∷ more)
-  pub text_is : text ≡ join_with_byte 47 (part ∷ more)
-
--- a path below one of those directories: `home/j/.qmail`
+-- parts of a name below one of those directories: `home/j/.qmail`
 pub record IsEntryPath (path : List ℕ) : Type 0 where
   pub dir : List ℕ
   pub below : List ℕ
   pub is_dir : Contains entry_dirs dir
-  pub joined : IsJoined below
+  pub parts : AreParts below
   pub path_is : path ≡ dir ++ 47 ∷ below
 
 -- the directories that a path goes through, from the highest: `home` and `home/j` of `home/j/.qmail`
@@ -57,9 +43,9 @@ pub record IsDirLine (text path : List ℕ) : Type 0 where
   pub is_entry_path : IsEntryPath path
 
 -- which text is which entry
-abbrev pub IsEntry : List ℕ → Entry → Type 0
-IsEntry text (File path bytes) = IsFileLine text path bytes
-IsEntry text (Dir path) = IsDirLine text path
+abbrev pub IsEntryLine : List ℕ → Entry → Type 0
+IsEntryLine text (File path bytes) = IsFileLine text path bytes
+IsEntryLine text (Dir path) = IsDirLine text path
 
 -- the path of an entry
 abbrev pub path_of : Entry → List ℕ
@@ -83,7 +69,7 @@ SharesFile a b = (name : List ℕ) × IsFileOf a name × IsDirOf b name
 abbrev pub Agree : Entry → Entry → Type 0
 Agree a b = (¬ (SharesFile a b)) × (¬ (SharesFile b a))
 
--- entries that may stand on one disk, each with those behind it
+-- entries that may stand on one disk, each with those after it
 abbrev pub AllAgree : List Entry → Type 0
 AllAgree [] = Unit {0}
 AllAgree (first ∷ later) = All (Agree first) later × AllAgree later

@@ -6,16 +6,16 @@ use Rattle.script_words.specs.declared.envelope.Form.{Form}
 use Rattle.script_words.specs.declared.envelope.Form.TheVariants as form
 use Rattle.script_words.specs.declared.entry_lines.Kind.{Kind}
 use Rattle.script_words.specs.declared.entry_lines.Kind.TheVariants as kind
-use Rattle.script_words.specs.Words.{joined, StandsFor, StandsForText, envelope_of}
+use Rattle.script_words.specs.Words.{joined, StandsFor, StandsForText, envelope_text}
 
--- The word before the first such byte of a text; and what stands behind that byte, where it is there.
-abbrev pub Parts : List ℕ → ℕ → List ℕ → Option (List ℕ) → Type 0
-Parts text byte word None = text ≡ word
-Parts text byte word (Some rest) = text ≡ word ++ byte ∷ rest
+-- The word before the first such byte of a text; and what stands after that byte, if it is there.
+abbrev pub CutsAt : List ℕ → ℕ → List ℕ → Option (List ℕ) → Type 0
+CutsAt text byte word None = text ≡ word
+CutsAt text byte word (Some rest) = text ≡ word ++ byte ∷ rest
 
 pub record IsCut (text : List ℕ) (byte : ℕ) (word : List ℕ) (rest : Option (List ℕ)) : Type 0 where
   pub without : ¬ (Contains word byte)
-  pub parts : Parts text byte word rest
+  pub parts : CutsAt text byte word rest
 
 -- the word for how a line has an envelope
 abbrev pub form_text : Form → List ℕ
@@ -41,7 +41,7 @@ pub record HasRecipients (text : List ℕ) (recipients : List (List ℕ)) (body 
   pub ends : ((rest ≡ []) × (body ≡ [])) ⊎ (rest ≡ 32 ∷ body)
 
 -- A word for a sender, then such words: together this envelope.
-pub record HasEnvelope (text envelope body : List ℕ) : Type 0 where
+pub record BeginsWithEnvelope (text envelope body : List ℕ) : Type 0 where
   pub from : List ℕ
   pub sender : List ℕ
   pub more : List ℕ
@@ -49,7 +49,7 @@ pub record HasEnvelope (text envelope body : List ℕ) : Type 0 where
   pub words : text ≡ from ++ 32 ∷ more
   pub stands : StandsForText from sender
   pub follow : HasRecipients more recipients body
-  pub envelope_is : envelope ≡ envelope_of sender recipients
+  pub envelope_is : envelope ≡ envelope_text sender recipients
 
 -- A word for an envelope, then `:` and a body.
 pub record HasRawEnvelope (text envelope body : List ℕ) : Type 0 where
@@ -61,7 +61,7 @@ pub record HasRawEnvelope (text envelope body : List ℕ) : Type 0 where
 
 -- the one or the other, by the line's first word
 abbrev pub HasEnvelopeAs : Form → List ℕ → List ℕ → List ℕ → Type 0
-HasEnvelopeAs form.Written text envelope body = HasEnvelope text envelope body
+HasEnvelopeAs form.Written text envelope body = BeginsWithEnvelope text envelope body
 HasEnvelopeAs form.Raw text envelope body = HasRawEnvelope text envelope body
 
 -- the words for what survives a machine stop that have no seed

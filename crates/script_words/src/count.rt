@@ -24,7 +24,7 @@ impl Model for Count {
 }
 
 impl Count {
-    /// `None` exactly where it is 0.
+    /// `None` exactly if it is 0.
     pub fn new(number: u64) -> Option<Count>
         ensures some { IfSome result (λ c. c ≡ number) }
         ensures from_one { (result ≢ None) ↔ (1 ≤ number) }

@@ -2,7 +2,7 @@
 ghost use Rattle.std.specs.Prelude.{◌≡◌, ◌++◌, ◌∷◌, List, ℕ, Contains, IfOk, IfErr, IfSome, IfNone, codes};
 ghost use Rattle.script_words.specs.declared.entry.Entry.{Entry as EntryOf};
 ghost use Rattle.script_words.specs.Words.{StandsFor};
-ghost use Rattle.script_words.specs.Entries.{IsEntry, IsEntryPath, path_of};
+ghost use Rattle.script_words.specs.Entries.{IsEntryLine, IsEntryPath, path_of};
 ghost use Rattle.script_words.specs.Reading.{kind_text, kind_texts};
 
 use crate::paths::is_entry_path;
@@ -11,10 +11,10 @@ use crate::{Entry, WordError};
 use mail_bytes::{ByteText, Memory};
 use std::alloc::{AllocError, Global};
 
-/// Reads a line that says what a script's disk holds at its beginning; `None` exactly where it is no such line.
+/// Reads a line that says what a script's disk holds at its beginning; `None` exactly if it is no such line.
 pub fn read_entry(alloc: Global, text: &[u8]) -> Result<Option<Entry>, Memory>
-    ensures some { IfOk result (λ read. IfSome read (λ entry. IsEntry text.now entry × IsEntryPath (path_of entry))) }
-    ensures none { IfOk result (λ read. IfNone read ((entry : EntryOf) → ¬ (IsEntry text.now entry))) }
+    ensures some { IfOk result (λ read. IfSome read (λ entry. IsEntryLine text.now entry × IsEntryPath (path_of entry))) }
+    ensures none { IfOk result (λ read. IfNone read ((entry : EntryOf) → ¬ (IsEntryLine text.now entry))) }
 {
     match read_kind(alloc, text) {
         Ok(entry) => Ok(Some(entry)),
@@ -34,8 +34,8 @@ enum Kind {
 
 /// Reads such a line by its first word.
 fn read_kind(alloc: Global, text: &[u8]) -> Result<Entry, WordError>
-    ensures ok { IfOk result (IsEntry text.now) }
-    ensures err { IfErr result (λ why. why ≡ WordError.Malformed → (entry : EntryOf) → ¬ (IsEntry text.now entry)) }
+    ensures ok { IfOk result (IsEntryLine text.now) }
+    ensures err { IfErr result (λ why. why ≡ WordError.Malformed → (entry : EntryOf) → ¬ (IsEntryLine text.now entry)) }
 {
     let (word, rest) = first_word(text)?;
     match kind_of(word) {
@@ -45,7 +45,7 @@ fn read_kind(alloc: Global, text: &[u8]) -> Result<Entry, WordError>
     }
 }
 
-/// The first word of such a line; None exactly where it is no such word.
+/// The first word of such a line; None exactly if it is no such word.
 fn kind_of(word: &[u8]) -> Option<Kind>
     ensures some { IfSome result (λ kind. word.now ≡ kind_text kind) }
     ensures none { IfNone result (¬ (Contains kind_texts word.now)) }
@@ -59,8 +59,8 @@ fn kind_of(word: &[u8]) -> Option<Kind>
 
 /// Reads what follows `file` and a space: a path, `:` and the bytes.
 fn read_file(alloc: Global, words: &[u8]) -> Result<Entry, WordError>
-    ensures ok { IfOk result (IsEntry (codes "file" ++ 32 ∷ words.now)) }
-    ensures err { IfErr result (λ why. why ≡ WordError.Malformed → (entry : EntryOf) → ¬ (IsEntry (codes "file" ++ 32 ∷ words.now) entry)) }
+    ensures ok { IfOk result (IsEntryLine (codes "file" ++ 32 ∷ words.now)) }
+    ensures err { IfErr result (λ why. why ≡ WordError.Malformed → (entry : EntryOf) → ¬ (IsEntryLine (codes "file" ++ 32 ∷ words.now) entry)) }
 {
     let (word, rest) = first_word(words)?;
     let path = read_path(alloc, word)?;
@@ -74,8 +74,8 @@ fn read_file(alloc: Global, words: &[u8]) -> Result<Entry, WordError>
 
 /// Reads what follows `dir` and a space: a path.
 fn read_dir(alloc: Global, words: &[u8]) -> Result<Entry, WordError>
-    ensures ok { IfOk result (IsEntry (codes "dir" ++ 32 ∷ words.now)) }
-    ensures err { IfErr result (λ why. why ≡ WordError.Malformed → (entry : EntryOf) → ¬ (IsEntry (codes "dir" ++ 32 ∷ words.now) entry)) }
+    ensures ok { IfOk result (IsEntryLine (codes "dir" ++ 32 ∷ words.now)) }
+    ensures err { IfErr result (λ why. why ≡ WordError.Malformed → (entry : EntryOf) → ¬ (IsEntryLine (codes "dir" ++ 32 ∷ words.now) entry)) }
 {
     Ok(Entry::Dir(read_path(alloc, words)?))
 }

@@ -1,7 +1,7 @@
 // What an envelope is made of.
 ghost use Rattle.std.specs.Prelude.{◌≡◌, ◌++◌, List, ℕ, IfOk, IfErr, OnOk, flat_map};
 ghost use Rattle.envelope_records.specs.Envelope.{record_of};
-ghost use Rattle.script_words.specs.Reading.{IsWritten, HasRecipients, HasEnvelope, HasRawEnvelope, HasEnvelopeAs};
+ghost use Rattle.script_words.specs.Reading.{IsWritten, HasRecipients, BeginsWithEnvelope, HasRawEnvelope, HasEnvelopeAs};
 
 use crate::WordError;
 use crate::words::{cut, first_word, is_end, put_text, put_word, read_end};
@@ -45,8 +45,8 @@ fn read_raw_envelope(alloc: Global, words: &[u8]) -> Result<(Vec<u8>, &[u8]), Wo
 
 /// Reads a sender, recipients and `:`. Gives the envelope, and the body as it is written.
 fn read_envelope(alloc: Global, words: &[u8]) -> Result<(Vec<u8>, &[u8]), WordError>
-    ensures ok { IfOk result (λ read. HasEnvelope words.now read.0.items read.1.now) }
-    ensures err { IfErr result (λ why. why ≡ WordError.Malformed → (envelope body : List ℕ) → ¬ (HasEnvelope words.now envelope body)) }
+    ensures ok { IfOk result (λ read. BeginsWithEnvelope words.now read.0.items read.1.now) }
+    ensures err { IfErr result (λ why. why ≡ WordError.Malformed → (envelope body : List ℕ) → ¬ (BeginsWithEnvelope words.now envelope body)) }
 {
     let (word, rest) = first_word(words)?;
     let mut envelope = Vec::from_slice(alloc, b"F")?;

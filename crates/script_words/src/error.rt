@@ -9,7 +9,7 @@ pub enum WordError {
     /// It isn't in the grammar.
     #[error("not in the grammar of scripts")]
     Malformed,
-    /// Want of memory.
+    /// Out of memory.
     #[error("out of memory")]
     Memory,
 }

@@ -24,7 +24,7 @@ impl Model for Moment {
 }
 
 impl Moment {
-    /// `None` exactly where it lies past the last moment.
+    /// `None` exactly if it lies past the last moment.
     pub fn new(seconds: u64) -> Option<Moment>
         ensures some { IfSome result (λ m. m ≡ seconds) }
         ensures within { (result ≢ None) ↔ IsMoment seconds }

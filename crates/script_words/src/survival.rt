@@ -24,7 +24,7 @@ pub fn read_survival(words: &[u8]) -> Result<Survival, WordError>
     }
 }
 
-/// What survives, by the word for it; None exactly where it is no such word.
+/// What survives, by the word for it; None exactly if it is no such word.
 fn survival_of(word: &[u8]) -> Option<Survival>
     ensures some { IfSome result (λ how. (word.now ≡ survival_text how) × IsSeeded how) }
     ensures none { IfNone result (¬ (Contains survival_words word.now)) }

@@ -10,7 +10,7 @@ use bstr::ByteSlice;
 use mail_bytes::{ByteText, EscapeError, unescape};
 use std::alloc::Global;
 
-/// What stands before the first such byte, and what stands behind it, where it is there.
+/// What stands before the first such byte, and what stands after it, if it is there.
 pub fn cut(text: &[u8], byte: u8) -> (&[u8], Option<&[u8]>)
     ensures { IsCut text.now byte result.0.now (option_copied result.1) }
 {
@@ -20,7 +20,7 @@ pub fn cut(text: &[u8], byte: u8) -> (&[u8], Option<&[u8]>)
     }
 }
 
-/// The first word of several, and what stands behind its space.
+/// The first word of several, and what stands after its space.
 pub fn first_word(text: &[u8]) -> Result<(&[u8], &[u8]), WordError>
     ensures ok { IfOk result (λ parts. IsCut text.now 32 parts.0.now (Some parts.1.now)) }
     ensures err { OnErr result (¬ (Contains text.now 32)) }

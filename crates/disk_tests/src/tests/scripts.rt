@@ -146,6 +146,37 @@ const AMPLE: &[Row] = &[
     (Call(Stat(b"pid/b")), File(u64::MAX, 3, 0)),
 ];
 
+/// All calls come at the moment 7, and a placed file has the moment 0: a write of no bytes, and one past the end, set it.
+const NO_BYTES: &[Row] = &[
+    (Place(b"pid/a", b"one"), Done),
+    (Place(b"pid/b", b"two"), Done),
+    (Call(Append(b"pid/a", b"")), Done),
+    (Call(Write(b"pid/b", 3, b"xyz")), Done),
+    (Call(Stat(b"pid/a")), File(u64::MAX, 3, 7)),
+    (Call(Stat(b"pid/b")), File(u64::MAX - 1, 3, 7)),
+];
+
+/// A name is taken byte by byte: only whether its directory is there, and whether it is, is asked.
+const NAMES_AS_GIVEN: &[Row] = &[
+    (Call(Create(b"pid//a")), Refused(FsError::NotThere)),
+    (Call(Create(b"/pid/a")), Refused(FsError::NotThere)),
+    (Call(Create(b"/a")), Refused(FsError::NotThere)),
+    (Dir(b""), Done),
+    (Dir(b"/pid"), Done),
+    (Call(Create(b"/a")), Made(1, 1)),
+    (Call(Create(b"a")), Made(2, 2)),
+    (Call(Create(b"/pid/a")), Made(3, 3)),
+    (Call(Create(b"pid/a")), Made(4, 4)),
+    (Call(Create(b"pid/")), Made(5, 5)),
+    (Call(Next(b"pid", b"")), Bytes(b"a")),
+    (Call(Next(b"pid", b"a")), Nothing),
+    (Call(Next(b"/pid", b"")), Bytes(b"a")),
+    (Call(Next(b"", b"")), Bytes(b"a")),
+    (Call(Unlink(b"/pid/a")), Done),
+    (BytesOf(b"/pid/a"), Nothing),
+    (BytesOf(b"pid/a"), Bytes(b"")),
+];
+
 /// Plays a script over a new disk with these picks, whose calls of these indexes fail.
 fn play(
     rt: &impl Abort,
@@ -222,6 +253,7 @@ fn pick<D: CrashFs>(disk: &mut D, number: u64) -> Seen<'static>
 #[test]
 fn new_files_take_the_least_numbers(rt: HostRuntime) -> Result<(), Fail> {
     play(&rt, rt.alloc(), &[], &[], LEAST_NUMBERS)?;
+    play(&rt, rt.alloc(), &[], &[], NAMES_AS_GIVEN)?;
     Ok(())
 }
 
@@ -258,5 +290,6 @@ fn the_chosen_call_fails_and_the_chosen_number_is_taken(rt: HostRuntime) -> Resu
 #[test]
 fn no_call_fails_for_memory_that_is_there(rt: HostRuntime) -> Result<(), Fail> {
     play(&rt, rt.alloc(), &[], &[], AMPLE)?;
+    play(&rt, rt.alloc(), &[], &[], NO_BYTES)?;
     Ok(())
 }

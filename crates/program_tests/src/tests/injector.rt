@@ -1,4 +1,6 @@
 // The injector, call by call.
+ghost use Rattle.call_fs.specs.Columns.{IsMomentIn};
+
 use call_fs::{Answer, Call, Fd, FsError, Got, Need, Ready};
 use mail_bytes::{LAST_MOMENT, Memory};
 use queue_inject::{Injector, Part};
@@ -53,7 +55,9 @@ fn is_due(need: Need<'_>, due: &Due) -> bool {
 
 /// `c` the first file is created, `C` the second one, `d` done, else refused: `e` since it exists, `m` out of
 /// memory, `n` since it isn't there, `f` by a fault.
-fn answer_of(letter: u8) -> Answer {
+fn answer_of(letter: u8) -> Answer
+    ensures { IsMomentIn result }
+{
     match letter {
         b'c' => Answer::Created(Fd(1), 1),
         b'C' => Answer::Created(Fd(2), 2),

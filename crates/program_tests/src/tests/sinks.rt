@@ -12,8 +12,8 @@ struct Row {
     faults: u64,
 }
 
-/// The second giving fails.
-const ROWS: [Row; 3] = [
+/// The second giving is planned to fail, and there is room for five bytes.
+const ROWS: [Row; 7] = [
     Row {
         bytes: b"ab",
         gave: Gave::Done,
@@ -31,6 +31,31 @@ const ROWS: [Row; 3] = [
         gave: Gave::Done,
         taken: b"abd",
         faults: 1,
+    },
+    // two of them fit
+    Row {
+        bytes: b"efg",
+        gave: Gave::Failed,
+        taken: b"abdef",
+        faults: 2,
+    },
+    Row {
+        bytes: b"",
+        gave: Gave::Done,
+        taken: b"abdef",
+        faults: 2,
+    },
+    Row {
+        bytes: b"h",
+        gave: Gave::Failed,
+        taken: b"abdef",
+        faults: 3,
+    },
+    Row {
+        bytes: b"",
+        gave: Gave::Done,
+        taken: b"abdef",
+        faults: 3,
     },
 ];
 
@@ -51,7 +76,24 @@ fn first_wrong(sink: &mut MemSink, rows: &[Row]) -> Option<usize> {
 
 #[test]
 fn a_sink_keeps_what_it_took(rt: HostRuntime) -> Result<(), Fail> {
-    let mut sink = MemSink::new(rt.alloc(), vec![in rt.alloc(); 2u64]?);
+    let mut sink = MemSink::new(rt.alloc(), 5, vec![in rt.alloc(); 2u64]?)?;
     assert_eq!(rt; first_wrong(&mut sink, &ROWS), None);
+    Ok(())
+}
+
+/// How many bytes a sink has taken of pieces of 1,000 bytes when one first fails.
+fn taken_of(sink: &mut MemSink, pieces: usize) -> usize {
+    for _ in 0..pieces {
+        if sink.give(&[b'x'; 1000]) == Gave::Failed {
+            return sink.taken().len();
+        }
+    }
+    sink.taken().len()
+}
+
+#[test]
+fn a_sink_takes_as_much_as_it_has_room_for(rt: HostRuntime) -> Result<(), Fail> {
+    let mut sink = MemSink::new(rt.alloc(), 90_500, Vec::new(rt.alloc()))?;
+    assert_eq!(rt; taken_of(&mut sink, 100), 90_500);
     Ok(())
 }

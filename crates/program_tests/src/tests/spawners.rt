@@ -1,46 +1,111 @@
 // The spawner in memory.
 
-use super::byte_texts::same;
 use outside::{Gave, MemChild, MemSpawner, Spawner, Started, Status};
 use std::alloc::Global;
 use std::test::Fail;
 
 /// A call, and what comes of it.
 enum Step {
-    Start(Started),
+    Start(&'static [&'static [u8]], Started),
     Feed(u32, &'static [u8], Gave),
     Finish(u32),
     Ask(u32, Status),
 }
 
-/// A call, what its children were fed then, and the count of failures.
-type Row = (Step, &'static [u8], u64);
+/// A call, what the children of the channels 1 and 2 were fed then, and the count of failures.
+type Row = (Step, [Option<&'static [u8]>; 2], u64);
 
-/// Of one child, where the first, the third and the sixth call fail.
+/// The words of a child.
+const EXIT: &[&[u8]] = &[b"sh", b"-c", b"exit 99"];
+
+/// The words of another one, of which one is empty and one has a NUL.
+const REMOTE: &[&[u8]] = &[b"remote", b"", b"a\0b"];
+
+/// Of one child, where the first, the third and the sixth call are planned to fail.
 const ROWS: [Row; 10] = [
-    (Step::Start(Started::Failed), b"", 1),
-    (Step::Start(Started::Chan { chan: 1, pid: 82 }), b"", 1),
-    (Step::Feed(1, b"no", Gave::Failed), b"", 2),
-    (Step::Feed(1, b"hi", Gave::Done), b"hi", 2),
-    (Step::Finish(1), b"hi", 2),
-    (Step::Ask(1, Status::Ended(99)), b"hi", 2),
-    (Step::Ask(1, Status::Failed), b"hi", 3),
+    (Step::Start(EXIT, Started::Failed), [None, None], 1),
+    (
+        Step::Start(EXIT, Started::Chan { chan: 1, pid: 82 }),
+        [Some(b""), None],
+        1,
+    ),
+    (Step::Feed(1, b"no", Gave::Failed), [Some(b""), None], 2),
+    (Step::Feed(1, b"hi", Gave::Done), [Some(b"hi"), None], 2),
+    (Step::Finish(1), [Some(b"hi"), None], 2),
+    (Step::Ask(1, Status::Ended(99)), [Some(b"hi"), None], 2),
+    (Step::Ask(1, Status::Failed), [Some(b"hi"), None], 3),
     // there is no other child
-    (Step::Start(Started::Failed), b"hi", 4),
-    (Step::Feed(2, b"hi", Gave::Failed), b"hi", 5),
-    (Step::Ask(2, Status::Failed), b"hi", 6),
+    (Step::Start(EXIT, Started::Failed), [Some(b"hi"), None], 4),
+    (Step::Feed(2, b"hi", Gave::Failed), [Some(b"hi"), None], 5),
+    (Step::Ask(2, Status::Failed), [Some(b"hi"), None], 6),
 ];
 
-/// Of a child that crashed, where no call fails.
-const CRASHED: [Row; 2] = [
-    (Step::Start(Started::Chan { chan: 1, pid: 0 }), b"", 0),
-    (Step::Ask(1, Status::Crashed), b"", 0),
+/// Of two children that are fed in turn, where no call is planned to fail. The second has room for four bytes.
+const TWO: [Row; 13] = [
+    (
+        Step::Start(EXIT, Started::Chan { chan: 1, pid: 82 }),
+        [Some(b""), None],
+        0,
+    ),
+    (
+        Step::Start(REMOTE, Started::Chan { chan: 2, pid: 0 }),
+        [Some(b""), Some(b"")],
+        0,
+    ),
+    (
+        Step::Feed(1, b"ab", Gave::Done),
+        [Some(b"ab"), Some(b"")],
+        0,
+    ),
+    (
+        Step::Feed(2, b"xyz", Gave::Done),
+        [Some(b"ab"), Some(b"xyz")],
+        0,
+    ),
+    (
+        Step::Feed(1, b"c\0", Gave::Done),
+        [Some(b"abc\0"), Some(b"xyz")],
+        0,
+    ),
+    (
+        Step::Feed(2, b"", Gave::Done),
+        [Some(b"abc\0"), Some(b"xyz")],
+        0,
+    ),
+    // one of them fits
+    (
+        Step::Feed(2, b"pq", Gave::Failed),
+        [Some(b"abc\0"), Some(b"xyzp")],
+        1,
+    ),
+    (Step::Finish(1), [Some(b"abc\0"), Some(b"xyzp")], 1),
+    (
+        Step::Feed(1, b"d", Gave::Failed),
+        [Some(b"abc\0"), Some(b"xyzp")],
+        2,
+    ),
+    (Step::Finish(3), [Some(b"abc\0"), Some(b"xyzp")], 2),
+    (
+        Step::Feed(0, b"", Gave::Failed),
+        [Some(b"abc\0"), Some(b"xyzp")],
+        3,
+    ),
+    (
+        Step::Ask(2, Status::Crashed),
+        [Some(b"abc\0"), Some(b"xyzp")],
+        3,
+    ),
+    (
+        Step::Ask(1, Status::Ended(99)),
+        [Some(b"abc\0"), Some(b"xyzp")],
+        3,
+    ),
 ];
 
 /// Whether the call gives what the step says.
 fn answers(alloc: Global, spawner: &mut MemSpawner, step: &Step) -> bool {
     match step {
-        Step::Start(started) => spawner.start(alloc, &[b"sh", b"-c", b"exit 99"]) == *started,
+        Step::Start(words, started) => spawner.start(alloc, words) == *started,
         Step::Feed(chan, bytes, gave) => spawner.feed(*chan, bytes) == *gave,
         Step::Finish(chan) => {
             spawner.finish(*chan);
@@ -50,9 +115,21 @@ fn answers(alloc: Global, spawner: &mut MemSpawner, step: &Step) -> bool {
     }
 }
 
+/// Whether a child was fed just that; none says that there is no child.
+fn is_fed(fed: Option<&[u8]>, expected: Option<&[u8]>) -> bool {
+    match (fed, expected) {
+        (Some(fed), Some(expected)) => fed == expected,
+        (None, None) => true,
+        _ => false,
+    }
+}
+
 /// Whether the spawner does what the row says.
 fn does(alloc: Global, spawner: &mut MemSpawner, row: &Row) -> bool {
-    answers(alloc, spawner, &row.0) && same(spawner.fed(), row.1) && spawner.faults() == row.2
+    answers(alloc, spawner, &row.0)
+        && is_fed(spawner.fed(1), row.1[0])
+        && is_fed(spawner.fed(2), row.1[1])
+        && spawner.faults() == row.2
 }
 
 /// Which row the spawner does otherwise first; none if it does all.
@@ -65,27 +142,59 @@ fn first_wrong(alloc: Global, spawner: &mut MemSpawner, rows: &[Row]) -> Option<
     None
 }
 
+/// Whether the child of a channel was started with these words.
+fn has_words(spawner: &MemSpawner, chan: u32, words: &[&[u8]]) -> bool {
+    let Some(found) = spawner.words(chan) else {
+        return false;
+    };
+    for (at, word) in words.iter().enumerate() {
+        match found.get(at) {
+            Some(text) if text.is(word) => {}
+            _ => return false,
+        }
+    }
+    found.len() == words.len()
+}
+
+/// The words of both children, and whether the input of each was ended.
+fn are_kept(spawner: &MemSpawner) -> bool {
+    has_words(spawner, 1, EXIT)
+        && has_words(spawner, 2, REMOTE)
+        && spawner.words(3).is_none()
+        && spawner.is_finished(1) == Some(true)
+        && spawner.is_finished(2) == Some(false)
+        && spawner.is_finished(3) == None
+}
+
+/// A child that exits with 99.
+const EXITS: MemChild = MemChild {
+    pid: 82,
+    room: 100,
+    status: Status::Ended(99),
+};
+
+/// A child that takes four bytes and crashes.
+const CRASHES: MemChild = MemChild {
+    pid: 0,
+    room: 4,
+    status: Status::Crashed,
+};
+
 #[test]
 fn a_child_and_failures(rt: HostRuntime) -> Result<(), Fail> {
     let alloc = rt.alloc();
-    let child = MemChild {
-        pid: 82,
-        status: Status::Ended(99),
-    };
-    let children = vec![in alloc; child]?;
+    let children = vec![in alloc; EXITS]?;
     let mut spawner = MemSpawner::new(alloc, children, vec![in alloc; 1u64, 3, 6]?);
     assert_eq!(rt; first_wrong(alloc, &mut spawner, &ROWS), None);
     Ok(())
 }
 
 #[test]
-fn a_child_that_crashed(rt: HostRuntime) -> Result<(), Fail> {
+fn two_children_fed_in_turn(rt: HostRuntime) -> Result<(), Fail> {
     let alloc = rt.alloc();
-    let child = MemChild {
-        pid: 0,
-        status: Status::Crashed,
-    };
-    let mut spawner = MemSpawner::new(alloc, vec![in alloc; child]?, Vec::new(alloc));
-    assert_eq!(rt; first_wrong(alloc, &mut spawner, &CRASHED), None);
+    let children = vec![in alloc; EXITS, CRASHES]?;
+    let mut spawner = MemSpawner::new(alloc, children, Vec::new(alloc));
+    let wrong = first_wrong(alloc, &mut spawner, &TWO);
+    assert!(rt; wrong.is_none() && are_kept(&spawner), "{wrong:?}");
     Ok(())
 }

@@ -25,7 +25,7 @@ const QUEUE: [Row; 8] = [
     ("queue --bounce -- - --uid", "-", "--uid", 0, true),
 ];
 
-const NO_COMMANDS: [&str; 30] = [
+const NO_COMMANDS: [&str; 36] = [
     "",
     "nosuch",
     "--help",
@@ -56,6 +56,12 @@ const NO_COMMANDS: [&str; 30] = [
     "queue - DIR --bounc",
     "queue - -DIR",
     "queue - DIR --nosuch",
+    "audit",
+    "audit DIR more",
+    "audit --help",
+    "audit DIR --uid 1",
+    "clean",
+    "clean DIR more",
 ];
 
 /// What words are.
@@ -63,6 +69,8 @@ const NO_COMMANDS: [&str; 30] = [
 enum Kind {
     Play,
     Queue,
+    Audit,
+    Clean,
     Usage,
     Memory,
 }
@@ -113,6 +121,8 @@ fn kind_of(alloc: Global, words: &[String]) -> Kind {
     match read_words(alloc, words) {
         Ok(Command::Play) => Kind::Play,
         Ok(Command::Queue(_)) => Kind::Queue,
+        Ok(Command::Audit(_)) => Kind::Audit,
+        Ok(Command::Clean(_)) => Kind::Clean,
         Err(WordsError::Usage) => Kind::Usage,
         Err(WordsError::Memory) => Kind::Memory,
     }
@@ -146,6 +156,22 @@ fn words_of_play(rt: HostRuntime) -> Result<(), Fail> {
     let is_play = kind_of(rt.alloc(), &words) == Kind::Play
         && are_places(rt.alloc(), &words, "-", "-");
     assert!(rt; is_play);
+    Ok(())
+}
+
+#[test]
+fn words_with_a_directory(rt: HostRuntime) -> Result<(), Fail> {
+    for (line, kind, dir) in [
+        ("audit DIR", Kind::Audit, "DIR"),
+        ("audit -- -DIR", Kind::Audit, "-DIR"),
+        ("clean DIR", Kind::Clean, "DIR"),
+        ("clean -- -DIR", Kind::Clean, "-DIR"),
+    ] {
+        let words = words_of(rt.alloc(), line)?;
+        let is_known = kind_of(rt.alloc(), &words) == kind
+            && are_places(rt.alloc(), &words, "-", dir);
+        assert!(rt; is_known, "{line}");
+    }
     Ok(())
 }
 

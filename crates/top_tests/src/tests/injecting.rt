@@ -46,6 +46,23 @@ pub const NETSTRINGS: Given = Given {
     ..PLAIN
 };
 
+/// An output and a log that have room for nothing.
+#[derive(Drop)]
+pub struct FullSinks {
+    pub out: MemSink,
+    pub log: MemSink,
+}
+
+impl FullSinks {
+    /// Sinks that took nothing yet.
+    pub fn new(alloc: Global) -> Result<Self, Memory> {
+        Ok(FullSinks {
+            out: MemSink::new(alloc, 0, Vec::new(alloc))?,
+            log: MemSink::new(alloc, 0, Vec::new(alloc))?,
+        })
+    }
+}
+
 /// What came of an injection: the exit status, and the disk with the calls that it was asked for.
 #[derive(Drop)]
 pub struct Outcome {
@@ -73,7 +90,8 @@ pub fn inject(rt: &HostRuntime, given: &Given, piece: usize) -> Result<Outcome, 
     let message = MemSource::new(message, message_fails);
     let disk = disk_of(alloc, disk_fails, given.taken);
     let disk = CrowdedDisk::new(disk, given.lacking);
-    Ok(call_queue(rt, &words, disk, message, envelope, moments))
+    let sinks = FullSinks::new(alloc)?;
+    Ok(call_queue(rt, &words, disk, message, envelope, moments, sinks))
 }
 
 /// These bytes in pieces of so many.
@@ -114,6 +132,7 @@ fn call_queue(
     mut message: MemSource,
     envelope: Vec<ByteText>,
     moments: Vec<u64>,
+    mut sinks: FullSinks,
 ) -> Outcome {
     let alloc = rt.alloc();
     let mut disk = Recorder::new(alloc, disk);
@@ -123,8 +142,8 @@ fn call_queue(
         &mut disk,
         &mut message,
         &mut MemSource::new(envelope, Vec::new(alloc)),
-        &mut MemSink::new(alloc, Vec::new(alloc)),
-        &mut MemSink::new(alloc, Vec::new(alloc)),
+        &mut sinks.out,
+        &mut sinks.log,
         &mut MemClock::new(moments, 77),
     );
     Outcome { status, disk }

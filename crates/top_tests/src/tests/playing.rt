@@ -5,6 +5,9 @@ use mem_fs::MemFs;
 use outside::{MemClock, MemSink, MemSource};
 use std::alloc::Global;
 
+/// How many bytes the log has room for, and the output if nothing else is said.
+pub const MOST_PRINTED: usize = 1_000_000;
+
 /// What a call is given.
 #[derive(Clone, Copy)]
 pub struct Given<'a> {
@@ -15,6 +18,8 @@ pub struct Given<'a> {
     pub source_fails: &'a [u64],
     /// Which givings to the output fail, counted from 1.
     pub out_fails: &'a [u64],
+    /// How many bytes the output has room for.
+    pub out_room: usize,
 }
 
 /// What is to come of a call: the exit status, and what the output and the log took.
@@ -40,6 +45,7 @@ pub fn plays(rt: &HostRuntime, script: &str, status: u8, out: &str) -> Result<bo
         script: &[script.as_bytes()],
         source_fails: &[],
         out_fails: &[],
+        out_room: MOST_PRINTED,
     };
     let expected = Expected {
         status,
@@ -66,7 +72,10 @@ fn outcome_of(rt: &HostRuntime, given: &Given) -> Result<Outcome, Memory> {
     let script = pieces_of(alloc, given.script)?;
     let source_fails = Vec::from_slice(alloc, given.source_fails)?;
     let out_fails = Vec::from_slice(alloc, given.out_fails)?;
-    Ok(call_play(rt, &words, script, source_fails, out_fails))
+    let source = MemSource::new(script, source_fails);
+    let out = MemSink::new(alloc, given.out_room, out_fails)?;
+    let log = MemSink::new(alloc, MOST_PRINTED, Vec::new(alloc))?;
+    Ok(call_play(rt, &words, source, out, log))
 }
 
 /// The pieces of a source.
@@ -78,22 +87,20 @@ fn pieces_of(alloc: Global, pieces: &[&[u8]]) -> Result<Vec<ByteText>, Memory> {
     Ok(owned)
 }
 
-/// Makes a call over forms in memory, whose source and output fail at these calls.
+/// Makes a call over this source, this output and this log, and other forms in memory.
 fn call_play(
     rt: &HostRuntime,
     words: &[String],
-    script: Vec<ByteText>,
-    source_fails: Vec<u64>,
-    out_fails: Vec<u64>,
+    mut source: MemSource,
+    mut out: MemSink,
+    mut log: MemSink,
 ) -> Outcome {
     let alloc = rt.alloc();
-    let mut out = MemSink::new(alloc, out_fails);
-    let mut log = MemSink::new(alloc, Vec::new(alloc));
     let status = call(
         rt,
         words,
         &mut MemFs::new(alloc, Vec::new(alloc), Vec::new(alloc)).unwrap(),
-        &mut MemSource::new(script, source_fails),
+        &mut source,
         &mut MemSource::new(Vec::new(alloc), Vec::new(alloc)),
         &mut out,
         &mut log,

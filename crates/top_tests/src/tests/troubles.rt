@@ -1,5 +1,5 @@
 // Calls whose source or output fails, and words that are no command.
-use super::playing::{Expected, Given, ends};
+use super::playing::{Expected, Given, MOST_PRINTED, ends};
 use mail_bytes::Memory;
 use std::test::Fail;
 
@@ -10,6 +10,13 @@ const PLAY: Given = Given {
     script: SCRIPT,
     source_fails: &[],
     out_fails: &[],
+    out_room: MOST_PRINTED,
+};
+
+const UNREAD: Expected = Expected {
+    status: 54,
+    out: "",
+    log: "",
 };
 
 const USAGE: Expected = Expected {
@@ -18,7 +25,7 @@ const USAGE: Expected = Expected {
     log: "usage\n",
 };
 
-const ROWS: [(&str, Given, Expected); 7] = [
+const ROWS: [(&str, Given, Expected); 12] = [
     (
         "nothing fails",
         PLAY,
@@ -34,9 +41,60 @@ const ROWS: [(&str, Given, Expected); 7] = [
             source_fails: &[2],
             ..PLAY
         },
+        UNREAD,
+    ),
+    (
+        "the source fails where it would tell its end",
+        Given {
+            source_fails: &[3],
+            ..PLAY
+        },
+        UNREAD,
+    ),
+    (
+        "the same after a line that is malformed",
+        Given {
+            script: &[b"stepp a\n"],
+            source_fails: &[2],
+            ..PLAY
+        },
+        UNREAD,
+    ),
+    (
+        "a line that prints nothing gives the output nothing, which then can't fail",
+        Given {
+            script: &[b"mail a a@x b@y : hi\nrun a\ntrace\n"],
+            out_fails: &[1],
+            ..PLAY
+        },
         Expected {
-            status: 54,
+            status: 0,
             out: "",
+            log: "",
+        },
+    ),
+    (
+        "the output fails after such lines, at the first one that prints",
+        Given {
+            script: &[b"mail a a@x b@y : hi\nrun a\nshow\nshow\n"],
+            out_fails: &[1],
+            ..PLAY
+        },
+        Expected {
+            status: 53,
+            out: "",
+            log: "",
+        },
+    ),
+    (
+        "the output has no room for all",
+        Given {
+            out_room: 9,
+            ..PLAY
+        },
+        Expected {
+            status: 53,
+            out: "pid 0\npid",
             log: "",
         },
     ),

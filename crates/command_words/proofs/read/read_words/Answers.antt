@@ -1,6 +1,10 @@
-use Rattle.std.proofs.Common.{ap, codes, sym, ◌∙◌}
+use Rattle.std.proofs.Common.{ap, codes, map, sym, ◌∙◌}
+use Rattle.std.specs.String.{string_bytes}
 use Rattle.std.specs.Option.{option_copied}
 use Rattle.std.proofs.lemmas.Result.{IfOk-weaker}
+use Rattle.std.specs.Option.{option_map}
+use Rattle.command_words.specs.declared.command.Command.TheVariants.{Audit, Clean}
+use Rattle.command_words.specs.Reads.{dir_words}
 use Rattle.command_words.proofs.Commands.{named, named_word, names_none}
 use Rattle.command_words.proofs.read.read_words.Goals as goal
 
@@ -29,4 +33,24 @@ returns-in-queue-clause-usage c =
 
 pub returns-in_default-as_str-clause-usage : goal.returns-in_default-as_str-clause-usage
 returns-in_default-as_str-clause-usage c =
-    λ usage. names_none _ c.in-Some.name.now _ (sym c.first.ensures.value ∙ ap option_copied c.in-Some.is) c.as_str.ensures.value c.in_default-as_str.not-play c.in_default-as_str.not-queue
+    λ usage. names_none _ c.in-Some.name.now _ (sym c.first.ensures.value ∙ ap option_copied c.in-Some.is) c.as_str.ensures.value c.in_default-as_str.not-play c.in_default-as_str.not-queue c.in_default-as_str.not-audit c.in_default-as_str.not-clean
+
+pub returns-in-Ok-clause-ok : goal.returns-in-Ok-clause-ok
+returns-in-Ok-clause-ok c =
+    let audit = named_word _ c.in-Some.name.now _ (codes "audit") (sym c.first.ensures.value ∙ ap option_copied c.in-Some.is) c.as_str.ensures.value c.in-audit.is in
+    audit ∙ ap (option_map Audit) (ap (λ l. dir_words l (map string_bytes c.args.words.now)) (sym c.in_ok-audit_line-in-audit.ensures) ∙ c.in-Ok.ensures.ok)
+
+pub returns-in-Err-clause-usage : goal.returns-in-Err-clause-usage
+returns-in-Err-clause-usage c =
+    let audit = named_word _ c.in-Some.name.now _ (codes "audit") (sym c.first.ensures.value ∙ ap option_copied c.in-Some.is) c.as_str.ensures.value c.in-audit.is in
+    λ is. audit ∙ ap (option_map Audit) (ap (λ l. dir_words l (map string_bytes c.args.words.now)) (sym c.in_ok-audit_line-in-audit.ensures) ∙ c.in-Err.ensures.usage (cc))
+
+pub returns-in-Ok-read_dir-clause-ok : goal.returns-in-Ok-read_dir-clause-ok
+returns-in-Ok-read_dir-clause-ok c =
+    let clean = named_word _ c.in-Some.name.now _ (codes "clean") (sym c.first.ensures.value ∙ ap option_copied c.in-Some.is) c.as_str.ensures.value c.in-clean.is in
+    clean ∙ ap (option_map Clean) (ap (λ l. dir_words l (map string_bytes c.args.words.now)) (sym c.in_ok-clean_line-in-clean.ensures) ∙ c.in-Ok-read_dir.ensures.ok)
+
+pub returns-in-Err-read_dir-clause-usage : goal.returns-in-Err-read_dir-clause-usage
+returns-in-Err-read_dir-clause-usage c =
+    let clean = named_word _ c.in-Some.name.now _ (codes "clean") (sym c.first.ensures.value ∙ ap option_copied c.in-Some.is) c.as_str.ensures.value c.in-clean.is in
+    λ is. clean ∙ ap (option_map Clean) (ap (λ l. dir_words l (map string_bytes c.args.words.now)) (sym c.in_ok-clean_line-in-clean.ensures) ∙ c.in-Err-read_dir.ensures.usage (cc))

@@ -1,5 +1,5 @@
 use Rattle.std.proofs.Common.{arith}
-use Rattle.mem_fs.specs.MemDisk.{closed}
+use Rattle.mem_fs.specs.MemDisk.{closed_inode}
 use Rattle.mem_fs.proofs.FileTable.{read_entry, holds-there, changes-set}
 use Rattle.mem_fs.proofs.files.drop_open.Goals as goal
 
@@ -10,4 +10,4 @@ overflow_sub-entry c =
     omega (arith, count, c.requires.open)
 
 pub returns : goal.returns
-returns c = changes-set c.args.files.now.items c.requires.in_order c.args.number c.index_of-at.result (rw c.deref.ensures.value at c.index_of-at.ensures) c.index_mut-entry.result.now c.index_mut-entry.ensures.value closed
+returns c = changes-set c.args.files.now.items c.requires.in_order c.args.number c.index_of-at.result (rw c.deref.ensures.value at c.index_of-at.ensures) c.index_mut-entry.result.now c.index_mut-entry.ensures.value closed_inode

@@ -35,7 +35,7 @@ calls-smaller g c =
     let answer = c.perform-answer.result in
     let stands = c.look.ensures.stands args r.past (c.feed.ensures.stands r.past r.stands) in
     let due = sym (asks args c.feed.new.injector c.look.new.self r.past c.now-now.result c.need.result c.look.ensures.rest (c.need.ensures.stands args r.past stands)) ∙ ap due_of c.in-File.is in
-    let heard = answered args c.feed.new.injector c.look.new.self c.done.new.self r.past c.now-now.result call answer c.look.ensures.rest (c.done.ensures.stands args r.past call answer [] stands (refl, refl)) in
+    let heard = answered args c.feed.new.injector c.look.new.self c.done.new.self r.past c.now-now.result call answer c.look.ensures.rest (sym c.need.ensures.due ∙ ap due_of c.in-File.is) (c.done.ensures.stands args r.past stands) in
     nearer args r.past c.now-now.result call due answer c.calls.injector.row c.done.new.self.row r.more r.stands.row heard.row
 
 pub calls-preserved : goal.calls-preserved
@@ -46,7 +46,7 @@ calls-preserved g c =
     let answer = c.perform-answer.result in
     let stands = c.look.ensures.stands args r.past (c.feed.ensures.stands r.past r.stands) in
     let due = sym (asks args c.feed.new.injector c.look.new.self r.past c.now-now.result c.need.result c.look.ensures.rest (c.need.ensures.stands args r.past stands)) ∙ ap due_of c.in-File.is in
-    let heard = answered args c.feed.new.injector c.look.new.self c.done.new.self r.past c.now-now.result call answer c.look.ensures.rest (c.done.ensures.stands args r.past call answer [] stands (refl, refl)) in
+    let heard = answered args c.feed.new.injector c.look.new.self c.done.new.self r.past c.now-now.result call answer c.look.ensures.rest (sym c.need.ensures.due ∙ ap due_of c.in-File.is) (c.done.ensures.stands args r.past stands) in
     rw c.now-now.ensures.last (goes_on args c.calls.injector c.done.new.self _ _ _ (g.K.Clock.last c.calls.clock) c.now-now.result call answer c.perform-answer.new.into r
     c.now-now.ensures.later c.now-now.ensures.moment due c.perform-answer.ensures.kind heard c.perform-answer.ensures.recorded c.now-now.ensures.told c.perform-answer.ensures.told c.perform-answer.ensures.cause)
 

@@ -1,7 +1,8 @@
 use Rattle.std.proofs.Common.{List, ℕ, [], ◌∷◌, map, Bor, sym, ◌∙◌, ap, subst}
 use Rattle.std.proofs.lemmas.List.{map-append}
 use Rattle.crash_fs.specs.Crash.{crash_disk}
-use Rattle.scenario.proofs.NamesAfter.{Found, fewer_names, found_more}
+use Rattle.queue_states.proofs.Listed.{Found, found_more}
+use Rattle.scenario.proofs.NamesAfter.{fewer_names}
 use Rattle.scenario.proofs.numbers.names_of.Goals as goal
 
 pub loop-name-smaller : goal.loop-name-smaller

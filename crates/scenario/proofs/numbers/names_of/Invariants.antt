@@ -1,6 +1,7 @@
 use Rattle.std.proofs.Common.{◌++◌, ◌∷◌, map}
 use Rattle.crash_fs.specs.Crash.{crash_disk}
-use Rattle.scenario.proofs.NamesAfter.{count_after, Found}
+use Rattle.queue_states.proofs.Listed.{Found}
+use Rattle.scenario.proofs.NamesAfter.{count_after}
 use Rattle.scenario.proofs.numbers.names_of.Given as goal
 
 abbrev pub invariant-loop-name : goal.invariant-loop-name

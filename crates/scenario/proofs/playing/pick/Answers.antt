@@ -5,7 +5,7 @@ use Rattle.mail_bytes.specs.Told.{Meets}
 use Rattle.call_fs.specs.Disk.{IsUnused}
 use Rattle.call_fs.specs.Plan.{with_pick}
 use Rattle.crash_fs.specs.Crash.{crash_disk, crash_plan}
-use Rattle.scenario.specs.Played.{Refusal, refused}
+use Rattle.scenario.specs.Played.{Refusal, refusal_line}
 use Rattle.scenario.proofs.StopsAndMoments.{number_played, number_refused}
 use Rattle.scenario.proofs.playing.pick.Goals as goal
 
@@ -20,7 +20,7 @@ pub returns-in-Err : goal.returns-in-Err
 returns-in-Err c =
     on_ok_weaker c.put_taken.result
     (λ told d plan h playing.
-    let text = told ∙ ap (λ n. c.args.text.now.items ++ refused Refusal.Taken (digits n)) c.number-in-Err.ensures.value in
+    let text = told ∙ ap (λ n. c.args.text.now.items ++ refusal_line Refusal.Taken (digits n)) c.number-in-Err.ensures.value in
     rw text
     (number_refused d c.args.world.now c.pick.new.self plan c.args.number c.args.text.now.items h playing c.in-Err.ensures.err.plan_is
     (λ unused. let ok = c.pick.ensures.unused.1 (subst (λ n. IsUnused (crash_disk c.args.world.now.disk) n) (sym c.number.ensures.value) unused) in absurd (cc (rw c.in-Err.is at ok)))

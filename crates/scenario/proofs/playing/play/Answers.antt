@@ -14,6 +14,7 @@ use Rattle.scenario.specs.Traced.{traced_after}
 use Rattle.scenario.specs.Playing.{IsPlaying}
 use Rattle.scenario.proofs.Openings.{first_opens}
 use Rattle.scenario.proofs.ScriptLines.{nothing_begun, nothing_played, play_goes_on, is_played, is_begun, took_more, took_none, with_next}
+use Rattle.scenario.proofs.TakenLines.{append_empty}
 use Rattle.scenario.proofs.playing.play.Goals as goal
 
 pub returns-in_err-first_disk-clause-begun : goal.returns-in_err-first_disk-clause-begun
@@ -34,9 +35,10 @@ loop-line-init g c =
       is = c.in_ok-world.ensures.begun (first_opens c.args.script.opening d (subst HaveEntryPaths entries.value entries.paths) first);
       planned = ap (λ (w : Seen Crash). crash_plan w.disk) world ∙ c.in_ok-first_disk.ensures.plan;
     } in (
-      omega arith,
+      refl,
       nothing_played c.args.script.opening d c.in_ok-world.world first playing,
       took_none (g.O.Sink.taken c.args.out.now) _ (λ x. sym (append-nil x)),
+      λ none. refl,
     )
 
 pub returns-in_err-text-clause-begun : goal.returns-in_err-text-clause-begun
@@ -100,12 +102,25 @@ loop-line-preserved g c =
     let i = c.loop-line.line-index in
     let one = c.line-item.result in
     let printed = c.in_ok-text.ensures so.disk so.left so.history so.playing in
-    let later = c.give.ensures.later in
-    let before = c.loop-line.invariant.0 in (
-      omega arith,
-      play_goes_on c.args.script.opening (take i items) (take (i + 1) items) one c.loop-line.world c.printed.new.world c.loop-line.traced c.traced_after-traced.result c.in_ok-text.text.items so printed
+    let own = c.in_ok-text.text.items in (
+      c.in_ok-give.ensures.unfailed ∙ c.loop-line.invariant.0,
+      play_goes_on c.args.script.opening (take i items) (take (i + 1) items) one c.loop-line.world c.printed.new.world c.loop-line.traced c.traced_after-traced.result own so printed
           (with_next items i one c.loop-line-test.true c.line-item.is) c.traced_after-traced.ensures,
       took_more (g.O.Sink.taken c.args.out.now) (g.O.Sink.taken c.loop-line.out) (g.O.Sink.taken c.give.new.out) so.text _
           (λ x y z took more. more ∙ ap (λ t. t ++ c.deref.result.now) took ∙ append_assoc x so.text c.deref.result.now ∙ ap (λ t. x ++ (so.text ++ t)) c.deref.ensures.value)
           c.loop-line.invariant.2 c.in_ok-give.ensures.ok,
+      λ none.
+          let each = append_empty so.text own none in
+          (c.in_ok-give.ensures.nothing (c.deref.ensures.value ∙ each.1)).0 ∙ c.loop-line.invariant.3 each.0,
+    )
+
+pub returns-clause-silent : goal.returns-clause-silent
+returns-clause-silent g c =
+    let so = c.loop-line.invariant.1 in
+    let items = c.lines-line-items.result.now in
+    let i = c.loop-line.line-index in (
+      so.text,
+      subst (λ (l : List Line). IsPlayed c.args.script.opening l so.text) (take_all i items c.loop-line-test.false ∙ c.lines-line-items.ensures)
+          (is_played c.headline.ensures c.args.script.opening (take i items) c.loop-line.world c.loop-line.traced so),
+      c.loop-line.invariant.3,
     )

@@ -1,6 +1,6 @@
 use Rattle.std.proofs.Common.{◌∙◌, ◌++◌, Err, refl, ap, arith}
 use Rattle.std.proofs.lemmas.Result.{on_ok_weaker}
-use Rattle.scenario.specs.Played.{plan_through, refused}
+use Rattle.scenario.specs.Played.{plan_through, refusal_line}
 use Rattle.scenario.specs.Played.Refusal.{Steps}
 use Rattle.scenario.proofs.ScriptRuns.{run_begins, run_goes_on, run_ends, run_refused, run_full, no_memory_refused}
 use Rattle.scenario.proofs.playing.run.Goals as goal
@@ -30,7 +30,7 @@ returns-in-Err c =
     (λ told d plan h playing.
     let run = c.loop.invariant.1 d plan h playing in
     let same = c.in-Err.ensures.same (no_memory_refused c.in-Err.why told.0 told.1) in
-    let text = told.2 ∙ ap (λ t. t ++ refused told.0 c.args.actor.now) c.loop.invariant.0 in
+    let text = told.2 ∙ ap (λ t. t ++ refusal_line told.0 c.args.actor.now) c.loop.invariant.0 in
     rw (same, text)
     (run_refused d h plan c.args.actor.now c.loop.world c.loop.counter c.args.text.now.items c.in-Err.why told.0 run c.loop-test.true
     (c.in-Err.ensures.err d (plan_through plan run.events) (run.events ++ h) run.playing) told.1 (λ name e. c.step.ensures.waits name (c.in-Err.is ∙ ap Err e))))
@@ -40,7 +40,7 @@ pub returns : goal.returns
 returns c =
     on_ok_weaker c.put_refusal.result
     (λ told d plan h playing.
-    let text = told ∙ ap (λ t. t ++ refused Steps c.args.actor.now) c.loop.invariant.0 in
+    let text = told ∙ ap (λ t. t ++ refusal_line Steps c.args.actor.now) c.loop.invariant.0 in
     rw text
     (run_full d h plan c.args.actor.now c.loop.world c.loop.counter c.args.text.now.items (c.loop.invariant.1 d plan h playing) (omega arith)))
     c.put_refusal.ensures

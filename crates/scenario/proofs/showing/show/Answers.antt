@@ -23,18 +23,18 @@ returns c =
     let kept : c.events-events.result.now ≡ w.events = c.events-events.ensures ∙ c.history.ensures.events in
     let all : length pids ≡ length c.in_ok-pids.pids.items = length-map c.in_ok-pids.pids.items bytes in
     let count : c.len.result ≡ length pids = omega (arith, c.len.ensures, all, c.in_ok-pids.pids.ok.0) in
-    let first : c.put_pids.new.text.items ≡ text ++ pid_line pids =
-    c.in_ok-put_pids.ensures ∙ ap (λ n. text ++ line_of (codes "pid") (digits n)) count in
-    let second : c.put_states.new.text.items ≡ c.put_pids.new.text.items ++ flat_map (number_line now) numbers =
+    let first : c.put_count_line.new.text.items ≡ text ++ pid_line pids =
+    c.in_ok-put_count_line.ensures ∙ ap (λ n. text ++ line_of (codes "pid") (digits n)) count in
+    let second : c.put_states.new.text.items ≡ c.put_count_line.new.text.items ++ flat_map (number_line now) numbers =
     c.in_ok-put_states.ensures
-    ∙ ap (λ m. c.put_pids.new.text.items ++ flat_map (number_line (crash_disk m)) c.deref.result.now) c.disk-3.ensures
-    ∙ ap (λ (ns : List ℕ). c.put_pids.new.text.items ++ flat_map (number_line now) ns) c.deref.ensures.value in
+    ∙ ap (λ m. c.put_count_line.new.text.items ++ flat_map (number_line (crash_disk m)) c.deref.result.now) c.disk-3.ensures
+    ∙ ap (λ (ns : List ℕ). c.put_count_line.new.text.items ++ flat_map (number_line now) ns) c.deref.ensures.value in
     let are_pids : AreNamesIn now (codes "pid") pids = subst (λ m. AreNamesIn (crash_disk m) (codes "pid") pids) c.disk.ensures c.in_ok-pids.ensures in
     let are_numbers : AreNumbersIn now numbers = subst (λ m. AreNumbersIn (crash_disk m) numbers) c.disk-2.ensures c.in_ok-numbers.ensures in
     on_ok_weaker c.put_mails.result
     (λ third. (
       pid_line pids ++ (flat_map (number_line now) numbers ++ flat_map (start_lines fates) w.events),
-      joined text c.put_pids.new.text.items c.put_states.new.text.items c.put_mails.new.text.items (pid_line pids) (flat_map (number_line now) numbers) (flat_map (start_lines fates) w.events)
+      joined text c.put_count_line.new.text.items c.put_states.new.text.items c.put_mails.new.text.items (pid_line pids) (flat_map (number_line now) numbers) (flat_map (start_lines fates) w.events)
           first second (third ∙ ap (λ (events : List Kept). c.put_states.new.text.items ++ flat_map (start_lines fates) events) kept),
       λ d h history. is_shown d h now w.present w.events pids numbers fates history (c.history.ensures.safe d h history) are_pids are_numbers
           (λ a. c.in_ok-fates.ensures a ∙ ap (λ (events : List Kept). fate_in (reverse events) a) kept),

@@ -3,6 +3,22 @@ use Rattle.std.proofs.lemmas.Bool.{false≢true}
 use Rattle.script_words.proofs.PathParts.{path_parts, no_path}
 use Rattle.script_words.proofs.paths.is_entry_path.Goals as goal
 
+pub returns-then-is_entry_dir : goal.returns-then-is_entry_dir
+returns-then-is_entry_dir c =
+    let cut = rw c.in_default-Some.is-1 at c.cut.ensures in
+    let dir = c.cut.result.0.now in
+    let below = c.in_default-Some.below.now in
+    let parts = rw c.in_default-Some.below-is at c.are_parts.ensures in (
+      λ yes. record {
+        dir = dir;
+        below = below;
+        is_dir = c.is_entry_dir.ensures.0 c.if-is_entry_dir.true;
+        parts = parts.0 yes;
+        path_is = cut.parts;
+      },
+      λ h. parts.1 (path_parts c.args.path.now dir below cut h).1,
+    )
+
 pub returns-else-is_entry_dir : goal.returns-else-is_entry_dir
 returns-else-is_entry_dir c =
     let cut = rw c.in_default-Some.is-1 at c.cut.ensures in (

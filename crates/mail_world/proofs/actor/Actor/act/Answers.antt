@@ -1,8 +1,10 @@
 use Rattle.std.proofs.Common.{◌≡◌, List, [], ◌∷◌, ◌++◌, ap, ◌∙◌, subst}
 use Rattle.call_fs.specs.Apply.{Apply, IsReadBy}
 use Rattle.call_fs.specs.Calls.{without_bytes}
-use Rattle.call_fs.specs.Program.{Due, Own}
-use Rattle.call_fs.specs.Program.Did.{Called}
+use Rattle.call_fs.specs.declared.past.GotData.TheVariants.{Answered}
+use Rattle.call_fs.specs.declared.past.NeedData.{NeedData}
+use Rattle.call_fs.specs.declared.past.NeedData.TheVariants as needs
+use Rattle.call_fs.specs.declared.past.Own.{Own}
 use Rattle.mail_world.specs.declared.event.Program.{Program}
 use Rattle.mail_world.specs.History.{next_of}
 use Rattle.mail_world.specs.declared.actor.Came.{Came}
@@ -24,8 +26,9 @@ returns-in-Called-clause-acted g c =
     let machine = c.ask.new.self.machine in
     let present = asked.present in
     let ready = asked.ready in
-    let due : (program : Program) (past : List Own) → Follows c.args.self.now.machine program past → next_of program past now input_ready ≡ Due.File made.call =
+    let due : (program : Program) (past : List Own) → Follows c.args.self.now.machine program past → next_of program past now input_ready ≡ needs.File made.call =
     λ program past f. asked.due program past f ∙ ap due_by made.is in
+    let due_machine = asked.due_now ∙ ap due_by made.is in
     let name = asked.name in
     let told = c.told-told.ensures in
     let copied = c.copy.ensures in
@@ -39,8 +42,8 @@ returns-in-Called-clause-acted g c =
       event = c.put.ensures.event ∙ ap (λ (k : Kept). c.args.history.now.events.items ++ k ∷ []) event;
       due = due;
       follows = λ program past f.
-          let past_is : with_call machine past made.call made.answer ≡ (record { read = now; ready = input_ready; did = Called made.call made.answer [] }) ∷ past = cc in
-          subst (Follows c.take.new.self.machine program) past_is (c.take.ensures.follows program past made.call (asked.follows program past f));
+          let past_is : with_call machine past made.answer ≡ (record { read = now; ready = input_ready; due = needs.File made.call; came = Answered (without_bytes made.answer) }) ∷ past = cc in
+          subst (Follows c.take.new.self.machine program) past_is (c.take.ensures.follows program past (asked.follows program past f));
       made = met_by (g.D.CallFs.disk c.args.disk.now) (g.D.CallFs.disk c.ask.new.disk) (λ d e. Apply d now made.call made.answer e)
           (λ d e. Apply d now made.call made.answer e × IsReadBy d made.call (without_bytes made.answer)) (λ d e applied. (applied, reads_none d made.call made.answer plain))
           (subst (λ (came : Came). IsMade came now (g.D.CallFs.disk c.args.disk.now) (g.D.CallFs.disk c.ask.new.disk)) made.is asked.made);

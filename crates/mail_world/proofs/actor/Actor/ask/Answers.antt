@@ -1,5 +1,6 @@
 use Rattle.std.proofs.Common.{ap, sym, ◌∙◌, subst}
-use Rattle.call_fs.specs.Program.{Due, due_of}
+use Rattle.call_fs.specs.declared.past.NeedData.{NeedData}
+use Rattle.call_fs.specs.Program.{due_of}
 use Rattle.mail_bytes.specs.Told.{OnTold}
 use Rattle.mail_world.specs.History.{next_of}
 use Rattle.mail_world.specs.World.{input_ready}
@@ -13,7 +14,7 @@ perform-answer-requires-clause-fits g c =
     let may = c.requires.may in
     let is = c.need.ensures.due may.program may.past (c.look.ensures.follows may.program may.past may.follows) c.look.ensures.ready
     ∙ ap (λ n. next_of may.program may.past n input_ready) c.look.ensures.present in
-    subst (λ (due : Due). OnTold (g.D.CallFs.disk c.args.disk.now) (λ before. MayMake before due)) (sym is ∙ ap due_of c.in-File.is) may.may
+    subst (λ (due : NeedData). OnTold (g.D.CallFs.disk c.args.disk.now) (λ before. MayMake before due)) (sym is ∙ ap due_of c.in-File.is) may.may
 
 pub perform-answer-requires-clause-piece : goal.perform-answer-requires-clause-piece
 perform-answer-requires-clause-piece g c =

@@ -3,7 +3,7 @@ use Rattle.call_fs.specs.declared.calls.CallData.TheVariants.{Close}
 use Rattle.call_fs.specs.declared.calls.Answer.TheVariants.{Done}
 use Rattle.call_fs.specs.Apply.{effect}
 use Rattle.mem_fs.specs.Tables.{at_number}
-use Rattle.mem_fs.specs.MemDisk.{Held, disk_of, closed}
+use Rattle.mem_fs.specs.MemDisk.{Held, disk_of, closed_inode}
 use Rattle.mem_fs.proofs.Changes.{OpensGain}
 use Rattle.mem_fs.proofs.Steps.{open_entry, open_holds, open_on, sound-closed, files-same, disk-closed}
 use Rattle.mem_fs.proofs.store.Store.close.Goals as goal
@@ -24,5 +24,5 @@ invariant_of-self c =
 pub returns : goal.returns
 returns c =
     let there = open_entry c.self.invariant c.args.fd.0 c.opened-number.result (rw (← c.self.view_is) at c.opened-number.ensures) in
-    disk-closed _ c.drop_open.new.files.items c.remove.new.entries.items c.args.fd (files-same c.self.inside.files.items c.drop_open.new.files.items c.opened-number.result closed (λ i. refl) there c.drop_open.ensures) c.remove.ensures.value
+    disk-closed _ c.drop_open.new.files.items c.remove.new.entries.items c.args.fd (files-same c.self.inside.files.items c.drop_open.new.files.items c.opened-number.result closed_inode (λ i. refl) there c.drop_open.ensures) c.remove.ensures.value
     ∙ ap (λ (h : Held). effect (disk_of h) 0 (Close c.args.fd) Done 0) c.self.view_is

@@ -5,7 +5,7 @@ use Rattle.call_fs.specs.declared.calls.Answer.TheVariants.{Done}
 use Rattle.call_fs.specs.Apply.{effect}
 use Rattle.call_fs.specs.Maps.{put_at}
 use Rattle.mem_fs.specs.Tables.{at_name}
-use Rattle.mem_fs.specs.MemDisk.{Held, disk_of, linked}
+use Rattle.mem_fs.specs.MemDisk.{Held, disk_of, linked_inode}
 use Rattle.mem_fs.proofs.Uses.{named_entry}
 use Rattle.mem_fs.proofs.Steps.{sound-linked, files-same, disk-linked}
 use Rattle.mem_fs.proofs.store.Store.link.Goals as goal
@@ -37,5 +37,5 @@ returns-clause-ok c =
     let named : at_name c.insert.new.names.items ≡ put_at (at_name c.self.inside.names.items) c.args.new.now (Some c.unwrap-number.result) =
     c.insert.ensures.value ∙ ap (λ (es : List (List ℕ × ℕ)). put_at (at_name es) c.in_ok-name.name (Some c.unwrap-number.result)) c.in_ok-reserve.ensures.items ∙ ap (λ (x : List ℕ). put_at (at_name c.self.inside.names.items) x (Some c.unwrap-number.result)) c.in_ok-name.ensures in
     disk-linked _ c.insert.new.names.items c.add_link.new.files.items c.args.old.now c.args.new.now c.unwrap-number.result found named
-    (files-same c.self.inside.files.items c.add_link.new.files.items c.unwrap-number.result linked (λ i. refl) (named_entry _ c.self.invariant c.args.old.now c.unwrap-number.result found) c.add_link.ensures)
+    (files-same c.self.inside.files.items c.add_link.new.files.items c.unwrap-number.result linked_inode (λ i. refl) (named_entry _ c.self.invariant c.args.old.now c.unwrap-number.result found) c.add_link.ensures)
     ∙ ap (λ (h : Held). effect (disk_of h) 0 (Link c.args.old.now c.args.new.now) Done 0) c.self.view_is

@@ -5,7 +5,7 @@ use Rattle.call_fs.specs.Disk.{Open as OpenFile}
 use Rattle.call_fs.specs.Apply.{effect}
 use Rattle.call_fs.specs.Maps.{put}
 use Rattle.mem_fs.specs.Tables.{at_name, at_number}
-use Rattle.mem_fs.specs.MemDisk.{Held, disk_of, opened}
+use Rattle.mem_fs.specs.MemDisk.{Held, disk_of, opened_inode}
 use Rattle.mem_fs.proofs.Uses.{named_entry}
 use Rattle.mem_fs.proofs.Steps.{sound-opened, files-same, disk-opened}
 use Rattle.mem_fs.proofs.store.Store.open.Goals as goal
@@ -29,6 +29,6 @@ returns-clause-ok c =
     let found : at_name c.self.inside.names.items c.args.name.now ≡ Some c.unwrap-number.result = ap (λ (es : List (List ℕ × ℕ)). at_name es c.args.name.now) (sym c.deref.ensures.value) ∙ sym c.number_of.ensures ∙ c.unwrap-number.ensures in
     disk-opened _ c.add_open.new.files.items c.insert.new.entries.items c.args.name.now c.args.how c.args.fd c.unwrap-number.result c.opened.result
     found
-    (files-same c.self.inside.files.items c.add_open.new.files.items c.unwrap-number.result opened (λ i. refl) (named_entry _ c.self.invariant c.args.name.now c.unwrap-number.result found) c.add_open.ensures)
+    (files-same c.self.inside.files.items c.add_open.new.files.items c.unwrap-number.result opened_inode (λ i. refl) (named_entry _ c.self.invariant c.args.name.now c.unwrap-number.result found) c.add_open.ensures)
     (c.insert.ensures.value ∙ ap (λ (es : List (ℕ × OpenFile)). put (at_number es) c.args.fd.0 (Some c.opened.result)) c.in_ok-reserve.ensures.items) c.opened.ensures
     ∙ ap (λ (h : Held). effect (disk_of h) 0 (Open c.args.name.now c.args.how) (Opened c.args.fd) 0) c.self.view_is

@@ -3,7 +3,7 @@ use Rattle.call_fs.specs.declared.calls.CallData.TheVariants.{Unlink}
 use Rattle.call_fs.specs.declared.calls.Answer.TheVariants.{Done}
 use Rattle.call_fs.specs.Apply.{effect}
 use Rattle.mem_fs.specs.Tables.{at_name}
-use Rattle.mem_fs.specs.MemDisk.{Held, disk_of, unlinked}
+use Rattle.mem_fs.specs.MemDisk.{Held, disk_of, unlinked_inode}
 use Rattle.mem_fs.proofs.Uses.{named_links, named_entry}
 use Rattle.mem_fs.proofs.Steps.{sound-unlinked, files-same, disk-unlinked}
 use Rattle.mem_fs.proofs.store.Store.unlink.Goals as goal
@@ -29,5 +29,5 @@ pub returns : goal.returns
 returns c =
     let found : at_name c.self.inside.names.items c.args.name.now ≡ Some c.unwrap-number.result = ap (λ (es : List (List ℕ × ℕ)). at_name es c.args.name.now) (sym c.deref.ensures.value) ∙ sym c.number_of.ensures ∙ c.unwrap-number.ensures in
     disk-unlinked _ c.remove.new.names.items c.drop_link.new.files.items c.args.name.now c.remove.ensures.value
-    (files-same c.self.inside.files.items c.drop_link.new.files.items c.unwrap-number.result unlinked (λ i. refl) (named_entry _ c.self.invariant c.args.name.now c.unwrap-number.result found) c.drop_link.ensures)
+    (files-same c.self.inside.files.items c.drop_link.new.files.items c.unwrap-number.result unlinked_inode (λ i. refl) (named_entry _ c.self.invariant c.args.name.now c.unwrap-number.result found) c.drop_link.ensures)
     ∙ ap (λ (h : Held). effect (disk_of h) 0 (Unlink c.args.name.now) Done 0) c.self.view_is

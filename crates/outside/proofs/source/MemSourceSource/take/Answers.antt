@@ -1,5 +1,5 @@
 use Rattle.std.proofs.Common.{◌≡◌, ◌∙◌, ap, sym, subst, length, get_or, arith}
-use Rattle.outside.specs.Forms.{SourceForm, IsWithin, rest_of}
+use Rattle.outside.specs.Forms.{SourceForm, IsWithin, rest_from}
 use Rattle.outside.proofs.Pieces.{rest_given}
 use Rattle.outside.proofs.source.MemSourceSource.take.Goals as goal
 
@@ -13,8 +13,8 @@ returns-clause-told c =
     let within : IsWithin pieces at given = subst (λ t. IsWithin t at given) value c.next_place-at.ensures.within in
     let read : piece ≡ get_or pieces at piece = subst (λ t. t ≡ get_or pieces at t) (sym c.as_slice-2.ensures) c.index.ensures in
     ap (λ (s : SourceForm). s.left) (sym c.self.view_is)
-    ∙ ap (λ t. rest_of t c.self.inside.at c.self.inside.given) (sym value)
+    ∙ ap (λ t. rest_from t c.self.inside.at c.self.inside.given) (sym value)
     ∙ sym c.next_place-at.ensures.same
-    ∙ ap (λ t. rest_of t at given) value
+    ∙ ap (λ t. rest_from t at given) value
     ∙ rest_given pieces at given c.copy_front-count.result (length c.args.into.now) piece c.copy_front-count.new.into
     (omega arith) within read c.copy_front-count.ensures.count c.copy_front-count.ensures.copied

@@ -1,0 +1,69 @@
+#!/usr/bin/env bash
+# bench/streams.sh: what the built program writes to standard output and to standard error, and its exit status, for words
+# that are no command, a word that isn't UTF-8, scripts, streams that fail, and messages for a fresh directory. Exit status
+# 1 if a row differs. The program is ./qmail, which `make build` leaves, or $QMAIL.
+set -eu
+top=$(cd "$(dirname "$0")/.." && pwd)
+program=${QMAIL:-$top/qmail}
+work=$(mktemp -d)
+trap 'rm -rf "$work"' EXIT
+queue=$work/queue
+printf 'Fa@x\0Tb@y\0\0' > "$work/envelope"
+printf 'X' > "$work/bad"
+bad=0
+
+row() { # STATUS OUT ERR INPUT [WORD ..]: runs the program with these words on the file INPUT
+  local status=0 wanted=$1 out=$2 err=$3 input=$4
+  shift 4
+  "$program" "$@" < "$input" > "$work/out" 2> "$work/err" || status=$?
+  say "$wanted" "$out" "$err" "$status" "$*"
+}
+
+say() { # WANTED OUT ERR STATUS WORDS: whether it ended so
+  if [ "$4" = "$1" ] && printf "$2" | cmp -s - "$work/out" && printf "$3" | cmp -s - "$work/err"; then
+    echo "ok: $5: status $4"
+  else
+    echo "differs: $5: status $4 and not $1, or other bytes on a stream"
+    bad=1
+  fi
+}
+
+# words that are no command
+row 100 '' 'usage\n' /dev/null
+row 100 '' 'usage\n' /dev/null nosuch
+row 100 '' 'usage\n' /dev/null --help
+row 100 '' 'usage\n' /dev/null --version
+row 100 '' 'usage\n' /dev/null play --help
+row 100 '' 'usage\n' /dev/null play x
+row 100 '' 'usage\n' /dev/null play "$(printf '\377')"
+row 100 '' 'usage\n' /dev/null "$(printf 'pl\303ay')"
+row 100 '' 'usage\n' /dev/null queue "$work/envelope"
+row 100 '' 'usage\n' /dev/null queue "$work/envelope" "$queue" --uid 4294967296
+[ ! -e "$queue" ] || { echo "differs: a directory was made"; bad=1; }
+
+# scripts
+printf 'show\n' > "$work/show"
+printf 'show\nstepp a\n' > "$work/stepp"
+row 0 'pid 0\n' '' "$work/show" play
+row 0 '' '' /dev/null play
+row 91 'script 2\n' '' "$work/stepp" play
+row 54 '' '' "$work" play # a directory can't be read
+
+# an output that fails
+status=0
+: > "$work/out"
+"$program" play < "$work/show" > /dev/full 2> "$work/err" || status=$?
+say 53 '' '' "$status" "play > /dev/full"
+
+# messages
+printf 'hi\n' > "$work/message"
+row 0 '' '' "$work/message" queue "$work/envelope" "$queue"
+row 91 '' '' "$work/message" queue "$work/bad" "$queue"
+row 54 '' '' "$work/message" queue "$work/nosuch" "$queue"
+row 54 '' '' "$work" queue "$work/envelope" "$queue"
+printf '3:hi\n,11:Fa@x\0Tb@y\0\0,' > "$work/netstrings"
+row 0 '' '' "$work/netstrings" queue - "$queue" --uid 1000
+row 0 '' '' "$work/netstrings" queue - "$queue" --bounce
+found=$(find "$queue/todo" -type f | wc -l)
+[ "$found" = 3 ] || { echo "differs: $found messages are queued, and not 3"; bad=1; }
+exit "$bad"

@@ -1,0 +1,2 @@
+-- what is printed, and why a command ended so
+pub mod Audits

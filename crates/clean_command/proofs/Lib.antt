@@ -1,0 +1,2 @@
+-- why a cleaner that was run ended so
+pub mod Ends

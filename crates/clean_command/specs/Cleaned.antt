@@ -1,0 +1,38 @@
+-- What the command `clean` did, and why it ended so.
+use Rattle.std.specs.Prelude.{◌≡◌, ◌⊎◌, ℕ, List, []}
+use Rattle.call_fs.specs.declared.past.NeedData.TheVariants.{Give}
+use Rattle.call_fs.specs.declared.program.Ready.{Ready}
+use Rattle.call_fs.specs.declared.program.Port.{Port}
+use Rattle.call_fs.specs.declared.past.Own.{Own}
+use Rattle.call_fs.specs.Past.{IsRunBy}
+use Rattle.mail_bytes.specs.Told.{OnTold, Rose}
+use Rattle.program_runner.specs.declared.one_turn.TheConstants.{INPUT_READY}
+use Rattle.program_runner.specs.Outside.{Outside, TakesEnd}
+use Rattle.program_runner.specs.Runs.{Did, HasRun, HasEvent}
+use Rattle.queue_clean.specs.Table.{Next}
+use Rattle.queue_clean.specs.Causes.{IsAnswered, IsEnded}
+
+-- each answer that was given in a past is the right one to its command
+abbrev pub AreAnswered : List Own → Type 0
+AreAnswered past = (before : List Own) (now : ℕ) (ready : Ready) (port : Port) (bytes : List ℕ)
+    → IsRunBy (Next tt) before → Next tt before now ready ≡ Give port bytes → IsAnswered before port bytes
+
+-- The cleaner was run to its end. It ended with 0 exactly if its input ended, and with 53 or 54 only if its output or its
+-- input failed.
+pub record HasCleaned (old new : Outside) (status : ℕ) : Type 0 where
+  pub ran : HasRun Next (λ _. Unit {0}) INPUT_READY old.last status old new
+  pub why : IsEnded ran.past status
+  pub answers : AreAnswered ran.past
+  pub ended : status ≡ 0 → HasEvent ran.past TakesEnd × OnTold new.left (λ left. left ≡ [])
+  pub output : status ≡ 53 → Rose old.output_faults new.output_faults
+  pub input : status ≡ 54 → Rose old.input_faults new.input_faults
+  pub known : (status ≡ 0) ⊎ ((status ≡ 53) ⊎ (status ≡ 54))
+
+-- It still runs, after as many turns as a run may take.
+pub record StillRuns (old new : Outside) : Type 0 where
+  pub past : List Own
+  pub run : IsRunBy (Next tt) past
+  pub did : Did old.last past old new
+
+abbrev pub WasRun : Outside → Outside → ℕ → Type 0
+WasRun old new status = HasCleaned old new status ⊎ ((status ≡ 51) × StillRuns old new)

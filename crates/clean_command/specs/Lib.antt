@@ -1,0 +1,2 @@
+-- what the command did, and why it ended so
+pub mod Cleaned

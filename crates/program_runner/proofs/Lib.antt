@@ -1,0 +1,6 @@
+-- what a past did outside, one event after another
+pub mod Deeds
+-- runs that begin, go on and end
+pub mod Runs
+-- one turn
+pub mod Turns

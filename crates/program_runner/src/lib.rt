@@ -1,0 +1,13 @@
+//! Running one program over what a real command has: a disk, a clock, an input and an output.
+//!
+//! A program is a machine that says what it does next. A turn tells it the moment, does that one thing, and hands in what
+//! came of it. The contract of this crate is that the events of a run are those of the program's table, and that its calls,
+//! moments, takings and givings are those of the disk, the clock, the source and the sink that were handed in. The commands
+//! qmail-queue(8) and qmail-clean(8) are run so.
+#![tactic(auto)]
+
+mod one_turn;
+mod running;
+
+pub use one_turn::{INPUT_READY, turn};
+pub use running::run_on;

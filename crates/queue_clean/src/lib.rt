@@ -1,0 +1,24 @@
+//! The cleaner, qmail-clean(8): the program that alone removes message files.
+//!
+//! It is a machine: `look` tells it the moment, `need` says what it does next (a file call, a taking, a giving, or its
+//! end), and `done` hands in what came of that. Its one contract: what it needs is what its table says of its own past,
+//! which it doesn't store. The table is in `specs/Table.antt`; what a command is, and how a text is cut into commands, in
+//! `specs/Commands.antt`. Which answer it gives to a command, and with which exit status it ends, follows from the
+//! table: `answers_have_causes`.
+//!
+//! It takes no memory: all that it holds is in place.
+#![tactic(auto)]
+
+mod command;
+mod intake;
+mod laws;
+mod machine;
+mod named_row;
+mod pid_name;
+mod row;
+mod taken;
+
+pub use command::Command;
+pub use laws::{a_worked_run, answers_have_causes, asks_for_little, commands_are_exact};
+pub use machine::Cleaner;
+pub use row::{Reply, Row};

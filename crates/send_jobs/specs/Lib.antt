@@ -1,0 +1,14 @@
+-- the two channels
+pub mod Channels
+-- what is in flight
+pub mod Slots
+-- what an open pass has still to give
+pub mod Passes
+-- passes whose places aren't all settled
+pub mod Jobs
+-- one channel of the sender, and what each call does to it
+pub mod Lanes
+-- both channels
+pub mod Sending
+-- runs of calls, and what holds after each
+pub mod Runs

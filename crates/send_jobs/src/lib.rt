@@ -1,0 +1,24 @@
+//! What the sender has out: the attempts in its slots, the recipients that its passes still have to give, the marks that
+//! reports lead to, and its jobs (qmail-send(8); INTERNALS, section 5).
+//!
+//! The contract of this crate, `slots_are_sound`: after every run of calls, two attempts in flight are never at one place
+//! of one message, each is one that the message's last pass read as `T`, and `finished` tells exactly when each place of
+//! that pass was reported. `Slots::take_lowest` takes the least free slot.
+#![tactic(auto)]
+
+mod attempts;
+mod channels;
+mod jobs;
+mod lane;
+mod laws;
+mod left;
+mod marks;
+mod slot_table;
+mod slots;
+
+pub use attempts::{Attempt, Mark};
+pub use channels::{Channel, retry_at};
+pub use jobs::Job;
+pub use laws::{jobs_are_a_map, marks_have_room, slots_are_sound};
+pub use slot_table::MAX_SLOTS;
+pub use slots::{OutOfRange, Slots};

@@ -1,0 +1,2 @@
+-- a pass that runs over a disk
+pub mod Running

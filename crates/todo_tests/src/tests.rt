@@ -1,0 +1,2 @@
+mod todo_disks;
+mod todo_passes;
