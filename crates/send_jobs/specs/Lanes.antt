@@ -77,7 +77,7 @@ job_over n lane = if finished n lane && not (list_any (is_mark_on n) lane.marks)
 abbrev pub ended : ℕ → Lane → Lane
 ended n lane = record lane { jobs = without n lane.jobs }
 
--- Marks and attempts in flight are together no more than the slots. So it is where no attempt goes out while a mark is to be
+-- Marks and attempts in flight are together no more than the slots. It is so if no attempt goes out while a mark is to be
 -- made.
 abbrev pub IsRoomy : Lane → Type 0
 IsRoomy lane = length lane.marks + in_flight lane ≤ length lane.slots

@@ -23,8 +23,8 @@ pub struct Lane {
 }
 
 impl Lane {
-    ghost use Rattle.std.specs.Prelude.{◌≡◌, ◌<◌, length, slice_get, IsSome, IfOk, OnOk, OnErr};
-    ghost use Rattle.send_jobs.specs.Lanes.{empty, next, begun_by, sent, finished, job_over, ended, left_unmarked};
+    ghost use Rattle.std.specs.Prelude.{◌≡◌, IsSome, IfOk, OnOk, OnErr};
+    ghost use Rattle.send_jobs.specs.Lanes.{empty, next, begun_by, sent, finished, job_over};
     ghost use Rattle.send_jobs.specs.Slots.{lowest, is_on};
 
     /// Nothing, with so many slots.

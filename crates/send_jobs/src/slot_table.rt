@@ -1,6 +1,7 @@
 // The slots of a channel.
 ghost use Rattle.std.specs.Prelude.{◌≡◌, ◌<◌, ◌≤◌, Option, None, length, min, replicate, set, count_by, is_some, IfOk, IfSome, IfNone, OnSome};
 ghost use Rattle.std.specs.List.{list_any};
+ghost use Rattle.std.specs.Option.{option_copied};
 ghost use Rattle.send_jobs.specs.Slots.{attempt_in, lowest, is_on};
 
 use crate::attempts::Attempt;
@@ -72,6 +73,16 @@ impl SlotTable {
         ensures small { IfSome result (λ slot. slot < MAX_SLOTS) }
     {
         self.slots.iter().position(|slot| slot.is_none())
+    }
+
+    /// What is in flight in this slot.
+    pub fn get(&self, slot: u8) -> Option<&Attempt>
+        ensures { option_copied result ≡ attempt_in self.now slot }
+    {
+        match self.slots.get(usize::from(slot)) {
+            None => None,
+            Some(cell) => cell.as_ref(),
+        }
     }
 
     /// Whether an attempt at this message is in flight.

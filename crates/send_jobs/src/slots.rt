@@ -117,6 +117,20 @@ impl Slots {
         self.lane(channel).left.get(ahead)
     }
 
+    /// The lowest free slot, into which `take_lowest` would put an attempt; `None` exactly when all are in flight.
+    pub fn lowest_free(&self, channel: Channel) -> Option<u8>
+        ensures { result ≡ lowest (lane channel self.now).slots }
+    {
+        self.lane(channel).slots.lowest()
+    }
+
+    /// The attempt in flight in this slot; `None` exactly when there is none.
+    pub fn attempt(&self, channel: Channel, slot: u8) -> Option<&Attempt>
+        ensures { option_copied result ≡ attempt_in (lane channel self.now).slots slot }
+    {
+        self.lane(channel).slots.get(slot)
+    }
+
     /// Puts the next attempt of the open pass into the lowest free slot, and gives that slot; `None` exactly when all are in
     /// flight, and then all is as before. The condition: there is a next place. Takes no memory.
     pub fn take_lowest(&mut self, channel: Channel) -> Option<u8>

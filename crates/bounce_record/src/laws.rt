@@ -1,0 +1,26 @@
+// Laws of notes and bounces.
+ghost use Rattle.std.specs.Prelude.{◌≡◌, ◌≢◌, ◌↔◌, ◌++◌, ◌∷◌, ◌+◌, ◌-◌, ◌≤◌, [], ℕ, List, Some, codes, length, drop, count_by, if◌then◌else◌, bytes_eq};
+ghost use Rattle.bounce_record.specs.Bounces.{return_address};
+ghost use Rattle.bounce_record.specs.Notes.{IsSoftened, count, heading, named, note_name, notes_of, parting, softened, with_note};
+
+/// Which newlines of a note become `/`, which lines name which addresses, and where a bounce goes, as relations.
+pub fn notes_are_exact()
+    ensures softened { (plain text : List ℕ) → IsSoftened plain text ↔ (text ≡ softened plain) }
+    ensures named { (line address : List ℕ) → (named line ≡ Some address) ↔ (line ≡ heading address) }
+    ensures marked { (address : List ℕ) → return_address (address ++ codes "-@[]") ≡ address }
+    ensures unmarked { (sender : List ℕ) →
+        ((address : List ℕ) → sender ≢ address ++ codes "-@[]") → return_address sender ≡ sender }
+{}
+
+/// A note at the end of a bounce file adds its own address to those that the file names, and no other, whatever its
+/// report says. A file names an address as often as it has paragraphs of it, and names it still when more is put after
+/// its last newline. Whether two newlines go before a note is told by the last two bytes of the file.
+pub fn notes_are_counted()
+    ensures counted { (bytes r : List ℕ) → count bytes r ≡ count_by (λ address. bytes_eq address r) (notes_of bytes) }
+    ensures added { (file address report : List ℕ) →
+        notes_of (with_note file address report) ≡ notes_of file ++ note_name address ∷ [] }
+    ensures more { (file address report r : List ℕ) →
+        count (with_note file address report) r ≡ count file r + (if bytes_eq (note_name address) r then 1 else 0) }
+    ensures stays { (bytes rest r : List ℕ) → count (bytes ++ 10 ∷ []) r ≤ count (bytes ++ 10 ∷ rest) r }
+    ensures parting { (file : List ℕ) → parting file ≡ parting (drop (length file - 2) file) }
+{}

@@ -1,0 +1,3 @@
+mod bounce_texts;
+mod note_texts;
+mod slot_steps;
