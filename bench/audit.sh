@@ -109,7 +109,7 @@ compare "each combination of files" "$other"
 
 if command -v strace > "$work/which"; then
   strace -f -y -e trace=%file -o "$work/calls" "$program" audit "$other" > "$work/told"
-  grep -F "$other" "$work/calls" | grep -v -e mkdir -e O_DIRECTORY -e '\(stat\|statx\|newfstatat\)(' > "$work/opened" || true
+  grep -F "$other" "$work/calls" | grep -v -e 'execve(' -e mkdir -e O_DIRECTORY -e '\(stat\|statx\|newfstatat\)(' > "$work/opened" || true
   if [ -s "$work/opened" ]; then
     echo "it made other calls than to list directories and to ask what a name is:"
     head -5 "$work/opened"
