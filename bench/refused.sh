@@ -127,7 +127,7 @@ fi
 echo "memory:"
 status=0
 head -c 100000000 "/dev/zero" | (ulimit -v 50000 && exec "${inject[@]}") > "$work/out" 2>&1 || status=$?
-check "less memory than the message needs" 51 "pid 0 S1" "$status"
+check "a message that is larger than the memory" 0 "pid 0 S4" "$status"
 
 echo "a call that fails:"
 fail() { # CALL WHEN STATUS LEFT

@@ -1,7 +1,7 @@
 #!/usr/bin/env bash
 # bench/streams.sh: what the built program writes to standard output and to standard error, and its exit status, for words
-# that are no command, a word that isn't UTF-8, scripts, streams that fail, and messages for a fresh directory. Exit status
-# 1 if a row differs. The program is ./qmail, which `make build` leaves, or $QMAIL.
+# that are no command, a word that isn't UTF-8, scripts, streams that fail, too little memory, and messages for a fresh
+# directory. Exit status 1 if a row differs. The program is ./qmail, which `make build` leaves, or $QMAIL.
 set -eu
 top=$(cd "$(dirname "$0")/.." && pwd)
 program=${QMAIL:-$top/qmail}
@@ -54,6 +54,29 @@ status=0
 : > "$work/out"
 "$program" play < "$work/show" > /dev/full 2> "$work/err" || status=$?
 say 53 '' '' "$status" "play > /dev/full"
+
+# memory: with less and less of it the script is played whole, then the status is 51 and nothing is written, until the
+# program can't be started any more
+limited() { # KILOBYTES: the exit status of a play with so much address space
+  local status=0
+  (ulimit -v "$1" && exec "$program" play < "$work/show" > "$work/out" 2> "$work/err") 2> "$work/noise" || status=$?
+  echo "$status"
+}
+least=1
+most=1000000
+[ "$(limited "$most")" = 0 ] || { echo "differs: it isn't played with $most kilobytes"; bad=1; }
+while [ $((most - least)) -gt 4 ]; do
+  middle=$(((least + most) / 2))
+  if [ "$(limited "$middle")" = 0 ]; then most=$middle; else least=$middle; fi
+done
+lacking=0
+for step in $(seq 20); do
+  status=$(limited $((most - 4 * step)))
+  [ "$status" != 127 ] || break
+  say 51 '' '' "$status" "play with too little memory"
+  lacking=$step
+done
+[ "$lacking" -gt 0 ] || { echo "differs: no limit left it without memory"; bad=1; }
 
 # messages
 printf 'hi\n' > "$work/message"

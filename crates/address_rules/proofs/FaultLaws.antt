@@ -25,7 +25,7 @@ true_is_not_false e = absurd (cc)
 
 -- The first bad line.
 
-nul_decides : (line : List ℕ) → Decides (list_any (λ b. eqb b 0) line) (Contains line 0)
+pub nul_decides : (line : List ℕ) → Decides (list_any (λ b. eqb b 0) line) (Contains line 0)
 nul_decides line = (
   λ e. let w = Any-from_list_any (λ b. eqb b 0) line e in
       (w.0, w.2, subst (λ y. get_or line w.0 y ≡ y) ((Decides-eqb w.1 0).0 w.4) w.3),

@@ -18,3 +18,5 @@ pub mod RouteLaws
 pub mod NameLaws
 -- faults as relations
 pub mod FaultLaws
+-- texts without NUL
+pub mod Nuls

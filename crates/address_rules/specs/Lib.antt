@@ -10,3 +10,5 @@ pub mod Files
 pub mod Routes
 -- prefixes taken off, and senders with a recipient's address
 pub mod Names
+-- texts without NUL
+pub mod Nuls

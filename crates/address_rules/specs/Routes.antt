@@ -58,6 +58,11 @@ abbrev pub domain_of : Option Parts → List ℕ
 domain_of None = []
 domain_of (Some parts) = parts.1
 
+-- the address that a route says
+abbrev pub address_in : Route → List ℕ
+address_in (Local address) = address
+address_in (Remote address) = address
+
 -- The route of an address. With locals `x`, percenthack `hack` and virtualdomains `.z:vz`: `Bob@X` is local as it is,
 -- `joe%y@hack` is remote as `joe@y`, `m@a.z` is local as `vz-m@a.z`.
 unfoldable pub route_of : Controls → List ℕ → Route

@@ -6,8 +6,9 @@ ghost use Rattle.address_rules.specs.declared.rewriting.Route.{Route};
 ghost use Rattle.address_rules.specs.declared.virtual_domains.VirtualDomain.{VirtualDomain};
 ghost use Rattle.address_rules.specs.Cuts.{IsLastCut};
 ghost use Rattle.address_rules.specs.Keys.{domain_keys, IsFirstPrefix};
-ghost use Rattle.address_rules.specs.Files.{first_fault, IsFaulty, IsFirstFault};
-ghost use Rattle.address_rules.specs.Routes.{route_of, IsRoute};
+ghost use Rattle.address_rules.specs.Files.{controls_of, first_fault, IsFaulty, IsFirstFault};
+ghost use Rattle.address_rules.specs.Routes.{address_in, route_of, IsRoute};
+ghost use Rattle.address_rules.specs.Nuls.{HasNoNul, HaveNoNul};
 ghost use Rattle.address_rules.specs.Names.{stripped, verp_of, IsStripped, IsVerp};
 
 /// An address has exactly one route.
@@ -35,4 +36,12 @@ pub fn faults_are_exact()
         (first_fault files ≡ Some (file, line)) ↔ IsFirstFault files file line }
     ensures none { (files : List (Option (List ℕ))) →
         (first_fault files ≡ None) ↔ ((file : ControlFile) → ¬ (IsFaulty files file)) }
+{}
+
+/// Nothing that the files say has a NUL, if none of them has a fault; and over such controls the route of an address
+/// without NUL has none.
+pub fn texts_have_no_nul()
+    ensures controls { (files : List (Option (List ℕ))) → first_fault files ≡ None → HaveNoNul (controls_of files) }
+    ensures route { (controls : Controls) (address : List ℕ) → HaveNoNul controls → HasNoNul address →
+        HasNoNul (address_in (route_of controls address)) }
 {}

@@ -2,3 +2,4 @@ mod files;
 mod limits;
 mod names;
 mod routes;
+mod rows;

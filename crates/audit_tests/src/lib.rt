@@ -1,5 +1,5 @@
-//! Tests of audits and of the command `audit`, over disks in memory. The library is empty; each test is a table of rows
-//! with the expected answers, which come from the table of states in qmail's INTERNALS, "Queue structure".
+//! Tests of audits over disks in memory. The library is empty; each test is a table of rows with the expected answers,
+//! which come from the table of states in qmail's INTERNALS, "Queue structure".
 #![tactic(auto)]
 
 #[cfg(test)]

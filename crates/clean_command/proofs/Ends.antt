@@ -9,7 +9,7 @@ use Rattle.call_fs.specs.declared.past.Own.{Own}
 use Rattle.program_runner.specs.Outside.{Outside, TakesEnd, FailsToTake, FailsToGive}
 use Rattle.mail_bytes.specs.Told.{OnTold, Rose}
 use Rattle.program_runner.specs.declared.one_turn.TheConstants.{INPUT_READY}
-use Rattle.program_runner.specs.Runs.{HasEvent, HasRun, IsRunning}
+use Rattle.program_runner.specs.Runs.{HasEvent, HasRun, IsRunning, most_turns}
 use Rattle.queue_clean.specs.Table.{Next}
 use Rattle.clean_command.specs.Cleaned.{HasCleaned, StillRuns, AreAnswered}
 use Rattle.queue_clean.specs.Causes.{EndsWith, IsEnded}
@@ -78,5 +78,5 @@ cleaned possible old new status all r causes answers =
 
 -- a run that hasn't ended yet
 pub still_runs : (stands : Unit {0} → List Own → Type 0) (possible : Unit {0} → Type 0) (old new : Outside) → ((args : Unit {0}) → possible args)
-    → IsRunning Next stands possible INPUT_READY old.last old new → StillRuns old new
-still_runs stands possible old new all r = record { past = r.past; run = r.run tt (all tt); did = r.did }
+    → IsRunning Next stands possible INPUT_READY old.last most_turns old new → StillRuns old new
+still_runs stands possible old new all r = record { past = r.past; long = r.long; run = r.run tt (all tt); did = r.did }

@@ -1,5 +1,5 @@
 -- What the command `clean` did, and why it ended so.
-use Rattle.std.specs.Prelude.{◌≡◌, ◌⊎◌, ℕ, List, []}
+use Rattle.std.specs.Prelude.{◌≡◌, ◌⊎◌, ℕ, List, [], length}
 use Rattle.call_fs.specs.declared.past.NeedData.TheVariants.{Give}
 use Rattle.call_fs.specs.declared.program.Ready.{Ready}
 use Rattle.call_fs.specs.declared.program.Port.{Port}
@@ -8,7 +8,7 @@ use Rattle.call_fs.specs.Past.{IsRunBy}
 use Rattle.mail_bytes.specs.Told.{OnTold, Rose}
 use Rattle.program_runner.specs.declared.one_turn.TheConstants.{INPUT_READY}
 use Rattle.program_runner.specs.Outside.{Outside, TakesEnd}
-use Rattle.program_runner.specs.Runs.{Did, HasRun, HasEvent}
+use Rattle.program_runner.specs.Runs.{Did, HasRun, HasEvent, most_turns}
 use Rattle.queue_clean.specs.Table.{Next}
 use Rattle.queue_clean.specs.Causes.{IsAnswered, IsEnded}
 
@@ -31,6 +31,7 @@ pub record HasCleaned (old new : Outside) (status : ℕ) : Type 0 where
 -- It still runs, after as many turns as a run may take.
 pub record StillRuns (old new : Outside) : Type 0 where
   pub past : List Own
+  pub long : length past ≡ most_turns
   pub run : IsRunBy (Next tt) past
   pub did : Did old.last past old new
 

@@ -14,7 +14,8 @@ const UNENDED: u8 = 51;
 /// Runs the cleaner over this disk until its input ends, and answers its exit status. It takes commands, each a text that
 /// ends with a NUL, and gives one byte for each, as qmail-clean(8).
 ///
-/// 0: the input ended. 53: the output failed, and has counted that. 54: the input failed, and has counted that.
+/// 0: the input ended. 53: the output failed, and has counted that. 54: the input failed, and has counted that. 51: it was
+/// still running after 18,446,744,073,709,551,615 turns.
 pub fn clean<D: CallFs, M: Source, O: Sink, K: Clock>(
     alloc: Global,
     disk: &mut D,

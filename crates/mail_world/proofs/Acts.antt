@@ -9,16 +9,18 @@ use Rattle.call_fs.specs.declared.calls.Answer.{Answer}
 use Rattle.call_fs.specs.declared.calls.Told.{Told}
 use Rattle.call_fs.specs.declared.calls.Answer.TheVariants as told
 use Rattle.call_fs.specs.declared.program.Ready.{Ready}
+use Rattle.call_fs.specs.Columns.{IsAnswerTo}
 use Rattle.call_fs.specs.Maps.{put}
 use Rattle.mail_world.specs.declared.event.Program.{Program}
 use Rattle.mail_world.specs.declared.actor.Actor.{Actor as Held}
 use Rattle.mail_world.specs.declared.event.Event.{Event as Kept}
 use Rattle.mail_world.specs.declared.event.Event.TheVariants as kept
-use Rattle.mail_world.specs.History.{State, Actor, Life, start_of, called, finished, happens, held_by, unless_by}
+use Rattle.mail_world.specs.History.{State, Actor, Life, next_of, start_of, called, finished, happens, held_by, unless_by}
 use Rattle.mail_world.specs.History.Event.{Start}
 use Rattle.mail_world.specs.History.Life.{Alive, Over, Stopped}
-use Rattle.mail_world.specs.World.{span_of, ends, starts, is_start}
-use Rattle.mail_world.specs.Inside.{event_of, span_by, IsMember, IsStranger, Follows, is_by}
+use Rattle.mail_world.specs.World.{kept_call, span_of, ends, starts, is_start}
+use Rattle.mail_world.specs.ByKind.{Follows}
+use Rattle.mail_world.specs.Inside.{event_of, span_by, IsMember, IsStranger, is_by}
 use Rattle.call_fs.proofs.Maps.{put_same, put_other, put_at_same, put_at_other}
 use Rattle.mail_world.proofs.Tests.{same_text, other_text}
 use Rattle.mail_world.proofs.Spans.{span_push, span_stays, span_begins, span_ends}
@@ -54,7 +56,7 @@ held_other h a b c (told.Refused why) fd apart was = was
 
 -- a call is its actor's alone
 pub call_alone : (s : State) (a : List ℕ) (x : Actor) (p : ℕ) (ready : Ready) (c : CallData) (got : Told)
-    → ActsAlone a s (called s a p ready c got 0 (Some x)) (kept.Call a p ready c got)
+    → ActsAlone a s (called s a p ready c got 0 (Some x)) (kept_call a p ready c got)
 call_alone s a x p ready c got = record {
   actors = λ b apart. put_at_other s.actors a _ b apart;
   holder = λ b apart fd was. held_other s.holder a b c got.answer fd apart was;
@@ -109,15 +111,17 @@ start_alone s a program = record {
 -- the actor that made a call
 pub call_member : (s : State) (events : List Kept) (p : ℕ) (x y : Held) (ready : Ready) (c : CallData) (got : Told) (m : IsMember s events p x)
     → x.ended ≡ None → y.name ≡ x.name → y.ended ≡ x.ended
+    → next_of m.actor.program m.actor.past p ready ≡ needs.File c → IsAnswerTo c got.answer
     → Follows y.machine m.actor.program ((record { read = p; ready = ready; due = needs.File c; came = Answered got }) ∷ m.actor.past)
-    → IsMember (called s x.name p ready c got 0 (Some m.actor)) (events ++ kept.Call x.name p ready c got ∷ []) p y
-call_member s events p x y ready c got m alive name ended follows =
-    let k : Kept = kept.Call x.name p ready c got in
+    → IsMember (called s x.name p ready c got 0 (Some m.actor)) (events ++ kept_call x.name p ready c got ∷ []) p y
+call_member s events p x y ready c got m alive name ended due kind follows =
+    let k : Kept = kept_call x.name p ready c got in
     let t = called s x.name p ready c got 0 (Some m.actor) in
     record {
       actor = record { program = m.actor.program; past = (record { read = p; ready = ready; due = needs.File c; came = Answered got }) ∷ m.actor.past; life = m.actor.life };
       is = ap t.actors name ∙ put_at_same s.actors x.name _;
       follows = follows;
+      run = (m.run, (due, kind));
       in_order = omega arith;
       alive = λ e. m.alive alive;
       spans = ap (λ (a : List ℕ). span_of a (reverse (events ++ k ∷ []))) name ∙ span_stays events k x.name refl refl ∙ m.spans ∙ ap span_by (sym ended);
@@ -133,6 +137,7 @@ finish_member s events p x y k life m f alive name ended follows =
       actor = record { program = m.actor.program; past = m.actor.past; life = life };
       is = ap t.actors name ∙ put_at_same s.actors x.name _;
       follows = follows;
+      run = m.run;
       in_order = m.in_order;
       alive = λ e. let both : ◌≡◌ {A = Option ℕ} None (Some (length events)) = sym e ∙ ended in absurd (cc);
       spans = ap (λ (a : List ℕ). span_of a (reverse (events ++ k ∷ []))) name ∙ span_push events k x.name
@@ -150,6 +155,7 @@ start_member s events p y a program stranger name ended follows now =
       actor = record { program = program; past = []; life = Alive };
       is = ap t.actors name ∙ put_at_same s.actors a _;
       follows = follows;
+      run = tt;
       in_order = omega arith;
       alive = λ e. refl;
       spans = ap (λ (a : List ℕ). span_of a (reverse (events ++ k ∷ []))) name ∙ span_push events k a
@@ -163,6 +169,7 @@ look_member s events p x y m name ended follows = record {
   actor = m.actor;
   is = ap s.actors name ∙ m.is;
   follows = follows;
+  run = m.run;
   in_order = m.in_order;
   alive = λ e. m.alive (sym ended ∙ e);
   spans = ap (λ (a : List ℕ). span_of a (reverse events)) name ∙ m.spans ∙ ap span_by (sym ended);

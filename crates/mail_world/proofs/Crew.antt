@@ -10,10 +10,11 @@ use Rattle.mail_world.specs.declared.actor.Actor.{Actor as Held}
 use Rattle.mail_world.specs.declared.event.Event.{Event as Kept}
 use Rattle.mail_world.specs.declared.event.Event.TheVariants as kept
 use Rattle.call_fs.specs.declared.crash_file_system.Survival.{Survival}
-use Rattle.mail_world.specs.declared.mailer.Mailer.{Mailer}
+use Rattle.mail_world.specs.declared.any_machine.AnyMachine.{AnyMachine}
 use Rattle.mail_world.specs.History.{State, Actor, stopped}
 use Rattle.mail_world.specs.World.{span_after, span_of, ends, starts, was_started}
-use Rattle.mail_world.specs.Inside.{span_by, Follows, IsMember, IsStranger, AreActors, is_by}
+use Rattle.mail_world.specs.ByKind.{Follows}
+use Rattle.mail_world.specs.Inside.{span_by, IsMember, IsStranger, AreActors, is_by}
 use Rattle.mail_world.specs.Acting.{ended_by, IsCutOff, AreCutOff}
 use Rattle.call_fs.proofs.Maps.{put_at_same, put_at_other}
 use Rattle.mail_world.proofs.Tests.{text_cases, same_text, other_text}
@@ -36,6 +37,7 @@ other_member s t events k p a x acts apart m = record {
   actor = m.actor;
   is = acts.actors x.name apart ∙ m.is;
   follows = m.follows;
+  run = m.run;
   in_order = m.in_order;
   alive = m.alive;
   spans = span_stays events k x.name (acts.no_start x.name apart) (acts.no_end x.name apart) ∙ m.spans;
@@ -92,6 +94,7 @@ crew_waits places actors s t events k p q later crew same holder no_end no_start
     actor = m.actor;
     is = ap (λ (f : List ℕ → Option Actor). f x.name) same ∙ m.is;
     follows = m.follows;
+    run = m.run;
     in_order = omega arith;
     alive = m.alive;
     spans = span_stays events k x.name (no_start x.name) (no_end x.name) ∙ m.spans;
@@ -135,7 +138,8 @@ halt_member : (s t : State) (events : List Kept) (how : Survival) (p : ℕ) (x y
 halt_member s t events how p x y halted cut m = record {
   actor = stopped m.actor;
   is = ap t.actors cut.name ∙ halted.actors x.name ∙ ap (option_map stopped) m.is;
-  follows = subst (λ (machine : Mailer). Follows machine m.actor.program m.actor.past) (sym cut.machine) m.follows;
+  follows = subst (λ (machine : AnyMachine). Follows machine m.actor.program m.actor.past) (sym cut.machine) m.follows;
+  run = m.run;
   in_order = m.in_order;
   alive = λ e. absurd (none_alive (length events) x.ended (sym cut.ended ∙ e));
   spans = ap (λ (a : List ℕ). span_of a (reverse (events ++ kept.Halt how ∷ []))) cut.name ∙ span_push events (kept.Halt how) x.name

@@ -1,10 +1,11 @@
 -- Lists of descriptors, and what a call opens.
-use Rattle.std.proofs.Common.{◌≡◌, ◌≢◌, ℕ, List, [], ◌∷◌, ◌++◌, Bool, true, false, ◌||◌, if◌then◌else◌, eqb, Option, Some, None, IsSome, Result, Ok, Err, refl, sym, ap, ◌∙◌, subst, ⊎_elim}
+use Rattle.std.proofs.Common.{◌≡◌, ◌≢◌, ℕ, List, [], ◌∷◌, ◌++◌, Bool, true, false, ◌||◌, ◌&&◌, not, if◌then◌else◌, eqb, Option, Some, None, IsSome, Result, Ok, Err, refl, sym, ap, ◌∙◌, subst, ⊎_elim}
 use Rattle.std.proofs.Math.Path.{fun_ext}
-use Rattle.std.proofs.Math.Bool.{or-false, or-true}
+use Rattle.std.proofs.Math.Bool.{or-false, or-true, and-false}
 use Rattle.std.proofs.lemmas.Bool.{eqb-false}
 use Rattle.std.proofs.lemmas.Bool.Decides.{eqb_tells}
 use Rattle.std.proofs.lemmas.List.Folds.{list_any-append}
+use Rattle.std.proofs.lemmas.Map.Views.{any-filter_same}
 use Rattle.std.specs.Prelude.{IsOk}
 use Rattle.call_fs.specs.declared.calls.Fd.{Fd}
 use Rattle.call_fs.specs.declared.calls.FsError.{FsError}
@@ -18,7 +19,7 @@ use Rattle.mail_bytes.specs.Told.{OnTold, Meets}
 use Rattle.mail_world.specs.History.{unless_by, shut_by}
 use Rattle.call_fs.proofs.Maps.{put_other}
 use Rattle.mail_world.specs.Inside.{has, AreApart, is_by}
-use Rattle.mail_world.specs.Acting.{AreOpen, shut}
+use Rattle.mail_world.specs.Acting.{AreOpen, shut, without}
 
 -- a close is always Ok
 pub close_told : (old new : Option Disk) (fd : Fd) (result : Result (Unit {0}) FsError) → IsOk result
@@ -49,6 +50,20 @@ apart_push [] fd each none = (refl, tt)
 apart_push (x ∷ fds) fd each none =
     let both = both_false (eqb x.0 fd.0) (has fd.0 fds) none in
     (has_push x.0 fds fd ∙ either_false (has x.0 fds) (eqb fd.0 x.0) each.0 (eqb_flip fd.0 x.0 ∙ both.0), apart_push fds fd each.1 both.1)
+
+-- without one of them
+pub has_without : (q fd : ℕ) (fds : List Fd) → has q (without fd fds) ≡ (not (eqb q fd) && has q fds)
+has_without q fd fds = any-filter_same (λ (one : Fd). eqb one.0 q) (λ (one : Fd). not (eqb one.0 fd)) (not (eqb q fd)) same fds where
+  same : (one : Fd) → eqb one.0 q ≡ true → not (eqb one.0 fd) ≡ not (eqb q fd)
+  same one at = ap (λ (n : ℕ). not (eqb n fd)) (⊎_elim (λ h. h.1) (λ h. absurd (cc (sym at ∙ h.0))) (eqb_tells one.0 q))
+
+pub apart_without : (fd : ℕ) (fds : List Fd) → AreApart fds → AreApart (without fd fds)
+apart_without fd [] each = tt
+apart_without fd (x ∷ fds) each =
+    elim (not (eqb x.0 fd)) as (λ t. AreApart (if t then x ∷ without fd fds else without fd fds)) [
+      | true ↦ (has_without x.0 fd fds ∙ ap (λ b. not (eqb x.0 fd) && b) each.0 ∙ and-false (not (eqb x.0 fd)), apart_without fd fds each.1)
+      | false ↦ apart_without fd fds each.1
+    ]
 
 -- the last of a list of open descriptors is open, and isn't one of the others
 pub open_last : (d : Disk) (fds : List Fd) (fd : Fd) → AreOpen d (fds ++ fd ∷ []) → IsSome (d.opens fd.0) × (has fd.0 fds ≡ false)

@@ -1,5 +1,5 @@
 -- What the actors have open, as one of them makes a call, ends, or starts.
-use Rattle.std.proofs.Common.{◌≡◌, ◌≢◌, inl, inr, ℕ, List, [], ◌∷◌, ◌++◌, set, Bool, true, false, ◌||◌, if◌then◌else◌, Option, Some, None, IsSome, refl, sym, ap, ◌∙◌, subst, ⊎_elim, bytes_eq, append-nil}
+use Rattle.std.proofs.Common.{◌≡◌, ◌≢◌, inl, inr, ℕ, List, [], ◌∷◌, ◌++◌, set, Bool, true, false, ◌||◌, ◌&&◌, not, if◌then◌else◌, Option, Some, None, IsSome, refl, sym, ap, ◌∙◌, subst, ⊎_elim, bytes_eq}
 use Rattle.std.proofs.Math.Bool.{or-false, or-true}
 use Rattle.std.proofs.lemmas.Bool.Decides.{eqb_tells}
 use Rattle.std.specs.List.{slice_get}
@@ -12,112 +12,126 @@ use Rattle.call_fs.specs.Disk.{Disk, Open, Mode}
 use Rattle.call_fs.specs.Maps.{put}
 use Rattle.call_fs.specs.declared.past.NeedData.TheVariants as needs
 use Rattle.call_fs.specs.declared.past.GotData.TheVariants.{Answered}
-use Rattle.call_fs.specs.declared.past.Own.{Own}
-use Rattle.queue_inject.specs.declared.row.Row.{Row}
-use Rattle.queue_inject.specs.declared.row.Row.TheVariants as at
-use Rattle.queue_inject.specs.Table.{row_after}
+use Rattle.call_fs.specs.Past.{Uses, held}
 use Rattle.mail_world.specs.declared.event.Program.{Program}
-use Rattle.mail_world.specs.declared.event.Program.TheVariants.{Injector}
 use Rattle.mail_world.specs.declared.actor.Actor.{Actor as Held}
 use Rattle.mail_world.specs.declared.event.Event.{Event as Kept}
 use Rattle.mail_world.specs.History.{State, Actor, Life, stopped, called, finished, happens, held_by, unless_by, shut_by}
 use Rattle.mail_world.specs.History.Event.{Start, Moment}
 use Rattle.mail_world.specs.History.Life.{Alive}
-use Rattle.mail_world.specs.Inside.{IsMember, AreActors, HasOpen, IsOpenTo, IsOwn, HasRow, HasNeeds, AreApart, has, is_by}
-use Rattle.mail_world.specs.Acting.{AreOpen, AreCutOff, opened}
+use Rattle.mail_world.specs.Inside.{IsMember, AreActors, HasOpen, IsOpenTo, IsOwn, Owns, AreApart, has, is_by}
+use Rattle.mail_world.specs.Acting.{AreOpen, AreCutOff, open_after}
 use Rattle.mail_world.proofs.Lists.{each_set, each_push}
-use Rattle.call_fs.proofs.Maps.{put_same, put_other, put_at_same, put_at_other}
+use Rattle.call_fs.proofs.Maps.{put_cases, put_same, put_other, put_at_same, put_at_other}
 use Rattle.mail_world.proofs.Tests.{same_text, other_text}
-use Rattle.mail_world.proofs.Descriptors.{has_push, apart_push, all_open}
-use Rattle.mail_world.proofs.Opens.{Opens, has_made, needs_stay, needs_move, needs_none}
+use Rattle.mail_world.proofs.Descriptors.{has_push, apart_push, has_without, apart_without, all_open}
+use Rattle.mail_world.proofs.Opens.{Opens, ClosesOwn, closes_own, own_stays, owns_after}
 use Rattle.mail_world.proofs.Crew.{Halted, apart_by, was_there}
 use Rattle.mail_world.proofs.Halts.{never_alive}
 use Rattle.mail_world.proofs.Looks.{mapped_some}
 use Rattle.mail_world.proofs.Acts.{freed, kept_on}
 
 -- what is held stays open
-held_stays : (d e : Disk) (h g : ℕ → Option (List ℕ)) (a : List ℕ) (answer : Answer) → Opens d e h g a answer
+held_stays : (d e : Disk) (h g : ℕ → Option (List ℕ)) (a : List ℕ) (c : CallData) (answer : Answer) → Opens d e h g a c answer
     → ((fd : ℕ) (b : List ℕ) → h fd ≡ Some b → IsSome (d.opens fd)) → (fd : ℕ) (b : List ℕ) → g fd ≡ Some b → IsSome (e.opens fd)
-held_stays d e h g a answer (inl s) held fd b is = subst (λ (m : ℕ → Option Open). IsSome (m fd)) (sym s.opens) (held fd b (ap (λ (m : ℕ → Option (List ℕ)). m fd) (sym s.holder) ∙ is))
-held_stays d e h g a answer (inr s) held fd b is =
-    let made : Option Open = Some (record { number = s.number; mode = Mode.Created }) in
+held_stays d e h g a c answer (inl s) held fd b is = subst (λ (m : ℕ → Option Open). IsSome (m fd)) (sym s.opens) (held fd b (ap (λ (m : ℕ → Option (List ℕ)). m fd) (sym s.holder) ∙ is))
+held_stays d e h g a c answer (inr (inl s)) held fd b is =
+    let made : Option Open = Some s.file in
     subst (λ (m : ℕ → Option Open). IsSome (m fd)) (sym s.opens) (⊎_elim
     (λ f. subst (λ (q : ℕ). IsSome (put d.opens s.fd.0 made q)) (sym f.1) (subst IsSome (sym (put_same d.opens s.fd.0 made)) refl))
     (λ f. subst IsSome (sym (put_other d.opens s.fd.0 made fd f.1)) (held fd b (sym (put_other h s.fd.0 (Some a) fd f.1) ∙ ap (λ (m : ℕ → Option (List ℕ)). m fd) (sym s.holder) ∙ is)))
     (eqb_tells fd s.fd.0))
+held_stays d e h g a c answer (inr (inr s)) held fd b is =
+    let now = ap (λ (m : ℕ → Option (List ℕ)). m fd) (sym s.holder) ∙ is in
+    subst (λ (m : ℕ → Option Open). IsSome (m fd)) (sym s.opens) (⊎_elim
+    (λ f. let none : ◌≡◌ {A = Option (List ℕ)} None (Some b) = sym f.1 ∙ now in absurd (cc))
+    (λ f. subst IsSome (sym (put_other d.opens s.fd.0 None fd f.0)) (held fd b (sym f.1 ∙ now)))
+    (put_cases h s.fd.0 None fd))
 
 -- a descriptor that isn't open is nobody's
 nobody : (d : Disk) (o : Option (List ℕ)) (b : List ℕ) (fd : ℕ) → d.opens fd ≡ None → ((c : List ℕ) → o ≡ Some c → IsSome (d.opens fd)) → is_by b o ≡ false
 nobody d None b fd new held = refl
 nobody d (Some c) b fd new held = absurd (cc (subst IsSome new (held c refl)))
 
--- another actor's list
-other_list : (d e : Disk) (h g : ℕ → Option (List ℕ)) (a b : List ℕ) (answer : Answer) (fds : List Fd) → Opens d e h g a answer → b ≢ a
-    → ((fd : ℕ) (b : List ℕ) → h fd ≡ Some b → IsSome (d.opens fd)) → ((fd : ℕ) → has fd fds ≡ is_by b (h fd)) → (fd : ℕ) → has fd fds ≡ is_by b (g fd)
-other_list d e h g a b answer fds (inl s) apart held lists fd = lists fd ∙ ap (λ (m : ℕ → Option (List ℕ)). is_by b (m fd)) (sym s.holder)
-other_list d e h g a b answer fds (inr s) apart held lists fd =
+-- what is put in somebody's hands, or in nobody's, where it wasn't in another's, is not in another's
+others_same : (h g : ℕ → Option (List ℕ)) (b : List ℕ) (k : ℕ) (v : Option (List ℕ)) (fds : List Fd) → g ≡ put h k v → is_by b (h k) ≡ false → is_by b v ≡ false
+    → ((fd : ℕ) → has fd fds ≡ is_by b (h fd)) → (fd : ℕ) → has fd fds ≡ is_by b (g fd)
+others_same h g b k v fds is was now lists fd =
     lists fd ∙ ⊎_elim
-    (λ f. subst (λ (q : ℕ). is_by b (h q) ≡ is_by b (put h s.fd.0 (Some a) q)) (sym f.1)
-    (nobody d (h s.fd.0) b s.fd.0 s.new (held s.fd.0) ∙ sym (ap (is_by b) (put_same h s.fd.0 (Some a)) ∙ other_text a b (λ e. apart (sym e)))))
-    (λ f. ap (is_by b) (sym (put_other h s.fd.0 (Some a) fd f.1)))
-    (eqb_tells fd s.fd.0)
-    ∙ ap (λ (m : ℕ → Option (List ℕ)). is_by b (m fd)) (sym s.holder)
+    (λ f. ap (λ (q : ℕ). is_by b (h q)) f.0 ∙ was ∙ sym (ap (is_by b) f.1 ∙ now))
+    (λ f. ap (is_by b) (sym f.1))
+    (put_cases h k v fd)
+    ∙ ap (λ (m : ℕ → Option (List ℕ)). is_by b (m fd)) (sym is)
+
+-- another actor's list
+other_list : (d e : Disk) (h g : ℕ → Option (List ℕ)) (a b : List ℕ) (c : CallData) (answer : Answer) (fds : List Fd) → Opens d e h g a c answer → ClosesOwn h a c → b ≢ a
+    → ((fd : ℕ) (b : List ℕ) → h fd ≡ Some b → IsSome (d.opens fd)) → ((fd : ℕ) → has fd fds ≡ is_by b (h fd)) → (fd : ℕ) → has fd fds ≡ is_by b (g fd)
+other_list d e h g a b c answer fds (inl s) closes apart open_held lists fd = lists fd ∙ ap (λ (m : ℕ → Option (List ℕ)). is_by b (m fd)) (sym s.holder)
+other_list d e h g a b c answer fds (inr (inl s)) closes apart open_held lists fd =
+    others_same h g b s.fd.0 (Some a) fds s.holder (nobody d (h s.fd.0) b s.fd.0 s.new (open_held s.fd.0)) (other_text a b (λ e. apart (sym e))) lists fd
+other_list d e h g a b c answer fds (inr (inr s)) closes apart open_held lists fd =
+    others_same h g b s.fd.0 None fds s.holder (ap (is_by b) (closes s.fd s.is) ∙ other_text a b (λ e. apart (sym e))) refl lists fd
 
 -- its own list
-own_list : (d e : Disk) (h g : ℕ → Option (List ℕ)) (a : List ℕ) (answer : Answer) (fds : List Fd) → Opens d e h g a answer
-    → ((fd : ℕ) → has fd fds ≡ is_by a (h fd)) → (fd : ℕ) → has fd (fds ++ opened answer) ≡ is_by a (g fd)
-own_list d e h g a answer fds (inl s) lists fd =
-    ap (λ (l : List Fd). has fd (fds ++ l)) s.none ∙ ap (has fd) (append-nil fds) ∙ lists fd ∙ ap (λ (m : ℕ → Option (List ℕ)). is_by a (m fd)) (sym s.holder)
-own_list d e h g a answer fds (inr s) lists fd =
-    ap (λ (r : Answer). has fd (fds ++ opened r)) s.is ∙ has_push fd fds s.fd ∙ ⊎_elim
+own_list : (d e : Disk) (h g : ℕ → Option (List ℕ)) (a : List ℕ) (c : CallData) (answer : Answer) (fds : List Fd) → Opens d e h g a c answer
+    → ((fd : ℕ) → has fd fds ≡ is_by a (h fd)) → (fd : ℕ) → has fd (open_after fds c answer) ≡ is_by a (g fd)
+own_list d e h g a c answer fds (inl s) lists fd =
+    ap (has fd) (s.list fds) ∙ lists fd ∙ ap (λ (m : ℕ → Option (List ℕ)). is_by a (m fd)) (sym s.holder)
+own_list d e h g a c answer fds (inr (inl s)) lists fd =
+    ap (has fd) (s.list fds) ∙ has_push fd fds s.fd ∙ ⊎_elim
     (λ f. ap (λ b. has fd fds || b) f.0 ∙ or-true (has fd fds) ∙ sym (ap (λ (q : ℕ). is_by a (put h s.fd.0 (Some a) q)) (sym f.1) ∙ ap (is_by a) (put_same h s.fd.0 (Some a)) ∙ same_text a))
     (λ f. ap (λ b. has fd fds || b) f.0 ∙ or-false (has fd fds) ∙ lists fd ∙ ap (is_by a) (sym (put_other h s.fd.0 (Some a) fd (λ same. f.1 (sym same)))))
     (eqb_tells s.fd.0 fd)
     ∙ ap (λ (m : ℕ → Option (List ℕ)). is_by a (m fd)) (sym s.holder)
+own_list d e h g a c answer fds (inr (inr s)) lists fd =
+    ap (has fd) (s.list fds) ∙ has_without fd s.fd.0 fds ∙ ⊎_elim
+    (λ f. ap (λ b. not b && has fd fds) f.0 ∙ sym (ap (λ (q : ℕ). is_by a (put h s.fd.0 None q)) f.1 ∙ ap (is_by a) (put_same h s.fd.0 None)))
+    (λ f. ap (λ b. not b && has fd fds) f.0 ∙ lists fd ∙ ap (is_by a) (sym (put_other h s.fd.0 None fd f.1)))
+    (eqb_tells fd s.fd.0)
+    ∙ ap (λ (m : ℕ → Option (List ℕ)). is_by a (m fd)) (sym s.holder)
 
-own_apart : (d e : Disk) (h g : ℕ → Option (List ℕ)) (a : List ℕ) (answer : Answer) (fds : List Fd) → Opens d e h g a answer
-    → ((fd : ℕ) (b : List ℕ) → h fd ≡ Some b → IsSome (d.opens fd)) → ((fd : ℕ) → has fd fds ≡ is_by a (h fd)) → AreApart fds → AreApart (fds ++ opened answer)
-own_apart d e h g a answer fds (inl s) held lists apart = subst AreApart (sym (ap (λ (l : List Fd). fds ++ l) s.none ∙ append-nil fds)) apart
-own_apart d e h g a answer fds (inr s) held lists apart =
-    subst (λ (r : Answer). AreApart (fds ++ opened r)) (sym s.is)
-    (apart_push fds s.fd apart (lists s.fd.0 ∙ nobody d (h s.fd.0) a s.fd.0 s.new (held s.fd.0)))
+own_apart : (d e : Disk) (h g : ℕ → Option (List ℕ)) (a : List ℕ) (c : CallData) (answer : Answer) (fds : List Fd) → Opens d e h g a c answer
+    → ((fd : ℕ) (b : List ℕ) → h fd ≡ Some b → IsSome (d.opens fd)) → ((fd : ℕ) → has fd fds ≡ is_by a (h fd)) → AreApart fds → AreApart (open_after fds c answer)
+own_apart d e h g a c answer fds (inl s) held lists apart = subst AreApart (sym (s.list fds)) apart
+own_apart d e h g a c answer fds (inr (inl s)) held lists apart =
+    subst AreApart (sym (s.list fds)) (apart_push fds s.fd apart (lists s.fd.0 ∙ nobody d (h s.fd.0) a s.fd.0 s.new (held s.fd.0)))
+own_apart d e h g a c answer fds (inr (inr s)) held lists apart = subst AreApart (sym (s.list fds)) (apart_without s.fd.0 fds apart)
 
 -- one actor makes a call
 pub call_opens : (places : List ℕ → Option ℕ) (actors : List Held) (s : State) (events : List Kept) (p i : ℕ) (x y : Held) (m : IsMember s events p x) (d e : Disk) (ready : Ready) (c : CallData) (got : Told)
     → AreActors places actors s events p → slice_get actors i ≡ Some x → m.actor.life ≡ Alive
-    → y.name ≡ x.name → y.descriptors.items ≡ x.descriptors.items ++ opened got.answer
-    → Opens d e s.holder (held_by s.holder x.name c got.answer) x.name got.answer
+    → y.name ≡ x.name → y.descriptors.items ≡ open_after x.descriptors.items c got.answer
+    → Opens d e s.holder (held_by s.holder x.name c got.answer) x.name c got.answer → Uses (held m.actor.past) c
     → IsOpenTo d actors s → IsOpenTo e (set actors i y) (called s x.name p ready c got 0 (Some m.actor))
-call_opens places actors s events p i x y m d e ready c got crew is alive name list opens open_to =
+call_opens places actors s events p i x y m d e ready c got crew is alive name list opens uses open_to =
     let answer = got.answer in
     let t = called s x.name p ready c got 0 (Some m.actor) in
     let mine = open_to.each i x is in
-    let own : Own = record { read = p; ready = ready; due = needs.File c; came = Answered got } in
-    let now : Actor = record { program = m.actor.program; past = own ∷ m.actor.past; life = m.actor.life } in
-    let needed : HasNeeds e t.holder x.name m.actor.program (own ∷ m.actor.past) =
-    needs_move e t.holder x.name m.actor.program m.actor.past p ready c got
-    (needs_stay d e s.holder t.holder x.name x.name answer m.actor.program m.actor.past opens (mine.needs m.actor m.is alive))
-    (has_made d e s.holder t.holder x.name answer opens) in
+    let past = m.actor.past in
+    let now : Actor = record { program = m.actor.program; past = (record { read = p; ready = ready; due = needs.File c; came = Answered got }) ∷ past; life = m.actor.life } in
+    let owned = mine.owns m.actor m.is alive in
+    let closes = closes_own d s.holder x.name (held past) c owned uses in
+    let owns : Owns e t.holder x.name (held now.past) = owns_after d e s.holder t.holder x.name c answer (held past) opens owned in
     record {
-      held = held_stays d e s.holder t.holder x.name answer opens open_to.held;
+      held = held_stays d e s.holder t.holder x.name c answer opens open_to.held;
       each = each_set (λ j (z : Held). HasOpen e t z) actors i y
           (record {
-            lists = λ fd. ap (has fd) list ∙ own_list d e s.holder t.holder x.name answer x.descriptors.items opens mine.lists fd ∙ ap (λ (a : List ℕ). is_by a (t.holder fd)) (sym name);
-            apart = subst AreApart (sym list) (own_apart d e s.holder t.holder x.name answer x.descriptors.items opens open_to.held mine.lists mine.apart);
-            needs = λ actor at lives.
+            lists = λ fd. ap (has fd) list ∙ own_list d e s.holder t.holder x.name c answer x.descriptors.items opens mine.lists fd ∙ ap (λ (a : List ℕ). is_by a (t.holder fd)) (sym name);
+            apart = subst AreApart (sym list) (own_apart d e s.holder t.holder x.name c answer x.descriptors.items opens open_to.held mine.lists mine.apart);
+            owns = λ actor at lives.
                 let both : ◌≡◌ {A = Option Actor} (Some now) (Some actor) = sym (put_at_same s.actors x.name (Some now)) ∙ ap t.actors (sym name) ∙ at in
                 let same : now ≡ actor = cc in
-                subst (λ (a : List ℕ). HasNeeds e t.holder a actor.program actor.past) (sym name)
-                (subst (λ (z : Actor). HasNeeds e t.holder x.name z.program z.past) same needed);
+                subst (λ (a : List ℕ). Owns e t.holder a (held actor.past)) (sym name)
+                (subst (λ (z : Actor). Owns e t.holder x.name (held z.past)) same owns);
           })
           (λ j z other at.
           let old = open_to.each j z at in
           let apart : z.name ≢ x.name = apart_by places x.name z.name i j (crew.placed i x is) (crew.placed j z at) other in
           record {
-            lists = other_list d e s.holder t.holder x.name z.name answer z.descriptors.items opens apart open_to.held old.lists;
+            lists = other_list d e s.holder t.holder x.name z.name c answer z.descriptors.items opens closes apart open_to.held old.lists;
             apart = old.apart;
-            needs = λ actor known lives. needs_stay d e s.holder t.holder x.name z.name answer actor.program actor.past opens
-                (old.needs actor (sym (put_at_other s.actors x.name _ z.name apart) ∙ known) lives);
+            owns = λ actor known lives fd mode is. own_stays d e s.holder t.holder x.name z.name c answer fd mode opens closes apart
+                (old.owns actor (sym (put_at_other s.actors x.name _ z.name apart) ∙ known) lives fd mode is);
           });
     }
 
@@ -132,32 +146,13 @@ held_on a (Some c) b h = elim (bytes_eq c a) as (λ t. (if t then None else Some
 others_own : (a b : List ℕ) (o : Option (List ℕ)) (X : Type 0) (file : Option X) → b ≢ a → o ≡ Some b → unless_by a o file ≡ file
 others_own a b o X file apart is = subst (λ (o : Option (List ℕ)). unless_by a o file ≡ file) (sym is) (ap (λ (t : Bool). if t then None else file) (other_text b a apart))
 
-own_after : (d : Disk) (h : ℕ → Option (List ℕ)) (a b : List ℕ) (fd : ℕ) → b ≢ a → IsOwn d h b fd → IsOwn (shut_by a h d) (λ fd. unless_by a (h fd) (h fd)) b fd
-own_after d h a b fd apart own = record {
+-- what another actor has stays its own at an end
+pub own_after : (d : Disk) (h : ℕ → Option (List ℕ)) (a b : List ℕ) (fd : ℕ) (mode : Mode) → b ≢ a → IsOwn d h b fd mode → IsOwn (shut_by a h d) (λ fd. unless_by a (h fd) (h fd)) b fd mode
+own_after d h a b fd mode apart own = record {
   held = others_own a b (h fd) (List ℕ) (h fd) apart own.held ∙ own.held;
-  file = own.file;
+  number = own.number;
   is = others_own a b (h fd) Open (d.opens fd) apart own.held ∙ own.is;
-  created = own.created;
 }
-
-row_after_end : (d : Disk) (h : ℕ → Option (List ℕ)) (a b : List ℕ) (row : Row) → b ≢ a → HasRow d h b row → HasRow (shut_by a h d) (λ fd. unless_by a (h fd) (h fd)) b row
-row_after_end d h a b (at.LinkMess seq n fd) apart own = own_after d h a b fd.0 apart own
-row_after_end d h a b (at.UnlinkPid seq n fd) apart own = own_after d h a b fd.0 apart own
-row_after_end d h a b (at.AppendMess n fd done) apart own = own_after d h a b fd.0 apart own
-row_after_end d h a b (at.SyncMess n fd) apart own = own_after d h a b fd.0 apart own
-row_after_end d h a b (at.AppendTodo n fd done) apart own = own_after d h a b fd.0 apart own
-row_after_end d h a b (at.SyncTodo n fd) apart own = own_after d h a b fd.0 apart own
-row_after_end d h a b (at.Create seq) apart own = tt
-row_after_end d h a b (at.CreateIntd n) apart own = tt
-row_after_end d h a b (at.LinkTodo n) apart own = tt
-row_after_end d h a b (at.CleanIntd n cause) apart own = tt
-row_after_end d h a b (at.CleanMess n cause) apart own = tt
-row_after_end d h a b at.Queued apart own = tt
-row_after_end d h a b (at.Failed cause) apart own = tt
-
-needs_after_end : (d : Disk) (h : ℕ → Option (List ℕ)) (a b : List ℕ) (program : Program) (past : List Own) → b ≢ a
-    → HasNeeds d h b program past → HasNeeds (shut_by a h d) (λ fd. unless_by a (h fd) (h fd)) b program past
-needs_after_end d h a b (Injector args) past apart own = row_after_end d h a b (row_after args past) apart own
 
 -- one actor ends or is stopped
 pub finish_opens : (places : List ℕ → Option ℕ) (actors : List Held) (s : State) (events : List Kept) (p i : ℕ) (x y : Held) (m : IsMember s events p x) (d : Disk) (life : Life) → life ≢ Alive
@@ -173,7 +168,7 @@ finish_opens places actors s events p i x y m d life dead crew is name none open
           (record {
             lists = λ fd. ap (has fd) none ∙ sym (ap (λ (a : List ℕ). is_by a (t.holder fd)) name ∙ freed x.name (s.holder fd));
             apart = subst AreApart (sym none) tt;
-            needs = λ actor at lives.
+            owns = λ actor at lives.
                 let both : ◌≡◌ {A = Option Actor} (Some now) (Some actor) = sym (put_at_same s.actors x.name (Some now)) ∙ ap t.actors (sym name) ∙ at in
                 let same : now ≡ actor = cc in
                 absurd (dead (ap (λ (z : Actor). z.life) same ∙ lives));
@@ -184,8 +179,8 @@ finish_opens places actors s events p i x y m d life dead crew is name none open
           record {
             lists = λ fd. old.lists fd ∙ sym (kept_on x.name z.name (s.holder fd) apart);
             apart = old.apart;
-            needs = λ actor known lives. needs_after_end d s.holder x.name z.name actor.program actor.past apart
-                (old.needs actor (sym (put_at_other s.actors x.name _ z.name apart) ∙ known) lives);
+            owns = λ actor known lives fd mode is. own_after d s.holder x.name z.name fd mode apart
+                (old.owns actor (sym (put_at_other s.actors x.name _ z.name apart) ∙ known) lives fd mode is);
           });
     }
 
@@ -202,10 +197,10 @@ start_opens places actors s events p y a program d crew new name none open_to =
           (record {
             lists = λ fd. ap (has fd) none ∙ sym (ap (λ (a : List ℕ). is_by a (s.holder fd)) name ∙ (crew.strangers a new).holds_none fd);
             apart = subst AreApart (sym none) tt;
-            needs = λ actor at lives.
+            owns = λ actor at lives.
                 let both : ◌≡◌ {A = Option Actor} (Some now) (Some actor) = sym (put_at_same s.actors a (Some now)) ∙ ap t.actors (sym name) ∙ at in
                 let same : now ≡ actor = cc in
-                subst (λ (z : Actor). HasNeeds d t.holder y.name z.program z.past) same (needs_none d t.holder y.name program);
+                subst (λ (z : Actor). Owns d t.holder y.name (held z.past)) same (λ fd mode is. absurd (cc));
           })
           (λ j z at.
           let old = open_to.each j z at in
@@ -213,7 +208,7 @@ start_opens places actors s events p y a program d crew new name none open_to =
           record {
             lists = old.lists;
             apart = old.apart;
-            needs = λ actor known lives. old.needs actor (sym (put_at_other s.actors a _ z.name apart) ∙ known) lives;
+            owns = λ actor known lives. old.owns actor (sym (put_at_other s.actors a _ z.name apart) ∙ known) lives;
           });
     }
 
@@ -221,7 +216,7 @@ start_opens places actors s events p y a program d crew new name none open_to =
 pub moment_opens : (actors : List Held) (s : State) (m : ℕ) (d : Disk) → IsOpenTo d actors s → IsOpenTo d actors (happens s (Moment m))
 moment_opens actors s m d open_to = record {
   held = open_to.held;
-  each = λ i x is. let old = open_to.each i x is in record { lists = old.lists; apart = old.apart; needs = old.needs };
+  each = λ i x is. let old = open_to.each i x is in record { lists = old.lists; apart = old.apart; owns = old.owns };
 }
 
 -- a machine stop leaves nothing open
@@ -232,7 +227,7 @@ halt_opens at old new s t d halted cut = record {
       let none = (was_there at old new cut i y is).2.descriptors in record {
         lists = λ fd. ap (has fd) none ∙ sym (ap (is_by y.name) (halted.holder fd));
         apart = subst AreApart (sym none) tt;
-        needs = λ actor known alive.
+        owns = λ actor known alive.
             let w = mapped_some stopped (s.actors y.name) actor (sym (halted.actors y.name) ∙ known) in
             absurd (never_alive w.0.life (ap (λ (x : Actor). x.life) w.2 ∙ alive));
       };
@@ -248,7 +243,7 @@ look_opens actors s i x y d is name list open_to =
           (record {
             lists = λ fd. ap (has fd) list ∙ old.lists fd ∙ ap (λ (a : List ℕ). is_by a (s.holder fd)) (sym name);
             apart = subst AreApart (sym list) old.apart;
-            needs = λ actor known lives. subst (λ (a : List ℕ). HasNeeds d s.holder a actor.program actor.past) (sym name) (old.needs actor (ap s.actors (sym name) ∙ known) lives);
+            owns = λ actor known lives. subst (λ (a : List ℕ). Owns d s.holder a (held actor.past)) (sym name) (old.owns actor (ap s.actors (sym name) ∙ known) lives);
           })
           (λ j z other at. open_to.each j z at);
     }

@@ -3,46 +3,26 @@ use Rattle.std.proofs.Common.{◌≡◌, ℕ, ◌≤◌, List, [], ◌∷◌, �
 use Rattle.std.proofs.lemmas.List.{reverse-append}
 use Rattle.std.specs.List.{AllZip}
 use Rattle.call_fs.specs.declared.calls.CallData.{CallData}
-use Rattle.call_fs.specs.declared.calls.CallData.TheVariants.{CreateExcl, Open, ReadAt, WriteAt, Append, Truncate, Sync, Close, Link, Unlink, Stat, NextName}
-use Rattle.call_fs.specs.declared.calls.Answer.{Answer}
 use Rattle.call_fs.specs.declared.calls.Told.{Told}
 use Rattle.call_fs.specs.declared.program.Ready.{Ready}
 use Rattle.call_fs.specs.declared.crash_file_system.Survival.{Survival}
-use Rattle.call_fs.specs.Calls.{without_bytes}
 use Rattle.call_fs.specs.Survival.{AllSurvive, halted}
 use Rattle.call_fs.specs.Choices.{Halts, contents_by}
 use Rattle.call_fs.specs.Disk.{Disk}
 use Rattle.mail_bytes.specs.Moments.{IsMoment}
 use Rattle.call_fs.specs.Apply.{effect, Fits, Apply, IsReadBy}
-use Rattle.call_fs.specs.declared.past.NeedData.{NeedData}
 use Rattle.call_fs.specs.declared.past.NeedData.TheVariants as needs
 use Rattle.mail_bytes.specs.Told.{OnTold, Meets}
 use Rattle.mail_world.specs.declared.event.Program.{Program}
 use Rattle.mail_world.specs.declared.event.Event.{Event as Kept}
 use Rattle.mail_world.specs.declared.event.Event.TheVariants as kept
-use Rattle.mail_world.specs.History.{Event, Actor, Life, State, next_of, Allowed, MayRead, happens, called, finished, shut_by, after, latest, Opening, EachAllowed, Legal}
-use Rattle.mail_world.specs.History.Event.{Start, Call, End, Stop, Moment, Halt}
+use Rattle.mail_world.specs.History.{Event, call_act, Actor, Life, State, next_of, Allowed, MayRead, happens, called, finished, shut_by, after, latest, Opening, EachAllowed, Legal}
+use Rattle.mail_world.specs.History.Event.{Start, End, Stop, Moment, Halt}
 use Rattle.mail_world.specs.History.Life.{Alive}
-use Rattle.mail_world.specs.World.{Tells, IsByName, Leads, IsHistory, EachSafe}
+use Rattle.mail_world.specs.World.{kept_call, Tells, IsByName, Leads, IsHistory, EachSafe}
 use Rattle.mail_world.specs.Headline.{Headline}
 use Rattle.mail_world.specs.Inside.{IsLed, known}
 use Rattle.mail_world.proofs.Known.{AreAlike, after_known}
-use Rattle.mail_world.proofs.Opens.{IsPlain}
-
--- no plain call reads bytes
-pub reads_none : (d : Disk) (call : CallData) (answer : Answer) → IsPlain call → IsReadBy d call (without_bytes answer)
-reads_none d (CreateExcl name) answer plain = refl
-reads_none d (Open name how) answer plain = refl
-reads_none d (ReadAt fd at len) answer plain = absurd plain
-reads_none d (WriteAt fd at bytes) answer plain = refl
-reads_none d (Append fd bytes) answer plain = refl
-reads_none d (Truncate fd len) answer plain = refl
-reads_none d (Sync fd) answer plain = refl
-reads_none d (Close fd) answer plain = refl
-reads_none d (Link old new) answer plain = refl
-reads_none d (Unlink name) answer plain = refl
-reads_none d (Stat name) answer plain = refl
-reads_none d (NextName dir last) answer plain = refl
 
 history_push : (o d : Disk) (events : List Kept) (p : ℕ) (h : List Event) (k : Kept) (e : Event)
     → Leads o d events p h → Tells k e → Allowed (after o h) e → IsByName (after o h).disk e
@@ -87,12 +67,12 @@ may_read s t a p x same now acts = record {
 
 call_goes_on : (o d d' : Disk) (events : List Kept) (p : ℕ) (h : List Event) (a : List ℕ) (x : Actor) (ready : Ready) (call : CallData) (got : Told)
     → Leads o d events p h → IsActing (known events) a p x → next_of x.program x.past p ready ≡ needs.File call → Apply d p call got.answer d' → IsReadBy d call got
-    → (e : Event) × Leads o d' (events ++ kept.Call a p ready call got ∷ []) p (e ∷ h)
+    → (e : Event) × Leads o d' (events ++ kept_call a p ready call got ∷ []) p (e ∷ h)
 call_goes_on o d d' events p h a x ready call got is acts due applied bytes =
     let s = after o h in
     let w = applied.0 in
-    let e : Event = Call a p ready call got w in
-    let k : Kept = kept.Call a p ready call got in
+    let e : Event = call_act a p ready call got w in
+    let k : Kept = kept_call a p ready call got in
     let reads : MayRead s a x p = may_read s (known events) a p x (after_known o events h is.told) is.moment acts in
     let allowed : Allowed s e = record {
       actor = x;
@@ -189,7 +169,7 @@ LeadsOn old new events later p q = (o : Disk) (h : List Event) → IsSomeAnd old
 
 pub call_told : (old new : Option Disk) (events : List Kept) (p : ℕ) (a : List ℕ) (x : Actor) (ready : Ready) (call : CallData) (got : Told)
     → IsActing (known events) a p x → next_of x.program x.past p ready ≡ needs.File call → Meets old new (λ d d'. Apply d p call got.answer d' × IsReadBy d call got)
-    → LeadsOn old new events (events ++ kept.Call a p ready call got ∷ []) p p
+    → LeadsOn old new events (events ++ kept_call a p ready call got ∷ []) p p
 call_told (Some d) (Some d') events p a x ready call got acts due met o h is = call_goes_on o d d' events p h a x ready call got is acts due met.0 met.1
 call_told (Some d) None events p a x ready call got acts due met o h is = absurd met
 call_told None new events p a x ready call got acts due met o h is = absurd is

@@ -18,10 +18,11 @@ use Rattle.queue_paths.specs.Names.Name.{Pid, Of}
 use Rattle.queue_inject.specs.Table.{row_after, call_of, in_time}
 use Rattle.mail_world.specs.declared.event.Program.{Program}
 use Rattle.mail_world.specs.declared.event.Program.TheVariants.{Injector}
-use Rattle.mail_world.specs.History.{Books, Event, Life, Actor, State, next_of, booked, called, unless_by, shut_by, finished, happens, MayRead, MayCall, MayEnd, IsLiving, Allowed, Opening, opening, after, Legal}
-use Rattle.mail_world.specs.History.Event.{Start, Call, End, Stop, Moment, Halt}
+use Rattle.mail_world.specs.History.{Books, Event, Life, Actor, State, next_of, booked, acted, called, unless_by, shut_by, finished, happens, MayRead, MayCall, MayEnd, IsLiving, Allowed, Opening, opening, after, Legal}
+use Rattle.mail_world.specs.History.Event.{Start, Act, End, Stop, Moment, Halt}
 use Rattle.mail_world.specs.History.Life.{Alive, Over, Stopped}
 use Rattle.call_fs.proofs.Maps.{put_at_cases}
+use Rattle.mail_world.proofs.Owns.{by_call}
 use Rattle.mail_world.proofs.Tests.{unless_same, tells_number}
 use Rattle.mail_world.proofs.Looks.{find_none, found}
 use Rattle.mail_world.proofs.Invariant.{Queue, NamesSuit, Phase, IsHeld, Settles, InTime, FaresBy, Fares, Sound, Inv, queue}
@@ -203,7 +204,8 @@ module _ (s : State) (I : Inv s) where
 
 kept : (s : State) (e : Event) → Inv s → Allowed s e → Inv (happens s e)
 kept s (Start a program) I h = kept_start s I a program
-kept s (Call a read ready call told wrote) I h = kept_call s I a read ready call told wrote h
+kept s (Act a own wrote) I h =
+    by_call s a wrote (λ own. Inv (acted s a own wrote (s.actors a))) (λ read ready call told may. kept_call s I a read ready call told wrote may) own h
 kept s (End a read ready status) I h = kept_end s I a read ready status h
 kept s (Stop a) I h = kept_stop s I a h
 kept s (Moment m) I h = kept_moment s I m h.no_earlier

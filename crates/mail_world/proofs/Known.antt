@@ -3,14 +3,12 @@ use Rattle.std.proofs.Common.{◌≡◌, ℕ, List, [], ◌∷◌, ◌++◌, Opt
 use Rattle.std.proofs.lemmas.List.{reverse-append}
 use Rattle.std.specs.List.{AllZip}
 use Rattle.std.specs.Option.{option_map}
-use Rattle.call_fs.specs.declared.calls.CallData.{CallData}
-use Rattle.call_fs.specs.declared.calls.Told.{Told}
-use Rattle.call_fs.specs.declared.program.Ready.{Ready}
+use Rattle.call_fs.specs.declared.past.Own.{Own}
 use Rattle.call_fs.specs.Disk.{Disk}
 use Rattle.call_fs.specs.Maps.{put_at}
 use Rattle.mail_world.specs.declared.event.Event.{Event as Kept}
-use Rattle.mail_world.specs.History.{Event, Actor, Life, State, stopped, happens, called, finished, after, held_by, unless_by}
-use Rattle.mail_world.specs.History.Event.{Start, Call, End, Stop, Moment, Halt}
+use Rattle.mail_world.specs.History.{Event, Actor, Life, State, stopped, happens, acted, finished, after, holder_after, unless_by}
+use Rattle.mail_world.specs.History.Event.{Start, Act, End, Stop, Moment, Halt}
 use Rattle.mail_world.specs.World.{Tells}
 use Rattle.mail_world.specs.Inside.{event_of, nowhere, known}
 
@@ -26,11 +24,10 @@ put_alike m n a v e = ap (λ (m : List ℕ → Option Actor). put_at m a v) e
 freed_alike : (h g : ℕ → Option (List ℕ)) (a : List ℕ) → h ≡ g → ◌≡◌ {A = ℕ → Option (List ℕ)} (λ fd. unless_by a (h fd) (h fd)) (λ fd. unless_by a (g fd) (g fd))
 freed_alike h g a e = let freed : (ℕ → Option (List ℕ)) → ℕ → Option (List ℕ) = λ h fd. unless_by a (h fd) (h fd) in ap freed e
 
-called_alike : (s t : State) (a : List ℕ) (read : ℕ) (ready : Ready) (call : CallData) (got : Told) (w v : ℕ) (x : Option Actor)
-    → AreAlike s t → AreAlike (called s a read ready call got w x) (called t a read ready call got v x)
-called_alike s t a read ready call got w v None c = c
-called_alike s t a read ready call got w v (Some x) c = record {
-  holder = ap (λ (h : ℕ → Option (List ℕ)). held_by h a call got.answer) c.holder;
+acted_alike : (s t : State) (a : List ℕ) (own : Own) (w v : ℕ) (x : Option Actor) → AreAlike s t → AreAlike (acted s a own w x) (acted t a own v x)
+acted_alike s t a own w v None c = c
+acted_alike s t a own w v (Some x) c = record {
+  holder = ap (λ (h : ℕ → Option (List ℕ)). holder_after h a own.due own.came) c.holder;
   now = c.now;
   actors = put_alike s.actors t.actors a _ c.actors;
 }
@@ -50,10 +47,10 @@ happens_alike s t k (Start a program) told c =
       now = c.now;
       actors = put_alike s.actors t.actors a _ c.actors;
     })
-happens_alike s t k (Call a read ready call got wrote) told c =
-    subst (λ (k : Kept). AreAlike (happens s (Call a read ready call got wrote)) (happens t (event_of k))) (sym told)
-    (subst (λ (x : Option Actor). AreAlike (called s a read ready call got wrote (s.actors a)) (called t a read ready call got 0 x))
-    (ap (λ (m : List ℕ → Option Actor). m a) c.actors) (called_alike s t a read ready call got wrote 0 (s.actors a) c))
+happens_alike s t k (Act a own wrote) told c =
+    subst (λ (k : Kept). AreAlike (happens s (Act a own wrote)) (happens t (event_of k))) (sym told)
+    (subst (λ (x : Option Actor). AreAlike (acted s a own wrote (s.actors a)) (acted t a own 0 x))
+    (ap (λ (m : List ℕ → Option Actor). m a) c.actors) (acted_alike s t a own wrote 0 (s.actors a) c))
 happens_alike s t k (End a read ready status) told c =
     subst (λ (k : Kept). AreAlike (happens s (End a read ready status)) (happens t (event_of k))) (sym told)
     (subst (λ (x : Option Actor). AreAlike (finished s a (Life.Over status) (s.actors a)) (finished t a (Life.Over status) x))

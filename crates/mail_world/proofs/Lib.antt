@@ -28,8 +28,12 @@ pub mod Known
 pub mod Histories
 -- lists of open descriptors
 pub mod Descriptors
--- what calls open, and what rows need open
+-- what calls open and close
 pub mod Opens
+-- an event of an actor that may happen
+pub mod Owns
+-- what each program keeps to
+pub mod Programs
 -- injectors that were told their whole input
 pub mod Machines
 -- the life of an actor

@@ -7,21 +7,20 @@ use Rattle.std.proofs.lemmas.List.Sums.{sum_by-append}
 use Rattle.std.specs.Prelude.{count_by, if◌then◌else◌}
 use Rattle.std.specs.List.{AllZip}
 use Rattle.std.specs.Option.{option_map}
-use Rattle.call_fs.specs.declared.calls.CallData.{CallData}
-use Rattle.call_fs.specs.declared.calls.Told.{Told}
-use Rattle.call_fs.specs.declared.program.Ready.{Ready}
+use Rattle.call_fs.specs.declared.past.Own.{Own}
 use Rattle.call_fs.specs.declared.crash_file_system.Survival.{Survival}
 use Rattle.call_fs.specs.Disk.{Disk}
 use Rattle.call_fs.specs.Maps.{put_at}
 use Rattle.call_fs.proofs.Maps.{put_at_same, put_at_other}
 use Rattle.mail_world.specs.declared.event.Event.{Event as Kept}
 use Rattle.mail_world.specs.declared.event.Event.TheVariants as kept
-use Rattle.mail_world.specs.History.{Event, Actor, Life, State, Allowed, Legal, stopped, called, finished, happens, after, is_start as starts_one}
-use Rattle.mail_world.specs.History.Event.{Start, Call, End, Stop, Moment, Halt}
+use Rattle.mail_world.specs.History.{Event, Actor, Life, State, Allowed, Legal, stopped, acted, finished, happens, after, is_start as starts_one}
+use Rattle.mail_world.specs.History.Event.{Start, Act, End, Stop, Moment, Halt}
 use Rattle.mail_world.specs.History.Life.{Alive, Over, Stopped}
 use Rattle.mail_world.specs.World.{Tells, Span, span_after, span_of, EndsAt, starts, ends, was_started, is_start}
 use Rattle.mail_world.specs.World.Span.{Unborn, Lasting, OverAt}
 use Rattle.mail_world.proofs.Tests.{text_cases, same_text, other_text}
+use Rattle.mail_world.proofs.Owns.{may_read}
 use Rattle.mail_world.proofs.Crew.{started_push}
 use Rattle.mail_world.proofs.Spans.{span_still, span_begins, span_ends}
 use Rattle.mail_world.proofs.Halts.{never_alive}
@@ -47,10 +46,9 @@ still_there m b x y a is = ⊎_elim
     (λ f. ap is_some (put_at_other m b (Some y) a f.0))
     (text_cases a b)
 
-called_there : (s : State) (b : List ℕ) (read : ℕ) (ready : Ready) (call : CallData) (got : Told) (w : ℕ) (o : Option Actor) (a : List ℕ)
-    → s.actors b ≡ o → is_some ((called s b read ready call got w o).actors a) ≡ is_some (s.actors a)
-called_there s b read ready call got w None a is = refl
-called_there s b read ready call got w (Some x) a is = still_there s.actors b x _ a is
+acted_there : (s : State) (b : List ℕ) (own : Own) (w : ℕ) (o : Option Actor) (a : List ℕ) → s.actors b ≡ o → is_some ((acted s b own w o).actors a) ≡ is_some (s.actors a)
+acted_there s b own w None a is = refl
+acted_there s b own w (Some x) a is = still_there s.actors b x _ a is
 
 finished_there : (s : State) (b : List ℕ) (life : Life) (o : Option Actor) (a : List ℕ) → s.actors b ≡ o → is_some ((finished s b life o).actors a) ≡ is_some (s.actors a)
 finished_there s b life None a is = refl
@@ -69,9 +67,9 @@ some_stopped (Some x) = refl
 happens_started : (s : State) (k : Kept) (e : Event) (a : List ℕ) → Tells k e → (is_some (s.actors a) || starts a k) ≡ is_some ((happens s e).actors a)
 happens_started s k (Start b program) a told =
     subst (λ (k : Kept). (is_some (s.actors a) || starts a k) ≡ is_some ((happens s (Start b program)).actors a)) (sym told) (started_there s.actors b _ a)
-happens_started s k (Call b read ready call got w) a told =
-    subst (λ (k : Kept). (is_some (s.actors a) || starts a k) ≡ is_some ((happens s (Call b read ready call got w)).actors a)) (sym told)
-    (or-false (is_some (s.actors a)) ∙ sym (called_there s b read ready call got w (s.actors b) a refl))
+happens_started s k (Act b own w) a told =
+    subst (λ (k : Kept). (is_some (s.actors a) || starts a k) ≡ is_some ((happens s (Act b own w)).actors a)) (sym told)
+    (or-false (is_some (s.actors a)) ∙ sym (acted_there s b own w (s.actors b) a refl))
 happens_started s k (End b read ready status) a told =
     subst (λ (k : Kept). (is_some (s.actors a) || starts a k) ≡ is_some ((happens s (End b read ready status)).actors a)) (sym told)
     (or-false (is_some (s.actors a)) ∙ sym (finished_there s b (Over status) (s.actors b) a refl))
@@ -94,7 +92,7 @@ started_is d h events a told =
 -- how many were started
 starts_alike : (k : Kept) (e : Event) → Tells k e → is_start k ≡ starts_one e
 starts_alike k (Start a program) told = ap is_start told
-starts_alike k (Call a read ready call got w) told = ap is_start told
+starts_alike k (Act a own w) told = ap is_start told
 starts_alike k (End a read ready status) told = ap is_start told
 starts_alike k (Stop a) told = ap is_start told
 starts_alike k (Moment m) told = ap is_start told
@@ -167,13 +165,14 @@ happens_suits s n k (Start b program) a span told allowed was =
     (suits_put s.actors b _ a one n span (λ f. other_text b a (λ e. f (sym e))) (λ f. refl)
     (λ same. start_suits a one n span _ (ap (λ (c : List ℕ). bytes_eq c a) (sym same) ∙ same_text a) refl
     (subst (Suits span) (ap s.actors same ∙ allowed.new) was)) was)
-happens_suits s n k (Call b read ready call got w) a span told allowed was =
-    let one : Kept = kept.Call b read ready call got in
-    let is = allowed.reads.is in
-    subst (λ (k : Kept). Suits (span_after a k n span) ((happens s (Call b read ready call got w)).actors a)) (sym told)
-    (subst (λ (o : Option Actor). Suits (span_after a one n span) ((called s b read ready call got w o).actors a)) (sym is)
+happens_suits s n k (Act b own w) a span told allowed was =
+    let one : Kept = kept.Act b own in
+    let reads = may_read s b w own allowed in
+    let is = reads.1.is in
+    subst (λ (k : Kept). Suits (span_after a k n span) ((happens s (Act b own w)).actors a)) (sym told)
+    (subst (λ (o : Option Actor). Suits (span_after a one n span) ((acted s b own w o).actors a)) (sym is)
     (suits_put s.actors b _ a one n span (λ f. refl) (λ f. refl)
-    (λ same. suits_still a one n span _ refl refl (same_suits span allowed.actor _ refl (subst (Suits span) (ap s.actors same ∙ is) was))) was))
+    (λ same. suits_still a one n span _ refl refl (same_suits span reads.0 _ refl (subst (Suits span) (ap s.actors same ∙ is) was))) was))
 happens_suits s n k (End b read ready status) a span told allowed was =
     let one : Kept = kept.End b read ready status in
     let is = allowed.reads.is in

@@ -1,11 +1,21 @@
 -- What an injector stands for that is fed its input as it goes, and what it needs.
-use Rattle.std.proofs.Common.{◌≡◌, ℕ, ◌+◌, ◌-◌, ◌≤◌, min, List, length, take, drop, Bool, true, false, Option, Some, None, refl, sym, ap, ◌∙◌, subst, arith, length-drop, drop_of_length-le}
+use Rattle.std.proofs.Common.{◌≡◌, ℕ, ◌+◌, ◌-◌, ◌≤◌, min, List, ◌∷◌, length, take, drop, Bool, true, false, Option, Some, None, refl, sym, ap, ◌∙◌, subst, arith, length-drop, drop_of_length-le}
 use Rattle.std.proofs.lemmas.List.{take_all, take-append-drop}
 use Rattle.call_fs.specs.declared.calls.Call.{Call}
 use Rattle.call_fs.specs.declared.program.Need.{Need}
 use Rattle.call_fs.specs.declared.program.Need.TheVariants as need
 use Rattle.call_fs.specs.declared.calls.CallData.{CallData}
+use Rattle.call_fs.specs.declared.calls.CallData.TheVariants as call
 use Rattle.call_fs.specs.declared.calls.Answer.{Answer}
+use Rattle.call_fs.specs.declared.calls.Answer.TheVariants as told
+use Rattle.call_fs.specs.Columns.{HasRoomFor, IsAnswerTo}
+use Rattle.call_fs.specs.Calls.{bytes_read, told_with}
+use Rattle.call_fs.specs.Disk.{Disk}
+use Rattle.call_fs.specs.Apply.{Apply, IsReadBy}
+use Rattle.mail_bytes.specs.Told.{OnTold, Meets}
+use Rattle.call_fs.specs.declared.program.Ready.{Ready}
+use Rattle.call_fs.specs.declared.past.NeedData.{NeedData}
+use Rattle.queue_inject.specs.Table.{Next}
 use Rattle.call_fs.specs.declared.past.Own.{Own}
 use Rattle.call_fs.specs.Program.{due_of}
 use Rattle.queue_inject.specs.declared.injection.Arguments.{Arguments}
@@ -22,14 +32,15 @@ use Rattle.mail_world.specs.declared.event.Program.TheVariants.{Injector}
 use Rattle.mail_world.specs.declared.mailer.Mailer.{Mailer}
 use Rattle.mail_world.specs.History.{next_of}
 use Rattle.mail_world.specs.World.{input_ready}
-use Rattle.mail_world.specs.Inside.{IsInput, Follows}
-use Rattle.mail_world.specs.Acting.{with_call}
-use Rattle.mail_world.proofs.Opens.{IsAct, next_act}
+use Rattle.mail_world.specs.ByKind.{IsInput, AreInputs, Mails}
+use Rattle.mail_world.specs.Acting.{most_read, HasFew}
+use Rattle.queue_inject.proofs.Acts.{IsAct}
+use Rattle.mail_world.proofs.Programs.{program_acts}
 
 -- an injector that finds its input ready neither waits nor needs anything but a call
 pub calls_or_ends : (n : Need) (program : Program) (past : List Own) (now : ℕ) → due_of n ≡ next_of program past now input_ready
     → ((c : Call) → n ≡ need.File c → ⊥) → ((status : ℕ) → n ≡ need.Ended status → ⊥) → ⊥
-calls_or_ends n program past now is no_call no_status = by_need n (subst IsAct (sym is) (next_act program past now)) no_call no_status where
+calls_or_ends n program past now is no_call no_status = by_need n (subst IsAct (sym is) (program_acts program past now)) no_call no_status where
   by_need : (n : Need) → IsAct (due_of n) → ((c : Call) → n ≡ need.File c → ⊥) → ((status : ℕ) → n ≡ need.Ended status → ⊥) → ⊥
   by_need (need.File c) act no_file no_end = no_file c refl
   by_need (need.Take port) act no_file no_end = act
@@ -101,8 +112,54 @@ asked_part m part e = (asked_by m.heard.verdict m.row part e).1
 
 -- Whole injectors
 
--- one that was told its answer stands for the past with it as its newest event
-pub told_follows : (m : Mailer) (n : Machine) (program : Program) (past : List Own) (answer : Answer)
-    → ((args : Arguments) → Stands m.injector args past → Stands n args (with_call m past answer))
-    → Follows m program past → Follows (record m { injector = n }) program (with_call m past answer)
-told_follows m n (Injector args) past answer stands f = record { stands = stands args f.stands; inputs = f.inputs }
+-- one whose injector stands for this past too
+pub still_mails : (m : Mailer) (n : Machine) (program : Program) (past : List Own)
+    → ((args : Arguments) → AreInputs args m.message m.envelope → Stands m.injector args past → Stands n args past)
+    → Mails m program past → Mails (record m { injector = n }) program past
+still_mails m n (Injector args) past stands f = record { stands = stands args f.inputs f.stands; inputs = f.inputs }
+
+-- one that was told what came stands for the past with it as its newest event
+pub told_mails : (m : Mailer) (n : Machine) (program : Program) (past : List Own) (event : Own)
+    → ((args : Arguments) → Stands m.injector args past → Stands n args (event ∷ past))
+    → Mails m program past → Mails (record m { injector = n }) program (event ∷ past)
+told_mails m n (Injector args) past event stands f = record { stands = stands args f.stands; inputs = f.inputs }
+
+-- what it needs is what is next
+pub mail_needs : (m : Mailer) (program : Program) (past : List Own) (due : NeedData) (now : ℕ) (ready : Ready)
+    → ((args : Arguments) → Stands m.injector args past → due ≡ Next args past now ready)
+    → Mails m program past → due ≡ next_of program past now ready
+mail_needs m (Injector args) past due now ready needs f = needs args f.stands
+
+-- The bytes of a read
+
+-- a read counts no more bytes than it asked for
+pub keeps_few : (c : CallData) (answer : Answer) → HasRoomFor 8192 c → IsAnswerTo c answer → HasFew (most_read c) answer
+keeps_few c (told.Created fd n) room kind = tt
+keeps_few c (told.Opened fd) room kind = tt
+keeps_few c told.Done room kind = tt
+keeps_few c (told.Stat stat) room kind = tt
+keeps_few c (told.Name name) room kind = tt
+keeps_few c told.NoName room kind = tt
+keeps_few c (told.Refused why) room kind = tt
+keeps_few (call.ReadAt fd at len) (told.Count n) room kind = (kind, omega (arith, room, kind))
+keeps_few (call.CreateExcl name) (told.Count n) room kind = absurd kind
+keeps_few (call.Open name how) (told.Count n) room kind = absurd kind
+keeps_few (call.WriteAt fd at bytes) (told.Count n) room kind = absurd kind
+keeps_few (call.Append fd bytes) (told.Count n) room kind = absurd kind
+keeps_few (call.Truncate fd len) (told.Count n) room kind = absurd kind
+keeps_few (call.Sync fd) (told.Count n) room kind = absurd kind
+keeps_few (call.Close fd) (told.Count n) room kind = absurd kind
+keeps_few (call.Link old new) (told.Count n) room kind = absurd kind
+keeps_few (call.Unlink name) (told.Count n) room kind = absurd kind
+keeps_few (call.Stat name) (told.Count n) room kind = absurd kind
+keeps_few (call.NextName dir last) (told.Count n) room kind = absurd kind
+
+-- a call was made, and these are the bytes that it read
+pub read_made : (old new : Option Disk) (now : ℕ) (c : CallData) (answer : Answer) (into bytes : List ℕ) → bytes ≡ bytes_read answer into
+    → Meets old new (λ d e. Apply d now c answer e) → OnTold old (λ d. IsReadBy d c (told_with answer into))
+    → Meets old new (λ d e. Apply d now c answer e × IsReadBy d c (record { answer = answer; bytes = bytes }))
+read_made None None now c answer into bytes is made read = tt
+read_made None (Some e) now c answer into bytes is made read = absurd made
+read_made (Some d) None now c answer into bytes is made read = absurd made
+read_made (Some d) (Some e) now c answer into bytes is made read =
+    (made, subst (λ (bytes : List ℕ). IsReadBy d c (record { answer = answer; bytes = bytes })) (sym is) read)

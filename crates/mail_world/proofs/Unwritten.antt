@@ -9,8 +9,7 @@ use Rattle.call_fs.specs.declared.calls.Told.{Told}
 use Rattle.call_fs.specs.declared.program.Ready.{Ready}
 use Rattle.call_fs.specs.Disk.{Disk}
 use Rattle.call_fs.specs.Apply.{effect, Fits}
-use Rattle.mail_world.specs.History.{Actor, State, Allowed, called, happens}
-use Rattle.mail_world.specs.History.Event.{Call}
+use Rattle.mail_world.specs.History.{Actor, State, Allowed, call_act, called, happens}
 
 pub wrote_nothing : (d : Disk) (c : CallData) (answer : Answer) (w : ℕ) → answer ≢ Refused Fault
     → (Fits d c answer w → Fits d c answer 0) × ((now : ℕ) → effect d now c answer w ≡ effect d now c answer 0)
@@ -36,8 +35,8 @@ called_same s a read ready c got w v (Some x) same =
     ap (λ (d : Disk). record { disk = d; holder = t.holder; now = t.now; actors = t.actors; books = t.books }) same
 
 -- so the event may be read as one that wrote nothing
-pub call_wrote_nothing : (s : State) (a : List ℕ) (read : ℕ) (ready : Ready) (c : CallData) (got : Told) (w : ℕ) → got.answer ≢ Refused Fault → Allowed s (Call a read ready c got w)
-    → Allowed s (Call a read ready c got 0) × (happens s (Call a read ready c got w) ≡ happens s (Call a read ready c got 0))
+pub call_wrote_nothing : (s : State) (a : List ℕ) (read : ℕ) (ready : Ready) (c : CallData) (got : Told) (w : ℕ) → got.answer ≢ Refused Fault → Allowed s (call_act a read ready c got w)
+    → Allowed s (call_act a read ready c got 0) × (happens s (call_act a read ready c got w) ≡ happens s (call_act a read ready c got 0))
 call_wrote_nothing s a read ready c got w other allowed =
     let same = wrote_nothing s.disk c got.answer w other in (
       record { actor = allowed.actor; reads = allowed.reads; due = allowed.due; fits = same.0 allowed.fits; bytes = allowed.bytes },

@@ -6,7 +6,10 @@ use Rattle.std.specs.Prelude.{count_by, if◌then◌else◌}
 use Rattle.std.specs.List.{slice_get}
 use Rattle.call_fs.specs.declared.calls.CallData.{CallData}
 use Rattle.call_fs.specs.declared.calls.Told.{Told}
-use Rattle.call_fs.specs.Disk.{Disk}
+use Rattle.call_fs.specs.Disk.{Disk, Mode}
+use Rattle.call_fs.specs.Columns.{IsAnswerTo}
+use Rattle.call_fs.specs.Past.{Uses, UsesHeld, Backs, held}
+use Rattle.call_fs.proofs.Held.{may_call}
 use Rattle.mail_bytes.specs.Moments.{IsMoment}
 use Rattle.call_fs.specs.Maps.{put_at}
 use Rattle.call_fs.specs.Apply.{Apply, IsReadBy}
@@ -25,13 +28,15 @@ use Rattle.mail_world.specs.History.Event.{Start, Moment, Halt}
 use Rattle.mail_world.specs.History.Life.{Over, Stopped}
 use Rattle.mail_world.specs.World.{next_pid, is_start, input_ready, IsStep, span_after, span_of, was_started, EndsAt}
 use Rattle.mail_world.specs.World.Span.{OverAt}
-use Rattle.mail_world.specs.Inside.{known, span_by, Follows, IsMember, AreActors, IsOpenTo, IsLed, IsWorld}
-use Rattle.mail_world.specs.Acting.{MayAct, MayMake, AreOpen, AreCutOff, HasActed, IsFinished, call_event, opened, shut}
+use Rattle.mail_world.specs.ByKind.{Follows}
+use Rattle.mail_world.specs.Inside.{known, span_by, IsMember, AreActors, IsOpenTo, IsLed, IsWorld}
+use Rattle.mail_world.specs.Acting.{MayAct, MayMake, AreOpen, AreCutOff, HasActed, IsFinished, call_event, open_after, shut}
 use Rattle.mail_world.proofs.Known.{known_push}
 use Rattle.mail_world.proofs.Spans.{span_push}
 use Rattle.mail_world.proofs.Histories.{IsActing, LeadsOn, call_told, end_told, stop_told, moment_told, start_told, halt_told, led_on, led_still}
 use Rattle.mail_world.proofs.Descriptors.{shut_listed}
-use Rattle.mail_world.proofs.Opens.{Opens, MayDo, opens_by, next_may}
+use Rattle.mail_world.proofs.Opens.{Opens, opens_by, owns_backs}
+use Rattle.mail_world.proofs.Programs.{program_uses}
 use Rattle.mail_world.proofs.Lists.{some_at}
 use Rattle.mail_world.proofs.Crew.{Halted, crew_halts, crew_acts, crew_looks, crew_waits, crew_starts}
 use Rattle.mail_world.proofs.Acts.{Finishes, call_alone, end_finishes, stop_finishes, finish_alone, start_alone, call_member, finish_member, start_member, look_member}
@@ -72,30 +77,34 @@ pub record StandsAt (places : List ℕ → Option ℕ) (actors : List Held) (s :
   pub member : IsMember s events p x
   pub lives : x.ended ≡ None
 
--- what an injector may do next closes nothing
-may_do : (d : Disk) (s : State) (actors : List Held) (events : List Kept) (i : ℕ) (x : Held) (p : ℕ) (m : IsMember s events p x) → x.ended ≡ None → slice_get actors i ≡ Some x
-    → IsOpenTo d actors s → MayDo d (next_of m.actor.program m.actor.past p input_ready)
-may_do d s actors events i x p m lives is o =
-    next_may d s.holder x.name m.actor.program m.actor.past p input_ready ((o.each i x is).needs m.actor m.is (m.alive lives))
+-- a call that is due uses only what its actor holds
+due_uses : (s : State) (events : List Kept) (p : ℕ) (x : Held) (m : IsMember s events p x) → UsesHeld (held m.actor.past) (next_of m.actor.program m.actor.past p input_ready)
+due_uses s events p x m = program_uses m.actor.program m.actor.past p input_ready m.run
 
 -- what is due may be made
+pub may_make : (d : Disk) (h : ℕ → Option Mode) (due : NeedData) → Backs d h → UsesHeld h due → MayMake d due
+may_make d h (needs.File c) backs uses = may_call d h backs c uses
+may_make d h (needs.Take port) backs uses = tt
+may_make d h (needs.Give port bytes) backs uses = tt
+may_make d h (needs.Start child) backs uses = tt
+may_make d h (needs.Command bytes) backs uses = tt
+may_make d h needs.Wait backs uses = tt
+may_make d h (needs.Ended status) backs uses = tt
+
 pub may_act : (told : Option Disk) (places : List ℕ → Option ℕ) (actors : List Held) (s : State) (events : List Kept) (p n i : ℕ) (x : Held)
     → IsWorld told places actors s events p n → StandsAt places actors s events p i x → MayAct told x.machine p
-may_act told places actors s events p n i x w at = record {
-  program = at.member.actor.program;
-  past = at.member.actor.past;
-  follows = at.member.follows;
-  may = on_told told (λ d. IsOpenTo d actors s) (λ d. MayMake d (next_of at.member.actor.program at.member.actor.past p input_ready))
-      (λ d o. may_make d (next_of at.member.actor.program at.member.actor.past p input_ready) (may_do d s actors events i x p at.member at.lives at.is o)) w.opens;
-} where
-  may_make : (d : Disk) (due : NeedData) → MayDo d due → MayMake d due
-  may_make d (needs.File c) may = may.0
-  may_make d (needs.Take port) may = tt
-  may_make d (needs.Give port bytes) may = tt
-  may_make d (needs.Start child) may = tt
-  may_make d (needs.Command bytes) may = tt
-  may_make d needs.Wait may = tt
-  may_make d (needs.Ended status) may = tt
+may_act told places actors s events p n i x w at =
+    let m = at.member in
+    let past = m.actor.past in
+    let due = next_of m.actor.program past p input_ready in
+    record {
+      program = m.actor.program;
+      past = past;
+      follows = m.follows;
+      run = m.run;
+      may = on_told told (λ d. IsOpenTo d actors s) (λ d. MayMake d due)
+          (λ d o. may_make d (held past) due (owns_backs d s.holder x.name (held past) ((o.each i x at.is).owns m.actor m.is (m.alive at.lives))) (due_uses s events p x m)) w.opens;
+    }
 
 -- an actor's machine looked
 pub look_keeps : (told : Option Disk) (places : List ℕ → Option ℕ) (actors : List Held) (s : State) (events : List Kept) (p n i : ℕ) (x y : Held)
@@ -116,14 +125,14 @@ acting s p x events m lives = record { is = m.is; alive = m.alive lives; in_orde
 
 -- what is open after a call
 call_open : (d e : Disk) (places : List ℕ → Option ℕ) (actors : List Held) (s : State) (events : List Kept) (p i : ℕ) (x y : Held) (at : StandsAt places actors s events p i x) (c : CallData) (got : Told)
-    → AreActors places actors s events p → y.name ≡ x.name → y.descriptors.items ≡ x.descriptors.items ++ opened got.answer
+    → AreActors places actors s events p → y.name ≡ x.name → y.descriptors.items ≡ open_after x.descriptors.items c got.answer
     → next_of at.member.actor.program at.member.actor.past p input_ready ≡ needs.File c → Apply d p c got.answer e
     → IsOpenTo d actors s → IsOpenTo e (set actors i y) (called s x.name p input_ready c got 0 (Some at.member.actor))
 call_open d e places actors s events p i x y at c got crew name list due applied o =
-    let may : MayDo d (needs.File c) = subst (MayDo d) due (may_do d s actors events i x p at.member at.lives at.is o) in
-    let opens : Opens d e s.holder (held_by s.holder x.name c got.answer) x.name got.answer =
-    subst (λ (e : Disk). Opens d e s.holder (held_by s.holder x.name c got.answer) x.name got.answer) (sym applied.2) (opens_by d p c got.answer applied.0 s.holder x.name may.1 applied.1) in
-    call_opens places actors s events p i x y at.member d e input_ready c got crew at.is (at.member.alive at.lives) name list opens o
+    let opens : Opens d e s.holder (held_by s.holder x.name c got.answer) x.name c got.answer =
+    subst (λ (e : Disk). Opens d e s.holder (held_by s.holder x.name c got.answer) x.name c got.answer) (sym applied.2) (opens_by d p c got.answer applied.0 s.holder x.name applied.1) in
+    let uses : Uses (held at.member.actor.past) c = subst (UsesHeld (held at.member.actor.past)) due (due_uses s events p x at.member) in
+    call_opens places actors s events p i x y at.member d e input_ready c got crew at.is (at.member.alive at.lives) name list opens uses o
 
 -- what led here goes on with an actor's call
 call_leads_on : (old new : Option Disk) (places : List ℕ → Option ℕ) (actors : List Held) (events : List Kept) (p i : ℕ) (x : Held) (c : CallData) (got : Told)
@@ -137,12 +146,12 @@ call_leads_on old new places actors events p i x c got at due made =
 -- an actor made a call
 pub call_keeps : (old new : Option Disk) (places : List ℕ → Option ℕ) (actors : List Held) (events : List Kept) (p n i : ℕ) (x y : Held) (c : CallData) (got : Told)
     → IsWorld old places actors (known events) events p n → (at : StandsAt places actors (known events) events p i x)
-    → y.name ≡ x.name → y.ended ≡ x.ended → y.descriptors.items ≡ x.descriptors.items ++ opened got.answer
-    → next_of at.member.actor.program at.member.actor.past p input_ready ≡ needs.File c
+    → y.name ≡ x.name → y.ended ≡ x.ended → y.descriptors.items ≡ open_after x.descriptors.items c got.answer
+    → IsAnswerTo c got.answer → next_of at.member.actor.program at.member.actor.past p input_ready ≡ needs.File c
     → Follows y.machine at.member.actor.program ((record { read = p; ready = input_ready; due = needs.File c; came = Answered got }) ∷ at.member.actor.past)
     → Meets old new (λ d e. Apply d p c got.answer e × IsReadBy d c got)
     → IsWorld new places (set actors i y) (known (events ++ call_event x.name p c got ∷ [])) (events ++ call_event x.name p c got ∷ []) p n
-call_keeps old new places actors events p n i x y c got w at name ended list due follows made =
+call_keeps old new places actors events p n i x y c got w at name ended list kind due follows made =
     let s = known events in
     let m = at.member in
     let k = call_event x.name p c got in
@@ -153,7 +162,7 @@ call_keeps old new places actors events p n i x y c got w at name ended list due
       now = w.now;
       pid = w.pid ∙ sym (pid_push events k ∙ omega arith);
       kept = crew_acts places actors s t events k p i x y w.kept at.is name (call_alone s x.name m.actor p input_ready c got) (λ a. refl)
-          (call_member s events p x y input_ready c got m at.lives name ended follows);
+          (call_member s events p x y input_ready c got m at.lives name ended due kind follows);
       opens = on_both old new (λ d. IsOpenTo d actors s) (λ d. IsOpenTo d (set actors i y) t) (λ d e. Apply d p c got.answer e × IsReadBy d c got)
           (λ d e applied o. call_open d e places actors s events p i x y at c got w.kept name list due applied.0 o) made w.opens;
       led = led_on old new (λ d e. Apply d p c got.answer e × IsReadBy d c got) events (events ++ k ∷ []) p p made (call_leads_on old new places actors events p i x c got at due made) w.led;
@@ -224,7 +233,7 @@ pub acted_keeps : (did : Option ℕ) (old new : Option Disk) (places : List ℕ 
     → IsWorld new places (set actors i y) (known later) later p n
 acted_keeps None old new places actors events later p n i x y w at acted =
     subst (λ (l : List Kept). IsWorld new places (set actors i y) (known l) l p n) (sym acted.event)
-    (call_keeps old new places actors events p n i x y acted.call acted.told w at acted.name acted.ended acted.descriptors
+    (call_keeps old new places actors events p n i x y acted.call acted.told w at acted.name acted.ended acted.descriptors acted.kind
     (acted.due at.member.actor.program at.member.actor.past at.member.follows)
     (acted.follows at.member.actor.program at.member.actor.past at.member.follows) acted.made)
 acted_keeps (Some status) old new places actors events later p n i x y w at acted =

@@ -1,8 +1,9 @@
 -- One step of an actor: what it needs, and what it does to the disk, to the actor and to the history.
-use Rattle.std.specs.Prelude.{◌≡◌, ℕ, List, [], ◌∷◌, ◌++◌, length, false, if◌then◌else◌, Option, Some, None, IsSome, IsSomeAnd}
-use Rattle.std.specs.List.{slice_get}
+use Rattle.std.specs.Prelude.{◌≡◌, ℕ, ◌≤◌, ◌==◌, List, [], ◌∷◌, ◌++◌, length, false, not, if◌then◌else◌, Option, Some, None, IsSome, IsSomeAnd}
+use Rattle.std.specs.List.{filter, slice_get}
 use Rattle.call_fs.specs.declared.calls.Fd.{Fd}
 use Rattle.call_fs.specs.declared.calls.CallData.{CallData}
+use Rattle.call_fs.specs.declared.calls.CallData.TheVariants.{Close, ReadAt}
 use Rattle.call_fs.specs.declared.calls.Answer.{Answer}
 use Rattle.call_fs.specs.declared.calls.Told.{Told}
 use Rattle.call_fs.specs.declared.calls.Answer.TheVariants as answer
@@ -10,9 +11,8 @@ use Rattle.call_fs.specs.Disk.{Disk}
 use Rattle.mail_bytes.specs.Told.{OnTold, Meets}
 use Rattle.call_fs.specs.Plan.{Plan, CallKeepsPlan}
 use Rattle.call_fs.specs.Apply.{Apply, IsReadBy, MayCall}
-use Rattle.call_fs.specs.Calls.{without_bytes}
-use Rattle.call_fs.specs.Columns.{IsMomentIn}
-use Rattle.queue_inject.specs.Machine.{due_now}
+use Rattle.call_fs.specs.Columns.{IsAnswerTo, IsMomentIn}
+use Rattle.call_fs.specs.Past.{IsRunBy}
 use Rattle.call_fs.specs.declared.past.GotData.TheVariants.{Answered}
 use Rattle.call_fs.specs.declared.past.NeedData.{NeedData}
 use Rattle.call_fs.specs.declared.past.NeedData.TheVariants as needs
@@ -21,20 +21,26 @@ use Rattle.mail_world.specs.declared.event.Event.{Event as Kept}
 use Rattle.mail_world.specs.declared.event.Event.TheVariants as kept
 use Rattle.mail_world.specs.declared.event.Program.{Program}
 use Rattle.mail_world.specs.declared.actor.Actor.{Actor as Held}
-use Rattle.mail_world.specs.declared.mailer.Mailer.{Mailer}
+use Rattle.mail_world.specs.declared.any_machine.AnyMachine.{AnyMachine}
 use Rattle.mail_world.specs.declared.actor.Came.{Came}
 use Rattle.mail_world.specs.declared.actor.Came.TheVariants as came
 use Rattle.mail_world.specs.declared.error.WorldError.{WorldError}
 use Rattle.mail_world.specs.declared.error.WorldError.TheVariants as why
 use Rattle.mail_world.specs.History.{next_of}
-use Rattle.mail_world.specs.World.{input_ready}
-use Rattle.mail_world.specs.Inside.{Follows, has}
+use Rattle.mail_world.specs.World.{input_ready, kept_call}
+use Rattle.mail_world.specs.ByKind.{Follows}
+use Rattle.mail_world.specs.Inside.{has}
 
--- what an answer opened
-abbrev pub opened : Answer → List Fd
-opened (answer.Created fd n) = fd ∷ []
-opened (answer.Opened fd) = fd ∷ []
-opened other = []
+-- the others of these
+abbrev pub without : ℕ → List Fd → List Fd
+without fd fds = filter (λ one. not (one.0 == fd)) fds
+
+-- what is open after a call, of what was: also what it opened, and not what it closed
+abbrev pub open_after : List Fd → CallData → Answer → List Fd
+open_after fds call (answer.Created fd n) = fds ++ fd ∷ []
+open_after fds call (answer.Opened fd) = fds ++ fd ∷ []
+open_after fds (Close fd) answer.Done = without fd.0 fds
+open_after fds call answer = fds
 
 -- each is open, and there once
 abbrev pub AreOpen : Disk → List Fd → Type 0
@@ -50,45 +56,47 @@ abbrev pub MayMake : Disk → NeedData → Type 0
 MayMake d (needs.File c) = MayCall d c
 MayMake d other = Unit {0}
 
--- a machine that may act at this moment
-pub record MayAct (disk : Option Disk) (machine : Mailer) (now : ℕ) : Type 0 where
+-- an actor's machine may act at this moment
+pub record MayAct (disk : Option Disk) (machine : AnyMachine) (now : ℕ) : Type 0 where
   pub program : Program
   pub past : List Own
   pub follows : Follows machine program past
+  pub run : IsRunBy (next_of program) past
   pub may : OnTold disk (λ d. MayMake d (next_of program past now input_ready))
 
 -- what came was due
 abbrev pub due_by : Came → NeedData
-due_by (came.Called call answer) = needs.File call
+due_by (came.Called call told) = needs.File call
 due_by (came.Ended status) = needs.Ended status
 
--- a moment that came with an answer is one
-abbrev pub HasMoment : Came → Type 0
-HasMoment (came.Called call answer) = IsMomentIn answer
-HasMoment (came.Ended status) = Unit {0}
+-- an answer is one to its call, and a moment that came with it is one
+abbrev pub IsStated : Came → Type 0
+IsStated (came.Called call told) = IsAnswerTo call told.answer × IsMomentIn told.answer
+IsStated (came.Ended status) = Unit {0}
 
 -- what it did to the disk
 abbrev pub IsMade : Came → ℕ → Option Disk → Option Disk → Type 0
-IsMade (came.Called call answer) now old new = Meets old new (λ before after. Apply before now call answer after)
+IsMade (came.Called call told) now old new = Meets old new (λ before after. Apply before now call told.answer after × IsReadBy before call told)
 IsMade (came.Ended status) now old new = new ≡ old
 
 -- what a plan says of it, and what is left of the plan
 abbrev pub IsPlannedCame : Came → Option Plan → Option Plan → Option Disk → Option Disk → Type 0
-IsPlannedCame (came.Called call answer) old new disk disk_after = CallKeepsPlan call old new disk disk_after answer
+IsPlannedCame (came.Called call told) old new disk disk_after = CallKeepsPlan call old new disk disk_after told.answer
 IsPlannedCame (came.Ended status) old new disk disk_after = new ≡ old
 
--- what was due and its answer as the newest event of a past
-abbrev pub with_call : Mailer → List Own → Answer → List Own
-with_call machine past answer = (record {
-  read = machine.injector.present;
-  ready = machine.injector.ready;
-  due = due_now machine.injector;
-  came = Answered (without_bytes answer);
-}) ∷ past
+-- how many bytes a call may read
+abbrev pub most_read : CallData → ℕ
+most_read (ReadAt fd at len) = len
+most_read call = 0
+
+-- an answer counts no more bytes than this, and no more than a piece
+abbrev pub HasFew : ℕ → Answer → Type 0
+HasFew most (answer.Count count) = (count ≤ most) × (count ≤ 8192)
+HasFew most other = Unit {0}
 
 -- a call that came, as it is kept
 abbrev pub call_event : List ℕ → ℕ → CallData → Told → Kept
-call_event a now call told = kept.Call a now input_ready call told
+call_event a now call told = kept_call a now input_ready call told
 
 -- a step made a call, and the machine was told what came of it
 pub record HasCalled (old new : Option Disk) (x y : Held) (before now_kept : List Kept) (now : ℕ) : Type 0 where
@@ -99,7 +107,8 @@ pub record HasCalled (old new : Option Disk) (x y : Held) (before now_kept : Lis
   pub follows : (program : Program) (past : List Own) → Follows x.machine program past → Follows y.machine program ((record { read = now; ready = input_ready; due = needs.File call; came = Answered told }) ∷ past)
   pub made : Meets old new (λ d e. Apply d now call told.answer e × IsReadBy d call told)
   pub name : y.name ≡ x.name
-  pub descriptors : y.descriptors.items ≡ x.descriptors.items ++ opened told.answer
+  pub kind : IsAnswerTo call told.answer
+  pub descriptors : y.descriptors.items ≡ open_after x.descriptors.items call told.answer
   pub ended : y.ended ≡ x.ended
 
 -- the index of the event with which an actor's life ended, where else it is this one's

@@ -13,6 +13,7 @@ use Rattle.call_fs.specs.Disk.{Disk, IsSynced}
 use Rattle.mail_bytes.specs.Moments.{IsMoment}
 use Rattle.call_fs.specs.Apply.{effect, Fits, IsReadBy}
 use Rattle.call_fs.specs.Survival.{AllSurvive, halted}
+use Rattle.call_fs.specs.declared.past.GotData.{GotData}
 use Rattle.call_fs.specs.declared.past.GotData.TheVariants.{Answered}
 use Rattle.call_fs.specs.declared.past.NeedData.{NeedData}
 use Rattle.call_fs.specs.declared.past.NeedData.TheVariants as needs
@@ -26,20 +27,29 @@ use Rattle.queue_inject.specs.Table.{Next}
 use Rattle.mail_world.specs.declared.event.Program.{Program}
 use Rattle.mail_world.specs.declared.event.Program.TheVariants.{Injector}
 
--- One event. `wrote` is how many bytes a failed write had written, which no program is told. `contents` is what a
+-- One event. `own` is an event of the actor's own past; `wrote` is how many bytes a failed write had written, which no
+-- program is told. `contents` is what a
 -- machine stop left of each file; `how` is what it was called, and limits nothing.
 pub data Event : Type 0 where
   Start : (actor : List ℕ) (program : Program) → Event
-  Call : (actor : List ℕ) (read : ℕ) (ready : Ready) (call : CallData) (told : Told) (wrote : ℕ) → Event
+  Act : (actor : List ℕ) (own : Own) (wrote : ℕ) → Event
   End : (actor : List ℕ) (read : ℕ) (ready : Ready) (status : ℕ) → Event
   Stop : (actor : List ℕ) → Event
   Moment : ℕ → Event
   Halt : (how : Survival) (contents : ℕ → List ℕ) → Event
 
+-- a file call and what was told, as an event of a program's own past
+abbrev pub own_call : ℕ → Ready → CallData → Told → Own
+own_call read ready call told = record { read = read; ready = ready; due = needs.File call; came = Answered told }
+
+-- an actor's file call
+abbrev pub call_act : List ℕ → ℕ → Ready → CallData → Told → ℕ → Event
+call_act a read ready call told wrote = Act a (own_call read ready call told) wrote
+
 -- any start
 abbrev pub is_start : Event → Bool
 is_start (Start a program) = true
-is_start (Call a read ready call told wrote) = false
+is_start (Act a own wrote) = false
 is_start (End a read ready status) = false
 is_start (Stop a) = false
 is_start (Moment m) = false
@@ -120,19 +130,34 @@ held_by holder a call (Opened fd) = put holder fd.0 (Some a)
 held_by holder a (Close fd) Done = put holder fd.0 None
 held_by holder a call answer = holder
 
-abbrev pub called : State → List ℕ → ℕ → Ready → CallData → Told → ℕ → Option Actor → State
-called s a read ready call told wrote None = s
-called s a read ready call told wrote (Some x) = record {
-  disk = effect s.disk read call told.answer wrote;
-  holder = held_by s.holder a call told.answer;
+-- What an event of an actor does to the disk, to the descriptors and to the books: a file call its effect, any other
+-- nothing.
+abbrev pub disk_after : Disk → ℕ → NeedData → GotData → ℕ → Disk
+disk_after d read (needs.File call) (Answered told) wrote = effect d read call told.answer wrote
+disk_after d read due came wrote = d
+
+abbrev pub holder_after : (ℕ → Option (List ℕ)) → List ℕ → NeedData → GotData → ℕ → Option (List ℕ)
+holder_after holder a (needs.File call) (Answered told) = held_by holder a call told.answer
+holder_after holder a due came = holder
+
+abbrev pub books_after : Books → List ℕ → Program → NeedData → GotData → Books
+books_after b a program (needs.File call) (Answered told) = booked_by b a program call told.answer
+books_after b a program due came = b
+
+-- the state after an event of an actor, which is the newest of its own past then
+abbrev pub acted : State → List ℕ → Own → ℕ → Option Actor → State
+acted s a own wrote None = s
+acted s a own wrote (Some x) = record {
+  disk = disk_after s.disk own.read own.due own.came wrote;
+  holder = holder_after s.holder a own.due own.came;
   now = s.now;
-  actors = put_at s.actors a (Some (record {
-    program = x.program;
-    past = (record { read = read; ready = ready; due = needs.File call; came = Answered told }) ∷ x.past;
-    life = x.life;
-  }));
-  books = booked_by s.books a x.program call told.answer;
+  actors = put_at s.actors a (Some (record { program = x.program; past = own ∷ x.past; life = x.life }));
+  books = books_after s.books a x.program own.due own.came;
 }
+
+-- so after a file call
+abbrev pub called : State → List ℕ → ℕ → Ready → CallData → Told → ℕ → Option Actor → State
+called s a read ready call told wrote x = acted s a (own_call read ready call told) wrote x
 
 -- a descriptor of that actor is gone
 abbrev pub unless_by : {X : Type 0} → List ℕ → Option (List ℕ) → Option X → Option X
@@ -171,7 +196,7 @@ happens s (Start a program) = record {
   actors = put_at s.actors a (Some (record { program = program; past = []; life = Alive }));
   books = s.books;
 }
-happens s (Call a read ready call told wrote) = called s a read ready call told wrote (s.actors a)
+happens s (Act a own wrote) = acted s a own wrote (s.actors a)
 happens s (End a read ready status) = finished s a (Over status) (s.actors a)
 happens s (Stop a) = finished s a Stopped (s.actors a)
 happens s (Moment m) = record { disk = s.disk; holder = s.holder; now = m; actors = s.actors; books = s.books }
@@ -225,10 +250,15 @@ pub record MayCome (s : State) (m : ℕ) : Type 0 where
   pub moment : IsMoment m
   pub no_earlier : s.now ≤ m
 
+-- What an actor may do: a file call. Takings, givings, starts and commands come with the first program that has a pipe.
+abbrev pub MayDo : State → List ℕ → ℕ → Ready → NeedData → GotData → ℕ → Type 0
+MayDo s a read ready (needs.File call) (Answered told) wrote = MayCall s a read ready call told wrote
+MayDo s a read ready due came wrote = ⊥
+
 -- which events may happen in a state
 abbrev pub Allowed : State → Event → Type 0
 Allowed s (Start a program) = MayStart s a program
-Allowed s (Call a read ready call told wrote) = MayCall s a read ready call told wrote
+Allowed s (Act a own wrote) = MayDo s a own.read own.ready own.due own.came wrote
 Allowed s (End a read ready status) = MayEnd s a read ready status
 Allowed s (Stop a) = IsLiving s a
 Allowed s (Moment m) = MayCome s m

@@ -2,27 +2,17 @@
 use Rattle.std.specs.Prelude.{◌≡◌, ℕ, ◌≤◌, ◌==◌, List, [], ◌∷◌, map, reverse, count_by, Bool, false, Option, Some, None, IsSome, IsSomeAnd, is_some, is_none, bytes_eq}
 use Rattle.std.specs.List.{list_any, slice_get}
 use Rattle.call_fs.specs.declared.calls.Fd.{Fd}
-use Rattle.call_fs.specs.Disk.{Disk, Open, Mode}
+use Rattle.call_fs.specs.Disk.{Disk, Mode}
 use Rattle.mail_bytes.specs.Moments.{IsMoment}
 use Rattle.call_fs.specs.Apply.{empty_file}
 use Rattle.mail_bytes.specs.Told.{OnTold}
-use Rattle.call_fs.specs.declared.past.Own.{Own}
-use Rattle.queue_inject.specs.declared.injection.Arguments.{Arguments}
-use Rattle.queue_inject.specs.declared.row.Row.{Row}
-use Rattle.queue_inject.specs.declared.row.Row.TheVariants as at
-use Rattle.queue_inject.specs.Table.{row_after}
-use Rattle.queue_inject.specs.declared.injection.InputEnd.TheVariants.{Whole}
-use Rattle.queue_inject.specs.declared.injection.Part.{Part}
-use Rattle.queue_inject.specs.declared.injection.Part.TheVariants.{Message, Envelope}
-use Rattle.queue_inject.specs.Stands.{Stands}
+use Rattle.call_fs.specs.Past.{IsRunBy, held}
 use Rattle.mail_world.specs.declared.event.Event.{Event as Kept}
 use Rattle.mail_world.specs.declared.event.Event.TheVariants as kept
-use Rattle.mail_world.specs.declared.event.Program.{Program}
-use Rattle.mail_world.specs.declared.event.Program.TheVariants.{Injector}
 use Rattle.mail_world.specs.declared.actor.Actor.{Actor as Held}
-use Rattle.mail_world.specs.declared.mailer.Mailer.{Mailer}
-use Rattle.mail_world.specs.History.{Event, Actor, State, after, latest}
-use Rattle.mail_world.specs.History.Event.{Start, Call, End, Stop, Moment, Halt}
+use Rattle.mail_world.specs.ByKind.{Follows}
+use Rattle.mail_world.specs.History.{Event, Actor, State, after, latest, next_of}
+use Rattle.mail_world.specs.History.Event.{Start, Act, End, Stop, Moment, Halt}
 use Rattle.mail_world.specs.History.Life.{Alive}
 use Rattle.mail_world.specs.World.{Leads, Span, span_of, was_started, next_pid}
 use Rattle.mail_world.specs.World.Span.{Unborn, Lasting, OverAt}
@@ -30,7 +20,7 @@ use Rattle.mail_world.specs.World.Span.{Unborn, Lasting, OverAt}
 -- a kept event, read as one whose failed write had written nothing, or that left nothing of any file
 abbrev pub event_of : Kept → Event
 event_of (kept.Start a program) = Start a program
-event_of (kept.Call a read ready call told) = Call a read ready call told 0
+event_of (kept.Act a own) = Act a own 0
 event_of (kept.End a read ready status) = End a read ready status
 event_of (kept.Stop a) = Stop a
 event_of (kept.Moment m) = Moment m
@@ -44,28 +34,6 @@ nowhere = record { dirs = []; names = λ _. None; files = λ _. empty_file 0; op
 abbrev pub known : List Kept → State
 known events = after nowhere (map event_of (reverse events))
 
--- these are the message and the envelope, both whole
-pub record AreInputs (args : Arguments) (message envelope : List ℕ) : Type 0 where
-  pub message_is : args.message ≡ message
-  pub message_whole : args.message_end ≡ Whole
-  pub envelope_is : args.envelope ≡ envelope
-  pub envelope_whole : args.envelope_end ≡ Whole
-
--- this is the part of the input, whole
-abbrev pub IsInput : Option Part → Arguments → List ℕ → Type 0
-IsInput None args text = Unit {0}
-IsInput (Some Message) args text = (args.message ≡ text) × (args.message_end ≡ Whole)
-IsInput (Some Envelope) args text = (args.envelope ≡ text) × (args.envelope_end ≡ Whole)
-
--- an injector stands for this past, and what is kept beside it is its input
-pub record Injects (mailer : Mailer) (args : Arguments) (past : List Own) : Type 0 where
-  pub stands : Stands mailer.injector args past
-  pub inputs : AreInputs args mailer.message mailer.envelope
-
--- an injector with its input is that of this program with this past
-abbrev pub Follows : Mailer → Program → List Own → Type 0
-Follows mailer (Injector args) past = Injects mailer args past
-
 -- the life of an actor that ended with this event, or lasts
 abbrev pub span_by : Option ℕ → Span
 span_by None = Lasting
@@ -76,6 +44,7 @@ pub record IsMember (s : State) (events : List Kept) (present : ℕ) (x : Held) 
   pub actor : Actor
   pub is : s.actors x.name ≡ Some actor
   pub follows : Follows x.machine actor.program actor.past
+  pub run : IsRunBy (next_of actor.program) actor.past
   pub in_order : latest actor.program actor.past ≤ present
   pub alive : x.ended ≡ None → actor.life ≡ Alive
   pub spans : span_of x.name (reverse events) ≡ span_by x.ended
@@ -108,32 +77,21 @@ abbrev pub AreApart : List Fd → Type 0
 AreApart [] = Unit {0}
 AreApart (fd ∷ fds) = (has fd.0 fds ≡ false) × AreApart fds
 
--- that actor's, open, and of a file that it created
-pub record IsOwn (d : Disk) (holder : ℕ → Option (List ℕ)) (a : List ℕ) (fd : ℕ) : Type 0 where
+-- that actor's, and open in this mode
+pub record IsOwn (d : Disk) (holder : ℕ → Option (List ℕ)) (a : List ℕ) (fd : ℕ) (mode : Mode) : Type 0 where
   pub held : holder fd ≡ Some a
-  pub file : Open
-  pub is : d.opens fd ≡ Some file
-  pub created : file.mode ≡ Mode.Created
+  pub number : ℕ
+  pub is : d.opens fd ≡ Some (record { number = number; mode = mode })
 
--- the descriptor that this row, or one after it, writes to
-abbrev pub HasRow : Disk → (ℕ → Option (List ℕ)) → List ℕ → Row → Type 0
-HasRow d holder a (at.LinkMess seq n fd) = IsOwn d holder a fd.0
-HasRow d holder a (at.UnlinkPid seq n fd) = IsOwn d holder a fd.0
-HasRow d holder a (at.AppendMess n fd done) = IsOwn d holder a fd.0
-HasRow d holder a (at.SyncMess n fd) = IsOwn d holder a fd.0
-HasRow d holder a (at.AppendTodo n fd done) = IsOwn d holder a fd.0
-HasRow d holder a (at.SyncTodo n fd) = IsOwn d holder a fd.0
-HasRow d holder a row = Unit {0}
+-- what is held is open, and that actor's
+abbrev pub Owns : Disk → (ℕ → Option (List ℕ)) → List ℕ → (ℕ → Option Mode) → Type 0
+Owns d holder a held = (fd : ℕ) (mode : Mode) → held fd ≡ Some mode → IsOwn d holder a fd mode
 
--- what a program with this past needs open
-abbrev pub HasNeeds : Disk → (ℕ → Option (List ℕ)) → List ℕ → Program → List Own → Type 0
-HasNeeds d holder a (Injector args) past = HasRow d holder a (row_after args past)
-
--- what an actor has open is its own, and what it needs is open
+-- what an actor has open is its own, and so is what its past holds, while it lives
 pub record HasOpen (d : Disk) (s : State) (x : Held) : Type 0 where
   pub lists : (fd : ℕ) → has fd x.descriptors.items ≡ is_by x.name (s.holder fd)
   pub apart : AreApart x.descriptors.items
-  pub needs : (actor : Actor) → s.actors x.name ≡ Some actor → actor.life ≡ Alive → HasNeeds d s.holder x.name actor.program actor.past
+  pub owns : (actor : Actor) → s.actors x.name ≡ Some actor → actor.life ≡ Alive → Owns d s.holder x.name (held actor.past)
 
 -- what an actor holds is open
 pub record IsOpenTo (d : Disk) (actors : List Held) (s : State) : Type 0 where

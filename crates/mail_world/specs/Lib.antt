@@ -8,6 +8,8 @@ pub mod Kept
 pub mod MailNames
 -- what is promised of a world
 pub mod World
+-- the machines of actors
+pub mod ByKind
 -- what the fields of a world mean
 pub mod Inside
 -- one step of an actor

@@ -4,6 +4,10 @@ use Rattle.std.specs.List.{AllZip, list_any}
 use Rattle.call_fs.specs.declared.calls.CallData.{CallData}
 use Rattle.call_fs.specs.declared.calls.Told.{Told}
 use Rattle.call_fs.specs.declared.program.Ready.{Ready}
+use Rattle.call_fs.specs.declared.past.NeedData.{NeedData}
+use Rattle.call_fs.specs.declared.past.NeedData.TheVariants.{File}
+use Rattle.call_fs.specs.declared.past.GotData.{GotData}
+use Rattle.call_fs.specs.declared.past.GotData.TheVariants.{Answered}
 use Rattle.call_fs.specs.declared.crash_file_system.Survival.{Survival}
 use Rattle.call_fs.specs.Choices.{AreNamed, contents_by}
 use Rattle.call_fs.specs.Plan.{Plan, CallKeepsPlan}
@@ -14,14 +18,18 @@ use Rattle.received_line.specs.declared.line.Invoked.TheVariants.{Uid}
 use Rattle.mail_world.specs.declared.event.Event.{Event as Kept}
 use Rattle.mail_world.specs.declared.event.Event.TheVariants as kept
 use Rattle.mail_world.specs.declared.event.Program.TheVariants.{Injector}
-use Rattle.mail_world.specs.History.{Event, after, EachAllowed, Legal}
-use Rattle.mail_world.specs.History.Event.{Start, Call, End, Stop, Moment, Halt}
+use Rattle.mail_world.specs.History.{Event, own_call, after, EachAllowed, Legal}
+use Rattle.mail_world.specs.History.Event.{Start, Act, End, Stop, Moment, Halt}
 use Rattle.mail_world.specs.Headline.{Safe}
+
+-- an actor's file call, as it is kept
+abbrev pub kept_call : List ℕ → ℕ → Ready → CallData → Told → Kept
+kept_call a read ready call told = kept.Act a (own_call read ready call told)
 
 -- A kept event tells an event: all of it but how much a failed write had written, which no program is told.
 abbrev pub Tells : Kept → Event → Type 0
 Tells event (Start a program) = event ≡ kept.Start a program
-Tells event (Call a read ready call told wrote) = event ≡ kept.Call a read ready call told
+Tells event (Act a own wrote) = event ≡ kept.Act a own
 Tells event (End a read ready status) = event ≡ kept.End a read ready status
 Tells event (Stop a) = event ≡ kept.Stop a
 Tells event (Moment m) = event ≡ kept.Moment m
@@ -30,7 +38,7 @@ Tells event (Halt how contents) = event ≡ kept.Halt how
 -- a machine stop left of this disk what its name says
 abbrev pub IsByName : Disk → Event → Type 0
 IsByName d (Start a program) = Unit {0}
-IsByName d (Call a read ready call told wrote) = Unit {0}
+IsByName d (Act a own wrote) = Unit {0}
 IsByName d (End a read ready status) = Unit {0}
 IsByName d (Stop a) = Unit {0}
 IsByName d (Moment m) = Unit {0}
@@ -81,7 +89,7 @@ EachSafe opening h = (later before : List Event) → later ++ before ≡ h → S
 -- a start of that actor
 abbrev pub starts : List ℕ → Kept → Bool
 starts a (kept.Start b program) = bytes_eq b a
-starts a (kept.Call b read ready call told) = false
+starts a (kept.Act b own) = false
 starts a (kept.End b read ready status) = false
 starts a (kept.Stop b) = false
 starts a (kept.Moment m) = false
@@ -94,7 +102,7 @@ was_started events a = list_any (starts a) events
 -- an event with which the life of that actor ends, where it lives: its end or its stop, or a machine stop
 abbrev pub ends : List ℕ → Kept → Bool
 ends a (kept.Start b program) = false
-ends a (kept.Call b read ready call told) = false
+ends a (kept.Act b own) = false
 ends a (kept.End b read ready status) = bytes_eq b a
 ends a (kept.Stop b) = bytes_eq b a
 ends a (kept.Moment m) = false
@@ -124,7 +132,7 @@ EndsAt events a at = span_of a (reverse events) ≡ OverAt at
 -- any start
 abbrev pub is_start : Kept → Bool
 is_start (kept.Start b program) = true
-is_start (kept.Call b read ready call told) = false
+is_start (kept.Act b own) = false
 is_start (kept.End b read ready status) = false
 is_start (kept.Stop b) = false
 is_start (kept.Moment m) = false
@@ -166,7 +174,7 @@ started_world old name message envelope = record {
 -- A step of that actor appends one event: a file call with what it was told, or the end that was told.
 abbrev pub IsStep : {D : Type 0} → List ℕ → Option ℕ → Seen D → Seen D → Type 0
 IsStep a None old new =
-    (call : CallData) × (told : Told) × (new.events ≡ old.events ++ kept.Call a old.present input_ready call told ∷ [])
+    (call : CallData) × (told : Told) × (new.events ≡ old.events ++ kept_call a old.present input_ready call told ∷ [])
 IsStep a (Some status) old new = new.events ≡ old.events ++ kept.End a old.present input_ready status ∷ []
 
 -- a stop of that actor appends one event, and the present moment stays
@@ -193,10 +201,15 @@ pub record IsAsBefore {D : Type 0} (tells : D → Option Disk) (plan : D → Opt
   pub disk : tells new.disk ≡ tells old.disk
   pub plan_is : plan new.disk ≡ plan old.disk
 
+-- what the plan of a disk says of an event of an actor: a file call is by the plan
+abbrev pub IsPlannedOwn : NeedData → GotData → Option Plan → Option Plan → Option Disk → Option Disk → Type 0
+IsPlannedOwn (File call) (Answered told) old new disk disk_after = CallKeepsPlan call old new disk disk_after told.answer
+IsPlannedOwn due came old new disk disk_after = new ≡ old
+
 -- what the plan of a disk says of an event, and what is left of it: a call is by the plan, and nothing else uses it up
 abbrev pub IsPlannedEvent : Kept → Option Plan → Option Plan → Option Disk → Option Disk → Type 0
 IsPlannedEvent (kept.Start a program) old new told told_after = new ≡ old
-IsPlannedEvent (kept.Call a read ready call told) old new disk disk_after = CallKeepsPlan call old new disk disk_after told.answer
+IsPlannedEvent (kept.Act a own) old new disk disk_after = IsPlannedOwn own.due own.came old new disk disk_after
 IsPlannedEvent (kept.End a read ready status) old new told told_after = new ≡ old
 IsPlannedEvent (kept.Stop a) old new told told_after = new ≡ old
 IsPlannedEvent (kept.Moment m) old new told told_after = new ≡ old

@@ -1,34 +1,44 @@
 // One actor: its machine, and what it has open.
 ghost use Rattle.std.specs.Prelude.{◌≡◌, ◌++◌, ◌∷◌, ◌+◌, ◌<◌, [], List, ℕ, IfOk, IsTrue, OnOk, OnErr, Some, None, false, length, vec_len, vec_capacity};
-ghost use Rattle.call_fs.specs.Columns.{IsMomentIn};
+ghost use Rattle.call_fs.specs.Program.{IsKind};
+ghost use Rattle.call_fs.specs.declared.past.GotData.TheVariants.{Answered};
 ghost use Rattle.mail_bytes.specs.Moments.{IsMoment};
 ghost use Rattle.mail_bytes.specs.Told.{OnTold, Meets};
 ghost use Rattle.call_fs.specs.declared.past.Own.{Own};
-ghost use Rattle.queue_inject.specs.Machine.{due_now, is_call};
 ghost use Rattle.mail_world.specs.declared.event.Program.{Program};
 ghost use Rattle.mail_world.specs.declared.event.Program.TheVariants.{Injector as Injecting};
 ghost use Rattle.mail_world.specs.History.{next_of};
 ghost use Rattle.mail_world.specs.World.{mail, input_ready, GoesByPlan};
-ghost use Rattle.mail_world.specs.Inside.{Follows};
-ghost use Rattle.mail_world.specs.Acting.{MayAct, AreOpen, due_by, HasMoment, IsMade, IsPlannedCame, IsCutOff, AreCutOff, HasActed, HasLooked, IsFinished, with_call, opened, shut};
+ghost use Rattle.mail_world.specs.ByKind.{Follows, present_of, found_of, looked_of, need_of, with_own};
+ghost use Rattle.mail_world.specs.Acting.{MayAct, AreOpen, due_by, IsStated, IsMade, IsPlannedCame, IsCutOff, AreCutOff, HasActed, HasLooked, IsFinished, open_after, without, shut};
 ghost use Rattle.mail_world.specs.declared.event.Event.TheVariants as kept;
 ghost use Rattle.mail_world.specs.Kept.{events_of, HasRoom};
 
-use crate::mailer::{MAIL_USER, Mailer, READY};
+use crate::any_machine::AnyMachine;
+use crate::kept_read::{kept_read, room_to_read};
+use crate::mailer::MAIL_USER;
 use crate::{ActorName, Did, Event, History};
-use call_fs::{Answer, CallData, CallFs, Fd, Need, Told, perform};
+use call_fs::{
+    Answer, CallData, CallFs, Fd, Got, GotData, Machine, Need, NeedData, Own, Ready, Told, perform,
+};
 use mail_bytes::{ByteText, Memory};
 use queue_inject::{Arguments, InputEnd};
 use received_line::Invoked;
 use std::alloc::Global;
+
+/// What each actor finds ready: its input.
+const READY: Ready = Ready {
+    links: [true, false, false, false],
+    child: None,
+};
 
 /// An actor of the world.
 #[derive(Drop)]
 pub struct Actor {
     /// Its name.
     pub name: ActorName,
-    /// Its machine, and its input.
-    pub machine: Mailer,
+    /// Its machine.
+    pub machine: AnyMachine,
     /// Its open descriptors.
     pub descriptors: Vec<Fd>,
     /// The index of its end or stop in the history, where it has ended.
@@ -38,15 +48,15 @@ pub struct Actor {
 /// What came of asking a machine.
 #[derive(Drop)]
 pub enum Came {
-    /// It made this call, with this answer.
-    Called(CallData, Answer),
+    /// It made this call, and was told this.
+    Called(CallData, Told),
     /// It has ended with this status.
     Ended(u8),
 }
 
 impl Actor {
     /// A living actor that has nothing open. Takes no memory.
-    pub fn new(alloc: Global, name: ActorName, machine: Mailer) -> Actor
+    pub fn new(alloc: Global, name: ActorName, machine: AnyMachine) -> Actor
         ensures name { result.name ≡ name }
         ensures machine { result.machine ≡ machine }
         ensures descriptors { result.descriptors.items ≡ [] }
@@ -60,8 +70,8 @@ impl Actor {
         }
     }
 
-    /// Asks its machine what it does next at this moment, and makes the call. Room for a descriptor is made first. The
-    /// condition: what is next may be made.
+    /// Asks its machine what it does next at this moment, and makes the call. Room for a descriptor, and for the bytes of
+    /// a read, is made first. The condition: what is next may be made.
     fn ask<D: CallFs>(&mut self, alloc: Global, disk: &mut D, now: u64) -> Result<Came, Memory>
         requires moment { IsMoment now }
         requires may { MayAct (D.disk disk.old) self.old.machine now }
@@ -75,10 +85,11 @@ impl Actor {
         // The machine stands as before, and has read this moment.
         ensures follows { (program : Program) (past : List Own)
             → Follows self.old.machine program past → Follows self.new.machine program past }
-        ensures present { OnOk result (self.new.machine.injector.present ≡ now) }
-        ensures ready { OnOk result (self.new.machine.injector.ready ≡ input_ready) }
-        ensures due_now { IfOk result (λ came. due_now self.new.machine.injector ≡ due_by came) }
-        ensures stated { IfOk result (λ came. HasMoment came) }
+        ensures present { OnOk result (present_of self.new.machine ≡ now) }
+        ensures found { OnOk result (found_of self.new.machine ≡ input_ready) }
+        ensures looked { OnOk result (IsTrue (looked_of self.new.machine)) }
+        ensures need { IfOk result (λ came. need_of self.new.machine ≡ due_by came) }
+        ensures stated { IfOk result (λ came. IsStated came) }
 
         // The rest stays.
         ensures name { self.new.name ≡ self.old.name }
@@ -87,22 +98,24 @@ impl Actor {
         ensures err { OnErr result (disk.new ≡ disk.old) }
     {
         self.descriptors.reserve(1)?;
-        self.machine.look(now);
+        self.machine.look(now, READY);
         match self.machine.need() {
             Need::File(call) => {
                 let owned = CallData::of(alloc, call)?;
-                let mut bytes = [0; 8192];
-                let answer = perform(alloc, disk, now, call, &mut bytes);
-                Ok(Came::Called(owned, answer))
+                let room = room_to_read(alloc, &owned)?;
+                let mut buffer = [0; 8192];
+                let answer = perform(alloc, disk, now, call, &mut buffer);
+                let bytes = kept_read(room, &answer, &buffer);
+                Ok(Came::Called(owned, Told { answer, bytes }))
             }
             Need::Ended(status) => Ok(Came::Ended(status)),
             _ => unreachable!(),
         }
     }
 
-    /// One step at this moment: its next file call, or its end, in which its descriptors are closed. The event is
-    /// appended before the answer is handed to the machine. The conditions: what is next may be made, what it has open
-    /// is open, and there is room for the event.
+    /// One step at this moment: its next file call, or its end, in which its descriptors are closed. From the call on no
+    /// memory is taken. The conditions: what is next may be made, what it has open is open, and there is room for the
+    /// event.
     pub fn act<D: CallFs>(
         &mut self,
         alloc: Global,
@@ -127,16 +140,18 @@ impl Actor {
     {
         let at = history.len() as u64;
         match self.ask(alloc, disk, now)? {
-            Came::Called(call, answer) => {
-                let told = told(alloc, &answer);
-                history.put(Event::Call {
-                    actor: self.name.copy(),
+            Came::Called(call, told) => {
+                self.take(alloc, &call, &told);
+                let own = Own {
                     read: now,
                     ready: READY,
-                    call,
-                    told,
+                    due: NeedData::File(call),
+                    came: GotData::Answered(told),
+                };
+                history.put(Event::Act {
+                    actor: self.name.copy(),
+                    own,
                 });
-                self.take(answer);
                 Ok(Did::new(at, None))
             }
             Came::Ended(status) => {
@@ -152,20 +167,21 @@ impl Actor {
         }
     }
 
-    /// Hands the answer to its call to its machine, and keeps what was opened. The conditions: a call is due, what a
-    /// stat tells is a moment, and there is room for a descriptor.
-    fn take(&mut self, answer: Answer)
-        requires due { IsTrue (is_call (due_now self.old.machine.injector)) }
-        requires stated { IsMomentIn answer }
+    /// Hands what came of its call to its machine, and keeps what is open. Takes no memory. The conditions: it has looked,
+    /// a call is due, what a stat tells is a moment, and there is room for a descriptor.
+    fn take(&mut self, alloc: Global, call: &CallData, told: &Told)
+        requires looked { IsTrue (looked_of self.old.machine) }
+        requires kind { IsKind (need_of self.old.machine) (Answered told.now) }
         requires room { vec_len self.old.descriptors < vec_capacity self.old.descriptors }
         ensures follows { (program : Program) (past : List Own) → Follows self.old.machine program past
-            → Follows self.new.machine program (with_call self.old.machine past answer) }
-        ensures descriptors { self.new.descriptors.items ≡ self.old.descriptors.items ++ opened answer }
+            → Follows self.new.machine program (with_own self.old.machine (Answered told.now) past) }
+        ensures descriptors { self.new.descriptors.items ≡ open_after self.old.descriptors.items call.now told.now.answer }
         ensures name { self.new.name ≡ self.old.name }
         ensures ended { self.new.ended ≡ self.old.ended }
     {
-        keep_open(&mut self.descriptors, &answer);
-        self.machine.done(answer);
+        keep_open(&mut self.descriptors, call, &told.answer);
+        let got = Got::File(told.answer.copy(), told.bytes.as_slice());
+        self.machine.done(alloc, got).unwrap();
     }
 
     /// It is stopped from outside: the event is appended, and its descriptors are closed. Takes no memory. The
@@ -221,24 +237,23 @@ pub fn cut_off_all(actors: &mut [Actor], index: u64)
     }
 }
 
-/// An answer that reads no bytes, as a history keeps it.
-fn told(alloc: Global, answer: &Answer) -> Told
-    ensures { result ≡ record { answer = answer.now; bytes = [] } }
+/// Keeps what a call opened, and drops what it closed. The condition: there is room for one more.
+fn keep_open(descriptors: &mut Vec<Fd>, call: &CallData, answer: &Answer)
+    requires { vec_len descriptors.old < vec_capacity descriptors.old }
+    ensures { descriptors.new.items ≡ open_after descriptors.old.items call.now answer.now }
 {
-    Told {
-        answer: answer.copy(),
-        bytes: ByteText::new(alloc),
+    match (call, answer) {
+        (_, Answer::Created(fd, _) | Answer::Opened(fd)) => descriptors.push(*fd).unwrap(),
+        (CallData::Close(fd), Answer::Done) => drop_out(descriptors, *fd),
+        _ => {}
     }
 }
 
-/// Keeps what a call opened. The condition: there is room for it.
-fn keep_open(descriptors: &mut Vec<Fd>, answer: &Answer)
-    requires { vec_len descriptors.old < vec_capacity descriptors.old }
-    ensures { descriptors.new.items ≡ descriptors.old.items ++ opened answer.now }
+/// Drops this descriptor from the list.
+fn drop_out(descriptors: &mut Vec<Fd>, fd: Fd)
+    ensures { descriptors.new.items ≡ without fd.0 descriptors.old.items }
 {
-    if let Answer::Created(fd, _) | Answer::Opened(fd) = answer {
-        descriptors.push(*fd).unwrap();
-    }
+    descriptors.retain(|one| one.0 != fd.0);
 }
 
 /// Closes each descriptor. The condition: each is open, and there once.

@@ -2,7 +2,7 @@
 ghost use Rattle.std.specs.Prelude.{◌≡◌, ◌∷◌, ◌++◌, ◌+◌, [], List, ℕ, length, OnOk};
 
 use crate::ActorName;
-use call_fs::{CallData, Ready, Survival, Told};
+use call_fs::{Own, Ready, Survival};
 use mail_bytes::Memory;
 use queue_inject::Arguments;
 use std::alloc::Global;
@@ -24,18 +24,12 @@ pub enum Event {
         /// What it runs.
         program: Program,
     },
-    /// An actor made a file call.
-    Call {
+    /// An actor did what was due.
+    Act {
         /// The actor.
         actor: ActorName,
-        /// The moment that it read.
-        read: u64,
-        /// What it found ready.
-        ready: Ready,
-        /// The call.
-        call: CallData,
-        /// What was answered.
-        told: Told,
+        /// What it did, and what came of it.
+        own: Own,
     },
     /// An actor ended, and its descriptors were closed.
     End {

@@ -8,8 +8,10 @@
 
 mod actor;
 mod actor_name;
+mod any_machine;
 mod error;
 mod event;
+mod kept_read;
 pub mod laws;
 mod mail_name;
 mod mailer;

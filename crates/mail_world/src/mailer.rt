@@ -1,21 +1,17 @@
-// A mail's injector, with the input that it is fed as it goes.
+// The injector of a mail, with the input that it is fed as it goes.
 ghost use Rattle.std.specs.Prelude.{◌≡◌, ◌∷◌, [], List, ℕ, IfOk, IsTrue};
-ghost use Rattle.call_fs.specs.Columns.{IsMomentIn};
 ghost use Rattle.mail_bytes.specs.Moments.{IsMoment};
 ghost use Rattle.call_fs.specs.declared.past.Own.{Own};
-ghost use Rattle.call_fs.specs.Program.{due_of};
 ghost use Rattle.queue_inject.specs.declared.injection.Arguments.{Arguments};
-ghost use Rattle.queue_inject.specs.Machine.{due_now, is_call, room_of};
+ghost use Rattle.queue_inject.specs.Machine.{room_of};
 ghost use Rattle.queue_inject.specs.Rows.{part_in};
 ghost use Rattle.queue_inject.specs.Stands.{Stands};
-ghost use Rattle.mail_world.specs.declared.event.Program.{Program};
 ghost use Rattle.mail_world.specs.declared.event.Program.TheVariants.{Injector as Injecting};
-ghost use Rattle.mail_world.specs.History.{next_of};
-ghost use Rattle.mail_world.specs.World.{mail, input_ready};
-ghost use Rattle.mail_world.specs.Inside.{Follows, IsInput, AreInputs};
-ghost use Rattle.mail_world.specs.Acting.{with_call};
+ghost use Rattle.mail_world.specs.World.{mail};
+ghost use Rattle.mail_world.specs.ByKind.{Mails, IsInput, AreInputs};
 
-use call_fs::{Answer, Got, Need, PIECE, Ready};
+use crate::Program;
+use call_fs::{Got, Machine, Need, PIECE, Ready};
 use mail_bytes::{ByteText, Memory};
 use queue_inject::{Injector, Part};
 use received_line::Invoked;
@@ -23,12 +19,6 @@ use std::alloc::Global;
 
 /// The user whose mails a script starts.
 pub const MAIL_USER: u32 = 1000;
-
-/// What an injector finds ready: its input.
-pub const READY: Ready = Ready {
-    links: [true, false, false, false],
-    child: None,
-};
 
 /// A mail's injector, and its whole input, of which the injector is fed a piece at a time.
 #[derive(Drop)]
@@ -52,7 +42,7 @@ impl Mailer {
     ) -> Result<Mailer, Memory>
         requires { IsMoment start }
         ensures { IfOk result (λ mailer.
-            Follows mailer (Injecting (mail pid start message.now envelope.now)) []) }
+            Mails mailer (Injecting (mail pid start message.now envelope.now)) []) }
     {
         let invoked = Invoked::Uid(MAIL_USER);
         Ok(Mailer {
@@ -61,39 +51,56 @@ impl Mailer {
             envelope: ByteText::from_slice(alloc, envelope)?,
         })
     }
+}
 
-    /// It is fed what it asks for, and told the moment. The condition: a clock may tell the moment.
-    pub fn look(&mut self, now: u64)
-        requires { IsMoment now }
-        // It stands as before.
-        ensures follows { (program : Program) (past : List Own)
-            → Follows self.old program past → Follows self.new program past }
-        ensures present { self.new.injector.present ≡ now }
-        ensures ready { self.new.injector.ready ≡ input_ready }
-    {
+impl Machine for Mailer {
+    ghost use Rattle.std.specs.Prelude.{true, None};
+    ghost use Rattle.queue_inject.specs.Machine.{due_now};
+    ghost use Rattle.mail_world.specs.History.{next_of};
+    ghost use Rattle.mail_world.specs.ByKind.{Mails};
+
+    type Arguments = Program;
+
+    ghost present = { λ m. m.injector.present };
+
+    ghost found = { λ m. m.injector.ready };
+
+    ghost looked = { λ _. true };
+
+    ghost can_find = { λ _ _. Unit {0} };
+
+    ghost due = { λ m. due_now m.injector };
+
+    ghost takes_at_most = { λ _. 0 };
+
+    ghost has_room = { λ _. Unit {0} };
+
+    ghost ahead = { λ _. None };
+
+    ghost next = { next_of };
+
+    ghost stands = { Mails };
+
+    /// It is fed what it asks for first, so that its input is ready at any time.
+    fn look(&mut self, now: u64, ready: Ready) {
         let (message, envelope) = (self.message.as_slice(), self.envelope.as_slice());
         feed(&mut self.injector, message, envelope);
-        self.injector.look(now, READY);
+        self.injector.look(now, ready);
     }
 
-    /// What it does next.
-    pub fn need(&self) -> Need<'_>
-        ensures due { (program : Program) (past : List Own) → Follows self.now program past
-            → self.now.injector.ready ≡ input_ready → due_of result ≡ next_of program past self.now.injector.present input_ready }
-        ensures due_now { due_of result ≡ due_now self.now.injector }
-    {
+    fn need(&self) -> Need<'_> {
         self.injector.need()
     }
 
-    /// Hands in the answer to its call. The conditions: a call is due, and what a stat tells is a moment.
-    pub fn done(&mut self, answer: Answer)
-        requires due { IsTrue (is_call (due_now self.old.injector)) }
-        requires stated { IsMomentIn answer }
-        ensures { (program : Program) (past : List Own) → Follows self.old program past
-            → Follows self.new program (with_call self.old past answer) }
-    {
-        self.injector.done(Got::File(answer, &[])).unwrap();
+    fn taking_room(&self) -> usize {
+        0
     }
+
+    fn done(&mut self, _alloc: Global, got: Got<'_>) -> Result<(), Memory> {
+        self.injector.done(got)
+    }
+
+    fn uses_held() {}
 }
 
 /// Feeds an injector as much as it asks for now, of this message and this envelope.

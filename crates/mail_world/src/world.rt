@@ -14,6 +14,7 @@ ghost use Rattle.mail_world.specs.Acting.{IsNoLiving};
 ghost use Rattle.mail_world.specs.Places.{place_of};
 
 use crate::actor::{Actor, cut_off_all, mail_of};
+use crate::any_machine::AnyMachine;
 use crate::laws::headline;
 use crate::mail_name::is_mail_name;
 use crate::mailer::Mailer;
@@ -162,13 +163,13 @@ impl<D: CallFs> World<D> {
         ensures goes_on { OnOk result (GoesOn D.disk self.old self.new) }
         ensures err { OnErr result (self.new ≡ self.old) }
     {
-        let machine = Mailer::new(alloc, self.next_pid, self.present, message, envelope)?;
+        let mailer = Mailer::new(alloc, self.next_pid, self.present, message, envelope)?;
         let arguments = mail_of(alloc, self.next_pid, self.present, message, envelope)?;
         self.actors.reserve(1)?;
         // for its start, and for the stop of each actor, of this one too
         self.history.reserve(self.actors.len() + 2)?;
         self.places.add(alloc, name.as_slice(), self.actors.len())?;
-        let actor = Actor::new(alloc, name.copy(), machine);
+        let actor = Actor::new(alloc, name.copy(), AnyMachine::Mail(mailer));
         self.actors.push(actor).unwrap();
         self.history.put(Event::Start {
             actor: name.copy(),

@@ -19,14 +19,14 @@ kept_none (Some l) = sym (append-nil-right l) where
   append-nil-right [] = refl
   append-nil-right (x ∷ l) = ap (λ t. x ∷ t) (append-nil-right l)
 
-kept_more : {X : Type 0} (a b c : Option (List X)) (l m : List X) → AreKept a b l → AreKept b c m → AreKept a c (l ++ m)
+pub kept_more : {X : Type 0} (a b c : Option (List X)) (l m : List X) → AreKept a b l → AreKept b c m → AreKept a c (l ++ m)
 kept_more a b None l m k r = tt
 kept_more None None (Some n) l m k r = absurd r
 kept_more None (Some x) (Some n) l m k r = absurd k
 kept_more (Some o) None (Some n) l m k r = absurd r
 kept_more (Some o) (Some x) (Some n) l m k r = r ∙ ap (λ t. t ++ m) k ∙ append_assoc o l m
 
-kept_one : {X : Type 0} (a b : Option (List X)) (x : X) → Records a b x → AreKept a b (x ∷ [])
+pub kept_one : {X : Type 0} (a b : Option (List X)) (x : X) → Records a b x → AreKept a b (x ∷ [])
 kept_one (Some old) (Some new) x r = r
 kept_one told None x r = tt
 kept_one None (Some new) x r = absurd r

@@ -1,5 +1,5 @@
 -- One turn of a program, and whole runs: the events are those of its table, and they did outside what they say.
-use Rattle.std.specs.Prelude.{◌≡◌, ◌⊎◌, ℕ, ◌≤◌, List, [], ◌∷◌, ◌++◌, Option, Some, None, IsSome}
+use Rattle.std.specs.Prelude.{◌≡◌, ◌⊎◌, ℕ, ◌≤◌, List, [], ◌∷◌, ◌++◌, length, Option, Some, None, IsSome}
 use Rattle.call_fs.specs.declared.program.Port.TheVariants as port
 use Rattle.call_fs.specs.declared.program.Ready.{Ready}
 use Rattle.call_fs.specs.declared.past.NeedData.{NeedData}
@@ -94,9 +94,10 @@ pub record Did (start : ℕ) (past : List Own) (old new : Outside) : Type 0 wher
   pub output_counts : old.output_faults ≤ new.output_faults
   pub output_cause : HasEvent past FailsToGive → Rose old.output_faults new.output_faults
 
--- A run that goes on: some past, which is a run for all arguments for which the machine stands.
-pub record IsRunning {A : Type 0} (next : A → Table) (stands : A → List Own → Type 0) (possible : A → Type 0) (ready : Ready) (start : ℕ) (old now : Outside) : Type 0 where
+-- A run that goes on after so many turns: some past, which is a run for all arguments for which the machine stands.
+pub record IsRunning {A : Type 0} (next : A → Table) (stands : A → List Own → Type 0) (possible : A → Type 0) (ready : Ready) (start turns : ℕ) (old now : Outside) : Type 0 where
   pub past : List Own
+  pub long : length past ≡ turns
   pub finds : Finds ready past
   pub holds : (args : A) → possible args → stands args past
   pub run : (args : A) → possible args → IsRunBy (next args) past
@@ -113,7 +114,11 @@ pub record HasRun {A : Type 0} (next : A → Table) (possible : A → Type 0) (r
   pub did : Did start past old before_last
   pub looks : Looks last before_last new
 
--- It ran to its end, with this status; or it still runs.
+-- the most turns that a run takes
+abbrev pub most_turns : ℕ
+most_turns = 18446744073709551615
+
+-- It ran to its end, with this status; or it still runs after as many turns as a run may take.
 abbrev pub RunsTo : {A : Type 0} → Option ℕ → (A → Table) → (A → List Own → Type 0) → (A → Type 0) → Ready → ℕ → Outside → Outside → Type 0
 RunsTo (Some status) next stands possible ready start old new = HasRun next possible ready start status old new
-RunsTo None next stands possible ready start old new = IsRunning next stands possible ready start old new
+RunsTo None next stands possible ready start old new = IsRunning next stands possible ready start most_turns old new

@@ -6,8 +6,10 @@
 //! qmail-queue(8) and qmail-clean(8) are run so.
 #![tactic(auto)]
 
+mod nothing;
 mod one_turn;
 mod running;
 
-pub use one_turn::{INPUT_READY, turn};
+pub use nothing::Nothing;
+pub use one_turn::{INPUT_READY, take, turn};
 pub use running::run_on;

@@ -86,7 +86,7 @@ pub fn qmail<
         (record { disk = D.disk disk.new; calls = D.calls disk.new; faults = D.faults disk.new })
         (record { old = O.taken out.old; new = O.taken out.new; faults_old = O.faults out.old; faults_new = O.faults out.new })
         result }
-    ensures unaudited { IsAudit words.now → (result ≡ MEMORY) ⊎ (result ≡ INPUT) → out.new ≡ out.old }
+    ensures audit_unwritten { IsAudit words.now → (result ≡ MEMORY) ⊎ (result ≡ INPUT) → out.new ≡ out.old }
 
     // `clean`: each file call, each reading of the clock, what it took and gave, and why it ended so
     ensures clean { IsClean words.now → WasCleaned

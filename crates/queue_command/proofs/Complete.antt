@@ -36,7 +36,7 @@ use Rattle.queue_inject.specs.Table.{work_of, piece_size, in_message, in_todo, s
 use Rattle.queue_inject.proofs.Pieces.{either, past_by}
 use Rattle.queue_inject.proofs.Asks.{call_at_due}
 use Rattle.queue_inject.proofs.Runs.{timely}
-use Rattle.queue_inject.specs.Run.{IsDue, IsRun}
+use Rattle.queue_inject.specs.Run.{IsRun}
 use Rattle.call_fs.specs.Past.{HoldsOf, HasCall}
 use Rattle.queue_inject.specs.Causes.{first_fault, pid_name, IsTry, IsTaken, IsFailure, IsCausedBy}
 use Rattle.queue_inject.proofs.Failures.{pid_is_no_part}

@@ -8,7 +8,8 @@ use Rattle.mail_bytes.specs.Told.{Meets}
 use Rattle.mail_bytes.specs.Decimal.{digits}
 use Rattle.mail_bytes.specs.Netstring.{head, IsHead, IsPartOfHead, IsNoHead}
 use Rattle.mail_bytes.proofs.Digits.{decimal-digits}
-use Rattle.mem_fs.proofs.InTurn.{told_weaker, told_then}
+use Rattle.program_runner.proofs.Deeds.{meets_then}
+use Rattle.queue_command.proofs.Sources.{weaker}
 use Rattle.queue_command.specs.Reading.{IsBad}
 
 -- a head that began in a part which has none ends with the next byte
@@ -41,8 +42,8 @@ part_short part is =
 read_on : (before mid after : Option (List ℕ)) (part : List ℕ) (byte : ℕ) → Meets before mid (λ b a. b ≡ part ++ a) → Meets mid after (λ b a. b ≡ byte ∷ a)
     → Meets before after (λ b a. b ≡ (part ++ byte ∷ []) ++ a)
 read_on before mid after part byte took one =
-    told_weaker before after (λ b a h. h.1 ∙ ap (λ t. part ++ t) h.2 ∙ sym (append_assoc part (byte ∷ []) a))
-    (told_then (λ b a. b ≡ part ++ a) (λ b a. b ≡ byte ∷ a) before mid after took one)
+    meets_then (λ b a. b ≡ part ++ a) (λ b a. b ≡ byte ∷ a) (λ b a. b ≡ (part ++ byte ∷ []) ++ a)
+    (λ b m a h k. h ∙ ap (λ t. part ++ t) k ∙ sym (append_assoc part (byte ∷ []) a)) before mid after took one
 
 pub head_read : (before mid after : Option (List ℕ)) (text : List ℕ) (len byte n used : ℕ) → len < length text
     → Meets before mid (λ b a. b ≡ take len text ++ a) → Meets mid after (λ b a. b ≡ byte ∷ a)
@@ -51,7 +52,7 @@ pub head_read : (before mid after : Option (List ℕ)) (text : List ℕ) (len by
 head_read before mid after text len byte n used room took one none is =
     let whole = take_more_set text len byte room in
     let here : IsHead (take len text ++ byte ∷ []) n used = subst (λ (t : List ℕ). IsHead t n used) whole is in
-    told_weaker before after (λ b a h. (is.fits, h ∙ ap (λ t. t ++ a) (whole_head (take len text) byte n used none here)))
+    weaker before after (λ b a h. (is.fits, h ∙ ap (λ t. t ++ a) (whole_head (take len text) byte n used none here)))
     (read_on before mid after (take len text) byte took one)
 
 pub bad_read : (before mid after : Option (List ℕ)) (text : List ℕ) (len byte : ℕ) → len < length text
@@ -60,10 +61,11 @@ pub bad_read : (before mid after : Option (List ℕ)) (text : List ℕ) (len byt
     → Meets before after IsBad
 bad_read before mid after text len byte room took one part none =
     let whole = take_more_set text len byte room in
-    told_weaker before after (λ b a h. record {
+    meets_then (λ b a. b ≡ take len text ++ a) (λ b a. b ≡ byte ∷ a) IsBad
+    (λ b m a h k. record {
       part = take len text;
       byte = byte;
       begins = part;
       none = subst IsNoHead whole none;
-      text = h.1 ∙ ap (λ t. take len text ++ t) h.2;
-    }) (told_then (λ b a. b ≡ take len text ++ a) (λ b a. b ≡ byte ∷ a) before mid after took one)
+      text = h ∙ ap (λ t. take len text ++ t) k;
+    }) before mid after took one

@@ -1,13 +1,15 @@
 -- the head of a netstring
 pub mod Heads
--- two inputs from one source
-pub mod Inputs
--- what an injector is fed
+-- an injector that is fed
 pub mod Feeding
--- running an injector
+-- an injector that is fed from a source
+pub mod Sources
+-- what an injector keeps of what was heard
+pub mod Keeping
+-- what was read of both inputs
+pub mod Portions
+-- an injector that runs to its end
 pub mod Runs
--- how much a run has before it
-pub mod Ahead
 -- which injections are queued
 pub mod Complete
 -- a whole injection

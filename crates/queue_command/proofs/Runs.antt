@@ -1,251 +1,297 @@
--- An injector that runs: what its past did so far, and what its next call adds.
-use Rattle.std.proofs.Common.{◌≡◌, ℕ, ◌≤◌, ◌<◌, List, [], ◌∷◌, ◌++◌, true, Option, Some, None, refl, sym, ap, ◌∙◌, subst, ⊎_elim, arith, append_assoc}
-use Rattle.call_fs.specs.declared.calls.CallData.{CallData}
-use Rattle.call_fs.specs.declared.calls.CallData.TheVariants as call
-use Rattle.call_fs.specs.declared.calls.Answer.{Answer}
-use Rattle.call_fs.specs.declared.calls.Answer.TheVariants as told
-use Rattle.call_fs.specs.declared.calls.Recorded.{Recorded}
-use Rattle.call_fs.specs.Calls.{bytes_read, entry, entry_with, without_bytes}
-use Rattle.call_fs.specs.Columns.{IsAnswerTo}
-use Rattle.call_fs.specs.Disk.{Disk}
-use Rattle.mail_bytes.specs.Moments.{IsMoment}
-use Rattle.call_fs.specs.Apply.{Apply, effect, MayCall}
-use Rattle.call_fs.specs.Told.{AnswerHasCause}
-use Rattle.mail_bytes.specs.Told.{Meets, OnTold, Records, Rose}
+-- An injector that is fed and takes its turns, to its end.
+use Rattle.std.proofs.Common.{◌≡◌, ◌≢◌, ℕ, ◌+◌, ◌≤◌, List, [], ◌∷◌, ◌++◌, length, Bool, true, false, if◌then◌else◌, nat_lt, Option, Some, None, refl, sym, ap, ◌∙◌, subst, arith}
+use Rattle.call_fs.specs.declared.calls.Told.{Told}
 use Rattle.call_fs.specs.declared.program.Ready.{Ready}
+use Rattle.call_fs.specs.declared.past.GotData.{GotData}
 use Rattle.call_fs.specs.declared.past.GotData.TheVariants.{Answered}
 use Rattle.call_fs.specs.declared.past.NeedData.{NeedData}
 use Rattle.call_fs.specs.declared.past.NeedData.TheVariants as needs
 use Rattle.call_fs.specs.declared.past.Own.{Own}
-use Rattle.call_fs.specs.Program.{due_of}
+use Rattle.call_fs.specs.Past.{LeadsTo, calls_of, moments_of}
+use Rattle.call_fs.specs.Program.{MayCome}
+use Rattle.mail_bytes.specs.Told.{Meets, Rose}
 use Rattle.queue_inject.specs.declared.injection.Arguments.{Arguments}
+use Rattle.queue_inject.specs.declared.injection.InputEnd.{InputEnd}
+use Rattle.queue_inject.specs.declared.injection.InputEnd.TheVariants as ends
+use Rattle.queue_inject.specs.declared.injection.Part.{Part}
+use Rattle.queue_inject.specs.declared.injection.Part.TheVariants.{Message, Envelope}
+use Rattle.queue_inject.specs.declared.intake.Verdict.{Verdict}
+use Rattle.queue_inject.specs.declared.intake.Verdict.TheVariants.{Open, Whole, Faulty}
 use Rattle.queue_inject.specs.declared.row.Row.{Row}
-use Rattle.call_fs.specs.declared.program.Need.{Need}
-use Rattle.queue_inject.specs.Table.{Next, row_after, call_of, work_of, settled, is_late}
-use Rattle.queue_inject.specs.Machine.{Machine, due_now}
-use Rattle.queue_inject.specs.Stands.{Stands}
-use Rattle.queue_inject.proofs.Runs.{timely}
-use Rattle.queue_inject.specs.Run.{IsRun}
-use Rattle.call_fs.specs.Past.{HasCall, HoldsOf}
-use Rattle.call_fs.specs.declared.calls.FsError.TheVariants.{Fault}
-use Rattle.mail_world.specs.declared.event.Program.TheVariants.{Injector}
-use Rattle.mail_world.specs.History.{held_by}
-use Rattle.mail_world.specs.World.{input_ready}
-use Rattle.mail_world.specs.Inside.{HasNeeds}
-use Rattle.mail_world.proofs.Opens.{IsPlain, IsAct, MayDo, Opens, opens_by, has_made, needs_stay, needs_move, needs_none, next_may, next_act}
-use Rattle.mail_world.proofs.Histories.{reads_none}
-use Rattle.mem_fs.proofs.InTurn.{told_weaker, told_then}
-use Rattle.call_fs.specs.Past.{kept_as, calls_of, moments_of, LeadsTo, Makes, latest_from, InOrder, IsFault}
-use Rattle.queue_command.specs.Runs.{Outside, AreKept, FindsInput, HasRun}
-use Rattle.queue_command.proofs.Ahead.{ahead, HasMore, IsFile, falls}
+use Rattle.queue_inject.specs.declared.row.Row.TheVariants as at
+use Rattle.queue_inject.specs.Table.{Next, call_at, in_time, is_late, row_after, work_of, next_piece}
+use Rattle.queue_inject.specs.Texts.{limit, message_text, message_end}
+use Rattle.queue_inject.specs.Machine.{Machine, asks, gone_on}
+use Rattle.queue_inject.specs.Stands.{Stands, HearsMessage, Hears, IsStartedBy}
+use Rattle.program_runner.specs.Outside.{AreKept}
+use Rattle.program_runner.specs.Outside.{Outside as Around}
+use Rattle.program_runner.specs.Runs.{IsRunning, GoesOn, IsTurn, IsPlain, MayTurn}
+use Rattle.program_runner.specs.Runs.{HasRun as HasRunTo}
+use Rattle.program_runner.specs.declared.one_turn.TheConstants.{INPUT_READY}
+use Rattle.program_runner.proofs.Deeds.{kept_more, kept_one}
+use Rattle.program_runner.proofs.Runs.{begins, narrows, may_turn, turned_on, turned_to_end}
+use Rattle.queue_command.specs.declared.input.Form.{Form}
+use Rattle.queue_command.specs.declared.input.Form.TheVariants.{Beside, Netstrings}
+use Rattle.queue_command.specs.declared.netstring.Place.{Place}
+use Rattle.queue_command.specs.declared.netstring.Place.TheVariants.{Head}
+use Rattle.queue_command.specs.Inputs.{Heard, Stream, unread, Begins, AreRead}
+use Rattle.queue_command.specs.Feeding.{TellsBy, FeedsBy}
+use Rattle.queue_command.specs.Runs.{Outside, Who, IsPossible, HasRun}
+use Rattle.queue_command.specs.Injected.{HasInjectedFrom}
+use Rattle.queue_command.proofs.Keeping.{Keeps, KeepsMessage, KeepsIn, keeps_after, keeps_fed, heard_on, open_to, fewer, tells_more}
+use Rattle.queue_command.proofs.Portions.{feeds_on, nothing_read}
 
--- what its calls need is open, in somebody's hands
-abbrev pub NeedsOpen : Arguments → List Own → Disk → Type 0
-NeedsOpen args past d = (h : ℕ → Option (List ℕ)) × HasNeeds d h [] (Injector args) past
+-- What an injector does next is a file call, or it has ended
 
--- An injector with these arguments, and what its past did to the disk and asked of the clock so far.
-pub record IsRunning (args : Arguments) (machine : Machine) (old now : Outside) (last : ℕ) : Type 0 where
-  pub past : List Own
-  pub stands : Stands machine args past
-  pub run : IsRun args past
-  pub more : HasMore (work_of args) (row_after args past)
-  pub ready : FindsInput past
-  pub in_order : InOrder args.start past
-  pub later : latest_from args.start past ≤ last
-  pub calls : AreKept old.calls now.calls (calls_of past)
-  pub moments : AreKept old.moments now.moments (moments_of past)
-  pub disk : Meets old.disk now.disk (λ before after. LeadsTo before past after)
-  pub opens : OnTold now.disk (NeedsOpen args past)
-  pub counts : old.faults ≤ now.faults
-  pub cause : HasCall past IsFault → Rose old.faults now.faults
+abbrev IsAct : NeedData → Type 0
+IsAct (needs.File call) = Unit {0}
+IsAct (needs.Ended status) = Unit {0}
+IsAct due = ⊥
 
--- Lists that are kept
+act_in_time : (late : Bool) (due : NeedData) → IsAct due → IsAct (in_time true late due)
+act_in_time true (needs.File call) act = tt
+act_in_time false (needs.File call) act = tt
+act_in_time late (needs.Ended status) act = tt
+act_in_time late due act = absurd act
 
-kept_none : {X : Type 0} (o : Option (List X)) → AreKept o o []
-kept_none None = tt
-kept_none (Some l) = sym (append-nil-right l) where
-  append-nil-right : {X : Type 0} (l : List X) → l ++ [] ≡ l
+call_act : (pid start : ℕ) (piece : List ℕ) (row : Row) → IsAct (call_at pid start piece row)
+call_act pid start piece (at.Create seq) = tt
+call_act pid start piece (at.LinkMess seq n fd) = tt
+call_act pid start piece (at.UnlinkPid seq n fd) = tt
+call_act pid start piece (at.AppendMess n fd done) = tt
+call_act pid start piece (at.SyncMess n fd) = tt
+call_act pid start piece (at.CreateIntd n) = tt
+call_act pid start piece (at.AppendTodo n fd done) = tt
+call_act pid start piece (at.SyncTodo n fd) = tt
+call_act pid start piece (at.LinkTodo n) = tt
+call_act pid start piece (at.CleanIntd n status) = tt
+call_act pid start piece (at.CleanMess n status) = tt
+call_act pid start piece at.Queued = tt
+call_act pid start piece (at.Failed status) = tt
+
+next_act : (args : Arguments) (past : List Own) (now : ℕ) → IsAct (Next args past now INPUT_READY)
+next_act args past now =
+    act_in_time (is_late args now) _ (call_act args.pid args.start (next_piece (work_of args) (row_after args past)) (row_after args past))
+
+act_plain : (due : NeedData) → IsAct due → IsPlain due
+act_plain (needs.File call) act = tt
+act_plain (needs.Ended status) act = tt
+act_plain due act = absurd act
+
+pub next_plain : (args : Arguments) (past : List Own) (now : ℕ) → IsPlain (Next args past now INPUT_READY)
+next_plain args past now = act_plain (Next args past now INPUT_READY) (next_act args past now)
+
+came_answer : (due : NeedData) (came : GotData) → IsAct due → MayCome due came → (told : Told) × (came ≡ Answered told)
+came_answer (needs.File call) (Answered told) act may = (told, refl)
+came_answer (needs.File call) came act may = absurd may
+came_answer (needs.Ended status) came act may = absurd may
+came_answer due came act may = absurd act
+
+-- One run
+
+-- some arguments are possible
+abbrev some_end : Option InputEnd → InputEnd
+some_end None = ends.Whole
+some_end (Some end) = end
+
+begins_some : (bytes : List ℕ) (end : Option InputEnd) → Begins bytes (some_end end) (record { bytes = bytes; end = end })
+begins_some bytes None = ([], append-nil-right bytes) where
+  append-nil-right : (l : List ℕ) → l ≡ l ++ []
   append-nil-right [] = refl
   append-nil-right (x ∷ l) = ap (λ t. x ∷ t) (append-nil-right l)
+begins_some bytes (Some end) = (refl, refl)
 
-kept_more : {X : Type 0} (a b c : Option (List X)) (l : List X) (x : X) → AreKept a b l → Records b c x → AreKept a c (l ++ x ∷ [])
-kept_more a b None l x k r = tt
-kept_more None None (Some n) l x k r = absurd r
-kept_more None (Some m) (Some n) l x k r = absurd k
-kept_more (Some o) None (Some n) l x k r = absurd r
-kept_more (Some o) (Some m) (Some n) l x k r = r ∙ ap (λ t. t ++ x ∷ []) k ∙ append_assoc o l (x ∷ [])
-
--- Plain calls
-
-no_bytes : (c : CallData) (answer : Answer) (into : List ℕ) → IsPlain c → IsAnswerTo c answer → bytes_read answer into ≡ []
-no_bytes c (told.Created fd n) into plain kind = refl
-no_bytes c (told.Opened fd) into plain kind = refl
-no_bytes c told.Done into plain kind = refl
-no_bytes c (told.Stat stat) into plain kind = refl
-no_bytes c (told.Name name) into plain kind = refl
-no_bytes c told.NoName into plain kind = refl
-no_bytes c (told.Refused why) into plain kind = refl
-no_bytes (call.CreateExcl name) (told.Count n) into plain kind = absurd kind
-no_bytes (call.Open name how) (told.Count n) into plain kind = absurd plain
-no_bytes (call.ReadAt fd at len) (told.Count n) into plain kind = absurd plain
-no_bytes (call.WriteAt fd at bytes) (told.Count n) into plain kind = absurd kind
-no_bytes (call.Append fd bytes) (told.Count n) into plain kind = absurd kind
-no_bytes (call.Truncate fd len) (told.Count n) into plain kind = absurd kind
-no_bytes (call.Sync fd) (told.Count n) into plain kind = absurd kind
-no_bytes (call.Close fd) (told.Count n) into plain kind = absurd plain
-no_bytes (call.Link from to) (told.Count n) into plain kind = absurd kind
-no_bytes (call.Unlink name) (told.Count n) into plain kind = absurd kind
-no_bytes (call.Stat name) (told.Count n) into plain kind = absurd kind
-no_bytes (call.NextName dir after) (told.Count n) into plain kind = absurd kind
-
--- The next call
-
-module _ (args : Arguments) (past : List Own) (now : ℕ) (c : CallData) (due : Next args past now input_ready ≡ needs.File c) where
-  pub is_plain : IsPlain c
-  is_plain = subst IsAct due (next_act (Injector args) past now)
-
-  pub may_call : (o : Option Disk) → OnTold o (NeedsOpen args past) → OnTold o (λ d. MayCall d c)
-  may_call None opens = tt
-  may_call (Some d) opens = (subst (MayDo d) due (next_may d opens.0 [] (Injector args) past now input_ready opens.1)).0
-
-  its_call : call_of args (row_after args past) ≡ needs.File c
-  its_call = timely true (is_late args now) (call_of args (row_after args past)) c due
-
-  module _ (answer : Answer) where
-    abbrev with_event : List Own
-    with_event = record { read = now; ready = input_ready; due = needs.File c; came = Answered (without_bytes answer) } ∷ past
-
-    pub more_still : HasMore (work_of args) (row_after args past) → HasMore (work_of args) (row_after args with_event)
-    more_still more = (falls (work_of args) (row_after args past) answer (subst IsFile (sym its_call) tt) more).0
-
-    open_still : (d e : Disk) → NeedsOpen args past d → Apply d now c answer e → NeedsOpen args with_event e
-    open_still d e opens applied =
-        let h = opens.0 in
-        let g = held_by h [] c answer in
-        let by : Opens d (effect d now c answer applied.0) h g [] answer = opens_by d now c answer applied.0 h [] is_plain applied.1 in
-        let moved : Opens d e h g [] answer = subst (λ (x : Disk). Opens d x h g [] answer) (sym applied.2) by in (
-          g,
-          needs_move e g [] (Injector args) past now input_ready c (record { answer = answer; bytes = [] })
-              (needs_stay d e h g [] [] answer (Injector args) past moved opens.1) (has_made d e h g [] answer moved),
-        )
-
-    pub opens_still : (a b : Option Disk) → OnTold a (NeedsOpen args past) → Meets a b (λ d e. Apply d now c answer e) → OnTold b (NeedsOpen args with_event)
-    opens_still None None opens made = tt
-    opens_still None (Some e) opens made = absurd made
-    opens_still (Some d) None opens made = absurd made
-    opens_still (Some d) (Some e) opens made = open_still d e opens made
-
-    pub nearer : (m n : Row) → HasMore (work_of args) (row_after args past) → row_after args past ≡ settled (work_of args) m → row_after args with_event ≡ settled (work_of args) n
-        → ahead (work_of args) (settled (work_of args) n) < ahead (work_of args) (settled (work_of args) m)
-    nearer m n more at_m at_n =
-        let work = work_of args in
-        let fell : ahead work (row_after args with_event) < ahead work (row_after args past) = (falls work (row_after args past) answer (subst IsFile (sym its_call) tt) more).1 in
-        subst (λ (r : Row). ahead work (settled work n) < ahead work r) at_m (subst (λ (r : Row). ahead work r < ahead work (row_after args past)) at_n fell)
-
-    pub leads_on : (a b n : Option Disk) → Meets a b (λ d e. LeadsTo d past e) → Meets b n (λ d e. Apply d now c answer e) → Meets a n (λ d e. LeadsTo d with_event e)
-    leads_on a b n led made =
-        told_then (λ d e. LeadsTo d past e) (λ d e. Makes d now (needs.File c) (Answered (without_bytes answer)) e) a b n led
-        (told_weaker b n (λ d e applied. (applied, reads_none d c answer is_plain)) made)
-
--- What a machine that looked asks for, and what it is told
-module _ (args : Arguments) (was k : Machine) where
-  pub asks : (past : List Own) (now : ℕ) (r : Need) → k ≡ record was { present = now; ready = input_ready } → due_of r ≡ Next args past k.present k.ready → due_of r ≡ Next args past now input_ready
-  asks past now r looked is =
-      is ∙ ap (λ n. Next args past n k.ready) (ap (λ (m : Machine). m.present) looked) ∙ ap (λ (x : Ready). Next args past now x) (ap (λ (m : Machine). m.ready) looked)
-
-  pub answered : (n : Machine) (past : List Own) (now : ℕ) (c : CallData) (answer : Answer) → k ≡ record was { present = now; ready = input_ready } → due_now k ≡ needs.File c
-      → Stands n args ((record { read = k.present; ready = k.ready; due = due_now k; came = Answered (without_bytes answer) }) ∷ past) → Stands n args ((record { read = now; ready = input_ready; due = needs.File c; came = Answered (without_bytes answer) }) ∷ past)
-  answered n past now c answer looked due s =
-      subst (λ (m : Machine). Stands n args ((record { read = m.present; ready = m.ready; due = needs.File c; came = Answered (without_bytes answer) }) ∷ past)) looked
-      (subst (λ (d : NeedData). Stands n args ((record { read = k.present; ready = k.ready; due = d; came = Answered (without_bytes answer) }) ∷ past)) due s)
-
--- Counts of failures
-
-pub rose_earlier : (a b c : ℕ) → a ≤ b → Rose b c → Rose a c
-rose_earlier a b c h r = omega (arith, h, r)
-
-pub rose_later : (a b c : ℕ) → Rose a b → b ≤ c → Rose a c
-rose_later a b c r h = omega (arith, h, r)
-
--- A whole run
-
-no_hands : ℕ → Option (List ℕ)
-no_hands fd = None
-
-needs_nothing : (args : Arguments) (o : Option Disk) → OnTold o (NeedsOpen args [])
-needs_nothing args None = tt
-needs_nothing args (Some d) = (no_hands, needs_none d no_hands [] (Injector args))
-
-leads_nowhere : (o : Option Disk) → Meets o o (λ before after. LeadsTo before [] after)
-leads_nowhere None = tt
-leads_nowhere (Some d) = refl
-
--- before its first call
-pub begins : (args : Arguments) (m : Machine) (o : Outside) (last : ℕ) → Stands m args [] → args.start ≤ last → IsRunning args m o o last
-begins args m o last stands later = record {
-  past = [];
-  stands = stands;
-  run = tt;
-  more = tt;
-  ready = tt;
-  in_order = tt;
-  later = later;
-  calls = kept_none o.calls;
-  moments = kept_none o.moments;
-  disk = leads_nowhere o.disk;
-  opens = needs_nothing args o.disk;
-  counts = omega arith;
-  cause = λ h. absurd h;
+abbrev some_arguments : Who → ℕ → Heard → Arguments
+some_arguments who start heard = record {
+  uid = who.uid;
+  pid = who.pid;
+  invoked = who.invoked;
+  start = start;
+  message = heard.message.bytes;
+  message_end = some_end heard.message.end;
+  envelope = heard.envelope.bytes;
+  envelope_end = some_end heard.envelope.end;
 }
 
--- a call that is said to have failed did
-fault_is : (now : ℕ) (c : CallData) (answer : Answer) → HoldsOf IsFault (record { read = now; ready = input_ready; due = needs.File c; came = Answered (without_bytes answer) })
-    → answer ≡ told.Refused Fault
-fault_is now c answer h = let came : Answered (without_bytes answer) ≡ Answered h.told = h.came in let same : answer ≡ h.told.answer = cc in same ∙ h.holds
+some_possible : (who : Who) (start : ℕ) (heard : Heard) → IsPossible who start heard (some_arguments who start heard)
+some_possible who start heard = record {
+  started = record { uid_is = refl; pid_is = refl; invoked_is = refl; start_is = refl };
+  message = begins_some heard.message.bytes heard.message.end;
+  envelope = begins_some heard.envelope.bytes heard.envelope.end;
+}
 
-abbrev kept_call : CallData → Answer → List ℕ → Recorded
-kept_call c answer bytes = record { call = c; told = record { answer = answer; bytes = bytes } }
+-- An injector that goes on: it ran so far for whatever arguments are possible, and keeps what was heard of its input.
+pub record IsInjecting (who : Who) (start : ℕ) (form : Form) (place : Place) (m : Machine) (from beside : Stream) (old now : Around) : Type 0 where
+  pub heard : Heard
+  pub turns : ℕ
+  pub running : IsRunning Next (Stands m) (IsPossible who start heard) INPUT_READY start turns old now
+  pub keeps : Keeps m heard
+  pub read : AreRead form place from beside heard
+  pub from_counts : from.faults_old ≤ from.faults_new
+  pub beside_counts : beside.faults_old ≤ beside.faults_new
 
--- after one call more
-pub goes_on : (args : Arguments) (m n : Machine) (old b a : Outside) (last now : ℕ) (c : CallData) (answer : Answer) (into : List ℕ) (r : IsRunning args m old b last)
-    → last ≤ now → IsMoment now → Next args r.past now input_ready ≡ needs.File c → IsAnswerTo c answer
-    → Stands n args ((record { read = now; ready = input_ready; due = needs.File c; came = Answered (without_bytes answer) }) ∷ r.past)
-    → Records b.calls a.calls (entry_with c answer into) → Records b.moments a.moments now
-    → Meets b.disk a.disk (λ d e. Apply d now c answer e) → AnswerHasCause b.faults a.faults answer
-    → IsRunning args n old a now
-goes_on args m n old b a last now c answer into r later moment due kind stands called read made counted =
-    let same : entry_with c answer into ≡ entry c answer = ap (λ (bytes : List ℕ). kept_call c answer bytes) (no_bytes c answer into (is_plain args r.past now c due) kind) in
-    record {
-      past = (record { read = now; ready = input_ready; due = needs.File c; came = Answered (without_bytes answer) }) ∷ r.past;
-      stands = stands;
-      run = (r.run, (due, kind));
-      more = more_still args r.past now c due answer r.more;
-      ready = (refl, r.ready);
-      in_order = (let h = r.later in omega arith, moment, r.in_order);
-      later = omega arith;
-      calls = kept_more old.calls b.calls a.calls (calls_of r.past) _ r.calls (subst (λ (e : Recorded). Records b.calls a.calls e) same called);
-      moments = kept_more old.moments b.moments a.moments (moments_of r.past) now r.moments read;
-      disk = leads_on args r.past now c due answer old.disk b.disk a.disk r.disk made;
-      opens = opens_still args r.past now c due answer b.disk a.disk r.opens made;
-      counts = let h = r.counts in let k = counted.later in omega arith;
-      cause = λ some. ⊎_elim (λ fault. rose_earlier old.faults b.faults a.faults r.counts (counted.rose (fault_is now c answer fault)))
-          (λ before. rose_later old.faults b.faults a.faults (r.cause before) counted.later) some;
+-- a message that ends unread is faulty, so no new injector takes its message as whole
+faulty : (t : Bool) (end : InputEnd) → end ≡ ends.Unread → (if t then Some 31 else message_end end) ≢ None
+faulty true end is e = absurd (cc)
+faulty false ends.Whole is e = absurd (cc)
+faulty false ends.Unread is e = absurd (cc)
+faulty false ends.Malformed is e = absurd (cc)
+
+unfinished : (v : Verdict) (m : Machine) (args : Arguments) → HearsMessage v m.heard args 0 → args.message_end ≡ ends.Unread → v ≢ Whole
+unfolding message_text
+unfinished Open m args hears end = λ e. absurd (cc)
+unfinished (Faulty status) m args hears end = λ e. absurd (cc)
+unfinished Whole m args hears end = λ e. faulty (nat_lt limit (length args.message)) args.message_end end hears.1
+
+keeps_nothing : (v : Verdict) → v ≢ Whole → KeepsMessage v 0 unread
+keeps_nothing Open closed = (refl, refl)
+keeps_nothing Whole closed = absurd (closed refl)
+keeps_nothing (Faulty status) closed = tt
+
+module _ (who : Who) (start : ℕ) (form : Form) where
+  pub injects : (m : Machine) (from beside : Option (List ℕ)) (f g : ℕ) (o : Around) → start ≤ o.last → m.row ≡ at.Create 1 → m.heard.fed ≡ 0
+      → ((args : Arguments) → IsStartedBy args who.uid who.pid who.invoked start → Stands m args [])
+      → IsInjecting who start form Head m (record { old = from; new = from; faults_old = f; faults_new = f }) (record { old = beside; new = beside; faults_old = g; faults_new = g }) o o
+  injects m from beside f g o later row fed stands =
+      let cut : Arguments = record (some_arguments who start (record { message = unread; envelope = unread })) { message_end = ends.Unread } in
+      let here = stands cut (record { uid_is = refl; pid_is = refl; invoked_is = refl; start_is = refl }) in
+      let hears : HearsMessage m.heard.verdict m.heard cut 0 = subst (λ r. Hears r m.heard cut) row here.hears in
+      record {
+        heard = record { message = unread; envelope = unread };
+        turns = 0;
+        running = begins Next INPUT_READY start (Stands m) (IsPossible who start (record { message = unread; envelope = unread })) o (λ args is. stands args is.started) later;
+        keeps = subst (λ r. KeepsIn r m.heard (record { message = unread; envelope = unread })) (sym row)
+            (refl, subst (λ k. KeepsMessage m.heard.verdict k unread) (sym fed) (keeps_nothing m.heard.verdict (unfinished m.heard.verdict m cut hears refl)));
+        read = nothing_read form from beside f g;
+        from_counts = omega arith;
+        beside_counts = omega arith;
+      }
+
+  -- It is fed
+
+  module _ (p q : Place) (m n : Machine) (from0 from1 from2 beside0 beside1 beside2 : Option (List ℕ)) (f0 f1 f2 g0 g1 g2 : ℕ) (old now : Around) where
+    abbrev Before : Type 0
+    Before = IsInjecting who start form p m (record { old = from0; new = from1; faults_old = f0; faults_new = f1 }) (record { old = beside0; new = beside1; faults_old = g0; faults_new = g1 }) old now
+
+    abbrev After : Type 0
+    After = IsInjecting who start form q n (record { old = from0; new = from2; faults_old = f0; faults_new = f2 }) (record { old = beside0; new = beside2; faults_old = g0; faults_new = g2 }) old now
+
+    fed_part : (part : Part) → asks m ≡ Some part → f1 ≤ f2 → g1 ≤ g2 → Before
+        → FeedsBy (Some part) form p q m n (record { old = from1; new = from2; faults_old = f1; faults_new = f2 }) (record { old = beside1; new = beside2; faults_old = g1; faults_new = g2 })
+        → After
+    fed_part part e late later b feeds =
+        let on = feeds_on form part p q m n from0 from1 from2 beside0 beside1 beside2 f0 f1 f2 g0 g1 g2 b.heard b.from_counts b.beside_counts e b.keeps b.read feeds in
+        let going = (open_to m b.heard part e b.keeps).1 in
+        record {
+          heard = heard_on part b.heard on.more;
+          turns = b.turns;
+          running = narrows Next INPUT_READY start (Stands m) (Stands n) (IsPossible who start b.heard) (IsPossible who start (heard_on part b.heard on.more)) b.turns old now
+              (λ args is. fewer who start b.heard part on.more args going.0 is)
+              (λ args past is s. on.fed.stands args past s
+              (subst (λ o. TellsBy o m.heard.fed args on.more.end on.more.bytes) (sym e) (tells_more who start m.heard.fed b.heard part on.more args going.1 is)))
+              b.running;
+          keeps = keeps_fed m n b.heard part on.more e b.keeps on.fed;
+          read = on.read;
+          from_counts = let c = b.from_counts in omega arith;
+          beside_counts = let c = b.beside_counts in omega arith;
+        }
+
+    fed_nothing : FeedsBy None form p q m n (record { old = from1; new = from2; faults_old = f1; faults_new = f2 }) (record { old = beside1; new = beside2; faults_old = g1; faults_new = g2 })
+        → Before → After
+    fed_nothing (machine, place, from, beside) b =
+        subst (λ x. IsInjecting who start form q x (record { old = from0; new = from2; faults_old = f0; faults_new = f2 }) (record { old = beside0; new = beside2; faults_old = g0; faults_new = g2 }) old now) (sym machine)
+        (subst (λ x. IsInjecting who start form x m (record { old = from0; new = from2; faults_old = f0; faults_new = f2 }) (record { old = beside0; new = beside2; faults_old = g0; faults_new = g2 }) old now) (sym place)
+        (subst (λ x. IsInjecting who start form p m (record { old = from0; new = x; faults_old = f0; faults_new = f2 }) (record { old = beside0; new = beside2; faults_old = g0; faults_new = g2 }) old now) (sym from.left)
+        (subst (λ x. IsInjecting who start form p m (record { old = from0; new = from1; faults_old = f0; faults_new = x }) (record { old = beside0; new = beside2; faults_old = g0; faults_new = g2 }) old now) (sym from.faults)
+        (subst (λ x. IsInjecting who start form p m (record { old = from0; new = from1; faults_old = f0; faults_new = f1 }) (record { old = beside0; new = x; faults_old = g0; faults_new = g2 }) old now) (sym beside.left)
+        (subst (λ x. IsInjecting who start form p m (record { old = from0; new = from1; faults_old = f0; faults_new = f1 }) (record { old = beside0; new = beside1; faults_old = g0; faults_new = x }) old now) (sym beside.faults) b)))))
+
+    -- what is left has failed no more often
+    same_count : (a b : ℕ) → b ≡ a → a ≤ b
+    same_count a b is = omega arith
+
+    counts : (form : Form) (part : Part)
+        → FeedsBy (Some part) form p q m n (record { old = from1; new = from2; faults_old = f1; faults_new = f2 }) (record { old = beside1; new = beside2; faults_old = g1; faults_new = g2 })
+        → (f1 ≤ f2) × (g1 ≤ g2)
+    counts Beside Message (x, left) = (x.counts, same_count g1 g2 left.faults)
+    counts Beside Envelope (left, x) = (same_count f1 f2 left.faults, x.counts)
+    counts Netstrings Message (x, left) = (x.counts, same_count g1 g2 left.faults)
+    counts Netstrings Envelope (x, left) = (x.counts, same_count g1 g2 left.faults)
+
+    by_part : (o : Option Part) → asks m ≡ o → Before
+        → FeedsBy o form p q m n (record { old = from1; new = from2; faults_old = f1; faults_new = f2 }) (record { old = beside1; new = beside2; faults_old = g1; faults_new = g2 })
+        → After
+    by_part None e b feeds = fed_nothing feeds b
+    by_part (Some part) e b feeds = let c = counts form part feeds in fed_part part e c.0 c.1 b feeds
+
+    pub fed_on : Before
+        → FeedsBy (asks m) form p q m n (record { old = from1; new = from2; faults_old = f1; faults_new = f2 }) (record { old = beside1; new = beside2; faults_old = g1; faults_new = g2 })
+        → After
+    fed_on = by_part (asks m) refl
+
+  -- It takes a turn
+
+  pub may : (place : Place) (m : Machine) (from beside : Stream) (old mid : Around) → IsInjecting who start form place m from beside old mid → MayTurn Next (Stands m) INPUT_READY mid.disk
+  may place m from beside old mid b = may_turn Next INPUT_READY start (Stands m) (IsPossible who start b.heard) b.turns old mid (some_arguments who start b.heard) (some_possible who start b.heard)
+      (λ args past read run. next_plain args past read) b.running
+
+  module _ (place : Place) (m n : Machine) (from beside : Stream) (old mid new : Around) (b : IsInjecting who start form place m from beside old mid) where
+    abbrev Became : ℕ → Ready → GotData → Type 0
+    Became read found came = (k : Machine) × (k ≡ record m { present = read; ready = found }) × ((told : Told) → came ≡ Answered told → n ≡ gone_on k told.answer)
+
+    keeps_turned : GoesOn Next (Stands m) (Stands n) Became INPUT_READY mid new → Keeps n b.heard
+    keeps_turned g =
+        let args = some_arguments who start b.heard in
+        let due = g.due args b.running.past (b.running.holds args (some_possible who start b.heard)) in
+        let act : IsAct g.event.due = subst IsAct (subst (λ r. Next args b.running.past g.event.read r ≡ g.event.due) g.found due) (next_act args b.running.past g.event.read) in
+        let answer = came_answer g.event.due g.event.came act g.came in
+        let became = g.changed in
+        let is : n ≡ gone_on (record m { present = g.event.read; ready = INPUT_READY }) answer.0.answer = became.2 answer.0 answer.1 ∙ ap (λ k. gone_on k answer.0.answer) became.1 in
+        subst (λ x. Keeps x b.heard) (sym is) (keeps_after m.heard.piece m.heard.fed m.heard.reader m.uid m.pid b.heard m.row m.heard.verdict answer.0.answer b.keeps)
+
+    pub turned : (ended : Option ℕ) → ended ≡ None → IsTurn Next (Stands m) (Stands n) Became INPUT_READY ended mid new → IsInjecting who start form place n from beside old new
+    turned ended none t = record {
+      heard = b.heard;
+      turns = b.turns + 1;
+      running = turned_on Next INPUT_READY start (Stands m) (Stands n) Became (IsPossible who start b.heard) b.turns old mid new ended none b.running t;
+      keeps = keeps_turned (subst (λ e. IsTurn Next (Stands m) (Stands n) Became INPUT_READY e mid new) none t);
+      read = b.read;
+      from_counts = b.from_counts;
+      beside_counts = b.beside_counts;
     }
 
--- at its end
-pub ends : (args : Arguments) (m : Machine) (old b : Outside) (moments : Option (List ℕ)) (last now status : ℕ) (r : IsRunning args m old b last)
-    → last ≤ now → Next args r.past now input_ready ≡ needs.Ended status → Records b.moments moments now → HasRun args old (record b { moments = moments }) status
-ends args m old b moments last now status r later due read = record {
-  past = r.past;
-  last = now;
-  run = r.run;
-  ends = due;
-  ready = r.ready;
-  in_order = r.in_order;
-  later = let h = r.later in omega arith;
-  calls = r.calls;
-  moments = kept_more old.moments b.moments moments (moments_of r.past) now r.moments read;
-  disk = r.disk;
-  counts = r.counts;
-  cause = r.cause;
-}
+    -- It has ended
+
+    abbrev part_of : Around → Outside
+    part_of o = record { disk = o.disk; calls = o.calls; faults = o.disk_faults; moments = o.moments }
+
+    pub ended_run : (possible : Arguments → Type 0) (status : ℕ) (first last : Around) → HasRunTo Next possible INPUT_READY start status first last
+        → HasRun possible start (part_of first) (part_of last) status
+    ended_run possible status first last r =
+        let disk : last.disk ≡ r.before_last.disk = ap (λ (o : Around). o.disk) r.looks.rest in
+        let calls : last.calls ≡ r.before_last.calls = ap (λ (o : Around). o.calls) r.looks.rest in
+        let faults : last.disk_faults ≡ r.before_last.disk_faults = ap (λ (o : Around). o.disk_faults) r.looks.rest in
+        record {
+          past = r.past;
+          last = r.last;
+          run = r.run;
+          ends = r.ends;
+          ready = r.finds;
+          in_order = r.did.in_order;
+          later = let h = r.did.later in let k = r.looks.later in omega arith;
+          calls = subst (λ c. AreKept first.calls c (calls_of r.past)) (sym calls) r.did.calls;
+          moments = kept_more first.moments r.before_last.moments last.moments (moments_of r.past) (r.last ∷ []) r.did.moments (kept_one r.before_last.moments last.moments r.last r.looks.moments);
+          disk = subst (λ d. Meets first.disk d (λ before after. LeadsTo before r.past after)) (sym disk) r.did.disk;
+          counts = let h = r.did.disk_counts in omega arith;
+          cause = λ h. subst (λ k. Rose first.disk_faults k) (sym faults) (r.did.disk_cause h);
+        }
+
+    pub injected : (ended : Option ℕ) (status : ℕ) → ended ≡ Some status → IsTurn Next (Stands m) (Stands n) Became INPUT_READY ended mid new
+        → HasInjectedFrom who start form from beside (part_of old) (part_of new) status
+    injected ended status is t = record {
+      place = place;
+      heard = b.heard;
+      input = b.read;
+      ran = ended_run (IsPossible who start b.heard) status old new
+          (turned_to_end Next INPUT_READY start (Stands m) (Stands n) Became (IsPossible who start b.heard) b.turns old mid new ended status is b.running t);
+    }

@@ -11,14 +11,14 @@ use Rattle.call_fs.specs.declared.past.Own.{Own}
 use Rattle.envelope_records.specs.Envelope.{HasEnvelope}
 use Rattle.queue_inject.specs.declared.injection.Arguments.{Arguments}
 use Rattle.queue_inject.specs.declared.injection.InputEnd.TheVariants.{Whole}
-use Rattle.received_line.specs.declared.line.Invoked.{Invoked}
 use Rattle.queue_inject.specs.Texts.{limit}
 use Rattle.call_fs.specs.Past.{HasCall}
 use Rattle.queue_inject.specs.Causes.{pid_name, IsTry, IsTaken, IsCleanUp, IsCutShort, IsCausedBy}
 use Rattle.queue_command.specs.declared.input.Form.{Form}
-use Rattle.queue_command.specs.Inputs.{Stream, AreInputs}
+use Rattle.queue_command.specs.declared.netstring.Place.{Place}
+use Rattle.queue_command.specs.Inputs.{Stream, Heard, AreRead}
 use Rattle.call_fs.specs.Past.{IsFault}
-use Rattle.queue_command.specs.Runs.{Outside, HasRun}
+use Rattle.queue_command.specs.Runs.{Outside, Who, IsPossible, HasRun}
 
 -- Which messages are queued
 
@@ -52,36 +52,39 @@ pub record MayBeQueued (args : Arguments) (disk : Option Disk) (past : List Own)
 
 -- The injection
 
--- who injects, and in which process
-pub record Who : Type 0 where
-  pub uid : ℕ
-  pub pid : ℕ
-  pub invoked : Invoked
+-- An injector that was started so was fed of its sources what was read of its input, and was run to its end.
+pub record HasInjectedFrom (who : Who) (start : ℕ) (form : Form) (message envelope : Stream) (old new : Outside) (status : ℕ) : Type 0 where
+  pub place : Place
+  pub heard : Heard
+  pub input : AreRead form place message envelope heard
+  pub ran : HasRun (IsPossible who start heard) start old new status
 
--- The input was read of its sources, and the injector was run with it, which this clock's first reading started.
+-- The clock's first reading started the injector. Its end has its cause, and a message that may be queued is, however the
+-- input goes on after what was read.
 pub record HasReadAndRun (who : Who) (form : Form) (message envelope : Stream) (old new : Outside) (status : ℕ) : Type 0 where
-  pub args : Arguments
-  pub uid_is : args.uid ≡ who.uid
-  pub pid_is : args.pid ≡ who.pid
-  pub invoked_is : args.invoked ≡ who.invoked
-  pub input : AreInputs form message envelope (record { bytes = args.message; end = args.message_end }) (record { bytes = args.envelope; end = args.envelope_end })
+  pub start : ℕ
   pub first_read : Option (List ℕ)
-  pub started : Records old.moments first_read args.start
-  pub ran : HasRun args (record old { moments = first_read }) new status
-  pub caused : IsCausedBy args ran.past ran.last status
-  pub complete : MayBeQueued args old.disk ran.past ran.last → (status ≡ 0) ⊎ (status ≡ 51)
+  pub started : Records old.moments first_read start
+  pub from_start : HasInjectedFrom who start form message envelope (record old { moments = first_read }) new status
+  pub caused : (args : Arguments) → IsPossible who start from_start.heard args
+      → IsCausedBy args from_start.ran.past from_start.ran.last status
+  pub complete : (args : Arguments) → IsPossible who start from_start.heard args
+      → MayBeQueued args old.disk from_start.ran.past from_start.ran.last → (status ≡ 0) ⊎ (status ≡ 51)
 
 -- the clock was read once, or not at all
 abbrev pub IsReadOnce : Option (List ℕ) → Option (List ℕ) → Type 0
 IsReadOnce old new = (new ≡ old) ⊎ ((start : ℕ) × Records old new start)
 
--- There was no memory before the injector's first call.
-pub record IsCutOff (old new : Outside) (status : ℕ) : Type 0 where
+-- There was no memory before the injector's first call, and nothing was read.
+pub record IsCutOff (message envelope : Stream) (old new : Outside) (status : ℕ) : Type 0 where
   pub status_is : status ≡ 51
   pub read : IsReadOnce old.moments new.moments
+  pub message_left : message.new ≡ message.old
+  pub envelope_left : envelope.new ≡ envelope.old
   pub disk : new.disk ≡ old.disk
   pub calls : new.calls ≡ old.calls
   pub faults : new.faults ≡ old.faults
 
 abbrev pub HasInjected : Who → Form → Stream → Stream → Outside → Outside → ℕ → Type 0
-HasInjected who form message envelope old new status = HasReadAndRun who form message envelope old new status ⊎ IsCutOff old new status
+HasInjected who form message envelope old new status =
+    HasReadAndRun who form message envelope old new status ⊎ IsCutOff message envelope old new status

@@ -1,10 +1,10 @@
--- an input, as it was read from a stream
+-- an input, as far as it was read from its source
 pub mod Inputs
 -- the parts of a netstring
 pub mod Reading
+-- how an injector is fed a portion of its input
+pub mod Feeding
 -- what an injection did to the disk and asked of the clock
 pub mod Runs
 -- a whole injection
 pub mod Injected
--- what an injector is fed of its arguments
-pub mod Feeding

@@ -1,13 +1,10 @@
 -- The parts of a netstring, as they are read.
-use Rattle.std.specs.Prelude.{◌≡◌, ◌≢◌, ◌⊎◌, ℕ, ◌<◌, ◌≤◌, ◌^◌, List, [], ◌∷◌, ◌++◌, length, Option, Some, None}
+use Rattle.std.specs.Prelude.{◌≡◌, ◌≢◌, ◌⊎◌, ℕ, ◌<◌, ◌^◌, List, [], ◌∷◌, ◌++◌, Option, Some, None}
 use Rattle.mail_bytes.specs.Netstring.{head, IsPartOfHead, IsNoHead}
 use Rattle.queue_inject.specs.declared.injection.InputEnd.{InputEnd}
 use Rattle.queue_inject.specs.declared.injection.InputEnd.TheVariants.{Whole, Unread, Malformed}
 use Rattle.queue_command.specs.declared.netstring.Head.{Head}
 use Rattle.queue_command.specs.declared.netstring.Head.TheVariants as was
-use Rattle.queue_command.specs.declared.netstring.Input.{Input}
-use Rattle.queue_inject.specs.Texts.{limit}
-use Rattle.queue_command.specs.Inputs.{most}
 
 -- a stream has no more, or failed
 abbrev pub IsOver : List ℕ → Type 0 → Type 0
@@ -39,16 +36,3 @@ abbrev pub IsCommaRead : InputEnd → List ℕ → List ℕ → Type 0 → Type 
 IsCommaRead Whole before after Failed = before ≡ 44 ∷ after
 IsCommaRead Malformed before after Failed = (byte : ℕ) × (byte ≢ 44) × (before ≡ byte ∷ after)
 IsCommaRead Unread before after Failed = (before ≡ after) × IsOver after Failed
-
--- what came after a head that promised so many bytes
-abbrev pub IsValueBy : InputEnd → List ℕ → ℕ → List ℕ → List ℕ → Type 0 → Type 0
-IsValueBy Whole value promised before after Failed =
-    ((length value ≡ promised) × (promised ≤ limit) × (before ≡ value ++ 44 ∷ after))
-    ⊎ ((length value ≡ most) × (most ≤ promised) × (before ≡ value ++ after))
-IsValueBy Malformed value promised before after Failed =
-    (length value ≡ promised) × (promised ≤ limit) × (byte : ℕ) × (byte ≢ 44) × (before ≡ value ++ byte ∷ after)
-IsValueBy Unread value promised before after Failed =
-    (length value ≤ promised) × (length value ≤ limit) × (before ≡ value ++ after) × IsOver after Failed
-
-abbrev pub IsValueRead : Input → ℕ → List ℕ → List ℕ → Type 0 → Type 0
-IsValueRead input promised before after Failed = IsValueBy input.end input.bytes promised before after Failed

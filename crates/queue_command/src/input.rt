@@ -1,13 +1,15 @@
 // The input of an injection: a message and its envelope.
-ghost use Rattle.std.specs.Prelude.{◌≡◌, ◌≢◌, List, ℕ, IfOk};
-ghost use Rattle.mail_bytes.specs.Told.{Meets, Rose};
-ghost use Rattle.queue_command.specs.Inputs.{AreInputs, IsAll, IsValue, IsNextValue, leads_on, unread};
+ghost use Rattle.std.specs.Prelude.{◌≡◌};
+ghost use Rattle.queue_inject.specs.Machine.{asks, room_of};
+ghost use Rattle.queue_command.specs.declared.netstring.Place.TheVariants as place;
+ghost use Rattle.queue_command.specs.Feeding.{Feeds, FeedsBy};
 
-use crate::netstring::{Input, MOST_BYTES, take_netstring};
-use mail_bytes::{ByteText, Memory};
-use outside::{Source, Stopped, take_up_to};
-use queue_inject::InputEnd;
-use std::alloc::Global;
+use crate::netstring::{Place, feed_netstring};
+use crate::tell::tell_end;
+use call_fs::PIECE;
+use outside::{Source, Took};
+use program_runner::take;
+use queue_inject::{Injector, InputEnd, Part};
 
 /// How a message and its envelope come in.
 #[derive(Clone, Copy)]
@@ -18,76 +20,44 @@ pub enum Form {
     Netstrings,
 }
 
-/// Reads a message, and behind one that ended well and isn't too long its envelope. Of an input over the limit one byte
-/// more is read than it may have. Fails only for want of memory.
-pub fn read_input<M: Source, E: Source>(
-    alloc: Global,
+/// Feeds an injector what it asks for now, of the source that has it, which in a netstring stands at this place.
+pub fn feed<M: Source, E: Source>(
+    injector: &mut Injector,
     form: Form,
+    place: &mut Place,
     message: &mut M,
     envelope: &mut E,
-) -> Result<(Input, Input), Memory>
-    ensures read { IfOk result (λ inputs. AreInputs form
+)
+    ensures feeds { FeedsBy (asks injector.old) form place.old place.new injector.old injector.new
         (record { old = M.left message.old; new = M.left message.new; faults_old = M.faults message.old; faults_new = M.faults message.new })
-        (record { old = E.left envelope.old; new = E.left envelope.new; faults_old = E.faults envelope.old; faults_new = E.faults envelope.new })
-        inputs.0 inputs.1) }
+        (record { old = E.left envelope.old; new = E.left envelope.new; faults_old = E.faults envelope.old; faults_new = E.faults envelope.new }) }
+    ensures full { room_of injector.new ≡ 0 }
     ensures beside { form ≡ Form.Netstrings → envelope.new ≡ envelope.old }
 {
-    match form {
-        Form::Beside => {
-            let first = take_all(alloc, message)?;
-            if !leads_on(&first) {
-                return Ok((first, unread(alloc)));
-            }
-            let second = take_all(alloc, envelope)?;
-            Ok((first, second))
+    match injector.asks() {
+        None => {}
+        Some(part) => match form {
+            Form::Netstrings => feed_netstring(injector, message, place),
+            Form::Beside => match part {
+                Part::Message => feed_all(injector, message),
+                Part::Envelope => feed_all(injector, envelope),
+            },
+        },
+    }
+}
+
+/// Feeds an injector what it asks for now, of a source of its own, until there is no more room for it or its end was told.
+fn feed_all<S: Source>(injector: &mut Injector, source: &mut S)
+    ensures feeds { Feeds Form.Beside place.Head place.Head injector.old injector.new
+        (record { old = S.left source.old; new = S.left source.new; faults_old = S.faults source.old; faults_new = S.faults source.new }) }
+    ensures full { room_of injector.new ≡ 0 }
+{
+    let mut buffer = [0; PIECE];
+    while injector.room() > 0 {
+        match take(source, injector.room(), &mut buffer) {
+            Took::Got(count) => injector.feed(&buffer[..count]),
+            Took::End => tell_end(injector, InputEnd::Whole),
+            Took::Failed => tell_end(injector, InputEnd::Unread),
         }
-        Form::Netstrings => read_netstrings(alloc, message),
-    }
-}
-
-/// Reads a message and its envelope as netstrings from one source.
-fn read_netstrings<M: Source>(alloc: Global, source: &mut M) -> Result<(Input, Input), Memory>
-    ensures { IfOk result (λ inputs. Meets (M.left source.old) (M.left source.new) (λ before after. (mid : List ℕ)
-        × IsValue inputs.0.end before mid inputs.0.bytes (Rose (M.faults source.old) (M.faults source.new))
-        × IsNextValue (leads_on inputs.0) mid after inputs.1 (Rose (M.faults source.old) (M.faults source.new)))) }
-{
-    let first = take_netstring(alloc, source)?;
-    if !leads_on(&first) {
-        return Ok((first, unread(alloc)));
-    }
-    let second = take_netstring(alloc, source)?;
-    Ok((first, second))
-}
-
-/// Reads a source to its end, or as far as an input may go.
-fn take_all<S: Source>(alloc: Global, source: &mut S) -> Result<Input, Memory>
-    ensures read { IfOk result (λ input. Meets (S.left source.old) (S.left source.new)
-        (λ before after. IsAll input.end before after input.bytes (Rose (S.faults source.old) (S.faults source.new)))) }
-    ensures end { IfOk result (λ input. input.end ≢ InputEnd.Malformed) }
-    ensures failed { IfOk result (λ input. input.end ≡ InputEnd.Unread → Rose (S.faults source.old) (S.faults source.new)) }
-{
-    let (bytes, why) = take_up_to(alloc, source, MOST_BYTES + 1)?;
-    let end = match why {
-        Stopped::End | Stopped::Full => InputEnd::Whole,
-        Stopped::Failed => InputEnd::Unread,
-    };
-    let bytes = ByteText::from_vec(bytes);
-    Ok(Input { bytes, end })
-}
-
-/// Whether the envelope is read behind this message.
-fn leads_on(message: &Input) -> bool
-    ensures { result ≡ leads_on message.now }
-{
-    message.end == InputEnd::Whole && message.bytes.len() <= MOST_BYTES
-}
-
-/// An envelope that isn't read. Takes no memory.
-fn unread(alloc: Global) -> Input
-    ensures { result ≡ unread }
-{
-    Input {
-        bytes: ByteText::new(alloc),
-        end: InputEnd::Whole,
     }
 }

@@ -20,3 +20,5 @@ pub mod Asks
 pub mod Holds
 -- how the end comes nearer
 pub mod Nearer
+-- what an injector does next, once its input is ready
+pub mod Acts

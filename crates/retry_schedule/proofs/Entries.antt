@@ -1,6 +1,6 @@
 -- Entries in order.
 use Rattle.std.proofs.Common.{◌≡◌, ◌≢◌, ℕ, zero, suc, ◌+◌, ◌<◌, ◌≤◌, List, [], ◌∷◌, ◌++◌, length, get_or, take, drop, Bool, true, false, not, refl, sym, ap, ◌∙◌, subst, inl, inr, ⊎_elim, arith, eqb, ltb, cond}
-use Rattle.std.specs.Prelude.{◌⊎◌, ◌↔◌, ◌&&◌, Option, Some, None, All, Contains, filter}
+use Rattle.std.specs.Prelude.{◌⊎◌, ◌↔◌, ◌&&◌, ◌||◌, Option, Some, None, All, Contains, filter}
 use Rattle.std.specs.List.{AllPairs, AllWithin, insert}
 use Rattle.std.specs.List.Sorted.{IsPartitionedBy, IsPartitionPoint}
 use Rattle.std.specs.Bool.{Decides}
@@ -8,8 +8,9 @@ use Rattle.std.proofs.lemmas.Bool.{cases_lt, cond_both}
 use Rattle.std.proofs.lemmas.Bool.Decides.{Decides-or, Decides-and, Decides-ltb, Decides-eqb, Decides-not, not_from_Decides}
 use Rattle.std.proofs.lemmas.List.{take-append-drop, get_or-take, get_or-drop, get_or_default, length-take, length-drop, append-nil}
 use Rattle.std.proofs.lemmas.List.Elements.{All-nil, All-cons, All-head, All-tail, All-append, All-filter, All-weaker, All-contains, All-contains_itself, filter_passes, filter-append, Contains-append_left, Contains-append_right, Contains-append_cases, Contains-get_or}
+use Rattle.std.proofs.lemmas.List.Filters.{length-filter_both}
 use Rattle.std.proofs.lemmas.List.Kept.{AllPairs-cons, AllPairs-filter}
-use Rattle.retry_schedule.specs.Due.{IsBefore, before, IsInOrder, IsSchedule, IsFree, IsFirst, added, removed}
+use Rattle.retry_schedule.specs.Due.{IsBefore, before, IsInOrder, IsSchedule, IsFree, IsFirst, added, is_due, removed}
 
 -- The order of entries.
 
@@ -221,6 +222,19 @@ schedule_removed n es h = record {
   order = AllPairs-filter IsBefore (λ e. not (eqb e.1 n)) es h.order;
   one = AllPairs-filter (λ a b. a.1 ≢ b.1) (λ e. not (eqb e.1 n)) es h.one;
 }
+
+not_more : (p : ℕ × ℕ → Bool) (xs : List (ℕ × ℕ)) → length (filter p xs) ≤ length xs
+not_more p xs = let sum = length-filter_both p (λ x. not (p x)) (λ x. refl) xs in omega arith
+
+-- one that has an entry has fewer once it is removed
+pub fewer : (n : ℕ) (es : List (ℕ × ℕ)) → is_due n es ≡ true → length (removed n es) < length es
+fewer n [] h = absurd (cc)
+fewer n (e ∷ es) h = by_test (eqb e.1 n) h (λ k. fewer n es k)
+  where
+    by_test : (t : Bool) → (t || is_due n es) ≡ true → (is_due n es ≡ true → length (removed n es) < length es)
+        → length (cond (not t) (e ∷ removed n es) (removed n es)) < length (e ∷ es)
+    by_test true k rest = let m : length (removed n es) ≤ length es = not_more (λ o. not (eqb o.1 n)) es in omega arith
+    by_test false k rest = let m : length (removed n es) < length es = rest k in omega arith
 
 -- The first that is due.
 

@@ -1,7 +1,7 @@
 // Which entry is due first.
-ghost use Rattle.std.specs.Prelude.{◌≡◌, ◌≢◌, ◌≤◌, ◌↔◌, ◌⊎◌, ℕ, Bool, List, [], Option, Contains, OnErr, OnOk, length, vec_len, vec_capacity};
+ghost use Rattle.std.specs.Prelude.{◌≡◌, ◌≢◌, ◌<◌, ◌≤◌, ◌↔◌, ◌⊎◌, ℕ, Bool, true, List, [], Option, Contains, IfOk, OnErr, OnOk, length, vec_len, vec_capacity};
 ghost use Rattle.std.specs.List.{insert};
-ghost use Rattle.retry_schedule.specs.Due.{before, IsInOrder, IsFree, IsSchedule, IsFirst, IsDue, IsDueOf, added, removed};
+ghost use Rattle.retry_schedule.specs.Due.{before, IsInOrder, IsFree, IsSchedule, IsFirst, IsDue, IsDueOf, added, removed, is_due, put, moved, first_due};
 
 use std::alloc::{AllocError, Global};
 use std::marker::Model;
@@ -46,6 +46,7 @@ impl Due {
     /// The least (due, n) of those that are due at most now; `None` exactly when there is none. Takes no memory.
     pub fn first(&self, now: u64) -> Option<(u64, u64)>
         ensures first { IsFirst now self.now result }
+        ensures is { result ≡ first_due now self.now }
         ensures schedule { IsSchedule self.now }
     {
         first_of(&self.entries, now)
@@ -65,30 +66,86 @@ impl Due {
         ensures ok { OnOk result (self.new ≡ added (due, n) (removed n self.old)) }
         ensures err { OnErr result (self.new ≡ self.old) }
     {
+        self.put(due, n)
+    }
+
+    /// Gives n a due moment, in place of the one that it has, if it has one. After an `Err`, which means out of memory,
+    /// it is as before.
+    pub fn put(&mut self, due: u64, n: u64) -> Result<(), AllocError>
+        ensures ok { OnOk result (self.new ≡ put (due, n) self.old) }
+        ensures err { OnErr result (self.new ≡ self.old) }
+    {
         // With this room the entry that was taken out can be put back in.
         self.entries.reserve(1)?;
         take_out(&mut self.entries, n);
         put(&mut self.entries, (due, n))
     }
 
-    /// Takes the entry of n out. The condition: n has an entry. Takes no memory.
+    /// Whether n has an entry. Takes no memory.
+    pub fn is_due(&self, n: u64) -> bool
+        ensures { result ≡ is_due n self.now }
+    {
+        is_due(&self.entries, n)
+    }
+
+    /// Gives n another due moment, if it has one; of a number without an entry nothing changes. Takes no memory: the entry
+    /// that is taken out leaves its room.
+    pub fn reschedule(&mut self, n: u64, due: u64)
+        ensures { self.new ≡ moved (due, n) self.old }
+    {
+        if is_due(&self.entries, n) {
+            take_out(&mut self.entries, n);
+            put_back(&mut self.entries, (due, n));
+        }
+    }
+
+    /// Takes the entry of n out, if there is one. Takes no memory.
     pub fn remove(&mut self, n: u64)
-        requires { IsDue n self.old }
         ensures { self.new ≡ removed n self.old }
     {
         take_out(&mut self.entries, n);
     }
+
+    /// The same entries, with memory of their own.
+    pub fn copy(&self, alloc: Global) -> Result<Self, AllocError>
+        ensures { IfOk result (λ copy. copy ≡ self.now) }
+    {
+        Ok(Due {
+            entries: Vec::from_slice(alloc, &self.entries)?,
+        })
+    }
 }
 
-fn take_out(entries: &mut Vec<(u64, u64)>, n: u64)
+fn is_due(entries: &[(u64, u64)], n: u64) -> bool
+    ensures { result ≡ is_due n entries.now }
+{
+    entries.iter().any(|entry| entry.1 == n)
+}
+
+/// Takes the entries of n out, and answers how many they were.
+fn take_out(entries: &mut Vec<(u64, u64)>, n: u64) -> usize
     requires schedule { IsSchedule entries.old.items }
     ensures items { entries.new.items ≡ removed n entries.old.items }
     ensures schedule { IsSchedule entries.new.items }
     ensures free { IsFree n entries.new.items }
     ensures len { vec_len entries.new ≤ vec_len entries.old }
+    ensures less { is_due n entries.old.items ≡ true → vec_len entries.new < vec_len entries.old }
     ensures capacity { vec_capacity entries.new ≡ vec_capacity entries.old }
 {
+    let all = entries.as_slice().len();
     entries.retain(|entry| entry.1 != n);
+    all - entries.as_slice().len()
+}
+
+// The condition: there is room.
+fn put_back(entries: &mut Vec<(u64, u64)>, entry: (u64, u64))
+    requires schedule { IsSchedule entries.old.items }
+    requires free { IsFree entry.1 entries.old.items }
+    requires room { vec_len entries.old < vec_capacity entries.old }
+    ensures schedule { IsSchedule entries.new.items }
+    ensures items { entries.new.items ≡ added entry entries.old.items }
+{
+    put(entries, entry).unwrap();
 }
 
 // It needs memory only when the room is full.
@@ -123,7 +180,8 @@ fn is_before(a: (u64, u64), b: (u64, u64)) -> bool
 
 fn first_of(entries: &[(u64, u64)], now: u64) -> Option<(u64, u64)>
     requires { IsInOrder entries.now }
-    ensures { IsFirst now entries.now result }
+    ensures first { IsFirst now entries.now result }
+    ensures is { result ≡ first_due now entries.now }
 {
     let (entry, _) = entries.split_first()?;
     if entry.0 <= now { Some(*entry) } else { None }

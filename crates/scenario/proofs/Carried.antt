@@ -1,8 +1,8 @@
--- What a script's history keeps beside being legal: finitely many names, and what each living actor needs open.
-use Rattle.std.proofs.Common.{◌≡◌, ◌≢◌, ◌⊎◌, inl, inr, ⊎_elim, ℕ, ◌≤◌, List, [], ◌∷◌, Bool, if◌then◌else◌, Option, Some, None, refl, sym, ap, ◌∙◌, subst, arith}
+-- What a script's history keeps beside being legal: finitely many names, and what each living actor's past holds open.
+use Rattle.std.proofs.Common.{◌≡◌, ◌≢◌, ◌⊎◌, inl, inr, ⊎_elim, ℕ, ◌≤◌, List, [], ◌∷◌, Option, Some, None, refl, sym, ap, ◌∙◌, subst, arith}
 use Rattle.call_fs.specs.declared.calls.CallData.{CallData}
 use Rattle.call_fs.specs.declared.calls.Told.{Told}
-use Rattle.call_fs.specs.declared.program.Ready.{Ready}
+use Rattle.call_fs.specs.Past.{IsRunBy, UsesHeld, held}
 use Rattle.call_fs.specs.Disk.{Disk}
 use Rattle.mail_bytes.specs.Moments.{IsMoment}
 use Rattle.call_fs.specs.Apply.{Fits}
@@ -12,18 +12,17 @@ use Rattle.call_fs.specs.declared.past.NeedData.TheVariants as needs
 use Rattle.call_fs.specs.declared.past.Own.{Own}
 use Rattle.call_fs.specs.Maps.{put_at}
 use Rattle.call_fs.proofs.Maps.{put_at_cases}
-use Rattle.queue_inject.specs.declared.row.Row.{Row}
-use Rattle.queue_inject.specs.declared.row.Row.TheVariants as at
-use Rattle.queue_inject.specs.Table.{row_after}
 use Rattle.mail_world.specs.declared.event.Program.{Program}
-use Rattle.mail_world.specs.declared.event.Program.TheVariants.{Injector}
-use Rattle.mail_world.specs.History.{Event, Actor, Life, State, Legal, MayRead, next_of, latest, start_of, stopped, after, happens, called, finished, unless_by, shut_by}
-use Rattle.mail_world.specs.History.Event.{Start, Call, End, Stop, Moment, Halt}
+use Rattle.mail_world.specs.History.{Event, call_act, Actor, Life, State, Legal, MayRead, next_of, latest, start_of, stopped, after, happens, called, finished}
+use Rattle.mail_world.specs.History.Event.{Start, Act, End, Stop, Moment, Halt}
 use Rattle.mail_world.specs.History.Life.{Alive, Over, Stopped}
-use Rattle.mail_world.specs.Inside.{IsOwn, HasRow, HasNeeds}
+use Rattle.mail_world.specs.Inside.{Owns}
+use Rattle.mail_world.specs.Acting.{MayMake}
 use Rattle.mail_world.specs.World.{input_ready}
-use Rattle.mail_world.proofs.Opens.{IsPlain, MayDo, opens_by, has_made, needs_stay, needs_move, needs_none, next_may}
-use Rattle.mail_world.proofs.Tests.{other_text}
+use Rattle.mail_world.proofs.Opens.{opens_by, fits_answer, owns_backs, closes_own, own_stays, owns_after}
+use Rattle.mail_world.proofs.Programs.{program_uses}
+use Rattle.mail_world.proofs.Worlds.{may_make}
+use Rattle.mail_world.proofs.Hands.{own_after}
 use Rattle.scenario.specs.Played.{Answers, DoesNext, DoesAlive, DoesStep, StepsTo}
 use Rattle.scenario.specs.Played.Outcome.{Happens}
 use Rattle.scenario.proofs.FiniteDisks.{IsFinite, finite_after, finite_shut, finite_halted}
@@ -37,15 +36,15 @@ use Rattle.mail_world.proofs.Looks.{mapped_some}
 pub record Carries (s : State) : Type 0 where
   pub finite : IsFinite s.disk
   pub lasting : AreLasting s.disk
-  pub needs : (a : List ℕ) (x : Actor) → s.actors a ≡ Some x → x.life ≡ Alive
-      → HasNeeds s.disk s.holder a x.program x.past
+  pub owns : (a : List ℕ) (x : Actor) → s.actors a ≡ Some x → x.life ≡ Alive → Owns s.disk s.holder a (held x.past)
+  pub runs : (a : List ℕ) (x : Actor) → s.actors a ≡ Some x → IsRunBy (next_of x.program) x.past
   pub in_order : (a : List ℕ) (x : Actor) → s.actors a ≡ Some x → latest x.program x.past ≤ s.now
 
 -- A step of a living actor: a call with an answer, or its end.
 abbrev pub HasCalled : Plan → State → List ℕ → Actor → Event → Type 0
 HasCalled plan s a x e =
     (c : CallData) × (got : Told) × (next_of x.program x.past s.now input_ready ≡ needs.File c)
-    × Answers plan s.disk c got × (e ≡ Call a s.now input_ready c got 0)
+    × Answers plan s.disk c got × (e ≡ call_act a s.now input_ready c got 0)
 
 abbrev pub HasEnded : State → List ℕ → Actor → Event → Type 0
 HasEnded s a x e =
@@ -100,66 +99,44 @@ put_actor actors a b x y is = ⊎_elim
     (put_at_cases actors a (Some x) b)
 
 module _ (s : State) (a : List ℕ) (x : Actor) (carries : Carries s) (is : s.actors a ≡ Some x) where
-  called_carries : (ready : Ready) (c : CallData) (got : Told) → x.life ≡ Alive → IsPlain c
-      → Fits s.disk c got.answer 0 → Carries (called s a s.now ready c got 0 (Some x))
-  called_carries ready c got alive none fits =
-      let t = called s a s.now ready c got 0 (Some x) in
-      let own : Own = record { read = s.now; ready = ready; due = needs.File c; came = Answered got } in
-      let opens = opens_by s.disk s.now c got.answer 0 s.holder a none fits in
-      let stay = λ (b : List ℕ) (y : Actor) (h : HasNeeds s.disk s.holder b y.program y.past).
-      needs_stay s.disk t.disk s.holder t.holder a b got.answer y.program y.past opens h in
+  -- what is due uses what is held
+  due_uses : UsesHeld (held x.past) (next_of x.program x.past s.now input_ready)
+  due_uses = program_uses x.program x.past s.now input_ready (carries.runs a x is)
+
+  -- so it may be made
+  pub due_may : x.life ≡ Alive → MayMake s.disk (next_of x.program x.past s.now input_ready)
+  due_may alive =
+      may_make s.disk (held x.past) (next_of x.program x.past s.now input_ready)
+      (owns_backs s.disk s.holder a (held x.past) (carries.owns a x is alive)) due_uses
+
+  called_carries : (c : CallData) (got : Told) → x.life ≡ Alive → next_of x.program x.past s.now input_ready ≡ needs.File c
+      → Fits s.disk c got.answer 0 → Carries (called s a s.now input_ready c got 0 (Some x))
+  called_carries c got alive due fits =
+      let t = called s a s.now input_ready c got 0 (Some x) in
+      let own : Own = record { read = s.now; ready = input_ready; due = needs.File c; came = Answered got } in
+      let now : Actor = record { program = x.program; past = own ∷ x.past; life = x.life } in
+      let opens = opens_by s.disk s.now c got.answer 0 s.holder a fits in
+      let mine = carries.owns a x is alive in
+      let closes = closes_own s.disk s.holder a (held x.past) c mine (subst (UsesHeld (held x.past)) due due_uses) in
+      let owned : Owns t.disk t.holder a (held now.past) = owns_after s.disk t.disk s.holder t.holder a c got.answer (held x.past) opens mine in
       record {
         finite = finite_after s.disk s.now c got.answer 0 carries.finite;
-        lasting = lasting_after s.disk s.now c got.answer none carries.lasting;
-        needs = λ b y here lives. ⊎_elim
+        lasting = lasting_after s.disk s.now c got.answer carries.lasting;
+        owns = λ b y here lives. ⊎_elim
             (λ h.
-            subst (λ (q : List ℕ). HasNeeds t.disk t.holder q y.program y.past) (sym h.0)
-            (subst (λ (z : Actor). HasNeeds t.disk t.holder a z.program z.past) h.1
-            (needs_move t.disk t.holder a x.program x.past s.now ready c got (stay a x (carries.needs a x is alive))
-            (has_made s.disk t.disk s.holder t.holder a got.answer opens))))
-            (λ h. stay b y (carries.needs b y h.1 lives))
-            (put_actor s.actors a b (record { program = x.program; past = own ∷ x.past; life = x.life }) y here);
+            subst (λ (q : List ℕ). Owns t.disk t.holder q (held y.past)) (sym h.0)
+            (subst (λ (z : Actor). Owns t.disk t.holder a (held z.past)) h.1 owned))
+            (λ h fd mode at. own_stays s.disk t.disk s.holder t.holder a b c got.answer fd mode opens closes h.0 (carries.owns b y h.1 lives fd mode at))
+            (put_actor s.actors a b now y here);
+        runs = λ b y here. ⊎_elim
+            (λ h. subst (λ (z : Actor). IsRunBy (next_of z.program) z.past) h.1 (carries.runs a x is, (due, fits_answer s.disk c got.answer 0 fits)))
+            (λ h. carries.runs b y h.1)
+            (put_actor s.actors a b now y here);
         in_order = λ b y here. ⊎_elim
             (λ h. subst (λ (z : Actor). latest z.program z.past ≤ s.now) h.1 (omega arith))
             (λ h. carries.in_order b y h.1)
-            (put_actor s.actors a b (record { program = x.program; past = own ∷ x.past; life = x.life }) y here);
+            (put_actor s.actors a b now y here);
       }
-
--- what another actor has open stays so at an end
-others_open : {X : Type 0} (a b : List ℕ) (o : Option (List ℕ)) (file : Option X) → b ≢ a → o ≡ Some b
-    → unless_by a o file ≡ file
-others_open a b o file apart is =
-    subst (λ (o : Option (List ℕ)). unless_by a o file ≡ file) (sym is)
-    (ap (λ (t : Bool). if t then None else file) (other_text b a apart))
-
-own_after : (d : Disk) (h : ℕ → Option (List ℕ)) (a b : List ℕ) (fd : ℕ) → b ≢ a → IsOwn d h b fd
-    → IsOwn (shut_by a h d) (λ fd. unless_by a (h fd) (h fd)) b fd
-own_after d h a b fd apart own = record {
-  held = others_open a b (h fd) (h fd) apart own.held ∙ own.held;
-  file = own.file;
-  is = others_open a b (h fd) (d.opens fd) apart own.held ∙ own.is;
-  created = own.created;
-}
-
-row_after_end : (d : Disk) (h : ℕ → Option (List ℕ)) (a b : List ℕ) (row : Row) → b ≢ a → HasRow d h b row
-    → HasRow (shut_by a h d) (λ fd. unless_by a (h fd) (h fd)) b row
-row_after_end d h a b (at.LinkMess seq n fd) apart own = own_after d h a b fd.0 apart own
-row_after_end d h a b (at.UnlinkPid seq n fd) apart own = own_after d h a b fd.0 apart own
-row_after_end d h a b (at.AppendMess n fd done) apart own = own_after d h a b fd.0 apart own
-row_after_end d h a b (at.SyncMess n fd) apart own = own_after d h a b fd.0 apart own
-row_after_end d h a b (at.AppendTodo n fd done) apart own = own_after d h a b fd.0 apart own
-row_after_end d h a b (at.SyncTodo n fd) apart own = own_after d h a b fd.0 apart own
-row_after_end d h a b (at.Create seq) apart own = tt
-row_after_end d h a b (at.CreateIntd n) apart own = tt
-row_after_end d h a b (at.LinkTodo n) apart own = tt
-row_after_end d h a b (at.CleanIntd n cause) apart own = tt
-row_after_end d h a b (at.CleanMess n cause) apart own = tt
-row_after_end d h a b at.Queued apart own = tt
-row_after_end d h a b (at.Failed cause) apart own = tt
-
-needs_after_end : (d : Disk) (h : ℕ → Option (List ℕ)) (a b : List ℕ) (program : Program) (past : List Own) → b ≢ a
-    → HasNeeds d h b program past → HasNeeds (shut_by a h d) (λ fd. unless_by a (h fd) (h fd)) b program past
-needs_after_end d h a b (Injector args) past apart own = row_after_end d h a b (row_after args past) apart own
 
 finished_carries : (s : State) (a : List ℕ) (x : Actor) (life : Life) → life ≢ Alive → Carries s → s.actors a ≡ Some x
     → Carries (finished s a life (Some x))
@@ -168,9 +145,13 @@ finished_carries s a x life over carries is =
     record {
       finite = finite_shut a s.holder s.disk carries.finite;
       lasting = carries.lasting;
-      needs = λ b y here lives. ⊎_elim
+      owns = λ b y here lives. ⊎_elim
           (λ h. absurd (over (ap (λ (z : Actor). z.life) h.1 ∙ lives)))
-          (λ h. needs_after_end s.disk s.holder a b y.program y.past h.0 (carries.needs b y h.1 lives))
+          (λ h fd mode at. own_after s.disk s.holder a b fd mode h.0 (carries.owns b y h.1 lives fd mode at))
+          (put_actor s.actors a b gone y here);
+      runs = λ b y here. ⊎_elim
+          (λ h. subst (λ (z : Actor). IsRunBy (next_of z.program) z.past) h.1 (carries.runs a x is))
+          (λ h. carries.runs b y h.1)
           (put_actor s.actors a b gone y here);
       in_order = λ b y here. ⊎_elim
           (λ h. subst (λ (z : Actor). latest z.program z.past ≤ s.now) h.1 (carries.in_order a x is))
@@ -185,11 +166,13 @@ started_carries s a program begun carries =
     record {
       finite = carries.finite;
       lasting = carries.lasting;
-      needs = λ b y here lives. ⊎_elim
-          (λ h.
-          subst (λ (z : Actor). HasNeeds s.disk s.holder b z.program z.past) h.1
-          (needs_none s.disk s.holder b program))
-          (λ h. carries.needs b y h.1 lives)
+      owns = λ b y here lives. ⊎_elim
+          (λ h. subst (λ (z : Actor). Owns s.disk s.holder b (held z.past)) h.1 (λ fd mode at. absurd (cc)))
+          (λ h. carries.owns b y h.1 lives)
+          (put_actor s.actors a b new y here);
+      runs = λ b y here. ⊎_elim
+          (λ h. subst (λ (z : Actor). IsRunBy (next_of z.program) z.past) h.1 tt)
+          (λ h. carries.runs b y h.1)
           (put_actor s.actors a b new y here);
       in_order = λ b y here. ⊎_elim
           (λ h. subst (λ (z : Actor). latest z.program z.past ≤ s.now) h.1 begun)
@@ -217,10 +200,7 @@ goes_step : (d : Disk) (h : List Event) (plan : Plan) (a : List ℕ) (e : Event)
 goes_step d h plan a e x so is alive (inl (c, got, due, given, same)) =
     let s = after d h in
     let carries = so.carries in
-    let f : Event = Call a s.now input_ready c got 0 in
-    let may : MayDo s.disk (needs.File c) =
-    subst (MayDo s.disk) due
-    (next_may s.disk s.holder a x.program x.past s.now input_ready (carries.needs a x is alive)) in
+    let f : Event = call_act a s.now input_ready c got 0 in
     subst (λ (e : Event). Goes d (e ∷ h)) (sym same) (record {
       legal = (
         so.legal,
@@ -234,7 +214,7 @@ goes_step d h plan a e x so is alive (inl (c, got, due, given, same)) =
       );
       carries =
           subst (λ (o : Option Actor). Carries (called s a s.now input_ready c got 0 o)) (sym is)
-          (called_carries s a x carries is input_ready c got alive may.1 given.fits);
+          (called_carries s a x carries is c got alive due given.fits);
     })
 goes_step d h plan a e x so is alive (inr (status, due, same)) =
     let s = after d h in
@@ -282,7 +262,8 @@ goes_moment d h m so moment later =
       carries = record {
         finite = carries.finite;
         lasting = carries.lasting;
-        needs = carries.needs;
+        owns = carries.owns;
+        runs = carries.runs;
         in_order = λ a x is. let before = carries.in_order a x is in omega arith;
       };
     }
@@ -298,9 +279,12 @@ goes_halted d h how named so =
       carries = record {
         finite = finite_halted (contents_by how s.disk named) s.disk carries.finite;
         lasting = lasting_halted (contents_by how s.disk named) s.disk;
-        needs = λ a x is lives.
+        owns = λ a x is lives.
             let w = mapped_some stopped (s.actors a) x is in
             absurd (never_alive w.0.life (ap (λ (x : Actor). x.life) w.2 ∙ lives));
+        runs = λ a x is.
+            let w = mapped_some stopped (s.actors a) x is in
+            subst (λ (x : Actor). IsRunBy (next_of x.program) x.past) w.2 (carries.runs a w.0 w.1);
         in_order = λ a x is.
             let w = mapped_some stopped (s.actors a) x is in
             subst (λ (x : Actor). latest x.program x.past ≤ s.now) w.2 (carries.in_order a w.0 w.1);

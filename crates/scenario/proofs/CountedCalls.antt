@@ -10,9 +10,15 @@ use Rattle.call_fs.specs.declared.calls.Answer.TheVariants.{Done, Refused}
 use Rattle.call_fs.specs.Disk.{Disk}
 use Rattle.call_fs.specs.Apply.{Fits}
 use Rattle.call_fs.specs.Plan.{Plan, Takes, plan_left, KeepsPlan, CallKeepsPlan}
-use Rattle.mail_world.proofs.Opens.{IsPlain}
 use Rattle.mail_world.proofs.Tests.{tells_number}
 use Rattle.scenario.specs.Played.{FailsBy, plan_left_by}
+
+-- no file that is there is opened, read or closed
+abbrev pub IsPlain : CallData → Type 0
+IsPlain (call.Open name how) = ⊥
+IsPlain (call.ReadAt fd at len) = ⊥
+IsPlain (call.Close fd) = ⊥
+IsPlain other = Unit {0}
 
 -- it fails where it is the chosen call, and only there
 abbrev FailsWhereChosen : Plan → Answer → Type 0

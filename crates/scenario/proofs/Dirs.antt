@@ -1,5 +1,5 @@
 -- The bare disk of each script.
-use Rattle.std.proofs.Common.{◌≡◌, ℕ, List, ◌++◌, ◌∙◌, ap, append_assoc}
+use Rattle.std.proofs.Common.{◌≡◌, ℕ, List, ◌∙◌, ap}
 use Rattle.call_fs.specs.Disk.{Disk}
 use Rattle.mem_fs.specs.MemDisk.{disk_of, held_nothing}
 use Rattle.scenario.specs.FirstDisk.{bare_dirs, IsBareDisk, with_dirs}

@@ -9,7 +9,7 @@ use Rattle.call_fs.specs.declared.calls.Told.{Told}
 use Rattle.call_fs.specs.declared.program.Ready.{Ready}
 use Rattle.call_fs.specs.Calls.{without_bytes}
 use Rattle.call_fs.specs.Disk.{Disk, HasDir, dir_of}
-use Rattle.call_fs.specs.Apply.{Fits, MayCall}
+use Rattle.call_fs.specs.Apply.{Fits, IsReadBy, MayCall}
 use Rattle.call_fs.specs.declared.past.NeedData.{NeedData}
 use Rattle.call_fs.specs.declared.past.NeedData.TheVariants as needs
 use Rattle.call_fs.specs.declared.past.Own.{Own}
@@ -23,10 +23,8 @@ use Rattle.queue_inject.specs.Table.{row_after, call_of, in_time, has_input, is_
 use Rattle.mail_world.specs.declared.event.Program.{Program}
 use Rattle.mail_world.specs.declared.event.Program.TheVariants.{Injector}
 use Rattle.mail_world.specs.History.{next_of}
-use Rattle.mail_world.proofs.Histories.{reads_none}
-use Rattle.mail_world.proofs.Opens.{IsPlain}
 use Rattle.scenario.specs.Played.{Answers}
-use Rattle.scenario.proofs.CountedCalls.{counted}
+use Rattle.scenario.proofs.CountedCalls.{IsPlain, counted}
 use Rattle.scenario.proofs.Decided.{Decided, both, up_to, listed, same_text, some_or_none}
 use Rattle.scenario.proofs.FiniteDisks.{IsFinite}
 use Rattle.scenario.proofs.LeastFree.{next_descriptor, least_free, is_unused}
@@ -34,6 +32,21 @@ use Rattle.scenario.proofs.LeastFree.{next_descriptor, least_free, is_unused}
 -- a disk has the directory of a name, or not
 has_dir : (d : Disk) (name : List ℕ) → Decided (HasDir d name)
 has_dir d name = listed same_text d.dirs (dir_of name)
+
+-- no plain call reads bytes
+reads_none : (d : Disk) (c : CallData) (answer : Answer) → IsPlain c → IsReadBy d c (without_bytes answer)
+reads_none d (call.CreateExcl name) answer plain = refl
+reads_none d (call.Open name how) answer plain = refl
+reads_none d (call.ReadAt fd at len) answer plain = absurd plain
+reads_none d (call.WriteAt fd at bytes) answer plain = refl
+reads_none d (call.Append fd bytes) answer plain = refl
+reads_none d (call.Truncate fd len) answer plain = refl
+reads_none d (call.Sync fd) answer plain = refl
+reads_none d (call.Close fd) answer plain = refl
+reads_none d (call.Link old new) answer plain = refl
+reads_none d (call.Unlink name) answer plain = refl
+reads_none d (call.Stat name) answer plain = refl
+reads_none d (call.NextName dir last) answer plain = refl
 
 -- an answer without a failure
 answers : (plan : Plan) → plan.fault ≢ Some 1 → (d : Disk) (c : CallData) (answer : Answer) → IsPlain c → Fits d c answer 0 → answer ≢ told.Refused why.Fault

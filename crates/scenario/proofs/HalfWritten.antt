@@ -11,8 +11,7 @@ use Rattle.call_fs.specs.declared.program.Ready.{Ready}
 use Rattle.call_fs.specs.Disk.{Disk, File, Open}
 use Rattle.call_fs.specs.Apply.{effect, changed, Fits}
 use Rattle.call_fs.proofs.Maps.{put_cases}
-use Rattle.mail_world.specs.History.{Actor, State, Allowed, called, happens}
-use Rattle.mail_world.specs.History.Event.{Call}
+use Rattle.mail_world.specs.History.{Actor, State, Allowed, call_act, called, happens}
 use Rattle.mail_world.proofs.Unwritten.{wrote_nothing}
 
 unchanged : (d : Disk) (o : Option Open) → changed d o (λ f. f) ≡ d
@@ -77,7 +76,7 @@ called_same s a read ready c got w v (Some x) same =
     ap (λ (d : Disk). let x : State = record { disk = d; holder = t.holder; now = t.now; actors = t.actors; books = t.books } in x) same
 
 pub call_wrote_none : (s : State) (a : List ℕ) (read : ℕ) (ready : Ready) (c : CallData) (got : Told) (w : ℕ) → (got.answer ≡ Refused Fault → effect s.disk read c got.answer w ≡ s.disk)
-    → Allowed s (Call a read ready c got w) → Allowed s (Call a read ready c got 0) × (happens s (Call a read ready c got w) ≡ happens s (Call a read ready c got 0))
+    → Allowed s (call_act a read ready c got w) → Allowed s (call_act a read ready c got 0) × (happens s (call_act a read ready c got w) ≡ happens s (call_act a read ready c got 0))
 call_wrote_none s a read ready c got w nothing allowed =
     let same = none_written s.disk read c got.answer w nothing in (
       record { actor = allowed.actor; reads = allowed.reads; due = allowed.due; fits = same.0 allowed.fits; bytes = allowed.bytes },

@@ -17,7 +17,7 @@ use Rattle.mail_world.proofs.Tests.{text_cases, same_text, other_text}
 use Rattle.scenario.specs.declared.fates.Fate.{Fate}
 use Rattle.scenario.specs.declared.fates.Life.{Life as ToldLife}
 use Rattle.scenario.specs.declared.fates.Life.TheVariants as told
-use Rattle.scenario.specs.Fates.{no_fate, queues, accepted, left_as, cut_off, all_cut_off, fate_by, fate_in}
+use Rattle.scenario.specs.Fates.{no_fate, queues_by, accepted, left_as, cut_off, all_cut_off, fate_by, fate_in}
 use Rattle.mail_world.specs.declared.event.Program.{Program}
 use Rattle.mail_world.specs.World.{was_started, starts}
 use Rattle.mail_world.proofs.Crew.{started_push}
@@ -59,7 +59,7 @@ queued_alike false f g a h q = h q
 
 by_alike : (event : Kept) (before : List Kept) (f g : List ℕ → Fate) → ((q : List ℕ) → f q ≡ g q) → (q : List ℕ) → fate_by event before f q ≡ fate_by event before g q
 by_alike (kept.Start a program) before f g h q = h q
-by_alike (kept.Call a read ready call told) before f g h q = queued_alike (queues call told.answer) f g a h q
+by_alike (kept.Act a own) before f g h q = queued_alike (queues_by own.due own.came) f g a h q
 by_alike (kept.End a read ready status) before f g h q = put_alike f g a (left_as (told.Ended status)) h q
 by_alike (kept.Stop a) before f g h q = put_alike f g a (left_as told.Stopped) h q
 by_alike (kept.Moment m) before f g h q = h q
@@ -94,7 +94,7 @@ grown_by events i event inside is = take_more events i event inside ∙ ap (λ e
 -- an event that is no start
 pub starts_none : (event : Kept) → ((a : List ℕ) (program : Program) → event ≢ kept.Start a program) → (q : List ℕ) → starts q event ≡ false
 starts_none (kept.Start a program) other q = absurd (other a program refl)
-starts_none (kept.Call a read ready call told) other q = refl
+starts_none (kept.Act a own) other q = refl
 starts_none (kept.End a read ready status) other q = refl
 starts_none (kept.Stop a) other q = refl
 starts_none (kept.Moment m) other q = refl

@@ -13,7 +13,6 @@ use Rattle.call_fs.specs.Survival.{AllSurvive, halted}
 use Rattle.call_fs.specs.Choices.{contents_by}
 use Rattle.call_fs.specs.Maps.{put}
 use Rattle.call_fs.proofs.Maps.{put_cases}
-use Rattle.mail_world.proofs.Opens.{IsPlain}
 use Rattle.mem_fs.proofs.Survivors.{Lasts, lasts-settled, lasts-grown, lasts-overwritten, lasts-cut}
 use Rattle.mem_fs.proofs.Chosen.{read_survives, kept_survives, junk_survives}
 
@@ -34,20 +33,20 @@ lasting_changed : (d : Disk) (o : Option Open) (change : File → File) → ((f 
 lasting_changed d None change stays all = all
 lasting_changed d (Some o) change stays all = lasting_put d.files o.number (change (d.files o.number)) all (stays (d.files o.number) (all o.number))
 
--- each call that opens no file keeps it; a failed write has written nothing
-pub lasting_after : (d : Disk) (now : ℕ) (c : CallData) (answer : Answer) → IsPlain c → AreLasting d → AreLasting (effect d now c answer 0)
-lasting_after d now (call.CreateExcl name) (told.Created fd n) plain all = lasting_put d.files n (empty_file now) all (lasting_empty now)
-lasting_after d now (call.Open name how) answer plain all = absurd plain
-lasting_after d now (call.WriteAt fd place bytes) told.Done plain all = lasting_changed d (d.opens fd.0) (overwritten now place bytes) (lasts-overwritten now place bytes) all
-lasting_after d now (call.WriteAt fd place bytes) (told.Refused Fault) plain all = lasting_changed d (d.opens fd.0) (λ f. f) (λ f h. h) all
-lasting_after d now (call.Append fd bytes) told.Done plain all = lasting_changed d (d.opens fd.0) (grown now bytes) (lasts-grown now bytes) all
-lasting_after d now (call.Append fd bytes) (told.Refused Fault) plain all = lasting_changed d (d.opens fd.0) (λ f. f) (λ f h. h) all
-lasting_after d now (call.Truncate fd len) told.Done plain all = lasting_changed d (d.opens fd.0) (cut len) (lasts-cut len) all
-lasting_after d now (call.Sync fd) told.Done plain all = lasting_changed d (d.opens fd.0) synced (λ f h. lasts-settled f.bytes f) all
-lasting_after d now (call.Link old new) told.Done plain all = all
-lasting_after d now (call.Unlink name) told.Done plain all = all
-lasting_after d now (call.Close fd) answer plain all = absurd plain
-lasting_after d now c answer plain all = all
+-- each call keeps it; a failed write has written nothing
+pub lasting_after : (d : Disk) (now : ℕ) (c : CallData) (answer : Answer) → AreLasting d → AreLasting (effect d now c answer 0)
+lasting_after d now (call.CreateExcl name) (told.Created fd n) all = lasting_put d.files n (empty_file now) all (lasting_empty now)
+lasting_after d now (call.Open name how) (told.Opened fd) all = all
+lasting_after d now (call.WriteAt fd place bytes) told.Done all = lasting_changed d (d.opens fd.0) (overwritten now place bytes) (lasts-overwritten now place bytes) all
+lasting_after d now (call.WriteAt fd place bytes) (told.Refused Fault) all = lasting_changed d (d.opens fd.0) (λ f. f) (λ f h. h) all
+lasting_after d now (call.Append fd bytes) told.Done all = lasting_changed d (d.opens fd.0) (grown now bytes) (lasts-grown now bytes) all
+lasting_after d now (call.Append fd bytes) (told.Refused Fault) all = lasting_changed d (d.opens fd.0) (λ f. f) (λ f h. h) all
+lasting_after d now (call.Truncate fd len) told.Done all = lasting_changed d (d.opens fd.0) (cut len) (lasts-cut len) all
+lasting_after d now (call.Sync fd) told.Done all = lasting_changed d (d.opens fd.0) synced (λ f h. lasts-settled f.bytes f) all
+lasting_after d now (call.Link old new) told.Done all = all
+lasting_after d now (call.Unlink name) told.Done all = all
+lasting_after d now (call.Close fd) told.Done all = all
+lasting_after d now c answer all = all
 
 -- and so does a machine stop
 pub lasting_halted : (contents : ℕ → List ℕ) (d : Disk) → AreLasting (halted contents d)

@@ -28,10 +28,11 @@ use Rattle.mail_world.specs.declared.event.Event.{Event as Kept}
 use Rattle.mail_world.specs.declared.event.Event.TheVariants as kept
 use Rattle.mail_world.specs.declared.event.Program.{Program}
 use Rattle.mail_world.specs.declared.event.Program.TheVariants.{Injector}
-use Rattle.mail_world.specs.History.{Event, Actor, Life, State, next_of, MayCall, stopped, cut_off as ends_as, called, finished, happens, after, Legal}
-use Rattle.mail_world.specs.History.Event.{Start, Call, End, Stop, Moment, Halt}
+use Rattle.mail_world.specs.History.{Event, Actor, Life, State, next_of, MayCall, stopped, cut_off as ends_as, acted, finished, happens, after, Legal}
+use Rattle.mail_world.specs.History.Event.{Start, Act, End, Stop, Moment, Halt}
 use Rattle.mail_world.specs.History.Life.{Alive, Over, Stopped}
 use Rattle.mail_world.specs.World.{Tells, was_started}
+use Rattle.mail_world.proofs.Owns.{by_call, may_read}
 use Rattle.mail_world.proofs.Lives.{started_is}
 use Rattle.std.specs.Option.{option_map}
 use Rattle.call_fs.proofs.Maps.{put_at_cases, put_at_same, put_at_other}
@@ -39,8 +40,8 @@ use Rattle.mail_world.proofs.Tests.{text_cases, same_text}
 use Rattle.scenario.specs.declared.fates.Fate.{Fate}
 use Rattle.scenario.specs.declared.fates.Life.{Life as ToldLife}
 use Rattle.scenario.specs.declared.fates.Life.TheVariants as left
-use Rattle.scenario.specs.Fates.{queues, accepted, life_of, left_as, cut_off, fate_by, fate_in, fate_lines, start_lines}
-use Rattle.scenario.specs.Shown.{line_of, life_word, recipient_lines, is_to_todo, is_accepting, is_accepted, mail_lines, mails_of, all_mail_lines}
+use Rattle.scenario.specs.Fates.{queues, queues_by, accepted, life_of, left_as, cut_off, fate_by, fate_in, fate_lines, start_lines}
+use Rattle.scenario.specs.Shown.{line_of, life_word, recipient_lines, is_to_todo, is_accepting, is_accepting_by, is_accepted, mail_lines, mails_of, all_mail_lines}
 
 -- Which calls accept a mail: an injector's link to todo is one of its intd.
 
@@ -169,13 +170,13 @@ fares_told d (k ∷ events) ((Start b program) ∷ h) legal told a =
     let before = fares_told d events h legal.0 told.1 in
     subst (λ (k : Kept). Fares ((happens s (Start b program)).actors a) (fate_by k (reverse events) (fate_in events) a)) (sym told.0)
     (start_fares s.actors (fate_in events) b _ refl legal.1.new before a)
-fares_told d (k ∷ events) ((Call b read ready call got wrote) ∷ h) legal told a =
+fares_told d (k ∷ events) ((Act b own wrote) ∷ h) legal told a =
     let s = after d h in
     let before = fares_told d events h legal.0 told.1 in
-    let x = legal.1.actor in
-    subst (λ (k : Kept). Fares ((happens s (Call b read ready call got wrote)).actors a) (fate_by k (reverse events) (fate_in events) a)) (sym told.0)
-    (subst (λ (o : Option Actor). Fares ((called s b read ready call got wrote o).actors a) (fate_by (kept.Call b read ready call got) (reverse events) (fate_in events) a)) (sym legal.1.reads.is)
-    (call_fares s.actors (fate_in events) (queues call got.answer) b x _ refl legal.1.reads.is before a))
+    let reads = may_read s b wrote own legal.1 in
+    subst (λ (k : Kept). Fares ((happens s (Act b own wrote)).actors a) (fate_by k (reverse events) (fate_in events) a)) (sym told.0)
+    (subst (λ (o : Option Actor). Fares ((acted s b own wrote o).actors a) (fate_by (kept.Act b own) (reverse events) (fate_in events) a)) (sym reads.1.is)
+    (call_fares s.actors (fate_in events) (queues_by own.due own.came) b reads.0 _ refl reads.1.is before a))
 fares_told d (k ∷ events) ((End b read ready status) ∷ h) legal told a =
     let s = after d h in
     let before = fares_told d events h legal.0 told.1 in
@@ -233,9 +234,10 @@ accepted_told d [] (e ∷ h) legal told a = absurd told
 accepted_told d (k ∷ events) [] legal told a = absurd told
 accepted_told d (k ∷ events) ((Start b program) ∷ h) legal told a =
     accepted_told d events h legal.0 told.1 a ∙ sym (ap (λ (k : Kept). (fate_by k (reverse events) (fate_in events) a).accepted) told.0)
-accepted_told d (k ∷ events) ((Call b read ready call got wrote) ∷ h) legal told a =
-    ap (λ t. (bytes_eq b a && t) || is_accepted a h) (call_agrees (after d h) b read ready call got wrote legal.1)
-    ∙ accept_step (fate_in events) (queues call got.answer) (is_accepted a h) b a (accepted_told d events h legal.0 told.1 a)
+accepted_told d (k ∷ events) ((Act b own wrote) ∷ h) legal told a =
+    ap (λ t. (bytes_eq b a && t) || is_accepted a h)
+    (by_call (after d h) b wrote (λ own. is_accepting_by own.due own.came ≡ queues_by own.due own.came) (λ read ready call got may. call_agrees (after d h) b read ready call got wrote may) own legal.1)
+    ∙ accept_step (fate_in events) (queues_by own.due own.came) (is_accepted a h) b a (accepted_told d events h legal.0 told.1 a)
     ∙ sym (ap (λ (k : Kept). (fate_by k (reverse events) (fate_in events) a).accepted) told.0)
 accepted_told d (k ∷ events) ((End b read ready status) ∷ h) legal told a =
     accepted_told d events h legal.0 told.1 a
@@ -257,7 +259,7 @@ accepted_told d (k ∷ events) ((Halt how contents) ∷ h) legal told a =
 abbrev IsStarted : List ℕ → List Event → Type 0
 IsStarted a [] = ⊥
 IsStarted a ((Start b program) ∷ h) = (b ≡ a) ⊎ IsStarted a h
-IsStarted a ((Call b read ready call got wrote) ∷ h) = IsStarted a h
+IsStarted a ((Act b own wrote) ∷ h) = IsStarted a h
 IsStarted a ((End b read ready status) ∷ h) = IsStarted a h
 IsStarted a ((Stop b) ∷ h) = IsStarted a h
 IsStarted a ((Moment m) ∷ h) = IsStarted a h
@@ -269,10 +271,9 @@ some_put actors b x a h = ⊎_elim
     (λ w. ap is_some w.1 ∙ ⊎_elim (λ e. absurd (w.0 (sym e))) (λ s. s) h)
     (put_at_cases actors b (Some x) a)
 
-some_called : (s : State) (b : List ℕ) (read : ℕ) (ready : Ready) (call : CallData) (got : Told) (wrote : ℕ) (o : Option Actor) (a : List ℕ)
-    → IsSome (s.actors a) → IsSome ((called s b read ready call got wrote o).actors a)
-some_called s b read ready call got wrote None a h = h
-some_called s b read ready call got wrote (Some x) a h = some_put s.actors b _ a (inr h)
+some_acted : (s : State) (b : List ℕ) (own : Own) (wrote : ℕ) (o : Option Actor) (a : List ℕ) → IsSome (s.actors a) → IsSome ((acted s b own wrote o).actors a)
+some_acted s b own wrote None a h = h
+some_acted s b own wrote (Some x) a h = some_put s.actors b _ a (inr h)
 
 some_finished : (s : State) (b : List ℕ) (life : Life) (o : Option Actor) (a : List ℕ) → IsSome (s.actors a) → IsSome ((finished s b life o).actors a)
 some_finished s b life None a h = h
@@ -288,8 +289,8 @@ started_some d [] (e ∷ h) told a was = absurd told
 started_some d (k ∷ events) [] told a was = absurd told
 started_some d (k ∷ events) ((Start b program) ∷ h) told a was =
     some_put (after d h).actors b _ a (⊎_elim (λ e. inl e) (λ w. inr (started_some d events h told.1 a w)) was)
-started_some d (k ∷ events) ((Call b read ready call got wrote) ∷ h) told a was =
-    some_called (after d h) b read ready call got wrote ((after d h).actors b) a (started_some d events h told.1 a was)
+started_some d (k ∷ events) ((Act b own wrote) ∷ h) told a was =
+    some_acted (after d h) b own wrote ((after d h).actors b) a (started_some d events h told.1 a was)
 started_some d (k ∷ events) ((End b read ready status) ∷ h) told a was =
     some_finished (after d h) b (Over status) ((after d h).actors b) a (started_some d events h told.1 a was)
 started_some d (k ∷ events) ((Stop b) ∷ h) told a was =
@@ -333,7 +334,7 @@ lines_told fates g (k ∷ events) ((Start b (Injector args)) ∷ h) told each =
     ∙ ap (λ l. l ++ g (b, args)) (lines_told fates g events h told.1 (λ a args w. each a args (inr w)))
     ∙ ap (λ l. flat_map g (mails_of h) ++ l) (sym (append-nil (g (b, args))))
     ∙ sym (flat_map-append g (mails_of h) ((b, args) ∷ []))
-lines_told fates g (k ∷ events) ((Call b read ready call got wrote) ∷ h) told each =
+lines_told fates g (k ∷ events) ((Act b own wrote) ∷ h) told each =
     no_lines fates events k _ told.0 refl ∙ lines_told fates g events h told.1 each
 lines_told fates g (k ∷ events) ((End b read ready status) ∷ h) told each =
     no_lines fates events k _ told.0 refl ∙ lines_told fates g events h told.1 each

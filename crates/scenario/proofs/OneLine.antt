@@ -12,7 +12,7 @@ use Rattle.scenario.specs.declared.line.Line.{Line}
 use Rattle.scenario.specs.declared.line.Line.TheVariants.{Mail, Step, Run, Stop, Halt, Fault, Number, Moment, Trace, Cat, Show}
 use Rattle.call_fs.specs.declared.crash_file_system.Survival.{Survival}
 use Rattle.call_fs.specs.declared.crash_file_system.Survival.TheVariants.{Keep, Lose, Junk}
-use Rattle.script_words.specs.Words.{joined, StandsFor, StandsForText, HasBody, envelope_text, survival_text}
+use Rattle.script_words.specs.Words.{joined, StandsFor, StandsForText, HasBody, envelope_bytes, survival_text}
 use Rattle.script_words.proofs.Cuts.{same-cut, not-cut}
 use Rattle.script_words.proofs.WordLists.{front, joined-front, joined-more, colon-alone, Ends}
 use Rattle.script_words.proofs.Envelopes.{text_lacks, body-ends}
@@ -80,16 +80,16 @@ alike key name name' from from' rest rest' a b body body' to to' xs ys plain pla
     let listed = one_list to xs to' ys rest rest' ends.0 ends'.0 p q ends.1 ends'.1 worded.1 in
     record { names = named.0; words = worded.0; lists = listed.0; rests = listed.1 }
 
-one_mail : (text name name' s s' m m' : List ℕ) (rs rs' : List (List ℕ)) → IsMailLine text name s rs m → IsMailLine text name' s' rs' m' → Mail name m (envelope_text s rs) ≡ Mail name' m' (envelope_text s' rs')
+one_mail : (text name name' s s' m m' : List ℕ) (rs rs' : List (List ℕ)) → IsMailLine text name s rs m → IsMailLine text name' s' rs' m' → Mail name m (envelope_bytes s rs) ≡ Mail name' m' (envelope_bytes s' rs')
 one_mail text name name' s s' m m' rs rs' p q =
     let same = alike (codes "mail ") name name' p.from q.from p.rest q.rest s s' m m' p.to q.to rs rs' (name_lacks name p.is_name) (name_lacks name' q.is_name)
     p.is_sender q.is_sender p.are_recipients q.are_recipients p.has_body q.has_body (sym p.words ∙ q.words) in
     let sender = one_sender q.from s s' (subst (λ (w : List ℕ). StandsForText w s) same.words p.is_sender) q.is_sender in
     let body = one_message q.rest m m' (subst (λ (w : List ℕ). HasBody w m) same.rests p.has_body) q.has_body in
-    ap (λ (n : List ℕ). Mail n m (envelope_text s rs)) same.names
-    ∙ ap (λ (b : List ℕ). Mail name' b (envelope_text s rs)) body
-    ∙ ap (λ (x : List ℕ). Mail name' m' (envelope_text x rs)) sender
-    ∙ ap (λ (l : List (List ℕ)). Mail name' m' (envelope_text s' l)) same.lists
+    ap (λ (n : List ℕ). Mail n m (envelope_bytes s rs)) same.names
+    ∙ ap (λ (b : List ℕ). Mail name' b (envelope_bytes s rs)) body
+    ∙ ap (λ (x : List ℕ). Mail name' m' (envelope_bytes x rs)) sender
+    ∙ ap (λ (l : List (List ℕ)). Mail name' m' (envelope_bytes s' l)) same.lists
 
 one_raw : (text name name' v v' m m' : List ℕ) → IsRawLine text name v m → IsRawLine text name' v' m' → Mail name m v ≡ Mail name' m' v'
 one_raw text name name' v v' m m' p q =

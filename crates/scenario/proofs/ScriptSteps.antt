@@ -18,10 +18,10 @@ use Rattle.call_fs.proofs.Maps.{put_at_same}
 use Rattle.mail_world.specs.declared.event.Event.{Event as Kept}
 use Rattle.mail_world.specs.declared.event.Event.TheVariants as kept
 use Rattle.mail_world.specs.declared.event.Program.{Program}
-use Rattle.mail_world.specs.History.{Event, Actor, Life, State, next_of, IsLiving, called, finished, after}
-use Rattle.mail_world.specs.History.Event.{Start, Call, End, Stop, Moment, Halt}
+use Rattle.mail_world.specs.History.{Event, call_act, Actor, Life, State, next_of, IsLiving, called, finished, after}
+use Rattle.mail_world.specs.History.Event.{Start, Act, End, Stop, Moment, Halt}
 use Rattle.mail_world.specs.History.Life.{Alive, Over, Stopped}
-use Rattle.mail_world.specs.World.{Seen, Tells, IsHistory, GoesOn, IsStep, EndsAt, was_started, input_ready, GoesByPlan}
+use Rattle.mail_world.specs.World.{kept_call, Seen, Tells, IsHistory, GoesOn, IsStep, EndsAt, was_started, input_ready, GoesByPlan}
 use Rattle.mail_world.proofs.Lives.{started_is, ended_is}
 use Rattle.scenario.proofs.CountedCalls.{done_by}
 use Rattle.scenario.proofs.HalfWritten.{call_wrote_none}
@@ -43,9 +43,9 @@ told_by events k e f h one told =
 
 -- which event a kept one tells
 call_told : (a : List ℕ) (p : ℕ) (ready : Ready) (call : CallData) (got : Told) (e : Event)
-    → Tells (kept.Call a p ready call got) e → (w : ℕ) × (e ≡ Call a p ready call got w)
+    → Tells (kept_call a p ready call got) e → (w : ℕ) × (e ≡ call_act a p ready call got w)
 call_told a p ready call got (Start b program) told = absurd (cc)
-call_told a p ready call got (Call b q r c n w) told = (w, cc)
+call_told a p ready call got (Act b own w) told = (w, cc)
 call_told a p ready call got (End b q r status) told = absurd (cc)
 call_told a p ready call got (Stop b) told = absurd (cc)
 call_told a p ready call got (Moment m) told = absurd (cc)
@@ -53,7 +53,7 @@ call_told a p ready call got (Halt how contents) told = absurd (cc)
 
 end_told : (a : List ℕ) (p : ℕ) (ready : Ready) (status : ℕ) (e : Event) → Tells (kept.End a p ready status) e → e ≡ End a p ready status
 end_told a p ready status (Start b program) told = absurd (cc)
-end_told a p ready status (Call b q r c n w) told = absurd (cc)
+end_told a p ready status (Act b own w) told = absurd (cc)
 end_told a p ready status (End b q r other) told = cc
 end_told a p ready status (Stop b) told = absurd (cc)
 end_told a p ready status (Moment m) told = absurd (cc)
@@ -61,7 +61,7 @@ end_told a p ready status (Halt how contents) told = absurd (cc)
 
 pub start_told : (a : List ℕ) (program : Program) (e : Event) → Tells (kept.Start a program) e → e ≡ Start a program
 start_told a program (Start b other) told = cc
-start_told a program (Call b q r c n w) told = absurd (cc)
+start_told a program (Act b own w) told = absurd (cc)
 start_told a program (End b q r status) told = absurd (cc)
 start_told a program (Stop b) told = absurd (cc)
 start_told a program (Moment m) told = absurd (cc)
@@ -69,7 +69,7 @@ start_told a program (Halt how contents) told = absurd (cc)
 
 pub stop_told : (a : List ℕ) (e : Event) → Tells (kept.Stop a) e → e ≡ Stop a
 stop_told a (Start b program) told = absurd (cc)
-stop_told a (Call b q r c n w) told = absurd (cc)
+stop_told a (Act b own w) told = absurd (cc)
 stop_told a (End b q r status) told = absurd (cc)
 stop_told a (Stop b) told = cc
 stop_told a (Moment m) told = absurd (cc)
@@ -77,7 +77,7 @@ stop_told a (Halt how contents) told = absurd (cc)
 
 pub moment_told : (m : ℕ) (e : Event) → Tells (kept.Moment m) e → e ≡ Moment m
 moment_told m (Start b program) told = absurd (cc)
-moment_told m (Call b q r c n w) told = absurd (cc)
+moment_told m (Act b own w) told = absurd (cc)
 moment_told m (End b q r status) told = absurd (cc)
 moment_told m (Stop b) told = absurd (cc)
 moment_told m (Moment n) told = cc
@@ -124,21 +124,21 @@ record Stepped (o d : Disk) (plan : Plan) (left : Option Plan) (events : List Ke
 
 call_steps : (o d d' : Disk) (plan : Plan) (left : Option Plan) (events : List Kept) (p : ℕ) (h : List Event) (a : List ℕ) (call : CallData) (got : Told) (e : Event)
     → IsHistory o d events p h → got.answer ≢ Refused Memory → CallKeepsPlan call (Some plan) left (Some d) (Some d') got.answer
-    → IsHistory o d' (events ++ kept.Call a p input_ready call got ∷ []) p (e ∷ h)
-    → (done : Stepped o d' plan left (events ++ kept.Call a p input_ready call got ∷ []) p a h) × IsLiving (after o (done.event ∷ h)) a
+    → IsHistory o d' (events ++ kept_call a p input_ready call got ∷ []) p (e ∷ h)
+    → (done : Stepped o d' plan left (events ++ kept_call a p input_ready call got ∷ []) p a h) × IsLiving (after o (done.event ∷ h)) a
 call_steps o d d' plan left events p h a call got e was memory keeps is =
     let s = after o h in
-    let k : Kept = kept.Call a p input_ready call got in
+    let k : Kept = kept_call a p input_ready call got in
     let told = call_told a p input_ready call got e (last_told events k e h is.told) in
     let w = told.0 in
-    let at_w : IsHistory o d' (events ++ k ∷ []) p (Call a p input_ready call got w ∷ h) = subst (λ (e : Event). IsHistory o d' (events ++ k ∷ []) p (e ∷ h)) told.1 is in
+    let at_w : IsHistory o d' (events ++ k ∷ []) p (call_act a p input_ready call got w ∷ h) = subst (λ (e : Event). IsHistory o d' (events ++ k ∷ []) p (e ∷ h)) told.1 is in
     let made = at_w.legal.1 in
     let by = done_by call s.disk plan left d d' got.answer w made.fits keeps in
     let left_disk : effect s.disk p call got.answer w ≡ d' =
     subst (λ (m : Option Actor). effect s.disk p call got.answer w ≡ (called s a p input_ready call got w m).disk) (sym made.reads.is) refl ∙ at_w.disk in
     let zero = call_wrote_none s a p input_ready call got w (λ fault. left_disk ∙ by.nothing_done fault ∙ sym was.disk) made in
     let may = zero.0 in
-    let f : Event = Call a p input_ready call got 0 in
+    let f : Event = call_act a p input_ready call got 0 in
     let living = call_actor s a p input_ready call got 0 may.actor may.reads.is in (
       record {
         event = f;
@@ -151,12 +151,12 @@ call_steps o d d' plan left events p h a call got e was memory keeps is =
             takes = subst (λ (d : Disk). Takes d plan.pick got.answer) (sym was.disk) by.takes;
             no_memory = memory;
           },
-          ap (λ q. Happens (Call a q input_ready call got 0)) (sym was.moment),
+          ap (λ q. Happens (call_act a q input_ready call got 0)) (sym was.moment),
         );
         planned = by.planned;
         is = record {
           legal = (was.legal, may);
-          told = told_by events k (Call a p input_ready call got w) f h refl at_w.told;
+          told = told_by events k (call_act a p input_ready call got w) f h refl at_w.told;
           named = (was.named, tt);
           disk = ap (λ (t : State). t.disk) (sym zero.1) ∙ at_w.disk;
           moment = ap (λ (t : State). t.now) (sym zero.1) ∙ at_w.moment;
@@ -251,7 +251,7 @@ pub stepped : (o : Disk) (old new : Seen Crash) (plan : Plan) (a : List ℕ) (en
 stepped o old new plan a None h playing step same goes by memory =
     let call = step.0 in
     let got = step.1 in
-    let k : Kept = kept.Call a old.present input_ready call got in
+    let k : Kept = kept_call a old.present input_ready call got in
     let next = goes o h playing.is in
     let keeps = subst (λ (was : Option Plan). CallKeepsPlan call was (crash_plan new.disk) (Some (crash_disk old.disk)) (Some (crash_disk new.disk)) got.answer) playing.planned (by k step.2) in
     let done = call_steps o (crash_disk old.disk) (crash_disk new.disk) plan (crash_plan new.disk) old.events old.present h a call got next.0 playing.is

@@ -10,13 +10,13 @@ use Rattle.call_fs.specs.declared.past.NeedData.TheVariants as needs
 use Rattle.mem_fs.specs.MemDisk.{bytes_at}
 use Rattle.queue_inject.specs.declared.injection.Arguments.{Arguments}
 use Rattle.mail_world.specs.declared.event.Program.TheVariants.{Injector}
-use Rattle.mail_world.specs.History.{Event, Actor, Life, State, Legal, next_of, after}
-use Rattle.mail_world.specs.History.Event.{Start, Call, End, Stop, Moment, Halt}
+use Rattle.mail_world.specs.History.{Event, call_act, Actor, Life, State, Legal, next_of, after}
+use Rattle.mail_world.specs.History.Event.{Start, Act, End, Stop, Moment, Halt}
 use Rattle.mail_world.specs.History.Life.{Alive, Over, Stopped}
 use Rattle.mail_world.specs.MailNames.{IsMailName, IsLetter, IsLetterOrDigit, members}
 use Rattle.mail_world.specs.World.{input_ready, mail}
 use Rattle.mail_world.proofs.Headline.{headline}
-use Rattle.mail_world.proofs.Opens.{MayDo, next_may}
+use Rattle.mail_world.specs.Acting.{MayMake}
 use Rattle.script_words.specs.declared.entry.Entry.{Entry}
 use Rattle.scenario.specs.declared.line.Line.{Line}
 use Rattle.scenario.specs.declared.line.Line.TheVariants as line
@@ -30,7 +30,7 @@ use Rattle.scenario.specs.Played.Refusal.{Unknown, Gone, NotWaiting, Taken, Past
 use Rattle.scenario.specs.Shown.{IsShown, pid_line, number_line, all_mail_lines}
 use Rattle.scenario.specs.Traced.{traced_after, traced_text}
 use Rattle.scenario.specs.Text.{IsPlayed, IsBegun, Prints, BeginsToPrint, BeginsAtMost, IsFront, IsFrontAtMost}
-use Rattle.scenario.proofs.Carried.{Carries, Goes, goes_on, goes_started, goes_stopped, goes_moment, goes_halted}
+use Rattle.scenario.proofs.Carried.{Carries, Goes, due_may, goes_on, goes_started, goes_stopped, goes_moment, goes_halted}
 use Rattle.scenario.proofs.FiniteDisks.{IsFinite}
 use Rattle.scenario.proofs.FirstDisks.{first_disk}
 use Rattle.scenario.proofs.Decided.{Decided, both, either, neither, each, up_to, listed, same_text, some_or_none}
@@ -46,11 +46,11 @@ use Rattle.scenario.proofs.Showings.{safe_pending}
 
 -- Steps
 
-step_due : (plan : Plan) (s : State) (a : List ℕ) (due : NeedData) → MayDo s.disk due → IsGiven plan s.disk due
+step_due : (plan : Plan) (s : State) (a : List ℕ) (due : NeedData) → MayMake s.disk due → IsGiven plan s.disk due
     → (outcome : Outcome) × DoesNext plan s a due outcome
 step_due plan s a (needs.File c) may given =
-    let got = given may.0 in
-    (Happens (Call a s.now input_ready c got.0 0), (got.0, got.1, refl))
+    let got = given may in
+    (Happens (call_act a s.now input_ready c got.0 0), (got.0, got.1, refl))
 step_due plan s a (needs.Ended status) may given = (Happens (End a s.now input_ready status), refl)
 step_due plan s a (needs.Take port) may given = (Is NotWaiting, refl)
 step_due plan s a (needs.Give port bytes) may given = (Is NotWaiting, refl)
@@ -62,7 +62,7 @@ step_life : (plan : Plan) (s : State) (a : List ℕ) (x : Actor) (life : Life) �
     → (outcome : Outcome) × DoesAlive plan s a x life outcome
 step_life plan s a x Alive carries is alive =
     step_due plan s a (next_of x.program x.past s.now input_ready)
-    (next_may s.disk s.holder a x.program x.past s.now input_ready (carries.needs a x is alive))
+    (due_may s a x carries is alive)
     (next_given plan s.disk x.program x.past s.now input_ready carries.finite)
 step_life plan s a x (Over status) carries is over = (Is Gone, refl)
 step_life plan s a x Stopped carries is over = (Is Gone, refl)
@@ -391,7 +391,8 @@ goes_first opening d paths first =
       carries = record {
         finite = ready.finite;
         lasting = ready.lasting;
-        needs = λ a x is lives. absurd (cc);
+        owns = λ a x is lives. absurd (cc);
+        runs = λ a x is. absurd (cc);
         in_order = λ a x is. absurd (cc);
       };
     }

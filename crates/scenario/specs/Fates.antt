@@ -7,6 +7,10 @@ use Rattle.std.specs.Cmp.Lexicographic.{slice_cmp}
 use Rattle.call_fs.specs.declared.calls.CallData.{CallData}
 use Rattle.call_fs.specs.declared.calls.CallData.TheVariants.{Link}
 use Rattle.call_fs.specs.declared.calls.Answer.{Answer}
+use Rattle.call_fs.specs.declared.past.NeedData.{NeedData}
+use Rattle.call_fs.specs.declared.past.NeedData.TheVariants.{File}
+use Rattle.call_fs.specs.declared.past.GotData.{GotData}
+use Rattle.call_fs.specs.declared.past.GotData.TheVariants.{Answered}
 use Rattle.call_fs.specs.declared.calls.Answer.TheVariants.{Done}
 use Rattle.call_fs.specs.Maps.{put_at}
 use Rattle.queue_inject.specs.declared.injection.Arguments.{Arguments}
@@ -58,10 +62,15 @@ cut_off told.Stopped = told.Stopped
 abbrev pub all_cut_off : List Kept → (List ℕ → Fate) → List ℕ → Fate
 all_cut_off before fates name = if was_started before name then left_as (cut_off (fates name).life) (fates name) else fates name
 
+-- an event put its actor's mail into the queue
+abbrev pub queues_by : NeedData → GotData → Bool
+queues_by (File call) (Answered told) = queues call told.answer
+queues_by due came = false
+
 -- the fates after one event more, if these events were before it
 abbrev pub fate_by : Kept → List Kept → (List ℕ → Fate) → List ℕ → Fate
 fate_by (kept.Start a program) before fates = fates
-fate_by (kept.Call a read ready call told) before fates = if queues call told.answer then put_at fates a (accepted (fates a)) else fates
+fate_by (kept.Act a own) before fates = if queues_by own.due own.came then put_at fates a (accepted (fates a)) else fates
 fate_by (kept.End a read ready status) before fates = put_at fates a (left_as (told.Ended status) (fates a))
 fate_by (kept.Stop a) before fates = put_at fates a (left_as told.Stopped (fates a))
 fate_by (kept.Moment m) before fates = fates
@@ -80,7 +89,7 @@ fate_lines name fate args =
 -- the lines of the mail that an event starts
 abbrev pub start_lines : (List ℕ → Fate) → Kept → List ℕ
 start_lines fates (kept.Start a (Injector args)) = fate_lines a (fates a) args
-start_lines fates (kept.Call a read ready call told) = []
+start_lines fates (kept.Act a own) = []
 start_lines fates (kept.End a read ready status) = []
 start_lines fates (kept.Stop a) = []
 start_lines fates (kept.Moment m) = []

@@ -4,7 +4,7 @@ use Rattle.std.specs.List.{AllZip, filter}
 use Rattle.mail_bytes.specs.Decimal.{digits}
 use Rattle.mail_bytes.specs.Lists.{last_of}
 use Rattle.mail_bytes.specs.Moments.{IsMoment}
-use Rattle.script_words.specs.Words.{joined, StandsFor, StandsForText, HasBody, envelope_text, IsCount, IsCounted, survival_text, IsSeeded}
+use Rattle.script_words.specs.Words.{joined, StandsFor, StandsForText, HasBody, envelope_bytes, IsCount, IsCounted, survival_text, IsSeeded}
 use Rattle.mail_world.specs.MailNames.{IsMailName, members}
 use Rattle.scenario.specs.declared.error.ScriptError.{ScriptError}
 use Rattle.scenario.specs.declared.error.ScriptError.TheVariants as fault
@@ -53,7 +53,7 @@ pub record IsRawLine (text name envelope body : List ℕ) : Type 0 where
 -- one of a `raw` line. A moment is a decimal text without leading zeros.
 abbrev pub IsLine : List ℕ → Line → Type 0
 IsLine text (Mail name message envelope) =
-    ((sender : List ℕ) × (recipients : List (List ℕ)) × IsMailLine text name sender recipients message × (envelope ≡ envelope_text sender recipients))
+    ((sender : List ℕ) × (recipients : List (List ℕ)) × IsMailLine text name sender recipients message × (envelope ≡ envelope_bytes sender recipients))
     ⊎ IsRawLine text name envelope message
 IsLine text (Step actor) = (text ≡ joined (codes "step" ∷ actor ∷ [])) × IsActorName actor
 IsLine text (Run actor) = (text ≡ joined (codes "run" ∷ actor ∷ [])) × IsActorName actor

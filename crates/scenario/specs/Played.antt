@@ -14,13 +14,15 @@ use Rattle.call_fs.specs.Plan.{Plan, Takes, plan_left, with_fault, with_pick}
 use Rattle.call_fs.specs.Choices.{AreNamed, contents_by}
 use Rattle.call_fs.specs.declared.past.NeedData.{NeedData}
 use Rattle.call_fs.specs.declared.past.NeedData.TheVariants as needs
+use Rattle.call_fs.specs.declared.past.GotData.{GotData}
+use Rattle.call_fs.specs.declared.past.GotData.TheVariants.{Answered}
 use Rattle.mem_fs.specs.MemDisk.{bytes_at}
 use Rattle.queue_inject.specs.declared.injection.Arguments.{Arguments}
 use Rattle.mail_world.specs.declared.error.WorldError.{WorldError}
 use Rattle.mail_world.specs.declared.error.WorldError.TheVariants as error
 use Rattle.mail_world.specs.declared.event.Program.TheVariants.{Injector}
-use Rattle.mail_world.specs.History.{Event, Life, State, Actor, next_of, after, is_start}
-use Rattle.mail_world.specs.History.Event.{Start, Call, End, Stop, Moment, Halt}
+use Rattle.mail_world.specs.History.{Event, Life, State, Actor, call_act, next_of, after, is_start}
+use Rattle.mail_world.specs.History.Event.{Start, Act, End, Stop, Moment, Halt}
 use Rattle.mail_world.specs.History.Life.{Alive, Over, Stopped}
 use Rattle.mail_world.specs.MailNames.{IsMailName}
 use Rattle.mail_world.specs.World.{input_ready, mail, pid_after}
@@ -84,7 +86,7 @@ pub data Outcome : Type 0 where
 
 -- by what the actor must do next, whether it lives, and whether it was started
 abbrev pub DoesNext : Plan → State → List ℕ → NeedData → Outcome → Type 0
-DoesNext plan s a (needs.File call) outcome = (told : Told) × Answers plan s.disk call told × (outcome ≡ Happens (Call a s.now input_ready call told 0))
+DoesNext plan s a (needs.File call) outcome = (told : Told) × Answers plan s.disk call told × (outcome ≡ Happens (call_act a s.now input_ready call told 0))
 DoesNext plan s a (needs.Ended status) outcome = outcome ≡ Happens (End a s.now input_ready status)
 DoesNext plan s a due outcome = outcome ≡ Is NotWaiting
 
@@ -119,10 +121,15 @@ abbrev pub printed : List ℕ → Outcome → List ℕ
 printed name (Happens event) = []
 printed name (Is why) = refusal_line why name
 
+-- what is left of a plan after an event of an actor: only a file call uses it up
+abbrev pub plan_left_of : NeedData → GotData → Plan → Plan
+plan_left_of (needs.File call) (Answered told) plan = plan_left_by call plan told.answer
+plan_left_of due came plan = plan
+
 -- what is left of a plan after an event; only a call uses it up
 abbrev pub plan_by : Event → Plan → Plan
 plan_by (Start a program) plan = plan
-plan_by (Call a read ready call told wrote) plan = plan_left_by call plan told.answer
+plan_by (Act a own wrote) plan = plan_left_of own.due own.came plan
 plan_by (End a read ready status) plan = plan
 plan_by (Stop a) plan = plan
 plan_by (Moment m) plan = plan

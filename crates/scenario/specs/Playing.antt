@@ -1,6 +1,8 @@
 -- A world in which a script is played.
 use Rattle.std.specs.Prelude.{◌≡◌, ℕ, List, [], ◌∷◌, ◌++◌, Bool, true, false, Option, Some, None}
 use Rattle.call_fs.specs.declared.calls.Answer.{Answer}
+use Rattle.call_fs.specs.declared.past.GotData.{GotData}
+use Rattle.call_fs.specs.declared.past.GotData.TheVariants.{Answered}
 use Rattle.call_fs.specs.declared.calls.Answer.TheVariants.{Refused}
 use Rattle.call_fs.specs.declared.calls.FsError.TheVariants.{Memory}
 use Rattle.call_fs.specs.Disk.{Disk}
@@ -23,10 +25,15 @@ abbrev pub is_memory : Answer → Bool
 is_memory (Refused Memory) = true
 is_memory other = false
 
+-- what came of an event is that there was no memory for its call
+abbrev pub is_memory_of : GotData → Bool
+is_memory_of (Answered told) = is_memory told.answer
+is_memory_of other = false
+
 -- an event is a call that found no memory
 abbrev pub lacked_memory : Kept → Bool
 lacked_memory (kept.Start a program) = false
-lacked_memory (kept.Call a read ready call told) = is_memory told.answer
+lacked_memory (kept.Act a own) = is_memory_of own.came
 lacked_memory (kept.End a read ready status) = false
 lacked_memory (kept.Stop a) = false
 lacked_memory (kept.Moment m) = false

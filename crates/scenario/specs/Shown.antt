@@ -8,6 +8,10 @@ use Rattle.std.specs.declared.cmp.Ordering.TheVariants.{Less}
 use Rattle.call_fs.specs.declared.calls.CallData.{CallData}
 use Rattle.call_fs.specs.declared.calls.CallData.TheVariants.{Link}
 use Rattle.call_fs.specs.declared.calls.Answer.{Answer}
+use Rattle.call_fs.specs.declared.past.NeedData.{NeedData}
+use Rattle.call_fs.specs.declared.past.NeedData.TheVariants.{File}
+use Rattle.call_fs.specs.declared.past.GotData.{GotData}
+use Rattle.call_fs.specs.declared.past.GotData.TheVariants.{Answered}
 use Rattle.call_fs.specs.declared.calls.Answer.TheVariants.{Done}
 use Rattle.call_fs.specs.Apply.{StandsAfter}
 use Rattle.mail_bytes.specs.Decimal.{digits}
@@ -23,7 +27,7 @@ use Rattle.queue_states.specs.States.{state_of, is_there}
 pub use Rattle.queue_states.specs.Listing.{AreNamesIn}
 pub use Rattle.queue_states.specs.Lines.{line_of, count_line, state_line}
 use Rattle.mail_world.specs.History.{Event, Life, State, Actor, Injection, after}
-use Rattle.mail_world.specs.History.Event.{Start, Call, End, Stop, Moment, Halt}
+use Rattle.mail_world.specs.History.Event.{Start, Act, End, Stop, Moment, Halt}
 use Rattle.mail_world.specs.History.Life.{Alive, Over, Stopped}
 use Rattle.mail_world.specs.Headline.{IsInjected}
 
@@ -56,10 +60,14 @@ abbrev pub is_accepting : CallData → Answer → Bool
 is_accepting (Link old new) Done = is_to_todo old (parse new)
 is_accepting call answer = false
 
+abbrev pub is_accepting_by : NeedData → GotData → Bool
+is_accepting_by (File call) (Answered told) = is_accepting call told.answer
+is_accepting_by due came = false
+
 -- that injector made such a link
 abbrev pub is_accepted : List ℕ → List Event → Bool
 is_accepted name [] = false
-is_accepted name ((Call a read ready call told wrote) ∷ before) = (bytes_eq a name && is_accepting call told.answer) || is_accepted name before
+is_accepted name ((Act a own wrote) ∷ before) = (bytes_eq a name && is_accepting_by own.due own.came) || is_accepted name before
 is_accepted name ((Start a program) ∷ before) = is_accepted name before
 is_accepted name ((End a read ready status) ∷ before) = is_accepted name before
 is_accepted name ((Stop a) ∷ before) = is_accepted name before
@@ -81,7 +89,7 @@ mail_lines s h name args (Some x) =
 abbrev pub mails_of : List Event → List (List ℕ × Arguments)
 mails_of [] = []
 mails_of ((Start a (Injector args)) ∷ before) = mails_of before ++ (a, args) ∷ []
-mails_of ((Call a read ready call told wrote) ∷ before) = mails_of before
+mails_of ((Act a own wrote) ∷ before) = mails_of before
 mails_of ((End a read ready status) ∷ before) = mails_of before
 mails_of ((Stop a) ∷ before) = mails_of before
 mails_of ((Moment m) ∷ before) = mails_of before

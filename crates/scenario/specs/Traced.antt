@@ -9,10 +9,14 @@ use Rattle.call_fs.specs.declared.calls.CallData.{CallData}
 use Rattle.call_fs.specs.declared.calls.CallData.TheVariants.{CreateExcl, Open, ReadAt, WriteAt, Append, Truncate, Sync, Close, Link, Unlink, Stat, NextName}
 use Rattle.call_fs.specs.declared.calls.Answer.{Answer}
 use Rattle.call_fs.specs.declared.calls.Answer.TheVariants as answer
+use Rattle.call_fs.specs.declared.past.NeedData.{NeedData}
+use Rattle.call_fs.specs.declared.past.NeedData.TheVariants.{File}
+use Rattle.call_fs.specs.declared.past.GotData.{GotData}
+use Rattle.call_fs.specs.declared.past.GotData.TheVariants.{Answered}
 use Rattle.call_fs.specs.declared.crash_file_system.Survival.{Survival}
 use Rattle.call_fs.specs.declared.crash_file_system.Survival.TheVariants.{Keep, Lose, Junk}
 use Rattle.mail_world.specs.History.{Event}
-use Rattle.mail_world.specs.History.Event.{Start, Call, End, Stop, Moment, Halt}
+use Rattle.mail_world.specs.History.Event.{Start, Act, End, Stop, Moment, Halt}
 use Rattle.scenario.specs.declared.line.Line.{Line}
 use Rattle.scenario.specs.declared.line.Line.TheVariants as line
 use Rattle.scenario.specs.Shown.{line_of}
@@ -73,11 +77,16 @@ survival_word Keep = codes "keep"
 survival_word Lose = codes "lose"
 survival_word (Junk seed) = codes "junk"
 
+-- the line of what an actor did: of a file call `ACTOR CALL = ANSWER`; nothing else is done yet
+abbrev pub act_line : List ℕ → NeedData → GotData → List ℕ
+act_line a (File call) (Answered told) = line_of a (call_text call told.answer ++ (codes " = " ++ answer_text told.answer))
+act_line a due came = []
+
 -- The line of an event: `ACTOR start`, `ACTOR CALL = ANSWER`, `ACTOR end STATUS`, `ACTOR stop`, `world moment N` or
 -- `world halt WORD`.
 abbrev pub event_line : Event → List ℕ
 event_line (Start a program) = line_of a (codes "start")
-event_line (Call a read ready call told wrote) = line_of a (call_text call told.answer ++ (codes " = " ++ answer_text told.answer))
+event_line (Act a own wrote) = act_line a own.due own.came
 event_line (End a read ready status) = line_of a (codes "end " ++ digits status)
 event_line (Stop a) = line_of a (codes "stop")
 event_line (Moment m) = line_of (codes "world") (codes "moment " ++ digits m)

@@ -1,9 +1,10 @@
 // How the injectors of a history fare.
 ghost use Rattle.std.specs.Prelude.{◌≡◌, List, ℕ, IfOk, OnOk, reverse};
 ghost use Rattle.call_fs.specs.Maps.{put_at};
-ghost use Rattle.scenario.specs.Fates.{no_fate, fate_of, fate_in, fate_by, cut_off, all_cut_off, queues};
+ghost use Rattle.call_fs.specs.declared.past.NeedData.TheVariants.{File};
+ghost use Rattle.scenario.specs.Fates.{no_fate, fate_of, fate_in, fate_by, cut_off, all_cut_off, queues, queues_by};
 
-use call_fs::{Answer, CallData, Told};
+use call_fs::{Answer, CallData, GotData, NeedData, Own, Told};
 use mail_bytes::Memory;
 use mail_world::Event;
 use std::alloc::Global;
@@ -89,12 +90,7 @@ impl Fates {
             → fate_of self.new name ≡ fate_by event.now before.now (fate_of self.old) name) }
     {
         match event {
-            Event::Call {
-                actor,
-                call,
-                told,
-                ..
-            } if queues(call, told) => {
+            Event::Act { actor, own } if queues_by(own) => {
                 let mut fate = self.find(actor.as_slice());
                 fate.accepted = true;
                 self.put(alloc, actor.as_slice(), fate)
@@ -110,7 +106,7 @@ impl Fates {
                 self.put(alloc, actor.as_slice(), fate)
             }
             Event::Halt { .. } => self.cut_off_all(alloc, before),
-            Event::Start { .. } | Event::Call { .. } | Event::Moment { .. } => Ok(()),
+            Event::Start { .. } | Event::Act { .. } | Event::Moment { .. } => Ok(()),
         }
     }
 
@@ -136,6 +132,29 @@ impl Fates {
         let key = Vec::from_slice(alloc, name)?;
         self.map.insert(key, fate)?;
         Ok(())
+    }
+}
+
+/// Whether an event put its actor's mail into the queue.
+fn queues_by(own: &Own) -> bool
+    ensures { result ≡ queues_by own.now.due own.now.came }
+{
+    match &own.due {
+        NeedData::File(call) => queues_so(call, &own.came),
+        NeedData::Take(_) | NeedData::Give(..) | NeedData::Start(_) => false,
+        NeedData::Command(_) | NeedData::Wait | NeedData::Ended(_) => false,
+    }
+}
+
+/// Whether a call of which this came did.
+fn queues_so(call: &CallData, came: &GotData) -> bool
+    ensures { result ≡ queues_by (File call.now) came.now }
+{
+    match came {
+        GotData::Answered(told) => queues(call, told),
+        GotData::Took(_) | GotData::End | GotData::Gave => false,
+        GotData::Ended(_) | GotData::Crashed | GotData::Started { .. } => false,
+        GotData::Failed | GotData::Memory => false,
     }
 }
 

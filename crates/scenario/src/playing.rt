@@ -9,7 +9,7 @@ ghost use Rattle.mail_world.specs.History.{Event as Happening};
 ghost use Rattle.mail_world.specs.Kept.{events_of};
 ghost use Rattle.scenario.specs.declared.line.Line.TheVariants as LineOf;
 ghost use Rattle.scenario.specs.Played.{Refusal, IsRefusalOf, refusal_line};
-ghost use Rattle.scenario.specs.Playing.{IsPlaying, HasStepped, HasPlayed, HasPrinted, IsRefusedAs, lacked_memory};
+ghost use Rattle.scenario.specs.Playing.{IsPlaying, HasStepped, HasPlayed, HasPrinted, IsRefusedAs, is_memory_of, lacked_memory};
 ghost use Rattle.scenario.specs.Text.{IsPlayed, IsBegun};
 ghost use Rattle.scenario.specs.Shown.{line_of};
 
@@ -18,7 +18,7 @@ use crate::printing::{put_line, put_number};
 use crate::showing::{cat, show};
 use crate::tracing::{put_events_behind, traced_after};
 use crate::{Line, PlayError, Script};
-use call_fs::{Answer, FsError, Survival, Taken};
+use call_fs::{Answer, FsError, GotData, Survival, Taken};
 use crash_fs::CrashDisk;
 use mail_bytes::{ByteText, Memory};
 use mail_world::laws::headline;
@@ -205,9 +205,21 @@ fn lacked_memory(event: &Event) -> bool
     ensures { result ≡ lacked_memory event.now }
 {
     match event {
-        Event::Call { told, .. } => matches!(told.answer, Answer::Refused(FsError::Memory)),
+        Event::Act { own, .. } => is_memory(&own.came),
         Event::Start { .. } | Event::End { .. } => false,
         Event::Stop { .. } | Event::Moment { .. } | Event::Halt { .. } => false,
+    }
+}
+
+/// Whether what came of an event is that there was no memory for its call.
+fn is_memory(came: &GotData) -> bool
+    ensures { result ≡ is_memory_of came.now }
+{
+    match came {
+        GotData::Answered(told) => matches!(told.answer, Answer::Refused(FsError::Memory)),
+        GotData::Took(_) | GotData::End | GotData::Gave => false,
+        GotData::Ended(_) | GotData::Crashed | GotData::Started { .. } => false,
+        GotData::Failed | GotData::Memory => false,
     }
 }
 

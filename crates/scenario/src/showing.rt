@@ -89,7 +89,7 @@ fn put_mail(text: &mut Vec<u8>, fates: &Fates, event: &Event) -> Result<(), Memo
             fates.find(actor.as_slice()),
             arguments,
         ),
-        Event::Call { .. } | Event::End { .. } => Ok(()),
+        Event::Act { .. } | Event::End { .. } => Ok(()),
         Event::Stop { .. } | Event::Moment { .. } | Event::Halt { .. } => Ok(()),
     }
 }

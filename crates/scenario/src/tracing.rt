@@ -5,11 +5,12 @@ ghost use Rattle.mail_bytes.specs.Decimal.{digits};
 ghost use Rattle.mail_world.specs.History.{Event as Happening};
 ghost use Rattle.mail_world.specs.World.{Tells};
 ghost use Rattle.scenario.specs.Shown.{line_of};
-ghost use Rattle.scenario.specs.Traced.{with_path, with_descriptor, with_count, call_text, answer_text, refusal_text, count_told, survival_word, event_line, traced_after};
+ghost use Rattle.scenario.specs.Traced.{with_path, with_descriptor, with_count, call_text, answer_text, refusal_text, count_told, survival_word, act_line, event_line, traced_after};
+ghost use Rattle.call_fs.specs.declared.past.NeedData.TheVariants.{File};
 
 use crate::Line;
 use crate::printing::{put_escaped, put_line, put_number};
-use call_fs::{Answer, CallData, Fd, FsError, Survival};
+use call_fs::{Answer, CallData, Fd, FsError, GotData, NeedData, Own, Survival};
 use mail_bytes::Memory;
 use mail_world::{ActorName, Event};
 use std::alloc::Global;
@@ -62,16 +63,40 @@ fn put_event(alloc: Global, text: &mut Vec<u8>, event: &Event) -> Result<(), Mem
 {
     match event {
         Event::Start { actor, .. } => put_line(text, actor.as_slice(), b"start"),
-        Event::Call {
-            actor,
-            call,
-            told,
-            ..
-        } => put_call(alloc, text, actor, call, &told.answer),
+        Event::Act { actor, own } => put_act(alloc, text, actor, own),
         Event::End { actor, status, .. } => put_end(text, actor, *status),
         Event::Stop { actor } => put_line(text, actor.as_slice(), b"stop"),
         Event::Moment { moment } => put_moment(text, *moment),
         Event::Halt { how } => put_line(text, b"world", halt_words(*how)),
+    }
+}
+
+/// Puts the line of what an actor did at the end of a text. Nothing but file calls is done yet.
+fn put_act(alloc: Global, text: &mut Vec<u8>, actor: &ActorName, own: &Own) -> Result<(), Memory>
+    ensures { OnOk result (text.new.items ≡ text.old.items ++ act_line actor.now own.now.due own.now.came) }
+{
+    match &own.due {
+        NeedData::File(call) => put_came(alloc, text, actor, call, &own.came),
+        NeedData::Take(_) | NeedData::Give(..) | NeedData::Start(_) => Ok(()),
+        NeedData::Command(_) | NeedData::Wait | NeedData::Ended(_) => Ok(()),
+    }
+}
+
+/// Puts the line of a call and what came of it at the end of a text.
+fn put_came(
+    alloc: Global,
+    text: &mut Vec<u8>,
+    actor: &ActorName,
+    call: &CallData,
+    came: &GotData,
+) -> Result<(), Memory>
+    ensures { OnOk result (text.new.items ≡ text.old.items ++ act_line actor.now (File call.now) came.now) }
+{
+    match came {
+        GotData::Answered(told) => put_call(alloc, text, actor, call, &told.answer),
+        GotData::Took(_) | GotData::End | GotData::Gave => Ok(()),
+        GotData::Ended(_) | GotData::Crashed | GotData::Started { .. } => Ok(()),
+        GotData::Failed | GotData::Memory => Ok(()),
     }
 }
 

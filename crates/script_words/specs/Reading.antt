@@ -6,7 +6,7 @@ use Rattle.script_words.specs.declared.envelope.Form.{Form}
 use Rattle.script_words.specs.declared.envelope.Form.TheVariants as form
 use Rattle.script_words.specs.declared.entry_lines.Kind.{Kind}
 use Rattle.script_words.specs.declared.entry_lines.Kind.TheVariants as kind
-use Rattle.script_words.specs.Words.{joined, StandsFor, StandsForText, envelope_text}
+use Rattle.script_words.specs.Words.{joined, StandsFor, StandsForText, envelope_bytes}
 
 -- The word before the first such byte of a text; and what stands after that byte, if it is there.
 abbrev pub CutsAt : List ℕ → ℕ → List ℕ → Option (List ℕ) → Type 0
@@ -49,7 +49,7 @@ pub record BeginsWithEnvelope (text envelope body : List ℕ) : Type 0 where
   pub words : text ≡ from ++ 32 ∷ more
   pub stands : StandsForText from sender
   pub follow : HasRecipients more recipients body
-  pub envelope_is : envelope ≡ envelope_text sender recipients
+  pub envelope_is : envelope ≡ envelope_bytes sender recipients
 
 -- A word for an envelope, then `:` and a body.
 pub record HasRawEnvelope (text envelope body : List ℕ) : Type 0 where

@@ -33,8 +33,8 @@ HasBody (first ∷ text) body = (first ≡ 32) × (unescaped text ≡ Ok body)
 
 -- `F`, the sender, NUL, a record for each recipient, NUL. If an address has a NUL or is too long, an injector reads
 -- something else in it, or refuses it.
-abbrev pub envelope_text : List ℕ → List (List ℕ) → List ℕ
-envelope_text sender recipients = records_of sender recipients ++ 0 ∷ []
+abbrev pub envelope_bytes : List ℕ → List (List ℕ) → List ℕ
+envelope_bytes sender recipients = records_of sender recipients ++ 0 ∷ []
 
 -- a number from 1 that a u64 holds
 abbrev pub IsCounted : ℕ → Type 0

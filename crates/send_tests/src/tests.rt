@@ -1,3 +1,4 @@
 mod bounce_texts;
+mod log_texts;
 mod note_texts;
 mod slot_steps;

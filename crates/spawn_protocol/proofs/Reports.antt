@@ -7,7 +7,7 @@ use Rattle.std.proofs.lemmas.Bool.{cases_lt, cases_eq, cond_both, eqb-true, eqb-
 use Rattle.std.proofs.lemmas.List.{append-nil, append_assoc, length_push, length-take, flat_map_more, map_push, take_all, take-append-le}
 use Rattle.std.proofs.lemmas.List.Elements.{All-push, All-nil, All-cons, All-take, All-map, All-weaker, recursion_from_All}
 use Rattle.spawn_protocol.specs.declared.report.Report.{Report}
-use Rattle.spawn_protocol.specs.Report.{report_text, IsReport, IsKept, kept_text, kept, Start, bytes_to, HasNoNul, IsText, Reader, reader_of, HasRead, eaten, given, more_text, step, Takes}
+use Rattle.spawn_protocol.specs.Report.{report_text, IsReport, IsKept, kept_text, kept, Start, bytes_to, HasNoNul, IsText, Reader, reader_of, HasRead, eaten, given, more_text, read_on, step, Takes}
 use Rattle.spawn_protocol.specs.Report.Start.{NoByte, Numbered, Lettered}
 use Rattle.spawn_protocol.specs.Report.Reader.{AtBegin, AtLetter, InText}
 use Rattle.spawn_protocol.proofs.Runs.{run, run_quiet, run_some, run_one}
@@ -164,6 +164,13 @@ read_runs bytes reports reader h =
     run_text bytes h.whole h.start h.text
     ∙ ap (λ (t : List Report). let s : List Report × Reader = (t, reader_of h.start) in s) (sym h.gave)
     ∙ ap (λ (r : Reader). let s : List Report × Reader = (reports, r) in s) (sym h.holds)
+
+run_is : (r : Reader) (bs : List ℕ) → read_on r bs ≡ run step r bs
+run_is r [] = refl
+run_is r (b ∷ bs) = ap (λ (s : List Report × Reader). let t : List Report × Reader = ((step r b).0 ++ s.0, s.1) in t) (run_is (step r b).1 bs)
+
+pub read_is : (bytes : List ℕ) (reports : List Report) (reader : Reader) → HasRead bytes reports reader → read_on AtBegin bytes ≡ (reports, reader)
+read_is bytes reports reader h = run_is AtBegin bytes ∙ read_runs bytes reports reader h
 
 pub some_reading : (bytes : List ℕ) → (reports : List Report) × (reader : Reader) × HasRead bytes reports reader
 some_reading = run_some step HasRead AtBegin no_text step_more read_runs

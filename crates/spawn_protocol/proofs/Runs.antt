@@ -1,5 +1,5 @@
 -- A reader fed byte by byte, whatever it reads: what it gives on the way, and what it holds at the end.
-use Rattle.std.proofs.Common.{◌≡◌, ℕ, List, [], ◌∷◌, ◌++◌, refl, sym, ap, ◌∙◌, subst}
+use Rattle.std.proofs.Common.{◌≡◌, ℕ, List, [], ◌∷◌, ◌++◌, sym, ap, ◌∙◌, subst}
 use Rattle.std.proofs.lemmas.List.{append-nil, append_assoc}
 
 abbrev pub run : {I R : Type 0} → (R → ℕ → List I × R) → R → List ℕ → List I × R

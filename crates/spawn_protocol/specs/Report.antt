@@ -108,3 +108,8 @@ abbrev pub standing : Place → ℕ → ℕ → List ℕ → Reader
 standing place.Begin slot letter begun = AtBegin
 standing place.AtLetter slot letter begun = AtLetter slot
 standing place.InText slot letter begun = InText slot letter begun
+
+-- bytes taken one after the other: the reports that they end, and what it holds then
+abbrev pub read_on : Reader → List ℕ → List Report × Reader
+read_on reader [] = ([], reader)
+read_on reader (b ∷ bs) = ((step reader b).0 ++ (read_on (step reader b).1 bs).0, (read_on (step reader b).1 bs).1)

@@ -9,5 +9,5 @@
 mod report;
 mod request;
 
-pub use report::{Report, ReportReader, report_text, reports_are_exact};
+pub use report::{Heard, Report, ReportReader, report_text, reports_are_exact};
 pub use request::{CodecError, Request, RequestReader, request_text, requests_are_exact};

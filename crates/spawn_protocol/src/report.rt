@@ -1,6 +1,7 @@
 // Reports, byte by byte.
 ghost use Rattle.std.specs.Prelude.{◌≡◌, ◌++◌, ◌∷◌, [], ℕ, List, All, IfOk, OnOk, OnErr};
-ghost use Rattle.spawn_protocol.specs.Report.{Reader, HasRead, IsReport, IsKept, kept, more_text, report_text};
+ghost use Rattle.spawn_protocol.specs.Report.{Reader, HasRead, IsReport, IsKept, kept, more_text, read_on, report_text, step};
+ghost use Rattle.spawn_protocol.specs.Report.Reader.{AtBegin};
 ghost use Rattle.spawn_protocol.specs.declared.report.Report.{Report};
 
 use mail_bytes::{ByteText, Memory};
@@ -35,6 +36,15 @@ impl Report {
     }
 }
 
+/// What bytes of a link tell: the reports that they end, in order, and a reader of what comes next.
+#[derive(Drop)]
+pub struct Heard {
+    /// The reports.
+    pub reports: Vec<Report>,
+    /// A reader of what comes next.
+    pub reader: ReportReader,
+}
+
 /// Where a reader stands.
 #[derive(Clone, Copy)]
 enum Place {
@@ -61,13 +71,15 @@ impl Model for ReportReader {
 }
 
 impl ReportReader {
-    ghost use Rattle.std.specs.Prelude.{◌≡◌, ◌++◌, [], ℕ, List, OnErr};
-    ghost use Rattle.spawn_protocol.specs.Report.{HasRead, Takes, eaten, given};
+    ghost use Rattle.std.specs.Prelude.{◌≡◌, ◌++◌, [], ℕ, List, IfOk, OnErr};
+    ghost use Rattle.spawn_protocol.specs.Report.{HasRead, Takes, eaten, given, read_on};
+    ghost use Rattle.spawn_protocol.specs.Report.Reader.{AtBegin};
     ghost use Rattle.spawn_protocol.specs.declared.report.Report.{Report};
 
     /// A reader of no bytes yet. Takes no memory.
     pub fn new(alloc: Global) -> Self
-        ensures { HasRead [] [] result }
+        ensures read { HasRead [] [] result }
+        ensures begins { result ≡ AtBegin }
     {
         ReportReader {
             place: Place::Begin,
@@ -83,9 +95,35 @@ impl ReportReader {
     pub fn feed(&mut self, alloc: Global, byte: u8) -> Result<Option<Report>, Memory>
         ensures read { (bytes : List ℕ) (reports : List Report) → HasRead bytes reports self.old
             → HasRead (bytes ++ eaten result byte) (reports ++ given result) self.new }
+        ensures takes { Takes self.old byte result self.new }
         ensures memory { OnErr result (self.new ≡ self.old) }
     {
         self.advance(alloc, byte)
+    }
+
+    /// The same reader.
+    pub fn copy(&self, alloc: Global) -> Result<Self, Memory>
+        ensures { IfOk result (λ copy. copy ≡ self.now) }
+    {
+        Ok(ReportReader {
+            place: self.place,
+            slot: self.slot,
+            letter: self.letter,
+            begun: ByteText::from_slice(alloc, self.begun.as_slice())?,
+        })
+    }
+
+    /// What these bytes tell a reader that stands here. The reader itself takes none of them.
+    pub fn hear(&self, alloc: Global, bytes: &[u8]) -> Result<Heard, Memory>
+        ensures reports { IfOk result (λ heard. heard.reports.items ≡ (read_on self.now bytes.now).0) }
+        ensures reader { IfOk result (λ heard. heard.reader ≡ (read_on self.now bytes.now).1) }
+    {
+        let mut reader = self.copy(alloc)?;
+        let mut reports = Vec::new(alloc);
+        for byte in bytes {
+            hear_byte(&mut reader, &mut reports, alloc, *byte)?;
+        }
+        Ok(Heard { reports, reader })
     }
 
     // Each place with the bytes that lead on from it.
@@ -128,6 +166,22 @@ impl ReportReader {
     }
 }
 
+// Takes a byte, and puts the report that it ended at the end.
+fn hear_byte(
+    reader: &mut ReportReader,
+    reports: &mut Vec<Report>,
+    alloc: Global,
+    byte: u8,
+) -> Result<(), Memory>
+    ensures reports { OnOk result (reports.new.items ≡ reports.old.items ++ (step reader.old byte).0) }
+    ensures reader { OnOk result (reader.new ≡ (step reader.old byte).1) }
+{
+    if let Some(report) = reader.feed(alloc, byte)? {
+        reports.push(report)?;
+    }
+    Ok(())
+}
+
 // A byte of text, kept while there is room.
 fn put_byte(text: &mut ByteText, byte: u8) -> Result<(), Memory>
     ensures ok { OnOk result (text.new ≡ more_text text.old byte) }
@@ -155,6 +209,9 @@ pub fn report_text(alloc: Global, report: &Report) -> Result<Vec<u8>, Memory>
 
 /// Bytes are reports in one way alone.
 pub fn reports_are_exact()
+    // What a reader tells that takes one byte after the other is just that.
+    ensures read { (bytes : List ℕ) (reports : List Report) (reader : Reader) →
+        HasRead bytes reports reader → read_on AtBegin bytes ≡ (reports, reader) }
     // Any bytes are whole reports and the start of one more.
     ensures some { (bytes : List ℕ) → (reports : List Report) × (reader : Reader) × HasRead bytes reports reader }
     ensures one { (bytes : List ℕ) (reports others : List Report) (reader other : Reader) →

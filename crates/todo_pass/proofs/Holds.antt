@@ -31,7 +31,7 @@ use Rattle.todo_pass.specs.Run.{IsRun}
 use Rattle.todo_pass.proofs.Coming.{by_fit}
 
 -- what a row holds open
-abbrev HoldsRow : (ℕ → Option Mode) → Row → Type 0
+abbrev pub HoldsRow : (ℕ → Option Mode) → Row → Type 0
 HoldsRow h (at.ReadTodo fd) = h fd.0 ≡ Some (Mode.Opened how.Read)
 HoldsRow h (at.CloseTodo fd) = h fd.0 ≡ Some (Mode.Opened how.Read)
 HoldsRow h (at.Append t fd done) = h fd.0 ≡ Some Mode.Created
@@ -40,7 +40,7 @@ HoldsRow h (at.Close t fd) = h fd.0 ≡ Some Mode.Created
 HoldsRow h (at.Shut fd why) = IsSome (h fd.0)
 HoldsRow h row = Unit {0}
 
-some_held : (o : Option Mode) (mode : Mode) → o ≡ Some mode → IsSome o
+pub some_held : (o : Option Mode) (mode : Mode) → o ≡ Some mode → IsSome o
 some_held o mode e = ap is_some e
 
 module _ (h : ℕ → Option Mode) where
@@ -120,10 +120,10 @@ module _ (controls : Controls) (p : Pass) (now : ℕ) (h : ℕ → Option Mode) 
     plus false = tt
   answers got = tt
 
-  abbrev StepOf : Row → GotData → Type 0
+  abbrev pub StepOf : Row → GotData → Type 0
   StepOf row got = HoldsRow (held_by h (due_at row p) got) (moved_at controls row p now got).row
 
-  step : (row : Row) (got : GotData) → HoldsRow h row → MayCome (due_at row p) got → StepOf row got
+  pub step : (row : Row) (got : GotData) → HoldsRow h row → MayCome (due_at row p) got → StepOf row got
   step (at.Clear t) got own may = by_fit (call.Unlink (path_in (part_of t) p.n)) (StepOf (at.Clear t)) got may (λ told fit. clears t (path_in (part_of t) p.n) told.answer fit)
   step at.StatMess got own may = by_fit (call.Stat (path_in part.Mess p.n)) (StepOf at.StatMess) got may (λ told fit. states (path_in part.Mess p.n) told.answer fit)
   step at.OpenTodo got own may = by_fit (call.Open (path_in part.Todo p.n) how.Read) (StepOf at.OpenTodo) got may (λ told fit. opens (path_in part.Todo p.n) told.answer fit)
@@ -151,7 +151,7 @@ holds controls n (event ∷ before) run =
     subst (λ x. HoldsRow (held_by (held before) x event.came) (moved_at controls p.row p event.read event.came).row) run.1.0
     (step controls p event.read (held before) p.row event.came old may)
 
-uses_row : (h : ℕ → Option Mode) (p : Pass) (row : Row) → HoldsRow h row → UsesHeld h (due_at row p)
+pub uses_row : (h : ℕ → Option Mode) (p : Pass) (row : Row) → HoldsRow h row → UsesHeld h (due_at row p)
 uses_row h p (at.Clear t) own = tt
 uses_row h p at.StatMess own = tt
 uses_row h p at.OpenTodo own = tt

@@ -16,6 +16,8 @@ pub mod Holds
 pub mod Causes
 -- where the record of each recipient stands
 pub mod Places
+-- the texts of the channels are channel files
+pub mod Channels
 -- a pass that nobody disturbs
 pub mod Alone
 -- the numbers of a todo text

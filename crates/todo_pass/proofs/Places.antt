@@ -6,10 +6,10 @@ use Rattle.std.proofs.lemmas.List.Elements.{filter_map-append}
 use Rattle.address_rules.specs.declared.controls.Controls.{Controls}
 use Rattle.address_rules.specs.declared.rewriting.Route.{Route}
 use Rattle.address_rules.specs.declared.rewriting.Route.TheVariants.{Local, Remote}
-use Rattle.address_rules.specs.Routes.{route_of}
+use Rattle.address_rules.specs.Routes.{address_in, route_of}
 use Rattle.envelope_records.specs.Envelope.{record_of}
 use Rattle.todo_pass.specs.Sorting.{local_of, remote_of, locals_of, remotes_of, channel_text, sorted_of}
-use Rattle.todo_pass.specs.Places.{HasRecord, text_by, place_by, address_in}
+use Rattle.todo_pass.specs.Places.{HasRecord, text_by, place_by}
 use Rattle.todo_pass.specs.Todo.{Todo}
 
 text_append : (xs ys : List (List ℕ)) → channel_text (xs ++ ys) ≡ channel_text xs ++ channel_text ys

@@ -8,6 +8,8 @@ pub mod Sorting
 pub mod Feeding
 -- where the record of each recipient stands
 pub mod Places
+-- the texts of the channels are channel files
+pub mod Channels
 -- what a pass does next, as a function of its own past
 pub mod Table
 -- what the code of the table reads of rows

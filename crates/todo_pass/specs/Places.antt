@@ -3,16 +3,11 @@ use Rattle.std.specs.Prelude.{◌≡◌, ℕ, List, ◌∷◌, ◌++◌, length}
 use Rattle.address_rules.specs.declared.controls.Controls.{Controls}
 use Rattle.address_rules.specs.declared.rewriting.Route.{Route}
 use Rattle.address_rules.specs.declared.rewriting.Route.TheVariants.{Local, Remote}
-use Rattle.address_rules.specs.Routes.{route_of}
+use Rattle.address_rules.specs.Routes.{address_in, route_of}
 use Rattle.envelope_records.specs.Envelope.{record_of}
 use Rattle.todo_pass.specs.declared.sorted.Sorted.{Sorted}
 use Rattle.todo_pass.specs.Sorting.{locals_of, remotes_of, channel_text, sorted_of}
 use Rattle.todo_pass.specs.Todo.{Todo}
-
--- the routed address
-abbrev pub address_in : Route → List ℕ
-address_in (Local address) = address
-address_in (Remote address) = address
 
 -- the text of its channel
 abbrev pub text_by : Sorted → Route → List ℕ

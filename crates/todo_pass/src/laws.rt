@@ -1,5 +1,6 @@
 //! The laws of todo passes: what stands on the disk when the cleaner gets its command, and how a pass ends.
 ghost use Rattle.todo_pass.specs.Laws.{AloneIsLeftAlone, EndsHaveCauses, MadeBeforeTheCommand};
+ghost use Rattle.todo_pass.specs.Channels.{ChannelsAreRecords};
 ghost use Rattle.todo_pass.specs.Places.{EachAtItsPlace};
 ghost use Rattle.todo_pass.specs.Todo.{TodosAreExact};
 
@@ -26,6 +27,12 @@ pub fn todos_are_exact()
 /// recipients of that channel.
 pub fn each_record_is_at_its_place()
     ensures { EachAtItsPlace }
+{}
+
+/// The text of each channel is a channel file that `records` takes, with a record to do for each of its recipients in the
+/// order of the envelope, if what the control files say has no NUL, as what `Controls::read` gives.
+pub fn channels_are_records()
+    ensures { ChannelsAreRecords }
 {}
 
 /// How a pass ends, and why. It ends done only when the cleaner answered `+` and nothing else. It is left, only where:

@@ -1,61 +1,62 @@
 // What control files say, and their defaults.
+use super::rows::{is, same};
 use address_rules::{ControlError, ControlFile, Controls, TextList, VirtualDomain, VirtualDomains};
 use mail_bytes::{ByteText, Memory};
-use std::alloc::{AllocError, Global};
+use std::alloc::Global;
 use std::test::Fail;
 
-/// Twelve files, of which these are there; the last of one file counts.
-pub fn files(
-    alloc: Global,
-    some: &[(ControlFile, &[u8])],
-) -> Result<[Option<ByteText>; 12], Memory> {
+/// Twelve files, of which these are there; the last of one file counts. What there is no memory for is missing, here and in
+/// what is shown below, and shows in what is compared.
+pub fn files(alloc: Global, some: &[(ControlFile, &[u8])]) -> [Option<ByteText>; 12] {
     let mut all = [
         None, None, None, None, None, None, None, None, None, None, None, None,
     ];
     for (file, bytes) in some {
-        all[file.place()] = Some(ByteText::from_slice(alloc, bytes)?);
+        all[file.place()] = ByteText::from_slice(alloc, bytes).ok();
     }
-    Ok(all)
+    all
 }
 
 /// What these files say.
 pub fn read(alloc: Global, some: &[(ControlFile, &[u8])]) -> Result<Controls, ControlError> {
-    let all = files(alloc, some)?;
+    let all = files(alloc, some);
     Controls::read(alloc, &all)
 }
 
-/// The texts, each with a newline after it.
-fn shown(alloc: Global, list: &TextList) -> Result<Vec<u8>, Memory> {
-    let mut text = Vec::new(alloc);
-    for one in list.as_slice() {
-        text.extend_from_slice(one.as_slice())?;
-        text.push(b'\n')?;
-    }
-    Ok(text)
+/// Puts bytes at the end of a text.
+fn add(text: &mut Vec<u8>, bytes: &[u8]) {
+    let _ = text.extend_from_slice(bytes);
 }
 
-/// The lines, each as `DOMAIN=PREFIX` with a newline after it.
-fn shown_lines(alloc: Global, list: &VirtualDomains) -> Result<Vec<u8>, Memory> {
-    let mut text = Vec::new(alloc);
-    for line in list.as_slice() {
-        text.extend_from_slice(line.domain.as_slice())?;
-        text.push(b'=')?;
-        text.extend_from_slice(line.prefix.as_slice())?;
-        text.push(b'\n')?;
+/// Puts the texts at the end of a text, each with a newline after it.
+fn add_texts(text: &mut Vec<u8>, list: &TextList) {
+    for one in list.as_slice() {
+        add(text, one.as_slice());
+        add(text, b"\n");
     }
-    Ok(text)
+}
+
+/// Puts the lines at the end of a text, each as `DOMAIN=PREFIX` with a newline after it.
+fn add_lines(text: &mut Vec<u8>, list: &VirtualDomains) {
+    for line in list.as_slice() {
+        add(text, line.domain.as_slice());
+        add(text, b"=");
+        add(text, line.prefix.as_slice());
+        add(text, b"\n");
+    }
 }
 
 /// All fields in order, a line each; lists in brackets.
-fn whole(alloc: Global, controls: &Controls) -> Result<Vec<u8>, Memory> {
-    let mut text = Vec::from_slice(alloc, controls.me.as_slice())?;
-    text.extend_from_slice(b"\n[")?;
-    text.extend_from_slice(shown(alloc, &controls.locals)?.as_slice())?;
-    text.extend_from_slice(b"][")?;
-    text.extend_from_slice(shown(alloc, &controls.percent_hack)?.as_slice())?;
-    text.extend_from_slice(b"][")?;
-    text.extend_from_slice(shown_lines(alloc, &controls.virtual_domains)?.as_slice())?;
-    text.extend_from_slice(b"]\n")?;
+fn whole(alloc: Global, controls: &Controls) -> Vec<u8> {
+    let mut text = Vec::new(alloc);
+    add(&mut text, controls.me.as_slice());
+    add(&mut text, b"\n[");
+    add_texts(&mut text, &controls.locals);
+    add(&mut text, b"][");
+    add_texts(&mut text, &controls.percent_hack);
+    add(&mut text, b"][");
+    add_lines(&mut text, &controls.virtual_domains);
+    add(&mut text, b"]\n");
     for one in [
         controls.env_no_at_host.as_slice(),
         controls.bounce_from.as_slice(),
@@ -63,17 +64,17 @@ fn whole(alloc: Global, controls: &Controls) -> Result<Vec<u8>, Memory> {
         controls.double_bounce_to.as_slice(),
         controls.double_bounce_host.as_slice(),
     ] {
-        text.extend_from_slice(one)?;
-        text.push(b'\n')?;
+        add(&mut text, one);
+        add(&mut text, b"\n");
     }
-    Ok(text)
+    text
 }
 
-/// What the files say, on paper.
-fn paper(alloc: Global, some: &[(ControlFile, &[u8])]) -> Result<Vec<u8>, Memory> {
+/// What the files say, on paper; nothing if they have a fault.
+fn paper(alloc: Global, some: &[(ControlFile, &[u8])]) -> Vec<u8> {
     match read(alloc, some) {
         Ok(controls) => whole(alloc, &controls),
-        Err(_) => Err(AllocError),
+        Err(_) => Vec::new(alloc),
     }
 }
 
@@ -89,31 +90,38 @@ fn numbers(alloc: Global, some: &[(ControlFile, &[u8])]) -> Option<(u32, u32, u3
     }
 }
 
+/// The last of three numbers.
+fn lifetime_in(found: Option<(u32, u32, u32)>) -> Option<u32> {
+    match found {
+        Some((_, _, lifetime)) => Some(lifetime),
+        None => None,
+    }
+}
+
 #[test]
-fn without_files_the_defaults_count(rt: HostRuntime) -> Result<(), Fail> {
-    let text = paper(rt.alloc(), &[])?;
+fn without_files_the_defaults_count(rt: HostRuntime) {
+    let text = paper(rt.alloc(), &[]);
     let want =
         b"localhost\n[localhost\n][][]\nlocalhost\nMAILER-DAEMON\nlocalhost\npostmaster\nlocalhost\n";
-    assert_eq!(rt; text.as_slice(), want.as_slice());
-    Ok(())
+    same(&rt, text.as_slice(), want);
 }
 
 #[test]
 fn the_numbers_have_defaults_too(rt: HostRuntime) {
-    assert_eq!(rt; numbers(rt.alloc(), &[]), Some((10, 20, 604_800)));
+    let found = numbers(rt.alloc(), &[]);
+    is(&rt, found == Some((10, 20, 604_800)), b"");
 }
 
 #[test]
-fn me_is_the_default_of_four(rt: HostRuntime) -> Result<(), Fail> {
-    let text = paper(rt.alloc(), &[(ControlFile::Me, b"a.example \t\nb\n")])?;
+fn me_is_the_default_of_four(rt: HostRuntime) {
+    let text = paper(rt.alloc(), &[(ControlFile::Me, b"a.example \t\nb\n")]);
     let want =
         b"a.example\n[a.example\n][][]\na.example\nMAILER-DAEMON\na.example\npostmaster\na.example\n";
-    assert_eq!(rt; text.as_slice(), want.as_slice());
-    Ok(())
+    same(&rt, text.as_slice(), want);
 }
 
 #[test]
-fn lists_pass_over_comments_and_empty_lines(rt: HostRuntime) -> Result<(), Fail> {
+fn lists_pass_over_comments_and_empty_lines(rt: HostRuntime) {
     let text = paper(
         rt.alloc(),
         &[
@@ -125,15 +133,14 @@ fn lists_pass_over_comments_and_empty_lines(rt: HostRuntime) -> Result<(), Fail>
                 b"none\n#a:b\n.z:vz\nx:w:v \n:\nb: \n",
             ),
         ],
-    )?;
+    );
     let want =
         b"m\n[x\n x\ny#\nz\n][][.z=vz\nx=w:v\n=\nb=\n]\nm\nMAILER-DAEMON\nm\npostmaster\nm\n";
-    assert_eq!(rt; text.as_slice(), want.as_slice());
-    Ok(())
+    same(&rt, text.as_slice(), want);
 }
 
 #[test]
-fn an_empty_file_is_no_default(rt: HostRuntime) -> Result<(), Fail> {
+fn an_empty_file_is_no_default(rt: HostRuntime) {
     let text = paper(
         rt.alloc(),
         &[
@@ -145,12 +152,8 @@ fn an_empty_file_is_no_default(rt: HostRuntime) -> Result<(), Fail> {
             (ControlFile::DoubleBounceTo, b"to"),
             (ControlFile::DoubleBounceHost, b"dh"),
         ],
-    )?;
-    assert_eq!(rt;
-        text.as_slice(),
-        b"\n[][][]\n\n#from\nbh\nto\ndh\n".as_slice()
     );
-    Ok(())
+    same(&rt, text.as_slice(), b"\n[][][]\n\n#from\nbh\nto\ndh\n");
 }
 
 #[test]
@@ -173,7 +176,7 @@ fn one_to_nine_digits_are_a_number(rt: HostRuntime) {
     ];
     for row in &rows {
         let found = numbers(rt.alloc(), &[(ControlFile::QueueLifetime, row.0)]);
-        assert_eq!(rt; found.map(|three| three.2), row.1);
+        is(&rt, lifetime_in(found) == row.1, row.0);
     }
 }
 
@@ -187,7 +190,7 @@ fn each_number_has_its_file(rt: HostRuntime) {
             (ControlFile::QueueLifetime, b"3"),
         ],
     );
-    assert_eq!(rt; found, Some((1, 2, 3)));
+    is(&rt, found == Some((1, 2, 3)), b"");
 }
 
 /// A list of one text, made and given back.
@@ -211,6 +214,6 @@ fn one_line(alloc: Global) -> Result<Vec<VirtualDomain>, Memory> {
 fn lists_give_back_what_they_were_made_of(rt: HostRuntime) -> Result<(), Fail> {
     let texts = one_text(rt.alloc())?.len();
     let lines = one_line(rt.alloc())?.len();
-    assert_eq!(rt; (texts, lines), (1, 1));
+    is(&rt, texts == 1 && lines == 1, b"");
     Ok(())
 }

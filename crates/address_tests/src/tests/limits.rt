@@ -1,5 +1,6 @@
 // Faults of control files, and limits at the byte.
 use super::files::read;
+use super::rows::{is, same};
 use address_rules::{ControlError, ControlFile};
 use mail_bytes::Memory;
 use std::alloc::Global;
@@ -13,42 +14,39 @@ fn fault(alloc: Global, some: &[(ControlFile, &[u8])]) -> Option<(ControlFile, u
     }
 }
 
-/// These bytes, then so many `a`, then these bytes.
-fn around(alloc: Global, front: &[u8], count: usize, end: &[u8]) -> Result<Vec<u8>, Memory> {
-    let mut text = Vec::from_slice(alloc, front)?;
-    text.extend_from_slice(vec![in alloc; b'a'; count]?.as_slice())?;
-    text.extend_from_slice(end)?;
-    Ok(text)
+/// Bytes, then so many `a`, then bytes, of which at most 2000.
+fn around(alloc: Global, front: &[u8], count: usize, end: &[u8]) -> Vec<u8> {
+    let mut text = Vec::new(alloc);
+    for part in [front, &[b'a'; 2000][..count.min(2000)], end] {
+        let _ = text.extend_from_slice(part);
+    }
+    text
 }
 
 /// The line of the fault of a file whose bytes are so.
-fn line(
-    alloc: Global,
-    file: ControlFile,
-    front: &[u8],
-    count: usize,
-    end: &[u8],
-) -> Result<Option<usize>, Memory> {
-    let text = around(alloc, front, count, end)?;
-    Ok(fault(alloc, &[(file, text.as_slice())]).map(|found| found.1))
+fn line(alloc: Global, file: ControlFile, front: &[u8], count: usize, end: &[u8]) -> Option<usize> {
+    let text = around(alloc, front, count, end);
+    match fault(alloc, &[(file, text.as_slice())]) {
+        Some((_, line)) => Some(line),
+        None => None,
+    }
 }
 
 #[test]
-fn a_line_of_a_list_has_at_most_1000_bytes(rt: HostRuntime) -> Result<(), Fail> {
+fn a_line_of_a_list_has_at_most_1000_bytes(rt: HostRuntime) {
     for file in [
         ControlFile::Locals,
         ControlFile::PercentHack,
         ControlFile::VirtualDomains,
     ] {
-        let longest = line(rt.alloc(), file, b"x\n", 1000, b"\ny\n")?;
-        let longer = line(rt.alloc(), file, b"x\n", 1001, b"\ny\n")?;
-        assert!(rt; longest.is_none() && longer == Some(2));
+        let longest = line(rt.alloc(), file, b"x\n", 1000, b"\ny\n");
+        let longer = line(rt.alloc(), file, b"x\n", 1001, b"\ny\n");
+        is(&rt, longest.is_none() && longer == Some(2), b"");
     }
-    Ok(())
 }
 
 #[test]
-fn a_line_of_a_value_has_at_most_400_bytes(rt: HostRuntime) -> Result<(), Fail> {
+fn a_line_of_a_value_has_at_most_400_bytes(rt: HostRuntime) {
     for file in [
         ControlFile::Me,
         ControlFile::EnvNoAtHost,
@@ -57,15 +55,14 @@ fn a_line_of_a_value_has_at_most_400_bytes(rt: HostRuntime) -> Result<(), Fail> 
         ControlFile::DoubleBounceTo,
         ControlFile::DoubleBounceHost,
     ] {
-        let longest = line(rt.alloc(), file, b"", 400, b"")?;
-        let longer = line(rt.alloc(), file, b"", 401, b"")?;
-        assert!(rt; longest.is_none() && longer == Some(1));
+        let longest = line(rt.alloc(), file, b"", 400, b"");
+        let longer = line(rt.alloc(), file, b"", 401, b"");
+        is(&rt, longest.is_none() && longer == Some(1), b"");
     }
-    Ok(())
 }
 
 #[test]
-fn each_line_counts_and_its_blanks_too(rt: HostRuntime) -> Result<(), Fail> {
+fn each_line_counts_and_its_blanks_too(rt: HostRuntime) {
     let rows = [
         (b"x\n".as_slice(), 400, b"".as_slice(), None),
         (b"x\n", 401, b"", Some(2)),
@@ -74,18 +71,16 @@ fn each_line_counts_and_its_blanks_too(rt: HostRuntime) -> Result<(), Fail> {
         (b"x\n\n\n", 401, b"\n", Some(4)),
     ];
     for row in &rows {
-        let found = line(rt.alloc(), ControlFile::Me, row.0, row.1, row.2)?;
-        assert_eq!(rt; found, row.3);
+        let found = line(rt.alloc(), ControlFile::Me, row.0, row.1, row.2);
+        is(&rt, found == row.3, row.0);
     }
-    Ok(())
 }
 
 #[test]
-fn a_number_with_a_long_second_line(rt: HostRuntime) -> Result<(), Fail> {
-    let good = line(rt.alloc(), ControlFile::QueueLifetime, b"5\n", 401, b"")?;
-    let bad = line(rt.alloc(), ControlFile::QueueLifetime, b"x\n", 401, b"")?;
-    assert!(rt; good == Some(2) && bad == Some(1));
-    Ok(())
+fn a_number_with_a_long_second_line(rt: HostRuntime) {
+    let good = line(rt.alloc(), ControlFile::QueueLifetime, b"5\n", 401, b"");
+    let bad = line(rt.alloc(), ControlFile::QueueLifetime, b"x\n", 401, b"");
+    is(&rt, good == Some(2) && bad == Some(1), b"");
 }
 
 /// A list of so many bytes, in lines of 1000.
@@ -103,7 +98,7 @@ fn long_list(alloc: Global, count: usize) -> Result<Vec<u8>, Memory> {
 fn a_file_has_at_most_1048576_bytes(rt: HostRuntime) -> Result<(), Fail> {
     let longest = long_list(rt.alloc(), 1_048_576)?;
     let found = fault(rt.alloc(), &[(ControlFile::Locals, longest.as_slice())]);
-    assert_eq!(rt; found, None);
+    is(&rt, found.is_none(), b"");
     Ok(())
 }
 
@@ -111,7 +106,7 @@ fn a_file_has_at_most_1048576_bytes(rt: HostRuntime) -> Result<(), Fail> {
 fn one_byte_more_is_too_long(rt: HostRuntime) -> Result<(), Fail> {
     let longer = long_list(rt.alloc(), 1_048_577)?;
     let found = fault(rt.alloc(), &[(ControlFile::Locals, longer.as_slice())]);
-    assert_eq!(rt; found, Some((ControlFile::Locals, 0)));
+    is(&rt, found == Some((ControlFile::Locals, 0)), b"");
     Ok(())
 }
 
@@ -125,7 +120,8 @@ fn a_nul_is_told_by_its_line(rt: HostRuntime) {
         (ControlFile::QueueLifetime, b"5\0", 1),
     ];
     for row in &rows {
-        assert_eq!(rt; fault(rt.alloc(), &[(row.0, row.1)]), Some((row.0, row.2)));
+        let found = fault(rt.alloc(), &[(row.0, row.1)]);
+        is(&rt, found == Some((row.0, row.2)), row.1);
     }
 }
 
@@ -139,7 +135,7 @@ fn the_first_file_is_told(rt: HostRuntime) {
             (ControlFile::QueueLifetime, b""),
         ],
     );
-    assert_eq!(rt; found, Some((ControlFile::ConcurrencyLocal, 2)));
+    is(&rt, found == Some((ControlFile::ConcurrencyLocal, 2)), b"");
 }
 
 #[test]
@@ -159,7 +155,7 @@ fn the_order_of_the_files(rt: HostRuntime) {
         "queuelifetime",
     ];
     for (file, name) in ControlFile::ALL.iter().zip(&names) {
-        assert_eq!(rt; file.name(), *name);
+        is(&rt, file.name() == *name, name.as_bytes());
     }
 }
 
@@ -170,6 +166,6 @@ fn a_fault_is_told_in_words(rt: HostRuntime) -> Result<(), Fail> {
         line: 3,
     };
     let text = format!(in rt.alloc(); "{why}")?;
-    assert_eq!(rt; text.as_str(), "control/envnoathost: line 3");
+    same(&rt, text.as_bytes(), b"control/envnoathost: line 3");
     Ok(())
 }

@@ -1,5 +1,6 @@
 // Prefixes taken off, and senders with their recipients.
 use super::files::read;
+use super::rows::same;
 use address_rules::{ControlFile, strip_prefix, verp};
 use std::test::Fail;
 
@@ -23,7 +24,8 @@ fn senders_with_their_recipients(rt: HostRuntime) -> Result<(), Fail> {
         (b"o-@h-@[]", b"b", b"o-@h-@[]"),
     ];
     for row in &rows {
-        assert_eq!(rt; verp(rt.alloc(), row.0, row.1)?.as_slice(), row.2);
+        let sender = verp(rt.alloc(), row.0, row.1)?;
+        same(&rt, sender.as_slice(), row.2);
     }
     Ok(())
 }
@@ -51,7 +53,7 @@ fn prefixes_taken_off(rt: HostRuntime) -> Result<(), Fail> {
         (b"all-", b"all-"),
     ];
     for row in &rows {
-        assert_eq!(rt; strip_prefix(&controls, row.0), row.1);
+        same(&rt, strip_prefix(&controls, row.0), row.1);
     }
     Ok(())
 }
@@ -59,6 +61,6 @@ fn prefixes_taken_off(rt: HostRuntime) -> Result<(), Fail> {
 #[test]
 fn without_virtual_domains_nothing_is_taken_off(rt: HostRuntime) -> Result<(), Fail> {
     let controls = read(rt.alloc(), &[])?;
-    assert_eq!(rt; strip_prefix(&controls, b"a-b@x"), b"a-b@x".as_slice());
+    same(&rt, strip_prefix(&controls, b"a-b@x"), b"a-b@x");
     Ok(())
 }

@@ -1,5 +1,8 @@
-// The cleaner over a disk in memory.
-use call_fs::{Answer, Call, FsError, Got, Machine, Need, PIECE, Port, Ready, perform};
+// The cleaner over a disk in memory whose machine can be stopped.
+use call_fs::{
+    Answer, Call, CrashFs, FsError, Got, Machine, Need, PIECE, Port, Ready, Survival, perform,
+};
+use crash_fs::CrashDisk;
 use mail_bytes::{LAST_MOMENT, Memory};
 use mem_fs::MemFs;
 use queue_clean::Cleaner;
@@ -111,7 +114,7 @@ fn answer(cleaner: &mut Cleaner, was_given: bool) {
 }
 
 /// Makes a call of the three that a cleaner makes.
-fn make(alloc: Global, disk: &mut MemFs, call: Call<'_>, searches: &mut usize) -> Answer {
+fn make(alloc: Global, disk: &mut CrashDisk, call: Call<'_>, searches: &mut usize) -> Answer {
     let mut bytes = [0; 8192];
     match call {
         Call::NextName(dir, after) => {
@@ -128,7 +131,7 @@ fn make(alloc: Global, disk: &mut MemFs, call: Call<'_>, searches: &mut usize) -
 fn step(
     alloc: Global,
     cleaner: &mut Cleaner,
-    disk: &mut MemFs,
+    disk: &mut CrashDisk,
     outside: &mut Outside<'_>,
 ) -> Option<u8> {
     cleaner.look(outside.now.min(LAST_MOMENT), READY);
@@ -149,7 +152,7 @@ fn step(
 }
 
 /// Runs a cleaner; its exit status, none if it doesn't end.
-fn run(alloc: Global, disk: &mut MemFs, outside: &mut Outside<'_>) -> Option<u8> {
+fn run(alloc: Global, disk: &mut CrashDisk, outside: &mut Outside<'_>) -> Option<u8> {
     let mut cleaner = Cleaner::new();
     for _ in 0..1_000_000_u32 {
         if let Some(status) = step(alloc, &mut cleaner, disk, outside) {
@@ -165,7 +168,7 @@ const DIRS: [&[u8]; 12] = [
 ];
 
 /// Makes the queue's directories and puts empty files of moment 0 there; whether all that was done.
-fn is_filled(alloc: Global, disk: &mut MemFs, files: &[&[u8]]) -> bool {
+fn is_filled(alloc: Global, disk: &mut CrashDisk, files: &[&[u8]]) -> bool {
     let mut is_done = true;
     for dir in &DIRS {
         is_done &= disk.dir(alloc, dir).is_ok();
@@ -177,7 +180,7 @@ fn is_filled(alloc: Global, disk: &mut MemFs, files: &[&[u8]]) -> bool {
 }
 
 /// Whether each of these names is there, or none is.
-fn are_there(disk: &MemFs, names: &[&[u8]], is_there: bool) -> bool {
+fn are_there(disk: &CrashDisk, names: &[&[u8]], is_there: bool) -> bool {
     let mut are_so = true;
     for name in names {
         are_so = are_so && disk.bytes_of(name).is_some() == is_there;
@@ -186,12 +189,13 @@ fn are_there(disk: &MemFs, names: &[&[u8]], is_there: bool) -> bool {
 }
 
 /// A disk that fails at these calls, counted from 1.
-fn disk_of(alloc: Global, faults: &[u64]) -> Result<MemFs, Memory> {
-    MemFs::new(alloc, Vec::new(alloc), Vec::from_slice(alloc, faults)?)
+fn disk_of(alloc: Global, faults: &[u64]) -> Result<CrashDisk, Memory> {
+    let faults = Vec::from_slice(alloc, faults)?;
+    Ok(CrashDisk::new(MemFs::new(alloc, Vec::new(alloc), faults)?))
 }
 
 /// Files that are in the queue, calls that fail, and the moment; the input and the answers to it; which of the files are
-/// there at the end, and which are not. The run ends with 0.
+/// there once the run has ended with 0 and the machine has stopped, and which are not.
 #[derive(Drop)]
 struct Case {
     files: &'static [&'static [u8]],
@@ -211,7 +215,9 @@ fn is_right(alloc: Global, case: &Case) -> bool {
     let is_filled = is_filled(alloc, &mut disk, case.files);
     let mut outside = begin(case.now, case.text, LARGE, case.answers);
     let status = run(alloc, &mut disk, &mut outside);
+    let is_stopped = disk.halt(alloc, Survival::Lose).is_ok();
     is_filled
+        && is_stopped
         && status == Some(0)
         && outside.output.is_right
         && outside.output.given == case.answers.len()
@@ -605,7 +611,7 @@ fn nuls_in(text: &[u8]) -> usize {
 }
 
 /// Whether those of a message's files are gone that the text names, and no others.
-fn is_as_named(disk: &MemFs, text: &[u8], message: &[&[u8]; 5]) -> bool {
+fn is_as_named(disk: &CrashDisk, text: &[u8], message: &[&[u8]; 5]) -> bool {
     let [intd, mess, todo, foop_command, todo_command] = message;
     let is_foop = has_command(text, foop_command);
     let is_todo = has_command(text, todo_command);
@@ -615,7 +621,7 @@ fn is_as_named(disk: &MemFs, text: &[u8], message: &[&[u8]; 5]) -> bool {
 }
 
 /// Whether each message's files are.
-fn are_as_named(disk: &MemFs, text: &[u8]) -> bool {
+fn are_as_named(disk: &CrashDisk, text: &[u8]) -> bool {
     let mut are_so = true;
     for message in &MESSAGES {
         are_so = are_so && is_as_named(disk, text, message);
@@ -624,7 +630,7 @@ fn are_as_named(disk: &MemFs, text: &[u8]) -> bool {
 }
 
 /// Puts each message's files on a disk; whether that was done.
-fn has_messages(alloc: Global, disk: &mut MemFs) -> bool {
+fn has_messages(alloc: Global, disk: &mut CrashDisk) -> bool {
     let mut is_done = true;
     for message in &MESSAGES {
         is_done = is_filled(alloc, disk, &message[..3]) && is_done;

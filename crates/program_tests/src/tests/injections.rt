@@ -4,8 +4,7 @@ use super::sources::pieces;
 use mail_bytes::{ByteText, Memory};
 use mem_fs::MemFs;
 use outside::{MemClock, MemSource};
-use queue_command::{Form, inject, run};
-use queue_inject::{Arguments, InputEnd};
+use queue_command::{Form, inject};
 use received_line::Invoked;
 use std::alloc::Global;
 use std::test::Fail;
@@ -45,7 +44,7 @@ const ROWS: [Row; 3] = [
 ];
 
 /// Makes the queue's directories; whether all were made.
-fn has_directories(alloc: Global, disk: &mut MemFs) -> bool {
+pub fn has_directories(alloc: Global, disk: &mut MemFs) -> bool {
     let mut are_made = true;
     for directory in [b"pid".as_slice(), b"mess/1", b"intd", b"todo"] {
         are_made = disk.dir(alloc, directory).is_ok() && are_made;
@@ -67,28 +66,8 @@ fn is_queued(disk: &MemFs) -> bool {
 }
 
 /// An empty disk.
-fn empty_disk(alloc: Global) -> Result<MemFs, Memory> {
+pub fn empty_disk(alloc: Global) -> Result<MemFs, Memory> {
     MemFs::new(alloc, Vec::new(alloc), Vec::new(alloc))
-}
-
-/// What an injector is started with, as the first row gives it.
-fn arguments(alloc: Global) -> Result<Arguments, Memory> {
-    Ok(Arguments {
-        uid: 1000,
-        pid: 77,
-        invoked: Invoked::Uid(1000),
-        start: 0,
-        message: ByteText::from_slice(alloc, b"hi")?,
-        message_end: InputEnd::Whole,
-        envelope: ByteText::from_slice(alloc, b"Fa@x\0Tb@y\0\0")?,
-        envelope_end: InputEnd::Whole,
-    })
-}
-
-/// Whether an injector with these arguments ends with 0.
-fn runs(alloc: Global, arguments: &Arguments, disk: &mut MemFs) -> bool {
-    let mut clock = MemClock::new(Vec::new(alloc), 77);
-    arguments.start == 0 && run(alloc, arguments, disk, &mut clock) == Ok(0)
 }
 
 /// Whether an injection of these pieces ends with this status.
@@ -110,16 +89,6 @@ fn ends(
         &mut MemSource::new(envelope, Vec::new(alloc)),
         &mut MemClock::new(Vec::new(alloc), 77),
     ) == status
-}
-
-#[test]
-fn an_injector_runs_to_its_end(rt: HostRuntime) -> Result<(), Fail> {
-    let alloc = rt.alloc();
-    let arguments = arguments(alloc)?;
-    let mut disk = empty_disk(alloc)?;
-    let is_run = has_directories(alloc, &mut disk) && runs(alloc, &arguments, &mut disk);
-    assert!(rt; is_run && is_queued(&disk));
-    Ok(())
 }
 
 #[test]

@@ -13,7 +13,7 @@ struct Stretched {
     out: &'static str,
 }
 
-const SCRIPTS: [Stretched; 10] = [
+const SCRIPTS: [Stretched; 12] = [
     // an injector takes addresses of 1002 bytes
     Stretched {
         before: "mail a a@x ",
@@ -86,6 +86,21 @@ const SCRIPTS: [Stretched; 10] = [
         after: "/y",
         status: 91,
         out: "script 1\n",
+    },
+    // a message is written in pieces of 8192 bytes; its first line has 68
+    Stretched {
+        before: "trace\nmail a a@x b@y : ",
+        count: 20_000,
+        after: "\nrun a\n",
+        status: 0,
+        out: "a start\na create pid/77.0.1 = 1\na link pid/77.0.1 mess/1/1 = ok\na unlink pid/77.0.1 = ok\na append #1 8192 = ok\na append #1 8192 = ok\na append #1 3684 = ok\na sync #1 = ok\na create intd/1 = 2\na append #2 20 = ok\na sync #2 = ok\na link intd/1 todo/1 = ok\na end 0\n",
+    },
+    Stretched {
+        before: "trace\nmail a a@x b@y : ",
+        count: 8124,
+        after: "\nrun a\n",
+        status: 0,
+        out: "a start\na create pid/77.0.1 = 1\na link pid/77.0.1 mess/1/1 = ok\na unlink pid/77.0.1 = ok\na append #1 8192 = ok\na sync #1 = ok\na create intd/1 = 2\na append #2 20 = ok\na sync #2 = ok\na link intd/1 todo/1 = ok\na end 0\n",
     },
 ];
 

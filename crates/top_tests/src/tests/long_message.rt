@@ -1,24 +1,28 @@
-// A message with more bytes than a message may have.
+// A message with more bytes than a message may have, over a disk that drops them.
 use super::calling::{call, words_of};
-use super::injecting::{FullSinks, Given, NETSTRINGS, PLAIN, disk_of, leaves, pieces_of};
+use super::injecting::{FullSinks, Given, NETSTRINGS, PLAIN, pieces_of};
+use super::name_disk::NameDisk;
 use super::repeated::Repeated;
 use mail_bytes::{ByteText, Memory};
 use outside::{MemClock, MemSource};
 use std::test::Fail;
 
-/// The most bytes of a message that are ever taken: one past the limit.
+/// How many bytes of a message are taken at most: one past the limit.
 const MOST_TAKEN: usize = 1_073_741_825;
 
-/// How a message is given, what stands before its bytes, and a name for that.
-type Row = (&'static str, Given, &'static [u8]);
+/// How a message is given, what stands before its bytes, and the status.
+type Row = (Given, &'static [u8], u8);
 
-/// A message by itself, and as a netstring that promises more than its source has.
-const ROWS: [Row; 2] = [
-    ("by itself", PLAIN, b""),
-    ("a netstring", NETSTRINGS, b"2000000000:"),
+const ROWS: [Row; 3] = [
+    // by itself
+    (PLAIN, b"", 31),
+    // a netstring that promises more than its source has
+    (NETSTRINGS, b"2000000000:", 31),
+    // one that has as many bytes as it may, after which the next one is no comma
+    (NETSTRINGS, b"1073741824:", 91),
 ];
 
-/// What comes of a message of 175 bytes more than the most: the exit status, whether the queue holds no name after it, and
+/// What comes of a message of 175 bytes more than the most: the exit status, whether the disk has no name after it, and
 /// how many bytes were taken of it.
 fn outcome(
     rt: &HostRuntime,
@@ -40,7 +44,7 @@ fn queue_long(
     mut sinks: FullSinks,
 ) -> (u8, bool, usize) {
     let alloc = rt.alloc();
-    let mut disk = disk_of(alloc, Vec::new(alloc), &[]);
+    let mut disk = NameDisk::new(alloc);
     let mut message = Repeated::new(head, 1_073_742_000);
     let status = call(
         rt,
@@ -54,16 +58,15 @@ fn queue_long(
     );
     (
         status,
-        leaves(alloc, &disk, ""),
+        disk.is_empty(),
         message.taken().saturating_sub(head.len()),
     )
 }
 
 #[test]
 fn a_message_of_over_a_gibibyte_is_refused(rt: HostRuntime) -> Result<(), Fail> {
-    for (name, given, head) in &ROWS {
-        let (status, is_empty, taken) = outcome(&rt, given, head)?;
-        assert!(rt; status == 31 && is_empty && taken <= MOST_TAKEN, "{name}");
+    for (given, head, status) in &ROWS {
+        assert_eq!(rt; outcome(&rt, given, head)?, (*status, true, MOST_TAKEN));
     }
     Ok(())
 }

@@ -1,7 +1,7 @@
 use Rattle.std.proofs.Common.{◌≡◌, Some, sym, ap, ◌∙◌, subst}
 use Rattle.queue_inject.specs.declared.injection.Part.TheVariants.{Message, Envelope}
 use Rattle.queue_inject.specs.Machine.{asks}
-use Rattle.mail_world.specs.Inside.{IsInput}
+use Rattle.mail_world.specs.ByKind.{IsInput}
 use Rattle.mail_world.proofs.Machines.{asked_part}
 use Rattle.mail_world.proofs.mailer.feed.Goals as goal
 

@@ -1,7 +1,7 @@
 use Rattle.std.proofs.Common.{◌≡◌, ℕ, min, List, length, sym, ap, ◌∙◌, subst}
 use Rattle.queue_inject.specs.Machine.{Machine}
 use Rattle.queue_inject.specs.Rows.{part_in}
-use Rattle.mail_world.specs.Inside.{IsInput}
+use Rattle.mail_world.specs.ByKind.{IsInput}
 use Rattle.mail_world.proofs.Machines.{text_continues, text_ends, all_of_rest}
 use Rattle.mail_world.proofs.mailer.feed_text.Goals as goal
 

@@ -1,7 +1,7 @@
-use Rattle.std.proofs.Common.{◌≡◌, ◌∷◌, [], arith, None, Some, refl, sym, ap, ◌∙◌, subst}
-use Rattle.program_runner.specs.Runs.{IsTurn}
+use Rattle.std.proofs.Common.{[], arith, refl}
 use Rattle.program_runner.specs.declared.one_turn.TheConstants.{INPUT_READY}
-use Rattle.program_runner.proofs.Runs.{begins, may_turn, turned_on, turned_to_end}
+use Rattle.program_runner.specs.Runs.{most_turns}
+use Rattle.program_runner.proofs.Runs.{as_long, begins, may_turn, turned_on, turned_to_end}
 use Rattle.program_runner.proofs.running.run_on.Goals as goal
 
 pub loop-init : goal.loop-init
@@ -9,7 +9,7 @@ loop-init g c = (λ h. h, begins g.M.Machine.next INPUT_READY (g.K.Clock.last c.
 
 pub turn-requires-clause-may : goal.turn-requires-clause-may
 turn-requires-clause-may g c =
-    may_turn g.M.Machine.next INPUT_READY (g.K.Clock.last c.args.clock.now) (g.M.Machine.stands c.loop.machine) (λ args. g.M.Machine.stands c.args.machine.now args []) _ _ c.requires.new.0 c.requires.new.1
+    may_turn g.M.Machine.next INPUT_READY (g.K.Clock.last c.args.clock.now) (g.M.Machine.stands c.loop.machine) (λ args. g.M.Machine.stands c.args.machine.now args []) c.loop.counter _ _ c.requires.new.0 c.requires.new.1
     (λ args past read run. c.requires.plain args past read run) c.loop.invariant.1
 
 pub returns-in-Some : goal.returns-in-Some
@@ -17,7 +17,7 @@ returns-in-Some g c = record {
   room = λ h. refl;
   ran = turned_to_end g.M.Machine.next INPUT_READY (g.K.Clock.last c.args.clock.now) (g.M.Machine.stands c.loop.machine) (g.M.Machine.stands c.turn.new.machine)
       (λ read found came. (mid : g.row.M.Denot) × g.M.Machine.looks c.loop.machine read found mid × g.M.Machine.goes mid came c.turn.new.machine)
-      (λ args. g.M.Machine.stands c.args.machine.now args []) _ _ _ c.in_ok-turn.field-0 c.in-Some.status c.in-Some.is c.loop.invariant.1 c.in_ok-turn.ensures.turned;
+      (λ args. g.M.Machine.stands c.args.machine.now args []) c.loop.counter _ _ _ c.in_ok-turn.field-0 c.in-Some.status c.in-Some.is c.loop.invariant.1 c.in_ok-turn.ensures.turned;
 }
 
 pub loop-preserved : goal.loop-preserved
@@ -25,5 +25,12 @@ loop-preserved g c = (
   λ h. (c.in_ok-turn.ensures.room (c.loop.invariant.0 h)).1,
   turned_on g.M.Machine.next INPUT_READY (g.K.Clock.last c.args.clock.now) (g.M.Machine.stands c.loop.machine) (g.M.Machine.stands c.turn.new.machine)
       (λ read found came. (mid : g.row.M.Denot) × g.M.Machine.looks c.loop.machine read found mid × g.M.Machine.goes mid came c.turn.new.machine)
-      (λ args. g.M.Machine.stands c.args.machine.now args []) _ _ _ c.in_ok-turn.field-0 c.in-None.is c.loop.invariant.1 c.in_ok-turn.ensures.turned,
+      (λ args. g.M.Machine.stands c.args.machine.now args []) c.loop.counter _ _ _ c.in_ok-turn.field-0 c.in-None.is c.loop.invariant.1 c.in_ok-turn.ensures.turned,
 )
+
+pub returns : goal.returns
+returns g c = record {
+  room = λ h. refl;
+  ran = as_long g.M.Machine.next INPUT_READY (g.K.Clock.last c.args.clock.now) (g.M.Machine.stands c.loop.machine) (λ args. g.M.Machine.stands c.args.machine.now args [])
+      c.loop.counter most_turns _ _ (omega arith) c.loop.invariant.1;
+}

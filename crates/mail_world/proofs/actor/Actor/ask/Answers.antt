@@ -1,36 +1,59 @@
-use Rattle.std.proofs.Common.{ap, sym, ◌∙◌, subst}
+use Rattle.std.proofs.Common.{◌≡◌, ap, sym, ◌∙◌, subst}
 use Rattle.call_fs.specs.declared.past.NeedData.{NeedData}
+use Rattle.call_fs.specs.Calls.{data_of}
 use Rattle.call_fs.specs.Program.{due_of}
+use Rattle.call_fs.specs.Past.{UsesHeld, held}
+use Rattle.call_fs.proofs.Held.{has_room}
 use Rattle.mail_bytes.specs.Told.{OnTold}
 use Rattle.mail_world.specs.History.{next_of}
 use Rattle.mail_world.specs.World.{input_ready}
+use Rattle.mail_world.specs.ByKind.{found_of}
 use Rattle.mail_world.specs.Acting.{MayMake}
-use Rattle.mail_world.proofs.Opens.{IsAct, plain_room, next_act}
-use Rattle.mail_world.proofs.Machines.{calls_or_ends}
+use Rattle.mail_world.proofs.Programs.{program_uses, machine_finds}
+use Rattle.mail_world.proofs.Machines.{calls_or_ends, keeps_few, read_made}
 use Rattle.mail_world.proofs.actor.Actor.ask.Goals as goal
+use Rattle.mail_world.proofs.actor.Actor.ask.Goals.{After-need}
+
+-- what it asks for is next
+asks_next : (g : _) (c : After-need g) → due_of c.need.result ≡ next_of c.requires.may.program c.requires.may.past c.args.now input_ready
+asks_next g c =
+    let may = c.requires.may in
+    c.need.ensures.next may.program may.past c.look.ensures.looked (c.look.ensures.stands may.program may.past may.follows)
+    ∙ ap (λ n. next_of may.program may.past n (found_of c.look.new.self)) c.look.ensures.present ∙ ap (next_of may.program may.past c.args.now) c.look.ensures.found
+
+-- so it uses what its past holds
+asks_held : (g : _) (c : After-need g) → UsesHeld (held c.requires.may.past) (due_of c.need.result)
+asks_held g c =
+    let may = c.requires.may in
+    subst (UsesHeld (held may.past)) (sym (asks_next g c)) (program_uses may.program may.past c.args.now input_ready may.run)
+
+pub look-requires-clause-given : goal.look-requires-clause-given
+look-requires-clause-given g c = machine_finds c.args.self.now.machine
 
 pub perform-answer-requires-clause-fits : goal.perform-answer-requires-clause-fits
 perform-answer-requires-clause-fits g c =
     let may = c.requires.may in
-    let is = c.need.ensures.due may.program may.past (c.look.ensures.follows may.program may.past may.follows) c.look.ensures.ready
-    ∙ ap (λ n. next_of may.program may.past n input_ready) c.look.ensures.present in
-    subst (λ (due : NeedData). OnTold (g.D.CallFs.disk c.args.disk.now) (λ before. MayMake before due)) (sym is ∙ ap due_of c.in-File.is) may.may
+    let at = (goal.at.perform-answer-requires-clause-fits g c).After-need in
+    subst (λ (due : NeedData). OnTold (g.D.CallFs.disk c.args.disk.now) (λ before. MayMake before due)) (sym (asks_next g at) ∙ ap due_of c.in-File.is) may.may
 
 pub perform-answer-requires-clause-piece : goal.perform-answer-requires-clause-piece
 perform-answer-requires-clause-piece g c =
-    let may = c.requires.may in
-    let is = c.need.ensures.due may.program may.past (c.look.ensures.follows may.program may.past may.follows) c.look.ensures.ready
-    ∙ ap (λ n. next_of may.program may.past n input_ready) c.look.ensures.present in
-    plain_room 8192 _ (subst IsAct (sym is ∙ ap due_of c.in-File.is) (next_act may.program may.past c.args.now))
+    let at = (goal.at.perform-answer-requires-clause-piece g c).After-need in
+    has_room (held c.requires.may.past) _ (subst (UsesHeld (held c.requires.may.past)) (ap due_of c.in-File.is) (asks_held g at))
+
+pub kept_read-bytes-requires-clause-few : goal.kept_read-bytes-requires-clause-few
+kept_read-bytes-requires-clause-few g c =
+    let at = (goal.at.kept_read-bytes-requires-clause-few g c).After-need in
+    let room = has_room (held c.requires.may.past) (data_of c.in-File.call) (subst (UsesHeld (held c.requires.may.past)) (ap due_of c.in-File.is) (asks_held g at)) in
+    rw (c.in_ok-room-in-File.ensures.room, c.in_ok-owned-in-File.ensures) (keeps_few (data_of c.in-File.call) c.perform-answer.result room c.perform-answer.ensures.kind)
 
 pub unreachable-requires : goal.unreachable-requires
 unreachable-requires g c =
     let may = c.requires.may in
-    let is = c.need.ensures.due may.program may.past (c.look.ensures.follows may.program may.past may.follows) c.look.ensures.ready
-    ∙ ap (λ n. next_of may.program may.past n input_ready) c.look.ensures.present in
-    calls_or_ends c.need.result may.program may.past c.args.now is c.in_default.not-File c.in_default.not-Ended
+    let at = (goal.at.unreachable-requires g c).After-need in
+    calls_or_ends c.need.result may.program may.past c.args.now (asks_next g at) c.in_default.not-File c.in_default.not-Ended
 
-pub returns-in-Ended-clause-due : goal.returns-in-Ended-clause-due
-returns-in-Ended-clause-due g c = λ program past f.
-    sym (c.need.ensures.due program past (c.look.ensures.follows program past f) c.look.ensures.ready ∙ ap (λ n. next_of program past n input_ready) c.look.ensures.present)
-    ∙ ap due_of c.in-Ended.is
+pub returns-in_ok-room-in-File-clause-made : goal.returns-in_ok-room-in-File-clause-made
+returns-in_ok-room-in-File-clause-made g c =
+    rw (c.in_ok-owned-in-File.ensures) (read_made (g.D.CallFs.disk c.args.disk.now) (g.D.CallFs.disk c.perform-answer.new.disk) c.args.now (data_of c.in-File.call) c.perform-answer.result
+    c.perform-answer.new.into c.kept_read-bytes.result c.kept_read-bytes.ensures c.perform-answer.ensures.told c.perform-answer.ensures.read)

@@ -1,13 +1,14 @@
 use Rattle.std.proofs.Common.{◌≡◌, ℕ, ◌+◌, List, [], ◌∷◌, ◌++◌, length, false, is_some, Option, Some, None, refl, sym, ap, ◌∙◌, subst, arith}
 use Rattle.std.proofs.Math.Path.{fun_ext}
 use Rattle.call_fs.specs.Maps.{put_at}
-use Rattle.mail_world.specs.declared.mailer.Mailer.{Mailer}
+use Rattle.mail_world.specs.declared.any_machine.AnyMachine.{AnyMachine}
 use Rattle.mail_world.specs.declared.event.Event.{Event as Kept}
 use Rattle.mail_world.specs.declared.event.Event.TheVariants as kept
 use Rattle.mail_world.specs.declared.event.Program.TheVariants.{Injector}
 use Rattle.mail_world.specs.Places.{place_of}
+use Rattle.mail_world.specs.ByKind.{Follows}
 use Rattle.mail_world.specs.World.{mail, Seen, was_started}
-use Rattle.mail_world.specs.Inside.{IsWorld, Follows, known, living}
+use Rattle.mail_world.specs.Inside.{IsWorld, known, living}
 use Rattle.mail_world.proofs.Histories.{goes_on}
 use Rattle.mail_world.proofs.Living.{living_push, room_less}
 use Rattle.mail_world.proofs.Worlds.{start_keeps, start_leads_on}
@@ -65,7 +66,7 @@ invariant_of-self-2 g c =
     λ b. c.in_ok-add.ensures.ok b ∙ ap (λ (n : List ℕ). put_at (place_of i.places) n (Some c.len-2.result) b) c.as_slice.ensures ∙ ap (λ (n : ℕ). put_at (place_of i.places) a (Some n) b) many in
     let len : c.len.result ≡ length i.actors.items = c.len.ensures ∙ c.reserve.new.self.ok.0 ∙ ap length held in
     let bound = living_push i.actors.items c.new-actor.result in
-    let machine = subst (λ (m : Mailer). Follows m (Injector args) []) (sym c.new-actor.ensures.machine) c.in_ok-machine.ensures in (
+    let machine = subst (λ (m : AnyMachine). Follows m (Injector args) []) (sym c.new-actor.ensures.machine) c.in_ok-mailer.ensures in (
       rw (actors, event) (start_keeps (g.D.CallFs.disk i.disk) (place_of i.places) (place_of c.add.new.self) i.actors.items i.history.events.items i.present i.next_pid c.saturating_add-self-inside.result
           c.new-actor.result a (Injector args) c.self.invariant.0 new put name c.new-actor.ensures.ended c.new-actor.ensures.descriptors machine refl c.saturating_add-self-inside.ensures),
       rw (actors) (c.put.ensures.room (living (i.actors.items ++ c.new-actor.result ∷ [])) (room_less c.reserve-2.new.self (c.len.result + 2) (living (i.actors.items ++ c.new-actor.result ∷ []) + 1)

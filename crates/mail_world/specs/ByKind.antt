@@ -1,0 +1,80 @@
+-- The machine of an actor, by its kind. A new program is one case of each of these, and of `next_of` and its neighbours in
+-- History.antt.
+use Rattle.std.specs.Prelude.{◌≡◌, ℕ, List, ◌∷◌, Bool, true, Option, Some, None}
+use Rattle.call_fs.specs.declared.program.Ready.{Ready}
+use Rattle.call_fs.specs.declared.past.NeedData.{NeedData}
+use Rattle.call_fs.specs.declared.past.GotData.{GotData}
+use Rattle.call_fs.specs.declared.past.Own.{Own}
+use Rattle.queue_inject.specs.declared.injection.Arguments.{Arguments}
+use Rattle.queue_inject.specs.declared.injection.InputEnd.TheVariants.{Whole}
+use Rattle.queue_inject.specs.declared.injection.Part.{Part}
+use Rattle.queue_inject.specs.declared.injection.Part.TheVariants.{Message, Envelope}
+use Rattle.queue_inject.specs.Machine.{due_now}
+use Rattle.queue_inject.specs.Stands.{Stands}
+use Rattle.mail_world.specs.declared.event.Program.{Program}
+use Rattle.mail_world.specs.declared.event.Program.TheVariants.{Injector}
+use Rattle.mail_world.specs.declared.mailer.Mailer.{Mailer}
+use Rattle.mail_world.specs.declared.any_machine.AnyMachine.{AnyMachine}
+use Rattle.mail_world.specs.declared.any_machine.AnyMachine.TheVariants.{Mail}
+
+-- The injector of a mail, which is fed its input
+
+-- these are the message and the envelope, both whole
+pub record AreInputs (args : Arguments) (message envelope : List ℕ) : Type 0 where
+  pub message_is : args.message ≡ message
+  pub message_whole : args.message_end ≡ Whole
+  pub envelope_is : args.envelope ≡ envelope
+  pub envelope_whole : args.envelope_end ≡ Whole
+
+-- this is the part of the input, whole
+abbrev pub IsInput : Option Part → Arguments → List ℕ → Type 0
+IsInput None args text = Unit {0}
+IsInput (Some Message) args text = (args.message ≡ text) × (args.message_end ≡ Whole)
+IsInput (Some Envelope) args text = (args.envelope ≡ text) × (args.envelope_end ≡ Whole)
+
+-- an injector stands for this past, and what is kept beside it is its input
+pub record Injects (mailer : Mailer) (args : Arguments) (past : List Own) : Type 0 where
+  pub stands : Stands mailer.injector args past
+  pub inputs : AreInputs args mailer.message mailer.envelope
+
+-- an injector with its input is that of this program with this past
+abbrev pub Mails : Mailer → Program → List Own → Type 0
+Mails mailer (Injector args) past = Injects mailer args past
+
+-- Any machine
+
+-- the moment that it was told last
+abbrev pub present_of : AnyMachine → ℕ
+present_of (Mail mailer) = mailer.injector.present
+
+-- what it was told last to be ready
+abbrev pub found_of : AnyMachine → Ready
+found_of (Mail mailer) = mailer.injector.ready
+
+-- it was told them since its last event
+abbrev pub looked_of : AnyMachine → Bool
+looked_of (Mail mailer) = true
+
+-- it may be told that this is ready
+abbrev pub CanFind : AnyMachine → Ready → Type 0
+CanFind (Mail mailer) ready = Unit {0}
+
+-- what it does next
+abbrev pub need_of : AnyMachine → NeedData
+need_of (Mail mailer) = due_now mailer.injector
+
+-- how many bytes it may be handed of one taking
+abbrev pub takes_of : AnyMachine → ℕ
+takes_of (Mail mailer) = 0
+
+-- it takes no memory any more
+abbrev pub IsSettled : AnyMachine → Type 0
+IsSettled (Mail mailer) = Unit {0}
+
+-- it stands for this program and this past
+abbrev pub Follows : AnyMachine → Program → List Own → Type 0
+Follows (Mail mailer) program past = Mails mailer program past
+
+-- what is due and what came of it as the newest event of a past
+abbrev pub with_own : AnyMachine → GotData → List Own → List Own
+with_own machine came past = (record { read = present_of machine; ready = found_of machine; due = need_of machine; came = came }) ∷ past

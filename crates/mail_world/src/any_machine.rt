@@ -1,0 +1,69 @@
+// The machine of an actor.
+ghost use Rattle.std.specs.Prelude.{◌≡◌, ◌∷◌, List, ℕ, IsTrue};
+
+use crate::Program;
+use crate::mailer::Mailer;
+use call_fs::{Got, Machine, Need, Ready};
+use mail_bytes::Memory;
+use std::alloc::Global;
+
+/// A program of the world as a machine, with what the world keeps beside it: a case for each kind.
+#[derive(Drop)]
+pub enum AnyMachine {
+    /// The injector of a mail, and its input.
+    Mail(Mailer),
+}
+
+impl Machine for AnyMachine {
+    ghost use Rattle.std.specs.Prelude.{None};
+    ghost use Rattle.mail_world.specs.History.{next_of};
+    ghost use Rattle.mail_world.specs.ByKind.{present_of, found_of, looked_of, CanFind, need_of, takes_of, IsSettled, Follows};
+
+    type Arguments = Program;
+
+    ghost present = { present_of };
+
+    ghost found = { found_of };
+
+    ghost looked = { looked_of };
+
+    ghost can_find = { CanFind };
+
+    ghost due = { need_of };
+
+    ghost takes_at_most = { takes_of };
+
+    ghost has_room = { IsSettled };
+
+    ghost ahead = { λ _. None };
+
+    ghost next = { next_of };
+
+    ghost stands = { Follows };
+
+    fn look(&mut self, now: u64, ready: Ready) {
+        match self {
+            AnyMachine::Mail(mailer) => mailer.look(now, ready),
+        }
+    }
+
+    fn need(&self) -> Need<'_> {
+        match self {
+            AnyMachine::Mail(mailer) => mailer.need(),
+        }
+    }
+
+    fn taking_room(&self) -> usize {
+        match self {
+            AnyMachine::Mail(mailer) => mailer.taking_room(),
+        }
+    }
+
+    fn done(&mut self, alloc: Global, got: Got<'_>) -> Result<(), Memory> {
+        match self {
+            AnyMachine::Mail(mailer) => mailer.done(alloc, got),
+        }
+    }
+
+    fn uses_held() {}
+}

@@ -1,0 +1,47 @@
+-- What an injector does next, once its input is ready: a file call, or its end.
+use Rattle.std.proofs.Common.{◌≡◌, ℕ, List, Bool, true, false, sym, subst}
+use Rattle.call_fs.specs.declared.program.Ready.{Ready}
+use Rattle.call_fs.specs.declared.past.NeedData.{NeedData}
+use Rattle.call_fs.specs.declared.past.NeedData.TheVariants as needs
+use Rattle.call_fs.specs.declared.past.Own.{Own}
+use Rattle.queue_inject.specs.declared.injection.Arguments.{Arguments}
+use Rattle.queue_inject.specs.declared.row.Row.{Row}
+use Rattle.queue_inject.specs.declared.row.Row.TheVariants as at
+use Rattle.queue_inject.specs.Table.{call_of, row_after, in_time, has_input, is_late, Next}
+
+-- a file call or an end
+abbrev pub IsAct : NeedData → Type 0
+IsAct (needs.File c) = Unit {0}
+IsAct (needs.Ended status) = Unit {0}
+IsAct other = ⊥
+
+row_act : (args : Arguments) (row : Row) → IsAct (call_of args row)
+row_act args (at.Create seq) = tt
+row_act args (at.LinkMess seq n fd) = tt
+row_act args (at.UnlinkPid seq n fd) = tt
+row_act args (at.AppendMess n fd done) = tt
+row_act args (at.SyncMess n fd) = tt
+row_act args (at.CreateIntd n) = tt
+row_act args (at.AppendTodo n fd done) = tt
+row_act args (at.SyncTodo n fd) = tt
+row_act args (at.LinkTodo n) = tt
+row_act args (at.CleanIntd n cause) = tt
+row_act args (at.CleanMess n cause) = tt
+row_act args at.Queued = tt
+row_act args (at.Failed cause) = tt
+
+in_time_act : (late : Bool) (due : NeedData) → IsAct due → IsAct (in_time true late due)
+in_time_act true (needs.File c) act = tt
+in_time_act false (needs.File c) act = tt
+in_time_act late (needs.Ended status) act = tt
+in_time_act late (needs.Take port) act = absurd act
+in_time_act late (needs.Give port bytes) act = absurd act
+in_time_act late (needs.Start child) act = absurd act
+in_time_act late (needs.Command bytes) act = absurd act
+in_time_act late needs.Wait act = absurd act
+
+-- an injector whose input is ready never waits
+pub next_act : (args : Arguments) (past : List Own) (now : ℕ) (ready : Ready) → has_input ready ≡ true → IsAct (Next args past now ready)
+next_act args past now ready has =
+    subst (λ (b : Bool). IsAct (in_time b (is_late args now) (call_of args (row_after args past)))) (sym has)
+    (in_time_act (is_late args now) (call_of args (row_after args past)) (row_act args (row_after args past)))

@@ -1,0 +1,4 @@
+-- the list of known messages
+pub mod Known
+-- what is known, and when it is due
+pub mod Messages

@@ -1,0 +1,4 @@
+-- the first bytes of a text
+pub mod Prefixes
+-- the records of a channel file: the function reads what the relation says
+pub mod Records
