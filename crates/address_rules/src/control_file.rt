@@ -2,8 +2,6 @@
 ghost use Rattle.std.specs.Prelude.{◌≡◌, ◌<◌, IsTrue};
 ghost use Rattle.address_rules.specs.Files.{name, place, kind, line_limit, is_number_file};
 
-use std::fmt;
-
 /// A file in `control/` (qmail-control(5)), in the order in which they are read.
 #[derive(Clone, Copy, Debug, PartialEq, Eq)]
 pub enum ControlFile {
@@ -111,11 +109,5 @@ impl ControlFile {
             | ControlFile::QueueLifetime => true,
             _ => false,
         }
-    }
-}
-
-impl fmt::Display for ControlFile {
-    fn fmt<W: fmt::Write>(&self, f: &mut fmt::Formatter<W>) -> fmt::Result {
-        write!(f, "{}", self.name())
     }
 }

@@ -43,7 +43,7 @@ pub struct Controls {
 #[derive(Debug, Drop, Error)]
 pub enum ControlError {
     /// The first file, in their order, with a fault.
-    #[error("control/{file}: line {line}")]
+    #[error("control/{}: line {line}", .file.name())]
     BadControl {
         /// The file.
         file: ControlFile,

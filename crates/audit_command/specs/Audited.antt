@@ -10,6 +10,7 @@ use Rattle.queue_states.specs.declared.outcome.AuditError.TheVariants.{Fault, Mi
 use Rattle.queue_states.specs.Lines.{count_line, state_line}
 use Rattle.queue_states.specs.Audit.{HasQueueDirs, IsAuditOf}
 use Rattle.queue_states.specs.Searches.{DiskTold, IsSearched}
+use Rattle.queue_limits.specs.declared.statuses.TheConstants.{DONE, INPUT, MEMORY, OUTPUT}
 
 -- a line for each number
 abbrev pub lines_of : List (ℕ × State) → List ℕ
@@ -32,22 +33,22 @@ pub record Output : Type 0 where
 
 -- A text was given to a sink: with 0 it took all, with 53 it failed and took a prefix.
 pub record Prints (out : Output) (text : List ℕ) (status : ℕ) : Type 0 where
-  pub known : (status ≡ 0) ⊎ (status ≡ 53)
-  pub all : status ≡ 0 → Meets out.old out.new (λ before after. after ≡ before ++ text)
-  pub part : status ≡ 53 → Meets out.old out.new (λ before after. (taken : List ℕ) × (rest : List ℕ) × (text ≡ taken ++ rest) × (after ≡ before ++ taken))
-  pub failed : status ≡ 53 → Rose out.faults_old out.faults_new
+  pub known : (status ≡ DONE) ⊎ (status ≡ OUTPUT)
+  pub all : status ≡ DONE → Meets out.old out.new (λ before after. after ≡ before ++ text)
+  pub part : status ≡ OUTPUT → Meets out.old out.new (λ before after. (taken : List ℕ) × (rest : List ℕ) × (text ≡ taken ++ rest) × (after ≡ before ++ taken))
+  pub failed : status ≡ OUTPUT → Rose out.faults_old out.faults_new
 
 -- the exit status of a failed audit
 abbrev pub status_of : AuditError → ℕ
-status_of Fault = 54
-status_of (Missing dir) = 54
-status_of Memory = 51
+status_of Fault = INPUT
+status_of (Missing dir) = INPUT
+status_of Memory = MEMORY
 
 -- A queue was looked at, and what it holds was printed. 54 only if the disk failed, or a directory is missing; if all
 -- directories are there, and nothing failed, 0 or 51.
 pub record HasAudited (old new : DiskTold) (out : Output) (status : ℕ) : Type 0 where
-  pub known : Contains (0 ∷ 51 ∷ 53 ∷ 54 ∷ []) status
+  pub known : Contains (DONE ∷ MEMORY ∷ OUTPUT ∷ INPUT ∷ []) status
   pub searched : IsSearched old new
-  pub printed : (status ≡ 0) ⊎ (status ≡ 53) → (text : List ℕ) × IsTextOf old.disk text × Prints out text status
-  pub unread : status ≡ 54 → Rose old.faults new.faults ⊎ OnTold old.disk (λ d. ¬ (HasQueueDirs d))
-  pub complete : OnTold old.disk (λ d. HasQueueDirs d → ¬ (Rose old.faults new.faults) → ¬ (Rose out.faults_old out.faults_new) → (status ≡ 0) ⊎ (status ≡ 51))
+  pub printed : (status ≡ DONE) ⊎ (status ≡ OUTPUT) → (text : List ℕ) × IsTextOf old.disk text × Prints out text status
+  pub unread : status ≡ INPUT → Rose old.faults new.faults ⊎ OnTold old.disk (λ d. ¬ (HasQueueDirs d))
+  pub complete : OnTold old.disk (λ d. HasQueueDirs d → ¬ (Rose old.faults new.faults) → ¬ (Rose out.faults_old out.faults_new) → (status ≡ DONE) ⊎ (status ≡ MEMORY))

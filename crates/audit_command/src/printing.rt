@@ -8,20 +8,9 @@ ghost use Rattle.audit_command.specs.Audited.{HasAudited, IsTextOf, Prints, text
 use call_fs::CallFs;
 use mail_bytes::Memory;
 use outside::{Gave, Sink};
+use queue_limits::{DONE, INPUT, MEMORY, OUTPUT};
 use queue_states::{Audit, AuditError, State, audit, put_count_line, put_state_line};
 use std::alloc::Global;
-
-/// The exit status if all was printed.
-const DONE: u8 = 0;
-
-/// The exit status if memory ran out.
-const MEMORY: u8 = 51;
-
-/// The exit status if the output failed.
-const OUTPUT: u8 = 53;
-
-/// The exit status if the queue couldn't be looked at.
-const UNREAD: u8 = 54;
 
 /// Prints an audit of the queue on this disk: `pid COUNT`, how many names `pid/` has, then for each number that has a file
 /// a line `N S2` to `N S5` or `N other`, in ascending order. Answers the exit status.
@@ -34,7 +23,7 @@ pub fn print_audit<D: CallFs, O: Sink>(alloc: Global, disk: &mut D, out: &mut O)
         (record { disk = D.disk disk.new; calls = D.calls disk.new; faults = D.faults disk.new })
         (record { old = O.taken out.old; new = O.taken out.new; faults_old = O.faults out.old; faults_new = O.faults out.new })
         result }
-    ensures unwritten { (result ≡ MEMORY) ⊎ (result ≡ UNREAD) → out.new ≡ out.old }
+    ensures unwritten { (result ≡ MEMORY) ⊎ (result ≡ INPUT) → out.new ≡ out.old }
 {
     match audit_text(alloc, disk) {
         Ok(text) => print(&text, out),
@@ -92,6 +81,6 @@ fn status_of(why: &AuditError) -> u8
 {
     match why {
         AuditError::Memory => MEMORY,
-        AuditError::Fault | AuditError::Missing(_) => UNREAD,
+        AuditError::Fault | AuditError::Missing(_) => INPUT,
     }
 }

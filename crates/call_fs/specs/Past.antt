@@ -1,5 +1,6 @@
 -- A program's own past, newest event first: what it did to a disk, what it asked of a clock, and what it holds open.
 use Rattle.std.specs.Prelude.{◌≡◌, ◌⊎◌, ℕ, ◌≤◌, List, [], ◌∷◌, ◌++◌, Option, Some, None, IsSome, IsSomeAnd}
+use Rattle.call_fs.specs.declared.file_system.TheConstants.{PIECE}
 use Rattle.call_fs.specs.declared.calls.CallData.{CallData}
 use Rattle.call_fs.specs.declared.calls.CallData.TheVariants.{Open, ReadAt, WriteAt, Append, Truncate, Sync, Close}
 use Rattle.call_fs.specs.declared.calls.Answer.{Answer}
@@ -110,7 +111,7 @@ held (event ∷ before) = held_by (held before) event.due event.came
 
 -- The call uses only what is held, in a mode that fits, and a read asks for at most 8192 bytes.
 abbrev pub Uses : (ℕ → Option Mode) → CallData → Type 0
-Uses held (ReadAt fd at len) = IsSome (held fd.0) × (len ≤ 8192)
+Uses held (ReadAt fd at len) = IsSome (held fd.0) × (len ≤ PIECE)
 Uses held (WriteAt fd at bytes) = IsSomeAnd (held fd.0) IsForWrite
 Uses held (Append fd bytes) = IsSomeAnd (held fd.0) IsForAppend
 Uses held (Truncate fd len) = IsSomeAnd (held fd.0) IsForCut

@@ -11,6 +11,7 @@ use Rattle.program_runner.specs.Outside.{Outside, TakesEnd}
 use Rattle.program_runner.specs.Runs.{Did, HasRun, HasEvent, most_turns}
 use Rattle.queue_clean.specs.Table.{Next}
 use Rattle.queue_clean.specs.Causes.{IsAnswered, IsEnded}
+use Rattle.queue_limits.specs.declared.statuses.TheConstants.{DONE, INPUT, MEMORY, OUTPUT}
 
 -- each answer that was given in a past is the right one to its command
 abbrev pub AreAnswered : List Own → Type 0
@@ -23,10 +24,10 @@ pub record HasCleaned (old new : Outside) (status : ℕ) : Type 0 where
   pub ran : HasRun Next (λ _. Unit {0}) INPUT_READY old.last status old new
   pub why : IsEnded ran.past status
   pub answers : AreAnswered ran.past
-  pub ended : status ≡ 0 → HasEvent ran.past TakesEnd × OnTold new.left (λ left. left ≡ [])
-  pub output : status ≡ 53 → Rose old.output_faults new.output_faults
-  pub input : status ≡ 54 → Rose old.input_faults new.input_faults
-  pub known : (status ≡ 0) ⊎ ((status ≡ 53) ⊎ (status ≡ 54))
+  pub ended : status ≡ DONE → HasEvent ran.past TakesEnd × OnTold new.left (λ left. left ≡ [])
+  pub output : status ≡ OUTPUT → Rose old.output_faults new.output_faults
+  pub input : status ≡ INPUT → Rose old.input_faults new.input_faults
+  pub known : (status ≡ DONE) ⊎ ((status ≡ OUTPUT) ⊎ (status ≡ INPUT))
 
 -- It still runs, after as many turns as a run may take.
 pub record StillRuns (old new : Outside) : Type 0 where
@@ -36,4 +37,4 @@ pub record StillRuns (old new : Outside) : Type 0 where
   pub did : Did old.last past old new
 
 abbrev pub WasRun : Outside → Outside → ℕ → Type 0
-WasRun old new status = HasCleaned old new status ⊎ ((status ≡ 51) × StillRuns old new)
+WasRun old new status = HasCleaned old new status ⊎ ((status ≡ MEMORY) × StillRuns old new)

@@ -6,10 +6,8 @@ use call_fs::CallFs;
 use outside::{Clock, Sink, Source};
 use program_runner::run_on;
 use queue_clean::{Cleaner, answers_have_causes, asks_for_little};
+use queue_limits::MEMORY;
 use std::alloc::Global;
-
-/// The exit status if it still runs after all the turns that a run may take, which nobody lives to see.
-const UNENDED: u8 = 51;
 
 /// Runs the cleaner over this disk until its input ends, and answers its exit status. It takes commands, each a text that
 /// ends with a NUL, and gives one byte for each, as qmail-clean(8).
@@ -33,7 +31,8 @@ pub fn clean<D: CallFs, M: Source, O: Sink, K: Clock>(
     let mut cleaner = Cleaner::new();
     match run_on(alloc, &mut cleaner, disk, clock, message, out) {
         Ok(Some(status)) => status,
-        Ok(None) => UNENDED,
-        Err(_) => UNENDED,
+        // after all the turns that a run may take, which nobody lives to see
+        Ok(None) => MEMORY,
+        Err(_) => MEMORY,
     }
 }

@@ -1,11 +1,12 @@
 -- A disk in memory whose machine can be stopped.
-use Rattle.std.specs.Prelude.{◌≡◌, ◌≢◌, ℕ, ◌+◌, ◌-◌, ◌^◌, min, Option, Some, Result, IsErrOf}
+use Rattle.std.specs.Prelude.{◌≡◌, ◌≢◌, ℕ, Option, Some, Result, IsErrOf}
 use Rattle.std.specs.Option.{option_map}
 use Rattle.call_fs.specs.declared.calls.FsError.{FsError}
 use Rattle.call_fs.specs.declared.calls.FsError.TheVariants.{Fault}
+use Rattle.mail_bytes.specs.Told.{raised, summed}
 use Rattle.call_fs.specs.Disk.{Disk}
 use Rattle.call_fs.specs.Plan.{Plan, no_plan, nearer}
-use Rattle.mem_fs.specs.MemDisk.{Planned, Held, disk_of, empty_plan, one_more, CountsCall, with_held}
+use Rattle.mem_fs.specs.MemDisk.{Planned, Held, disk_of, empty_plan, CountsCall, with_held}
 
 -- The disk below, which call fails next and which number the next new file takes, and how many calls have failed by that
 -- choice.
@@ -18,13 +19,9 @@ pub record Crash : Type 0 where
 abbrev pub crash_disk : Crash → Disk
 crash_disk c = disk_of c.below.held
 
--- the sum of two counts, if a u64 has room for it
-abbrev pub both_faults : ℕ → ℕ → ℕ
-both_faults m n = min (m + n) (2 ^ 64 - 1)
-
 -- how many calls have failed, by either plan
 abbrev pub crash_faults : Crash → ℕ
-crash_faults c = both_faults c.below.faults c.failed
+crash_faults c = summed c.below.faults c.failed
 
 -- what is chosen; if the disk below has a plan of its own, that isn't all
 abbrev pub crash_plan : Crash → Option Plan
@@ -33,7 +30,7 @@ crash_plan c = option_map (λ none. c.plan) (empty_plan c.below.picks c.below.pl
 -- A call was counted. If it was the chosen one it failed, and the disk below wasn't asked; else that disk made it.
 pub record Passes {T : Type 0} (old new : Crash) (result : Result T FsError) : Type 0 where
   pub nearer_is : new.plan.fault ≡ nearer old.plan.fault
-  pub due : old.plan.fault ≡ Some 1 → IsErrOf result Fault × (new.below ≡ old.below) × (new.failed ≡ one_more old.failed)
+  pub due : old.plan.fault ≡ Some 1 → IsErrOf result Fault × (new.below ≡ old.below) × (new.failed ≡ raised old.failed)
   pub passed : old.plan.fault ≢ Some 1 → CountsCall old.below new.below result × (new.failed ≡ old.failed)
 
 -- nothing is chosen, and nothing has failed by a choice

@@ -1,7 +1,7 @@
 // The call that is to fail.
 ghost use Rattle.std.specs.Prelude.{◌≡◌, ◌↔◌, Some, IsErr, IsOkUnless, is_err, if◌then◌else◌};
 ghost use Rattle.call_fs.specs.Plan.{nearer};
-ghost use Rattle.mem_fs.specs.MemDisk.{one_more};
+ghost use Rattle.mail_bytes.specs.Told.{raised};
 
 use call_fs::FsError;
 
@@ -20,7 +20,7 @@ impl ChosenFault {
         ensures at { self.new.at ≡ nearer self.old.at }
         ensures due { IsErr result ↔ (self.old.at ≡ Some 1) }
         ensures fault { IsOkUnless result FsError.Fault }
-        ensures failed { self.new.failed ≡ (if is_err result then one_more self.old.failed else self.old.failed) }
+        ensures failed { self.new.failed ≡ (if is_err result then raised self.old.failed else self.old.failed) }
     {
         let Some(calls) = self.at else {
             return Ok(());

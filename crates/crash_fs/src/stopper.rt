@@ -8,7 +8,7 @@ ghost use Rattle.call_fs.specs.Apply.{Apply, IsNew, IsOpenable, IsLinkable, IsSt
 ghost use Rattle.call_fs.specs.Columns.{IsTold, IsFound, IsRead, GrewPart, OverwrotePart, IsUnchanged, LacksLink};
 ghost use Rattle.call_fs.specs.Told.{HasCause};
 ghost use Rattle.mail_bytes.specs.Told.{Meets, OnTold, Records};
-ghost use Rattle.mem_fs.specs.MemDisk.{one_more};
+ghost use Rattle.mail_bytes.specs.Told.{raised};
 ghost use Rattle.crash_fs.specs.Stopped.{Stopped, stopped_faults, PassesOrFails};
 
 use call_fs::{CallFs, Fd, FsError, How, Stat};
@@ -59,7 +59,7 @@ impl<D: CallFs> Stopper<D> {
         ensures is { self.new ≡ record {
           below = self.old.below;
           left = self.old.left - 1;
-          refused = if is_err result then one_more self.old.refused else self.old.refused;
+          refused = if is_err result then raised self.old.refused else self.old.refused;
         } }
     {
         if self.left == 0 {

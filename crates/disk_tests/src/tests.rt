@@ -3,6 +3,7 @@
 mod calls;
 mod clients;
 mod host_files;
+mod host_kept;
 mod host_scripts;
 mod host_steps;
 mod host_system;

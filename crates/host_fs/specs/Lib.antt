@@ -6,6 +6,10 @@ pub mod Held
 pub mod Refusals
 -- the next name of a listing
 pub mod Listing
+-- the names that a listing gives
+pub mod Entries
+-- when the names of a directory may be kept
+pub mod Kept
 -- what an open file may be used for
 pub mod Modes
 -- what a caller knows of a real directory

@@ -1,7 +1,9 @@
 -- What the refusals and the moments of the system mean.
-use Rattle.std.specs.Prelude.{ℕ, ◌+◌, ◌-◌, ◌^◌, ℤ, pos, negsuc, min, Bool, false, Result, Ok, Err}
+use Rattle.std.specs.Prelude.{ℕ, ℤ, pos, negsuc, min, Bool, false, Result, Ok, Err}
 use Rattle.std.specs.declared.io.ErrorKind.{ErrorKind}
 use Rattle.std.specs.declared.io.ErrorKind.TheVariants.{NotFound, NotADirectory, AlreadyExists}
+use Rattle.mail_bytes.specs.Told.{raised}
+use Rattle.mail_bytes.specs.declared.moments.TheConstants.{LAST_MOMENT}
 use Rattle.call_fs.specs.declared.calls.FsError.{FsError}
 use Rattle.call_fs.specs.declared.calls.FsError.TheVariants.{NotThere, Exists, Fault, Memory}
 
@@ -23,7 +25,7 @@ without_memory why = why
 
 -- the moment of so many seconds: the nearest one that a clock may tell
 abbrev pub moment_of : ℤ → ℕ
-moment_of (pos seconds) = min seconds 250000000000
+moment_of (pos seconds) = min seconds LAST_MOMENT
 moment_of (negsuc _) = 0
 
 -- of a call of the system whose every failure is a fault
@@ -33,5 +35,5 @@ or_fault (Err _) = Err Fault
 
 -- how often it has failed, after an outcome; the count stands still at u64's last value
 abbrev pub count_after : {T : Type 0} → ℕ → Result T FsError → ℕ
-count_after before (Err Fault) = min (before + 1) (2 ^ 64 - 1)
+count_after before (Err Fault) = raised before
 count_after before outcome = before

@@ -11,6 +11,7 @@ ghost use Rattle.host_fs.specs.Refusals.{count_after};
 
 use crate::directories::make_directories;
 use crate::files::{create_new, link_file, open_file, stat_file, unlink_file};
+use crate::kept::Kept;
 use crate::listing;
 use crate::modes::{Mode, OpenFile};
 use crate::paths::path_of;
@@ -39,6 +40,7 @@ pub struct HostFs<S: System> {
     root: ByteText,
     table: Table<OpenFile<S::File>>,
     faults: u64,
+    kept: Option<Kept>,
 }
 
 impl<S: System + Copy> HostFs<S> {
@@ -61,6 +63,7 @@ impl<S: System + Copy> HostFs<S> {
             root,
             table: Table::new(alloc),
             faults: 0,
+            kept: None,
         })
     }
 }
@@ -229,14 +232,24 @@ impl<S: System> HostFs<S> {
     }
 
     /// As `next_name`, uncounted.
-    fn name_after(&self, dir: &[u8], after: &[u8], into: &mut NameBuf) -> Result<bool, FsError>
+    fn name_after(&mut self, dir: &[u8], after: &[u8], into: &mut NameBuf) -> Result<bool, FsError>
         ensures later { IfOk result (λ found. FoundAfter found after.now into.new) }
-        ensures no_path { ¬ (IsPath (root_of self.now) dir.now) → IsErrOf result FsError.Fault }
+        ensures no_path { ¬ (IsPath (root_of self.old) dir.now) → IsErrOf result FsError.Fault }
         ensures exists { ¬ (IsErrOf result FsError.Exists) }
         ensures memory { ¬ (IsErrOf result FsError.Memory) }
+        ensures root { root_of self.new ≡ root_of self.old }
+        ensures opens { OpensNone (opens_of self.old) (opens_of self.new) }
+        ensures faults { faults_of self.new ≡ faults_of self.old }
     {
         let path = self.path(dir)?;
-        listing::next_name(&self.system, self.alloc, path.as_str(), after, into)
+        listing::next_name(
+            &self.system,
+            self.alloc,
+            &mut self.kept,
+            path.as_str(),
+            after,
+            into,
+        )
     }
 }
 

@@ -3,9 +3,10 @@ ghost use Rattle.std.specs.Io.{ReadsAtMost, WritesAtMost};
 
 use call_fs::How;
 use std::fs::{self, File, Metadata, OpenOptions};
-use std::io::{self, Read, Write};
+use std::io::{self, ErrorKind, Read, Write};
 use std::os::unix::fs::{FileExt, MetadataExt, OpenOptionsExt};
 use std::rt::Files;
+use std::time::{Duration, SystemTime, UNIX_EPOCH};
 
 /// The rights of a new file, less those that umask(2) takes away.
 const NEW_FILE_MODE: u32 = 0o644;
@@ -21,6 +22,12 @@ pub struct Facts {
     pub length: u64,
     /// Its time of modification, in seconds since 1 January 1970 UTC.
     pub modified: i64,
+    /// The nanoseconds of that time after its last full second.
+    pub modified_nanos: i64,
+    /// The time of its last change of any kind, in seconds since 1 January 1970 UTC.
+    pub changed: i64,
+    /// The nanoseconds of that time after its last full second.
+    pub changed_nanos: i64,
 }
 
 /// A system, by the calls that `HostFs` makes of it. Each method is one call; what it answers is judged above.
@@ -73,6 +80,9 @@ pub trait System: Drop {
 
     /// Makes a directory, as mkdir(2).
     fn make_dir(&self, path: &str) -> io::Result<()>;
+
+    /// Tells the time since 1 January 1970 UTC, as clock_gettime(2) of the machine's clock.
+    fn now(&self) -> io::Result<Duration>;
 }
 
 /// The facts that a real system tells.
@@ -82,6 +92,9 @@ fn facts_of(metadata: Metadata) -> Facts {
         number: metadata.ino(),
         length: metadata.len(),
         modified: metadata.mtime(),
+        modified_nanos: metadata.mtime_nsec(),
+        changed: metadata.ctime(),
+        changed_nanos: metadata.ctime_nsec(),
     }
 }
 
@@ -148,5 +161,12 @@ impl System for HostRuntime {
 
     fn make_dir(&self, path: &str) -> io::Result<()> {
         fs::create_dir(self, path)
+    }
+
+    fn now(&self) -> io::Result<Duration> {
+        match SystemTime::now(self)?.duration_since(UNIX_EPOCH) {
+            Ok(now) => Ok(now),
+            Err(_) => Err(io::Error::from(ErrorKind::Other)),
+        }
     }
 }

@@ -1,9 +1,17 @@
 -- Meanings that a value may tell or not, and counts that rise.
 use Rattle.std.specs.Prelude.{◌≡◌, ℕ, ◌≤◌, ◌+◌, ◌-◌, ◌^◌, min, List, [], ◌∷◌, ◌++◌, Option, Some, None}
 
+-- the sum of two counts, which stands still at u64's last value
+abbrev pub summed : ℕ → ℕ → ℕ
+summed m n = min (m + n) (2 ^ 64 - 1)
+
+-- one more
+abbrev pub raised : ℕ → ℕ
+raised n = summed n 1
+
 -- a count rose, or stands at its last value
 abbrev pub Rose : ℕ → ℕ → Type 0
-Rose before now = min (before + 1) (2 ^ 64 - 1) ≤ now
+Rose before now = raised before ≤ now
 
 -- both tell, and then this holds; or neither tells
 abbrev pub Meets : {X : Type 0} → Option X → Option X → (X → X → Type 0) → Type 0

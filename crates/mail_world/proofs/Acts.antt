@@ -19,7 +19,7 @@ use Rattle.mail_world.specs.History.{State, Actor, Life, next_of, start_of, call
 use Rattle.mail_world.specs.History.Event.{Start}
 use Rattle.mail_world.specs.History.Life.{Alive, Over, Stopped}
 use Rattle.mail_world.specs.World.{kept_call, span_of, ends, starts, is_start}
-use Rattle.mail_world.specs.ByKind.{Follows}
+use Rattle.mail_world.specs.ByKind.{IsMail, Follows}
 use Rattle.mail_world.specs.Inside.{event_of, span_by, IsMember, IsStranger, is_by}
 use Rattle.call_fs.proofs.Maps.{put_same, put_other, put_at_same, put_at_other}
 use Rattle.mail_world.proofs.Tests.{same_text, other_text}
@@ -121,6 +121,7 @@ call_member s events p x y ready c got m alive name ended due kind follows =
       actor = record { program = m.actor.program; past = (record { read = p; ready = ready; due = needs.File c; came = Answered got }) ∷ m.actor.past; life = m.actor.life };
       is = ap t.actors name ∙ put_at_same s.actors x.name _;
       follows = follows;
+      mail = m.mail;
       run = (m.run, (due, kind));
       in_order = omega arith;
       alive = λ e. m.alive alive;
@@ -137,6 +138,7 @@ finish_member s events p x y k life m f alive name ended follows =
       actor = record { program = m.actor.program; past = m.actor.past; life = life };
       is = ap t.actors name ∙ put_at_same s.actors x.name _;
       follows = follows;
+      mail = m.mail;
       run = m.run;
       in_order = m.in_order;
       alive = λ e. let both : ◌≡◌ {A = Option ℕ} None (Some (length events)) = sym e ∙ ended in absurd (cc);
@@ -145,16 +147,17 @@ finish_member s events p x y k life m f alive name ended follows =
     }
 
 -- a new actor
-pub start_member : (s : State) (events : List Kept) (p : ℕ) (y : Held) (a : List ℕ) (program : Program)
+pub start_member : (s : State) (events : List Kept) (p : ℕ) (y : Held) (a : List ℕ) (program : Program) → IsMail program
     → IsStranger s events a → y.name ≡ a → y.ended ≡ None → Follows y.machine program [] → start_of program ≡ p
     → IsMember (happens s (Start a program)) (events ++ kept.Start a program ∷ []) p y
-start_member s events p y a program stranger name ended follows now =
+start_member s events p y a program mail stranger name ended follows now =
     let k : Kept = kept.Start a program in
     let t = happens s (Start a program) in
     record {
       actor = record { program = program; past = []; life = Alive };
       is = ap t.actors name ∙ put_at_same s.actors a _;
       follows = follows;
+      mail = mail;
       run = tt;
       in_order = omega arith;
       alive = λ e. refl;
@@ -169,6 +172,7 @@ look_member s events p x y m name ended follows = record {
   actor = m.actor;
   is = ap s.actors name ∙ m.is;
   follows = follows;
+  mail = m.mail;
   run = m.run;
   in_order = m.in_order;
   alive = λ e. m.alive (sym ended ∙ e);

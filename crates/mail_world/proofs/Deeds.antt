@@ -5,18 +5,18 @@ use Rattle.call_fs.specs.Disk.{File, Mode}
 use Rattle.call_fs.specs.Apply.{empty_file, IsNew}
 use Rattle.queue_inject.specs.declared.injection.Arguments.{Arguments}
 use Rattle.queue_inject.specs.declared.row.Row.{Row}
-use Rattle.queue_paths.specs.Names.{Name, path}
+use Rattle.queue_paths.specs.Names.{Name, Part, path}
 use Rattle.queue_paths.specs.Names.Name.{Pid, Of}
 use Rattle.queue_paths.specs.Names.Part.{Mess, Intd, Todo, Info, Local, Remote, Bounce}
 use Rattle.mail_world.specs.History.{Injection, Books}
 use Rattle.mail_world.specs.Headline.{IsInjected}
-use Rattle.call_fs.proofs.Maps.{put_cases, put_same, put_other}
+use Rattle.call_fs.proofs.Maps.{put_cases, put_same, put_other, put_at_cases, put_at_other}
 use Rattle.mail_world.proofs.Tests.{off, tells_name}
 use Rattle.mail_world.proofs.Looks.{Entry, entry, find_some, find_far, find_put, find_other, found}
-use Rattle.mail_world.proofs.Invariant.{Role, Queue, look, IsPidRole, IsRecent, IsRight, NameSuits, NamesSuit, about, Phase, IsBegun, Basis, NoneLost, Sound}
+use Rattle.mail_world.proofs.Invariant.{Role, Queue, look, IsPidRole, IsRecent, IsRight, NameSuits, NamesSuit, about, is_later, is_later_name, Phase, IsBegun, Basis, NoneLost, Sound}
 use Rattle.mail_world.proofs.Invariant.Role.{AsMessage, AsPart, AsOld}
 use Rattle.mail_world.proofs.Invariant.Phase.{Free}
-use Rattle.mail_world.proofs.Frame.{Concerns, Apart, Elsewhere}
+use Rattle.mail_world.proofs.Frame.{Concerns, Apart, Elsewhere, Outside}
 
 -- a new file with a new name
 abbrev pub made : Queue → List ℕ → Name → (fd i read : ℕ) → Role → Queue
@@ -58,15 +58,21 @@ pub record Outcome (now : ℕ) (q : Queue) (a : List ℕ) (args : Arguments) (r 
   pub suits : NamesSuit r
   pub fine : (n : ℕ) → number ≡ Some n → Phase (about r n)
   pub over : NoneLost r.books
+  pub outside : Outside q.disk r.disk
   pub next : Basis r a args row
 
 -- a number whose injection has begun is free
 pub begun_phase : (q : Queue) (a : List ℕ) (args : Arguments) (n : ℕ) → IsBegun (about q n) a args n → Phase (about q n)
 begun_phase q a args n h = Free (record {
   not_accepted = λ i lives t. let w = h.lives in let v : i.accepted ≡ false = cc in off (sym v ∙ t);
+  unsorted = h.unsorted;
   no_todo = h.no_todo;
   intd_below = λ none. let w = h.mess in absurd (cc);
 })
+
+-- a part that comes with preprocessing has another name than one that comes before it
+pub later_far : (x : Name) (part : Part) (n : ℕ) → is_later_name x ≡ false → is_later part ≡ true → Of part n ≢ x
+later_far x part n early later same = off (sym early ∙ sym (ap is_later_name same) ∙ later)
 
 at_number : (r : Queue) (n : ℕ) → Phase (about r n) → (k : ℕ) → ◌≡◌ {A = Option ℕ} (Some n) (Some k) → Phase (about r k)
 at_number r n h k same = let w : n ≡ k = cc in subst (λ k. Phase (about r k)) w h
@@ -108,10 +114,10 @@ module _ (now : ℕ) (q : Queue) (S : NamesSuit q) where
   its_number (Of Mess k) y h = let w = (S (Of Mess k) y h).0 in ap (λ u. Some (made_for y.number u)) w.1.2 ∙ ap Some w.0
   its_number (Of Intd k) y h = ap (λ u. Some (made_for y.number u)) (S (Of Intd k) y h).0
   its_number (Of Todo k) y h = ap (λ u. Some (made_for y.number u)) (S (Of Todo k) y h).0
-  its_number (Of Info k) y h = absurd (S (Of Info k) y h).0
-  its_number (Of Local k) y h = absurd (S (Of Local k) y h).0
-  its_number (Of Remote k) y h = absurd (S (Of Remote k) y h).0
-  its_number (Of Bounce k) y h = absurd (S (Of Bounce k) y h).0
+  its_number (Of Info k) y h = ap (λ u. Some (made_for y.number u)) (S (Of Info k) y h).0
+  its_number (Of Local k) y h = ap (λ u. Some (made_for y.number u)) (S (Of Local k) y h).0
+  its_number (Of Remote k) y h = ap (λ u. Some (made_for y.number u)) (S (Of Remote k) y h).0
+  its_number (Of Bounce k) y h = ap (λ u. Some (made_for y.number u)) (S (Of Bounce k) y h).0
 
   -- an injector's message is no other injector's
   pub own_apart : (a : List ℕ) (args : Arguments) (n : ℕ) → q.role n ≡ AsMessage a args → Apart now q a (Some n)
@@ -160,6 +166,23 @@ module _ (now : ℕ) (q : Queue) (S : NamesSuit q) where
             (put_cases q.disk.files j f z.number),
       )
 
+-- a new file of the queue is none of those outside it
+made_outside : (q : Queue) (x : Name) (fd i read : ℕ) → IsNew q.disk (path x) fd i
+    → Outside q.disk (record {
+      dirs = q.disk.dirs;
+      names = put_at q.disk.names (path x) (Some i);
+      files = put q.disk.files i (empty_file read);
+      opens = put q.disk.opens fd (Some (record { number = i; mode = Mode.Created }));
+    })
+made_outside q x fd i read new = record {
+  names = λ name far. put_at_other q.disk.names (path x) (Some i) name (λ same. far x (sym same));
+  files = λ k out. put_other q.disk.files i (empty_file read) k (λ same. new.unused.unnamed out.name (out.there ∙ ap Some same));
+  unqueued = λ k out y is. ⊎_elim
+      (λ c. new.unused.unnamed out.name (out.there ∙ sym (sym c.1 ∙ is)))
+      (λ c. out.unqueued y (sym c.1 ∙ is))
+      (put_at_cases q.disk.names (path x) (Some i) (path y));
+}
+
 -- the outcome of each deed
 module _ (now : ℕ) (q : Queue) (a : List ℕ) (args : Arguments) (G : Sound q) where
   abbrev pub Leads : Queue → Row → Type 0
@@ -185,12 +208,13 @@ module _ (now : ℕ) (q : Queue) (a : List ℕ) (args : Arguments) (G : Sound q)
     suits = made_suits now q G.suits x a fd i read role new right;
     fine = at_number (made q a x fd i read role) m fine;
     over = G.over;
+    outside = made_outside q x fd i read new;
     next = next;
   }
 
-  pub written_outcome : (j : ℕ) (f : File) (n : ℕ) (row : Row) → q.role n ≡ AsMessage a args → made_for j (q.role j) ≡ n
+  pub written_outcome : (x : Name) (j : ℕ) (f : File) (n : ℕ) (row : Row) → q.disk.names (path x) ≡ Some j → q.role n ≡ AsMessage a args → made_for j (q.role j) ≡ n
       → IsRecent f (q.role j) → IsBegun (about (written q j f) n) a args n → Basis (written q j f) a args row → Leads (written q j f) row
-  written_outcome j f n row mine own recent begins next = record {
+  written_outcome x j f n row there mine own recent begins next = record {
     number = Some n;
     elsewhere = record {
       looks = λ y far. find_far q.disk.names q.disk.files y j f (λ z h same.
@@ -204,14 +228,19 @@ module _ (now : ℕ) (q : Queue) (a : List ℕ) (args : Arguments) (G : Sound q)
     suits = written_suits now q G.suits j f recent;
     fine = at_number (written q j f) n (begun_phase (written q j f) a args n begins);
     over = G.over;
+    outside = record {
+      names = λ _ _. refl;
+      files = λ k out. put_other q.disk.files j f k (λ same. out.unqueued x (there ∙ ap Some (sym same)));
+      unqueued = λ k out y is. out.unqueued y is;
+    };
     next = next;
   }
 
   pub named_outcome : (x : Name) (o : Option ℕ) (c : Books) (n : ℕ) (row : Row) → q.role n ≡ AsMessage a args
-      → Concerns q x (Some n) → NameSuits (named q x o c) x → ((k : ℕ) → k ≢ n → c.living k ≡ q.books.living k)
+      → ((k : ℕ) → o ≡ Some k → (y : Name) × (q.disk.names (path y) ≡ Some k)) → Concerns q x (Some n) → NameSuits (named q x o c) x → ((k : ℕ) → k ≢ n → c.living k ≡ q.books.living k)
       → ((i : Injection) → IsInjected q.books i → i.accepted ≡ true → IsInjected c i) → NoneLost c
       → Phase (about (named q x o c) n) → Basis (named q x o c) a args row → Leads (named q x o c) row
-  named_outcome x o c n row mine concerns here living accepted over fine next = record {
+  named_outcome x o c n row mine queued concerns here living accepted over fine next = record {
     number = Some n;
     elsewhere = record {
       looks = λ y far. named_other q x o c y (λ same. far (subst (λ z. Concerns q z (Some n)) (sym same) concerns));
@@ -224,5 +253,13 @@ module _ (now : ℕ) (q : Queue) (a : List ℕ) (args : Arguments) (G : Sound q)
     suits = named_suits now q G.suits x o c here;
     fine = at_number (named q x o c) n fine;
     over = over;
+    outside = record {
+      names = λ name far. put_at_other q.disk.names (path x) o name (λ same. far x (sym same));
+      files = λ _ _. refl;
+      unqueued = λ k out y is. ⊎_elim
+          (λ c. let w = queued k (sym c.1 ∙ is) in out.unqueued w.0 w.1)
+          (λ c. out.unqueued y (sym c.1 ∙ is))
+          (put_at_cases q.disk.names (path x) o (path y));
+    };
     next = next;
   }

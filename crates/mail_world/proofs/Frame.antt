@@ -1,19 +1,18 @@
 -- A step of one actor leaves what the others rely on.
-use Rattle.std.proofs.Common.{◌≡◌, ◌≢◌, ℕ, List, true, Option, Some, sym, ◌∙◌, subst}
+use Rattle.std.proofs.Common.{◌≡◌, ◌≢◌, ℕ, List, true, Option, Some, refl, sym, ◌∙◌, subst}
 use Rattle.queue_inject.specs.declared.injection.Arguments.{Arguments}
 use Rattle.queue_inject.specs.declared.row.Row.{Row}
 use Rattle.queue_inject.specs.declared.row.Row.TheVariants as at
-use Rattle.queue_paths.specs.Names.{Name}
+use Rattle.call_fs.specs.Disk.{Disk, Open}
+use Rattle.queue_paths.specs.Names.{Name, path}
 use Rattle.queue_paths.specs.Names.Name.{Pid, Of}
 use Rattle.queue_paths.specs.Names.Part.{Mess}
 use Rattle.queue_inject.specs.Table.{row_after}
 use Rattle.call_fs.specs.declared.past.Own.{Own}
-use Rattle.mail_world.specs.declared.event.Program.{Program}
-use Rattle.mail_world.specs.declared.event.Program.TheVariants.{Injector}
-use Rattle.mail_world.specs.History.{Injection, Actor, Life}
+use Rattle.mail_world.specs.History.{Injection, Life}
 use Rattle.mail_world.specs.Headline.{IsInjected, HasQueued}
 use Rattle.mail_world.proofs.Looks.{Entry}
-use Rattle.mail_world.proofs.Invariant.{Queue, look, About, about, IsOpen, IsBegun, Holds, AtLink, AtMess, AtUnlink, AtTodo, Relies, Settles, InTime, FaresBy, Fares}
+use Rattle.mail_world.proofs.Invariant.{Queue, look, About, about, IsOpen, IsBegun, Holds, AtLink, AtMess, AtUnlink, AtTodo, Relies, Settles, InTime, InjectorFares}
 use Rattle.mail_world.proofs.Invariant.Role.{AsMessage}
 
 -- a name concerns a number: a part its own, a pid name that of its file
@@ -37,6 +36,23 @@ pub record Elsewhere (now : ℕ) (a : List ℕ) (m : Option ℕ) (q r : Queue) :
   pub roles : (x : Name) (y : Entry) → look q x ≡ Some y → r.role y.number ≡ q.role y.number
   pub apart : Apart now q a m
   pub accepted : (i : Injection) → IsInjected q.books i → i.accepted ≡ true → IsInjected r.books i
+
+-- a file that has a name, and none of the queue's
+pub record IsOutside (d : Disk) (i : ℕ) : Type 0 where
+  pub name : List ℕ
+  pub there : d.names name ≡ Some i
+  pub unqueued : (x : Name) → d.names (path x) ≢ Some i
+
+-- What a step leaves of all that isn't the queue's: each other name leads where it led, and the files that only such names
+-- have are as they were, and get none of the queue's names.
+pub record Outside (d e : Disk) : Type 0 where
+  pub names : (name : List ℕ) → ((x : Name) → path x ≢ name) → e.names name ≡ d.names name
+  pub files : (i : ℕ) → IsOutside d i → e.files i ≡ d.files i
+  pub unqueued : (i : ℕ) → IsOutside d i → (x : Name) → e.names (path x) ≢ Some i
+
+-- a disk with the same names and files
+pub outside_same : (d : Disk) (opens : ℕ → Option Open) → Outside d (record { dirs = d.dirs; names = d.names; files = d.files; opens = opens })
+outside_same d opens = record { names = λ _ _. refl; files = λ _ _. refl; unqueued = λ i out x is. out.unqueued x is }
 
 module _ (now : ℕ) (a : List ℕ) (m : Option ℕ) (q r : Queue) (E : Elsewhere now a m q r) where
   pub about_same : (n : ℕ) → m ≢ Some n → about r n ≡ about q n
@@ -110,9 +126,9 @@ module _ (now : ℕ) (a : List ℕ) (m : Option ℕ) (q r : Queue) (E : Elsewher
     relies_frame at.Queued h = tt
     relies_frame (at.Failed cause) h = tt
 
-  -- another actor fares as before
-  fares_by : (o : List ℕ) → o ≢ a → (program : Program) (past : List Own) (life : Life) → FaresBy now q o program past life → FaresBy now r o program past life
-  fares_by o other (Injector args) past life h = record {
+  -- another injector fares as before
+  pub injector_frame : (o : List ℕ) → o ≢ a → (args : Arguments) (past : List Own) (life : Life) → InjectorFares now q o args past life → InjectorFares now r o args past life
+  injector_frame o other args past life h = record {
     stands = λ alive. let s = h.stands alive in record {
       relies = λ soon. relies_frame o other args soon (row_after args past) (s.relies soon);
       settles = settles_frame o args (row_after args past) s.settles;
@@ -121,6 +137,3 @@ module _ (now : ℕ) (a : List ℕ) (m : Option ℕ) (q r : Queue) (E : Elsewher
     ends = h.ends;
     reads = h.reads;
   }
-
-  pub fares_frame : (o : List ℕ) → o ≢ a → (x : Actor) → Fares now q o x → Fares now r o x
-  fares_frame o other x h = fares_by o other x.program x.past x.life h

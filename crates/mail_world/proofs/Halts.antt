@@ -1,19 +1,16 @@
 -- A machine stop: what was synced survives as it was.
 use Rattle.std.proofs.Common.{◌≡◌, ℕ, suc, ◌<◌, ◌≤◌, List, [], ◌∷◌, length, Option, Some, None, refl, sym, ap, ◌∙◌, subst, ⊎_elim, arith, slice_get, le_antisymm}
-use Rattle.call_fs.specs.declared.crash_file_system.Survival.{Survival}
 use Rattle.call_fs.specs.Disk.{File, Among, IsSynced}
 use Rattle.call_fs.specs.Survival.{HadAt, Survives, AllSurvive, settled, halted}
 use Rattle.queue_paths.specs.Names.{Name}
 use Rattle.queue_paths.specs.Names.Name.{Of}
 use Rattle.queue_paths.specs.Names.Part.{Mess, Intd, Todo}
 use Rattle.call_fs.specs.declared.past.Own.{Own}
-use Rattle.mail_world.specs.declared.event.Program.{Program}
-use Rattle.mail_world.specs.declared.event.Program.TheVariants.{Injector}
-use Rattle.mail_world.specs.History.{happens, State, Life, stopped, cut_off}
-use Rattle.mail_world.specs.History.Event.{Halt}
+use Rattle.queue_inject.specs.declared.injection.Arguments.{Arguments}
+use Rattle.mail_world.specs.History.{Life, cut_off}
 use Rattle.mail_world.specs.History.Life.{Alive, Over, Stopped}
-use Rattle.mail_world.proofs.Looks.{Entry, entry, find_some, find_none, not_found, found, mapped_some}
-use Rattle.mail_world.proofs.Invariant.{Role, Queue, look, IsRecent, about, Phase, Sound, FaresBy, Fares, Inv, queue}
+use Rattle.mail_world.proofs.Looks.{Entry, entry, find_some, find_none, not_found, found}
+use Rattle.mail_world.proofs.Invariant.{Role, Queue, look, IsRecent, about, Phase, Sound, InjectorFares}
 use Rattle.mail_world.proofs.Invariant.Role.{AsMessage, AsPart, AsOld}
 use Rattle.mail_world.proofs.Invariant.Phase.{Free, Queued}
 
@@ -62,7 +59,7 @@ still_over (Over status) h = h
 still_over Stopped h = absurd (cc)
 
 -- the queue afterwards
-abbrev after_halt : (ℕ → List ℕ) → Queue → Queue
+abbrev pub after_halt : (ℕ → List ℕ) → Queue → Queue
 after_halt contents q = record { disk = halted contents q.disk; holder = λ _. None; books = q.books; role = q.role }
 
 module _ (q : Queue) (contents : ℕ → List ℕ) (survives : AllSurvive q.disk contents) where
@@ -91,10 +88,12 @@ module _ (q : Queue) (contents : ℕ → List ℕ) (survives : AllSurvive q.disk
   phase_after : (n : ℕ) → Phase (about q n) → Phase (about (after_halt contents q) n)
   phase_after n (Free h) = Free (record {
     not_accepted = h.not_accepted;
+    unsorted = λ part later. still_absent (Of part n) (h.unsorted part later);
     no_todo = still_absent (Of Todo n) h.no_todo;
     intd_below = λ none. still_absent (Of Intd n) (h.intd_below (was_absent (Of Mess n) none));
   })
   phase_after n (Queued h) = Queued (record {
+    unsorted = λ part later. still_absent (Of part n) (h.unsorted part later);
     injection = h.injection;
     lives = h.lives;
     accepted = h.accepted;
@@ -107,7 +106,7 @@ module _ (q : Queue) (contents : ℕ → List ℕ) (survives : AllSurvive q.disk
     valid = h.valid;
   })
 
-  sound_after : Sound q → Sound (after_halt contents q)
+  pub sound_after : Sound q → Sound (after_halt contents q)
   sound_after G = record {
     suits = λ x y h.
         let w = found q.disk.names _ x y h in
@@ -118,22 +117,12 @@ module _ (q : Queue) (contents : ℕ → List ℕ) (survives : AllSurvive q.disk
     over = G.over;
   }
 
-fares_halt : (now : ℕ) (q : Queue) (contents : ℕ → List ℕ) (a : List ℕ) (program : Program) (past : List Own) (life : Life)
-    → FaresBy now q a program past life → FaresBy now (after_halt contents q) a program past (cut_off life)
-fares_halt now q contents a (Injector args) past life F = record {
+-- an injector that lived is stopped, and one that was over is so
+pub injector_halt : (now : ℕ) (q : Queue) (contents : ℕ → List ℕ) (a : List ℕ) (args : Arguments) (past : List Own) (life : Life)
+    → InjectorFares now q a args past life → InjectorFares now (after_halt contents q) a args past (cut_off life)
+injector_halt now q contents a args past life F = record {
   stands = λ alive. absurd (never_alive life alive);
   queued = F.queued;
   ends = λ over. F.ends (still_over life over);
   reads = F.reads;
-}
-
--- no actor lives on, and what ended stays ended
-pub kept_halt : (s : State) (how : Survival) (contents : ℕ → List ℕ) → AllSurvive s.disk contents → Inv s → Inv (happens s (Halt how contents))
-kept_halt s how contents survives I = record {
-  role = I.role;
-  sound = sound_after (queue s I.role) contents survives I.sound;
-  actors = λ a y h.
-      let w = mapped_some stopped (s.actors a) y h in
-      let q = queue s I.role in
-      subst (Fares s.now (after_halt contents q) a) w.2 (fares_halt s.now q contents a w.0.program w.0.past w.0.life (I.actors a w.0 w.1));
 }

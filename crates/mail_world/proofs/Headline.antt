@@ -8,21 +8,14 @@ use Rattle.queue_paths.specs.Names.Part.{Mess, Intd, Todo, Info, Local, Remote, 
 use Rattle.queue_inject.specs.Texts.{message_text, intd_text, entered, todo_of}
 use Rattle.queue_states.specs.declared.state.State.TheVariants.{Other}
 use Rattle.queue_states.specs.States.{state_by, is_there, state_of}
-use Rattle.call_fs.specs.declared.past.Own.{Own}
-use Rattle.mail_world.specs.declared.event.Program.{Program}
-use Rattle.mail_world.specs.declared.event.Program.TheVariants.{Injector}
-use Rattle.mail_world.specs.History.{Event, Injection, Life, State, after, Legal}
-use Rattle.mail_world.specs.History.Life.{Over}
-use Rattle.mail_world.specs.Headline.{IsInjected, IsValid, IsPending, IsBooked, EndsWell, Safe, Headline}
+use Rattle.mail_world.specs.History.{Event, Injection, State, after, Legal}
+use Rattle.mail_world.specs.Headline.{IsInjected, IsValid, IsPending, Safe, Headline}
 use Rattle.mail_world.specs.Headline.Accounted.{Pending}
 use Rattle.mail_world.proofs.Looks.{Entry, find_some, find_none, not_found, found}
-use Rattle.mail_world.proofs.Invariant.{look, About, about, IsQueued, Phase, FaresBy, Inv, queue}
+use Rattle.mail_world.proofs.Invariant.{About, about, is_later, IsUnsorted, IsQueued, Phase, queue}
 use Rattle.mail_world.proofs.Invariant.Phase.{Free, Queued}
-use Rattle.mail_world.proofs.Kept.{always}
-
-none_where : {A : Type 0} (o : Option A) → ((x : A) → o ≡ Some x → ⊥) → is_some o ≡ false
-none_where None h = refl
-none_where (Some x) h = absurd (h x refl)
+use Rattle.mail_world.proofs.Programs.{fares_booked, fares_well}
+use Rattle.mail_world.proofs.Kept.{Inv, always}
 
 is_none : {A : Type 0} (o : Option A) → is_some o ≡ false → o ≡ None
 is_none None h = refl
@@ -53,6 +46,11 @@ bare_below : (w : About) → Phase w → w.parts Mess ≡ None → (w.parts Intd
 bare_below w (Free h) none = (h.intd_below none, h.no_todo)
 bare_below w (Queued h) none = let t = h.mess_there in absurd (cc)
 
+-- so far no number is preprocessed
+unsorted : (w : About) → Phase w → IsUnsorted w
+unsorted w (Free h) = h.unsorted
+unsorted w (Queued h) = h.unsorted
+
 -- an accepted injection whose life lasts is queued
 record IsKept (d : Disk) (i : Injection) : Type 0 where
   message : (n : ℕ) → d.names (path (Of Mess i.number)) ≡ Some n → IsSynced (d.files n) (entered i.args)
@@ -63,17 +61,16 @@ module _ (s : State) (I : Inv s) where
   states : (n : ℕ) → state_of s.disk n ≢ Other
   states n =
       let d = s.disk in
-      let later = λ (part : Part) (none : (y : Entry) → look (queue s I.role) (Of part n) ≡ Some y → ⊥).
-      none_where (d.names (path (Of part n))) (λ i h. none _ (find_some d.names d.files (Of part n) i h)) in
+      let none = unsorted (about (queue s I.role) n) (I.sound.fine n) in
+      let later = λ (part : Part) (is : is_later part ≡ true). ap is_some (not_found d.names d.files (Of part n) (none part is)) in
       let below = λ (h : is_there d Mess n ≡ false). bare_below _ (I.sound.fine n) (find_none d.names d.files (Of Mess n) (is_none _ h)) in
       let known = known_state (is_there d Mess n) (is_there d Intd n) (is_there d Todo n)
       (λ h. ap is_some (not_found d.names d.files (Of Intd n) (below h).0))
       (λ h. ap is_some (not_found d.names d.files (Of Todo n) (below h).1)) in
-      let S = I.sound.suits in
-      let info = later Info (λ y h. (S (Of Info n) y h).0) in
-      let local = later Local (λ y h. (S (Of Local n) y h).0) in
-      let remote = later Remote (λ y h. (S (Of Remote n) y h).0) in
-      let bounce = later Bounce (λ y h. (S (Of Bounce n) y h).0) in
+      let info = later Info refl in
+      let local = later Local refl in
+      let remote = later Remote refl in
+      let bounce = later Bounce refl in
       rw (info, local, remote, bounce) known
 
   -- the message and the envelope of a queued number
@@ -108,12 +105,6 @@ module _ (s : State) (I : Inv s) where
   lives_on : (i : Injection) → IsInjected s.books i → i.accepted ≡ true → s.books.living i.number ≡ Some i
   lives_on i h accepted = ⊎_elim (λ (l : s.books.living i.number ≡ Some i). l) (λ (o : Among i s.books.over). absurd (I.sound.over i o accepted)) h
 
-  booked : (a : List ℕ) (program : Program) (past : List Own) (life : Life) → FaresBy s.now (queue s I.role) a program past life → IsBooked s.books a program past
-  booked a (Injector args) past life F = F.queued
-
-  ends_well : (a : List ℕ) (program : Program) (past : List Own) (life : Life) → FaresBy s.now (queue s I.role) a program past life → life ≡ Over 0 → EndsWell s.books a program
-  ends_well a (Injector args) past life F over = F.queued (F.ends over)
-
   pub safe : Safe s
   safe = record {
     states = states;
@@ -121,8 +112,8 @@ module _ (s : State) (I : Inv s) where
     messages = λ i n lives accepted h. (is_kept i lives accepted).message n h;
     valid = λ i h accepted. (is_kept i (lives_on i h accepted) accepted).valid;
     accounted = λ i h accepted recipient lt. let lives = lives_on i h accepted in Pending lives (is_kept i lives accepted).pending;
-    queued = λ a x h. booked a x.program x.past x.life (I.actors a x h);
-    ends = λ a x h over. ends_well a x.program x.past x.life (I.actors a x h) over;
+    queued = λ a x h. fares_booked s.now (queue s I.role) a x.program x.past x.life (I.actors a x h);
+    ends = λ a x h over. fares_well s.now (queue s I.role) a x.program x.past x.life (I.actors a x h) over;
   }
 
 legal_before : (d : Disk) (later before : List Event) → Legal d (later ++ before) → Legal d before

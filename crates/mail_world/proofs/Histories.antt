@@ -16,13 +16,15 @@ use Rattle.mail_bytes.specs.Told.{OnTold, Meets}
 use Rattle.mail_world.specs.declared.event.Program.{Program}
 use Rattle.mail_world.specs.declared.event.Event.{Event as Kept}
 use Rattle.mail_world.specs.declared.event.Event.TheVariants as kept
-use Rattle.mail_world.specs.History.{Event, call_act, Actor, Life, State, next_of, Allowed, MayRead, happens, called, finished, shut_by, after, latest, Opening, EachAllowed, Legal}
+use Rattle.mail_world.specs.History.{Event, call_act, Actor, Life, State, next_of, FindsInputAlone, Allowed, MayRead, happens, called, finished, shut_by, after, latest, Opening, EachAllowed, Legal}
 use Rattle.mail_world.specs.History.Event.{Start, End, Stop, Moment, Halt}
 use Rattle.mail_world.specs.History.Life.{Alive}
 use Rattle.mail_world.specs.World.{kept_call, Tells, IsByName, Leads, IsHistory, EachSafe}
 use Rattle.mail_world.specs.Headline.{Headline}
 use Rattle.mail_world.specs.Inside.{IsLed, known}
-use Rattle.mail_world.proofs.Known.{AreAlike, after_known}
+use Rattle.mail_world.proofs.Known.{AreAlike, after_known, told_slots}
+use Rattle.mail_world.specs.ByKind.{IsMail}
+use Rattle.mail_world.proofs.Programs.{mail_runs, program_finds}
 
 history_push : (o d : Disk) (events : List Kept) (p : ℕ) (h : List Event) (k : Kept) (e : Event)
     → Leads o d events p h → Tells k e → Allowed (after o h) e → IsByName (after o h).disk e
@@ -53,6 +55,7 @@ finished_now s a life (Some x) = refl
 -- a living actor that has read no moment after the present one
 pub record IsActing (s : State) (a : List ℕ) (present : ℕ) (x : Actor) : Type 0 where
   pub is : s.actors a ≡ Some x
+  pub mail : IsMail x.program
   pub alive : x.life ≡ Alive
   pub in_order : latest x.program x.past ≤ present
 
@@ -66,9 +69,9 @@ may_read s t a p x same now acts = record {
 }
 
 call_goes_on : (o d d' : Disk) (events : List Kept) (p : ℕ) (h : List Event) (a : List ℕ) (x : Actor) (ready : Ready) (call : CallData) (got : Told)
-    → Leads o d events p h → IsActing (known events) a p x → next_of x.program x.past p ready ≡ needs.File call → Apply d p call got.answer d' → IsReadBy d call got
+    → Leads o d events p h → IsActing (known events) a p x → FindsInputAlone ready → next_of x.program x.past p ready ≡ needs.File call → Apply d p call got.answer d' → IsReadBy d call got
     → (e : Event) × Leads o d' (events ++ kept_call a p ready call got ∷ []) p (e ∷ h)
-call_goes_on o d d' events p h a x ready call got is acts due applied bytes =
+call_goes_on o d d' events p h a x ready call got is acts alone due applied bytes =
     let s = after o h in
     let w = applied.0 in
     let e : Event = call_act a p ready call got w in
@@ -77,9 +80,12 @@ call_goes_on o d d' events p h a x ready call got is acts due applied bytes =
     let allowed : Allowed s e = record {
       actor = x;
       reads = reads;
+      finds = program_finds s a x.program acts.mail x.past ready (told_slots o events h is.told a) alone;
       due = due;
-      fits = subst (λ (d : Disk). Fits d call got.answer w) (sym is.disk) applied.1;
-      bytes = subst (λ (d : Disk). IsReadBy d call got) (sym is.disk) bytes;
+      came = (
+        subst (λ (d : Disk). Fits d call got.answer w) (sym is.disk) applied.1,
+        subst (λ (d : Disk). IsReadBy d call got) (sym is.disk) bytes,
+      );
     } in
     let next = history_push o d events p h k e is refl allowed tt in (
       e,
@@ -110,13 +116,13 @@ finish_goes_on o d events p h a x life k e is there tells allowed named over =
     }
 
 end_goes_on : (o d : Disk) (events : List Kept) (p : ℕ) (h : List Event) (a : List ℕ) (x : Actor) (ready : Ready) (status : ℕ)
-    → Leads o d events p h → IsActing (known events) a p x → next_of x.program x.past p ready ≡ needs.Ended status
+    → Leads o d events p h → IsActing (known events) a p x → FindsInputAlone ready → next_of x.program x.past p ready ≡ needs.Ended status
     → (e : Event) × Leads o (shut_by a (known events).holder d) (events ++ kept.End a p ready status ∷ []) p (e ∷ h)
-end_goes_on o d events p h a x ready status is acts due =
+end_goes_on o d events p h a x ready status is acts alone due =
     let s = after o h in
     let e : Event = End a p ready status in
     let reads : MayRead s a x p = may_read s (known events) a p x (after_known o events h is.told) is.moment acts in
-    let allowed : Allowed s e = record { actor = x; reads = reads; due = due } in
+    let allowed : Allowed s e = record { actor = x; reads = reads; finds = program_finds s a x.program acts.mail x.past ready (told_slots o events h is.told a) alone; due = due } in
     (e, finish_goes_on o d events p h a x (Life.Over status) (kept.End a p ready status) e is acts.is refl allowed tt refl)
 
 stop_goes_on : (o d : Disk) (events : List Kept) (p : ℕ) (h : List Event) (a : List ℕ) (x : Actor)
@@ -139,15 +145,16 @@ moment_goes_on o d events p m h moment later is =
     let next = history_push o d events p h (kept.Moment m) e is refl allowed tt in
     (e, record { allowed = next.allowed; told = next.told; named = next.named; disk = is.disk; moment = refl })
 
-start_goes_on : (o d : Disk) (events : List Kept) (p : ℕ) (h : List Event) (a : List ℕ) (program : Program)
+start_goes_on : (o d : Disk) (events : List Kept) (p : ℕ) (h : List Event) (a : List ℕ) (program : Program) → IsMail program
     → Leads o d events p h → (known events).actors a ≡ None
     → (e : Event) × Leads o d (events ++ kept.Start a program ∷ []) p (e ∷ h)
-start_goes_on o d events p h a program is new =
+start_goes_on o d events p h a program mail is new =
     let s = after o h in
     let e : Event = Start a program in
     let same = after_known o events h is.told in
     let allowed : Allowed s e = record {
       new = ap (λ (m : List ℕ → Option Actor). m a) same.actors ∙ new;
+      runs = mail_runs program mail;
     } in
     let next = history_push o d events p h (kept.Start a program) e is refl allowed tt in
     (e, record { allowed = next.allowed; told = next.told; named = next.named; disk = is.disk; moment = is.moment })
@@ -168,20 +175,20 @@ abbrev pub LeadsOn : Option Disk → Option Disk → List Kept → List Kept →
 LeadsOn old new events later p q = (o : Disk) (h : List Event) → IsSomeAnd old (λ d. Leads o d events p h) → (e : Event) × IsSomeAnd new (λ d. Leads o d later q (e ∷ h))
 
 pub call_told : (old new : Option Disk) (events : List Kept) (p : ℕ) (a : List ℕ) (x : Actor) (ready : Ready) (call : CallData) (got : Told)
-    → IsActing (known events) a p x → next_of x.program x.past p ready ≡ needs.File call → Meets old new (λ d d'. Apply d p call got.answer d' × IsReadBy d call got)
+    → IsActing (known events) a p x → FindsInputAlone ready → next_of x.program x.past p ready ≡ needs.File call → Meets old new (λ d d'. Apply d p call got.answer d' × IsReadBy d call got)
     → LeadsOn old new events (events ++ kept_call a p ready call got ∷ []) p p
-call_told (Some d) (Some d') events p a x ready call got acts due met o h is = call_goes_on o d d' events p h a x ready call got is acts due met.0 met.1
-call_told (Some d) None events p a x ready call got acts due met o h is = absurd met
-call_told None new events p a x ready call got acts due met o h is = absurd is
+call_told (Some d) (Some d') events p a x ready call got acts alone due met o h is = call_goes_on o d d' events p h a x ready call got is acts alone due met.0 met.1
+call_told (Some d) None events p a x ready call got acts alone due met o h is = absurd met
+call_told None new events p a x ready call got acts alone due met o h is = absurd is
 
 pub end_told : (old new : Option Disk) (events : List Kept) (p : ℕ) (a : List ℕ) (x : Actor) (ready : Ready) (status : ℕ)
-    → IsActing (known events) a p x → next_of x.program x.past p ready ≡ needs.Ended status → Meets old new (λ d d'. d' ≡ shut_by a (known events).holder d)
+    → IsActing (known events) a p x → FindsInputAlone ready → next_of x.program x.past p ready ≡ needs.Ended status → Meets old new (λ d d'. d' ≡ shut_by a (known events).holder d)
     → LeadsOn old new events (events ++ kept.End a p ready status ∷ []) p p
-end_told (Some d) (Some d') events p a x ready status acts due met o h is =
-    let next = end_goes_on o d events p h a x ready status is acts due in
+end_told (Some d) (Some d') events p a x ready status acts alone due met o h is =
+    let next = end_goes_on o d events p h a x ready status is acts alone due in
     (next.0, subst (λ (d : Disk). Leads o d (events ++ kept.End a p ready status ∷ []) p (next.0 ∷ h)) (sym met) next.1)
-end_told (Some d) None events p a x ready status acts due met o h is = absurd met
-end_told None new events p a x ready status acts due met o h is = absurd is
+end_told (Some d) None events p a x ready status acts alone due met o h is = absurd met
+end_told None new events p a x ready status acts alone due met o h is = absurd is
 
 pub stop_told : (old new : Option Disk) (events : List Kept) (p : ℕ) (a : List ℕ) (x : Actor)
     → IsActing (known events) a p x → Meets old new (λ d d'. d' ≡ shut_by a (known events).holder d)
@@ -196,10 +203,10 @@ pub moment_told : (told : Option Disk) (events : List Kept) (p m : ℕ) → IsMo
 moment_told (Some d) events p m moment later o h is = moment_goes_on o d events p m h moment later is
 moment_told None events p m moment later o h is = absurd is
 
-pub start_told : (told : Option Disk) (events : List Kept) (p : ℕ) (a : List ℕ) (program : Program)
+pub start_told : (told : Option Disk) (events : List Kept) (p : ℕ) (a : List ℕ) (program : Program) → IsMail program
     → (known events).actors a ≡ None → LeadsOn told told events (events ++ kept.Start a program ∷ []) p p
-start_told (Some d) events p a program new o h is = start_goes_on o d events p h a program is new
-start_told None events p a program new o h is = absurd is
+start_told (Some d) events p a program mail new o h is = start_goes_on o d events p h a program mail is new
+start_told None events p a program mail new o h is = absurd is
 
 -- a machine stop, with contents that are those of its name
 pub halt_leads : (old new : Option Disk) (events : List Kept) (p : ℕ) (how : Survival) → Meets old new (λ d e. Halts how d e)

@@ -1,5 +1,5 @@
 -- What holds after each legal history: of each name, of each message number, and of each actor.
-use Rattle.std.proofs.Common.{◌≡◌, ℕ, ◌+◌, ◌≤◌, List, [], true, Option, Some, None, take}
+use Rattle.std.proofs.Common.{◌≡◌, ◌≢◌, ℕ, ◌+◌, ◌≤◌, List, [], Bool, true, false, Option, Some, None, take}
 use Rattle.call_fs.specs.Disk.{Disk, File, Mode, Open, Among, IsSynced}
 use Rattle.queue_inject.specs.declared.injection.Arguments.{Arguments}
 use Rattle.queue_inject.specs.declared.row.Row.{Row}
@@ -10,9 +10,8 @@ use Rattle.queue_paths.specs.Names.Part.{Mess, Intd, Todo, Info, Local, Remote, 
 use Rattle.queue_inject.specs.Texts.{message_text, intd_text}
 use Rattle.queue_inject.specs.Table.{row_after}
 use Rattle.call_fs.specs.declared.past.Own.{Own}
-use Rattle.mail_world.specs.declared.event.Program.{Program}
 use Rattle.mail_world.specs.declared.event.Program.TheVariants.{Injector}
-use Rattle.mail_world.specs.History.{Injection, Books, Actor, Life, State, begun, latest}
+use Rattle.mail_world.specs.History.{Injection, Books, Life, State, begun, latest}
 use Rattle.mail_world.specs.History.Life.{Alive, Over}
 use Rattle.mail_world.specs.Headline.{IsValid, HasQueued}
 use Rattle.mail_world.proofs.Texts.{IsFailure}
@@ -45,10 +44,10 @@ Suits (Pid pid start seq) i role = IsPidRole role
 Suits (Of Mess n) i role = (i ≡ n) × ((actor : List ℕ) × (args : Arguments) × (role ≡ AsMessage actor args))
 Suits (Of Intd n) i role = role ≡ AsPart Todo n
 Suits (Of Todo n) i role = role ≡ AsPart Todo n
-Suits (Of Info n) i role = ⊥
-Suits (Of Local n) i role = ⊥
-Suits (Of Remote n) i role = ⊥
-Suits (Of Bounce n) i role = ⊥
+Suits (Of Info n) i role = role ≡ AsPart Info n
+Suits (Of Local n) i role = role ≡ AsPart Local n
+Suits (Of Remote n) i role = role ≡ AsPart Remote n
+Suits (Of Bounce n) i role = role ≡ AsPart Bounce n
 
 -- a message file is no older than its injector
 abbrev pub IsRecent : File → Role → Type 0
@@ -73,14 +72,38 @@ pub record About : Type 0 where
 abbrev pub about : Queue → ℕ → About
 about q n = record { parts = λ part. look q (Of part n); living = q.books.living n }
 
+-- a part that comes with preprocessing, and a name of one
+abbrev pub is_later : Part → Bool
+is_later Mess = false
+is_later Intd = false
+is_later Todo = false
+is_later Info = true
+is_later Local = true
+is_later Remote = true
+is_later Bounce = true
+
+abbrev pub is_later_name : Name → Bool
+is_later_name (Pid pid start seq) = false
+is_later_name (Of part n) = is_later part
+
+-- preprocessing has made none of the number's files
+abbrev pub IsUnsorted : About → Type 0
+IsUnsorted w = (part : Part) → is_later part ≡ true → w.parts part ≡ None
+
+-- preprocessing has made a file of the number
+abbrev pub IsSorted : About → Type 0
+IsSorted w = (part : Part) × (is_later part ≡ true) × (w.parts part ≢ None)
+
 -- nothing of the number is accepted or queued
 pub record IsFree (w : About) : Type 0 where
+  pub unsorted : IsUnsorted w
   pub not_accepted : (i : Injection) → w.living ≡ Some i → i.accepted ≡ true → ⊥
   pub no_todo : w.parts Todo ≡ None
   pub intd_below : w.parts Mess ≡ None → w.parts Intd ≡ None
 
 -- its message is accepted: message and envelope are whole, and on the disk
 pub record IsQueued (w : About) : Type 0 where
+  pub unsorted : IsUnsorted w
   pub injection : Injection
   pub lives : w.living ≡ Some injection
   pub accepted : injection.accepted ≡ true
@@ -92,7 +115,7 @@ pub record IsQueued (w : About) : Type 0 where
   pub text : IsSynced todo.file (intd_text injection.args).bytes
   pub valid : IsValid injection.args
 
--- the phases of a number
+-- the phases of a number; those of a preprocessed one come with the programs that preprocess
 pub data Phase (w : About) : Type 0 where
   Free : IsFree w → Phase w
   Queued : IsQueued w → Phase w
@@ -107,6 +130,7 @@ IsOpen q a fd i = IsHeld q.disk.opens q.holder a fd i
 
 -- the injection has begun: mess/n is its own, and it isn't queued
 pub record IsBegun (w : About) (a : List ℕ) (args : Arguments) (n : ℕ) : Type 0 where
+  pub unsorted : IsUnsorted w
   pub file : File
   pub mess : w.parts Mess ≡ Some (record { number = n; file = file })
   pub no_todo : w.parts Todo ≡ None
@@ -222,13 +246,6 @@ pub record InjectorFares (now : ℕ) (q : Queue) (a : List ℕ) (args : Argument
   pub ends : life ≡ Over 0 → row_after args past ≡ at.Queued
   pub reads : args.start ≤ latest (Injector args) past
 
--- what holds of an actor, by its program
-abbrev pub FaresBy : ℕ → Queue → List ℕ → Program → List Own → Life → Type 0
-FaresBy now q a (Injector args) past life = InjectorFares now q a args past life
-
-abbrev pub Fares : ℕ → Queue → List ℕ → Actor → Type 0
-Fares now q a x = FaresBy now q a x.program x.past x.life
-
 -- a life is over only where nothing was accepted
 abbrev pub NoneLost : Books → Type 0
 NoneLost b = (i : Injection) → Among i b.over → i.accepted ≡ true → ⊥
@@ -236,14 +253,12 @@ NoneLost b = (i : Injection) → Among i b.over → i.accepted ≡ true → ⊥
 abbrev pub queue : State → (ℕ → Role) → Queue
 queue s role = record { disk = s.disk; holder = s.holder; books = s.books; role = role }
 
+-- all that concerns a number in a state, whatever its files were made as
+abbrev pub about_in : State → ℕ → About
+about_in s n = about (queue s (λ _. Role.AsOld)) n
+
 -- what holds of the names, of the numbers and of the books
 pub record Sound (q : Queue) : Type 0 where
   pub suits : NamesSuit q
   pub fine : (n : ℕ) → Phase (about q n)
   pub over : NoneLost q.books
-
--- the invariant
-pub record Inv (s : State) : Type 0 where
-  pub role : ℕ → Role
-  pub sound : Sound (queue s role)
-  pub actors : (a : List ℕ) (x : Actor) → s.actors a ≡ Some x → Fares s.now (queue s role) a x

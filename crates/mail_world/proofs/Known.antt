@@ -1,5 +1,5 @@
 -- What kept events tell is the same of each history that they tell, but for the disk and the books.
-use Rattle.std.proofs.Common.{◌≡◌, ℕ, List, [], ◌∷◌, ◌++◌, Option, Some, None, refl, sym, ap, subst, map, reverse}
+use Rattle.std.proofs.Common.{◌≡◌, ◌∙◌, ℕ, List, [], ◌∷◌, ◌++◌, Option, Some, None, refl, sym, ap, subst, map, reverse}
 use Rattle.std.proofs.lemmas.List.{reverse-append}
 use Rattle.std.specs.List.{AllZip}
 use Rattle.std.specs.Option.{option_map}
@@ -8,7 +8,7 @@ use Rattle.call_fs.specs.Disk.{Disk}
 use Rattle.call_fs.specs.Maps.{put_at}
 use Rattle.mail_world.specs.declared.event.Event.{Event as Kept}
 use Rattle.mail_world.specs.History.{Event, Actor, Life, State, stopped, happens, acted, finished, after, holder_after, unless_by}
-use Rattle.mail_world.specs.History.Event.{Start, Act, End, Stop, Moment, Halt}
+use Rattle.mail_world.specs.History.Event.{Start, Act, Child, Generation, Report, End, Stop, Moment, Halt}
 use Rattle.mail_world.specs.World.{Tells}
 use Rattle.mail_world.specs.Inside.{event_of, nowhere, known}
 
@@ -51,6 +51,9 @@ happens_alike s t k (Act a own wrote) told c =
     subst (λ (k : Kept). AreAlike (happens s (Act a own wrote)) (happens t (event_of k))) (sym told)
     (subst (λ (x : Option Actor). AreAlike (acted s a own wrote (s.actors a)) (acted t a own 0 x))
     (ap (λ (m : List ℕ → Option Actor). m a) c.actors) (acted_alike s t a own wrote 0 (s.actors a) c))
+happens_alike s t k (Child parent own a program) told c = absurd told
+happens_alike s t k (Generation sender clean lspawn rspawn) told c = absurd told
+happens_alike s t k (Report slot letter text) told c = absurd told
 happens_alike s t k (End a read ready status) told c =
     subst (λ (k : Kept). AreAlike (happens s (End a read ready status)) (happens t (event_of k))) (sym told)
     (subst (λ (x : Option Actor). AreAlike (finished s a (Life.Over status) (s.actors a)) (finished t a (Life.Over status) x))
@@ -73,6 +76,35 @@ told_alike d [] [] told = record { holder = refl; now = refl; actors = refl }
 told_alike d [] (e ∷ h) told = absurd told
 told_alike d (k ∷ events) [] told = absurd told
 told_alike d (k ∷ events) (e ∷ h) told = happens_alike (after d h) (after nowhere (map event_of events)) k e told.0 (told_alike d events h told.1)
+
+-- a world starts no children yet
+acted_slots : (s : State) (b : List ℕ) (own : Own) (w : ℕ) (o : Option Actor) (a : List ℕ) → (acted s b own w o).pipework.slots a ≡ s.pipework.slots a
+acted_slots s b own w None a = refl
+acted_slots s b own w (Some x) a = refl
+
+finished_slots : (s : State) (b : List ℕ) (life : Life) (o : Option Actor) (a : List ℕ) → (finished s b life o).pipework.slots a ≡ s.pipework.slots a
+finished_slots s b life None a = refl
+finished_slots s b life (Some x) a = refl
+
+slots_told : (d : Disk) (events : List Kept) (h : List Event) → AllZip Tells events h → (a : List ℕ) → (after d h).pipework.slots a ≡ None
+slots_told d [] [] told a = refl
+slots_told d [] (e ∷ h) told a = absurd told
+slots_told d (k ∷ events) [] told a = absurd told
+slots_told d (k ∷ events) ((Start b program) ∷ h) told a = slots_told d events h told.1 a
+slots_told d (k ∷ events) ((Act b own wrote) ∷ h) told a =
+    acted_slots (after d h) b own wrote ((after d h).actors b) a ∙ slots_told d events h told.1 a
+slots_told d (k ∷ events) ((Child parent own b program) ∷ h) told a = absurd told.0
+slots_told d (k ∷ events) ((Generation sender clean lspawn rspawn) ∷ h) told a = absurd told.0
+slots_told d (k ∷ events) ((Report slot letter text) ∷ h) told a = absurd told.0
+slots_told d (k ∷ events) ((End b read ready status) ∷ h) told a =
+    finished_slots (after d h) b (Life.Over status) ((after d h).actors b) a ∙ slots_told d events h told.1 a
+slots_told d (k ∷ events) ((Stop b) ∷ h) told a =
+    finished_slots (after d h) b Life.Stopped ((after d h).actors b) a ∙ slots_told d events h told.1 a
+slots_told d (k ∷ events) ((Moment m) ∷ h) told a = slots_told d events h told.1 a
+slots_told d (k ∷ events) ((Halt how contents) ∷ h) told a = refl
+
+pub told_slots : (d : Disk) (events : List Kept) (h : List Event) → AllZip Tells (reverse events) h → (a : List ℕ) → (after d h).pipework.slots a ≡ None
+told_slots d events h told a = slots_told d (reverse events) h told a
 
 -- what is known is so after each history that is told
 pub after_known : (d : Disk) (events : List Kept) (h : List Event) → AllZip Tells (reverse events) h → AreAlike (after d h) (known events)

@@ -18,6 +18,12 @@ pub mod Links
 pub mod Step
 -- a machine stop
 pub mod Halts
+-- how an injector fares
+pub mod Injectors
+-- what each program keeps to, and how it fares
+pub mod Programs
+-- an event of an actor that may happen
+pub mod Owns
 -- each event
 pub mod Kept
 -- each state is safe
@@ -30,10 +36,6 @@ pub mod Histories
 pub mod Descriptors
 -- what calls open and close
 pub mod Opens
--- an event of an actor that may happen
-pub mod Owns
--- what each program keeps to
-pub mod Programs
 -- injectors that were told their whole input
 pub mod Machines
 -- the life of an actor

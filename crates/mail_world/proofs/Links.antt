@@ -16,11 +16,11 @@ use Rattle.call_fs.proofs.Maps.{put_cases, put_same, put_other}
 use Rattle.mail_world.proofs.Texts.{IsFailure}
 use Rattle.mail_world.proofs.Tests.{off, same_text}
 use Rattle.mail_world.proofs.Looks.{Entry, entry, find_put, find_gone, find_none, found}
-use Rattle.mail_world.proofs.Invariant.{Queue, IsRight, NameSuits, About, about, IsFree, Phase, IsBegun, IsBare, Holds, AtLink, AtUnlink, AtLinkTodo, Basis, Sound}
+use Rattle.mail_world.proofs.Invariant.{Queue, IsRight, NameSuits, About, about, is_later_name, IsFree, Phase, IsBegun, IsBare, Holds, AtLink, AtUnlink, AtLinkTodo, Basis, Sound}
 use Rattle.mail_world.proofs.Invariant.Role.{AsMessage}
 use Rattle.mail_world.proofs.Invariant.Phase.{Free, Queued}
 use Rattle.mail_world.proofs.Frame.{Concerns}
-use Rattle.mail_world.proofs.Deeds.{named, begun_phase, named_other, Leads, named_outcome}
+use Rattle.mail_world.proofs.Deeds.{named, begun_phase, later_far, named_other, Leads, named_outcome}
 use Rattle.mail_world.proofs.Rows.{message_next}
 
 -- a number without a message is free
@@ -99,10 +99,13 @@ module _ (now : ℕ) (q : Queue) (a : List ℕ) (args : Arguments) (G : Sound q)
       let begins : IsBegun (about r n) a args n = record {
         file = h.file;
         mess = find_put q.disk.names q.disk.files x n ∙ ap Some (sym is);
+        unsorted = λ part later. other (Of part n) (later_far x part n refl later) ∙ F.unsorted part later;
         no_todo = other (Of Todo n) (λ s. cc) ∙ F.no_todo;
         lives = put_same q.books.living n _;
       } in
-      named_outcome now q a args G x (Some n) c n (at.UnlinkPid seq n (record { 0 = fd })) h.mine refl
+      named_outcome now q a args G x (Some n) c n (at.UnlinkPid seq n (record { 0 = fd })) h.mine
+      (λ k is. (pid, (found q.disk.names q.disk.files pid y h.pid).0 ∙ is))
+      refl
       (put_right x n c y ((refl, (a, args, h.mine)), (G.suits pid y h.pid).1) is)
       (λ k far. put_other q.books.living n _ k far)
       (λ i w t. still_injected q.books a args n i w)
@@ -126,15 +129,21 @@ module _ (now : ℕ) (q : Queue) (a : List ℕ) (args : Arguments) (G : Sound q)
   gone_row : (x : Name) (n : ℕ) (row : Row) → q.role n ≡ AsMessage a args → Concerns q x (Some n)
       → Phase (about (named q x None q.books) n) → Basis (named q x None q.books) a args row → To (named q x None q.books) row
   gone_row x n row mine concerns fine next =
-      named_outcome now q a args G x None q.books n row mine concerns
+      named_outcome now q a args G x None q.books n row mine (λ k is. absurd (cc)) concerns
       (λ z h. let w = find_gone q.disk.names q.disk.files x in absurd (cc)) (λ _ _. refl) (λ _ w _. w) G.over fine next
 
   -- another name went, and the injection goes on
-  abbrev begun_still : (x : Name) (n : ℕ) → Of Mess n ≢ x → Of Todo n ≢ x → IsBegun (about q n) a args n
+  abbrev begun_still : (x : Name) (n : ℕ) → is_later_name x ≡ false → Of Mess n ≢ x → Of Todo n ≢ x → IsBegun (about q n) a args n
       → IsBegun (about (named q x None q.books) n) a args n
-  begun_still x n mess todo b =
+  begun_still x n early mess todo b =
       let other = named_other q x None q.books in
-      record { file = b.file; mess = other (Of Mess n) mess ∙ b.mess; no_todo = other (Of Todo n) todo ∙ b.no_todo; lives = b.lives }
+      record {
+        file = b.file;
+        mess = other (Of Mess n) mess ∙ b.mess;
+        unsorted = λ part later. other (Of part n) (later_far x part n early later) ∙ b.unsorted part later;
+        no_todo = other (Of Todo n) todo ∙ b.no_todo;
+        lives = b.lives;
+      }
 
   pub unlink_row : (seq n fd : ℕ) → AtUnlink q a args seq n fd
       → To (named q (Pid args.pid args.start seq) None q.books) (in_message (message_text args) n fd 0)
@@ -142,7 +151,7 @@ module _ (now : ℕ) (q : Queue) (a : List ℕ) (args : Arguments) (G : Sound q)
       let x = Pid args.pid args.start seq in
       let r = named q x None q.books in
       let d = h.mess.holds.rest in
-      let begins = begun_still x n (λ s. cc) (λ s. cc) d.bare.begins in
+      let begins = begun_still x n refl (λ s. cc) (λ s. cc) d.bare.begins in
       let no_intd = named_other q x None q.books (Of Intd n) (λ s. cc) ∙ d.bare.no_intd in
       gone_row x n _ h.mess.holds.mine (λ y e. let w = h.pid in cc) (begun_phase r a args n begins)
       (message_next r a args n fd 0 (record {
@@ -155,7 +164,7 @@ module _ (now : ℕ) (q : Queue) (a : List ℕ) (args : Arguments) (G : Sound q)
   clean_intd_row n cause h bad =
       let x = Of Intd n in
       let r = named q x None q.books in
-      let begins = begun_still x n (λ s. cc) (λ s. cc) h.rest in
+      let begins = begun_still x n refl (λ s. cc) (λ s. cc) h.rest in
       gone_row x n _ h.mine refl (begun_phase r a args n begins)
       (record { mine = h.mine; rest = record { begins = begins; no_intd = find_gone q.disk.names q.disk.files x } }, bad)
 
@@ -168,6 +177,7 @@ module _ (now : ℕ) (q : Queue) (a : List ℕ) (args : Arguments) (G : Sound q)
       gone_row x n _ h.mine refl
       (Free (record {
         not_accepted = λ i lives t. let w = b.lives in let v : i.accepted ≡ false = cc in off (sym v ∙ t);
+        unsorted = λ part later. other (Of part n) (later_far x part n refl later) ∙ b.unsorted part later;
         no_todo = other (Of Todo n) (λ s. cc) ∙ b.no_todo;
         intd_below = λ _. other (Of Intd n) (λ s. cc) ∙ h.rest.no_intd;
       }))
@@ -182,12 +192,15 @@ module _ (now : ℕ) (q : Queue) (a : List ℕ) (args : Arguments) (G : Sound q)
       let y : Entry = record { number = h.number; file = w.file } in
       let is = (found q.disk.names q.disk.files (Of Intd n) y w.intd).1 in
       let lives : c.living n ≡ Some (taken a args n) = put_same q.books.living n _ ∙ ap (accept a) w.begins.lives ∙ accept_own a args n in
-      named_outcome now q a args G x (Some h.number) c n at.Queued h.holds.mine refl
+      named_outcome now q a args G x (Some h.number) c n at.Queued h.holds.mine
+      (λ k is. (Of Intd n, (found q.disk.names q.disk.files (Of Intd n) y w.intd).0 ∙ is))
+      refl
       (put_right x h.number c y (G.suits (Of Intd n) y w.intd) is)
       (λ k far. put_other q.books.living n _ k far)
       (λ i. still_accepted q.books a args n w.begins.lives i)
       G.over
       (Queued (record {
+        unsorted = λ part later. named_other q x (Some h.number) c (Of part n) (later_far x part n refl later) ∙ w.begins.unsorted part later;
         injection = taken a args n;
         lives = lives;
         accepted = refl;

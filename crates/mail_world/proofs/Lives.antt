@@ -1,10 +1,11 @@
 -- What kept events tell of who was started and who has ended, whatever history they tell.
-use Rattle.std.proofs.Common.{◌≡◌, ◌≢◌, ◌⊎◌, inl, inr, ℕ, ◌+◌, List, [], ◌∷◌, ◌++◌, length, Bool, true, false, ◌||◌, is_some, Option, Some, None, refl, sym, ap, ◌∙◌, subst, ⊎_elim, arith, bytes_eq, reverse}
+use Rattle.std.proofs.Common.{◌≡◌, ◌≢◌, ◌⊎◌, inl, inr, ℕ, ◌+◌, List, [], ◌∷◌, ◌++◌, length, true, false, ◌||◌, is_some, Option, Some, None, refl, sym, ap, ◌∙◌, subst, ⊎_elim, arith, bytes_eq, reverse}
 use Rattle.std.proofs.Math.Bool.{or-false, or-true}
 use Rattle.std.proofs.lemmas.Grind.{reverse_onto}
 use Rattle.std.proofs.lemmas.List.{reverse-reverse}
 use Rattle.std.proofs.lemmas.List.Sums.{sum_by-append}
 use Rattle.std.specs.Prelude.{count_by, if◌then◌else◌}
+use Rattle.std.specs.List.{sum_by}
 use Rattle.std.specs.List.{AllZip}
 use Rattle.std.specs.Option.{option_map}
 use Rattle.call_fs.specs.declared.past.Own.{Own}
@@ -14,8 +15,8 @@ use Rattle.call_fs.specs.Maps.{put_at}
 use Rattle.call_fs.proofs.Maps.{put_at_same, put_at_other}
 use Rattle.mail_world.specs.declared.event.Event.{Event as Kept}
 use Rattle.mail_world.specs.declared.event.Event.TheVariants as kept
-use Rattle.mail_world.specs.History.{Event, Actor, Life, State, Allowed, Legal, stopped, acted, finished, happens, after, is_start as starts_one}
-use Rattle.mail_world.specs.History.Event.{Start, Act, End, Stop, Moment, Halt}
+use Rattle.mail_world.specs.History.{Event, Actor, Life, State, Allowed, Legal, stopped, acted, finished, started_by, happens, after}
+use Rattle.mail_world.specs.History.Event.{Start, Act, Child, Generation, Report, End, Stop, Moment, Halt}
 use Rattle.mail_world.specs.History.Life.{Alive, Over, Stopped}
 use Rattle.mail_world.specs.World.{Tells, Span, span_after, span_of, EndsAt, starts, ends, was_started, is_start}
 use Rattle.mail_world.specs.World.Span.{Unborn, Lasting, OverAt}
@@ -70,6 +71,9 @@ happens_started s k (Start b program) a told =
 happens_started s k (Act b own w) a told =
     subst (λ (k : Kept). (is_some (s.actors a) || starts a k) ≡ is_some ((happens s (Act b own w)).actors a)) (sym told)
     (or-false (is_some (s.actors a)) ∙ sym (acted_there s b own w (s.actors b) a refl))
+happens_started s k (Child parent own b program) a told = absurd told
+happens_started s k (Generation sender clean lspawn rspawn) a told = absurd told
+happens_started s k (Report slot letter text) a told = absurd told
 happens_started s k (End b read ready status) a told =
     subst (λ (k : Kept). (is_some (s.actors a) || starts a k) ≡ is_some ((happens s (End b read ready status)).actors a)) (sym told)
     (or-false (is_some (s.actors a)) ∙ sym (finished_there s b (Over status) (s.actors b) a refl))
@@ -90,24 +94,30 @@ started_is d h events a told =
     events h told
 
 -- how many were started
-starts_alike : (k : Kept) (e : Event) → Tells k e → is_start k ≡ starts_one e
-starts_alike k (Start a program) told = ap is_start told
-starts_alike k (Act a own w) told = ap is_start told
-starts_alike k (End a read ready status) told = ap is_start told
-starts_alike k (Stop a) told = ap is_start told
-starts_alike k (Moment m) told = ap is_start told
-starts_alike k (Halt how contents) told = ap is_start told
+abbrev kept_starts : Kept → ℕ
+kept_starts k = if is_start k then 1 else 0
 
-one_more : (m n : ℕ) (b c : Bool) → m ≡ n → b ≡ c → m + (0 + (if b then 1 else 0)) ≡ (0 + (if c then 1 else 0)) + n
-one_more m n b c same alike = ap (λ (b : Bool). m + (0 + (if b then 1 else 0))) alike ∙ omega arith
+starts_alike : (k : Kept) (e : Event) → Tells k e → kept_starts k ≡ started_by e
+starts_alike k (Start a program) told = ap kept_starts told
+starts_alike k (Act a own w) told = ap kept_starts told
+starts_alike k (Child parent own a program) told = absurd told
+starts_alike k (Generation sender clean lspawn rspawn) told = absurd told
+starts_alike k (Report slot letter text) told = absurd told
+starts_alike k (End a read ready status) told = ap kept_starts told
+starts_alike k (Stop a) told = ap kept_starts told
+starts_alike k (Moment m) told = ap kept_starts told
+starts_alike k (Halt how contents) told = ap kept_starts told
 
-pub starts_is : (h : List Event) (events : List Kept) → AllZip Tells (reverse events) h → count_by is_start events ≡ count_by starts_one h
+one_more : (m n b c : ℕ) → m ≡ n → b ≡ c → m + (0 + b) ≡ (0 + c) + n
+one_more m n b c same alike = omega (arith, same, alike)
+
+pub starts_is : (h : List Event) (events : List Kept) → AllZip Tells (reverse events) h → count_by is_start events ≡ sum_by started_by h
 starts_is h events told =
-    along (λ events h. count_by is_start events ≡ count_by starts_one h) refl
+    along (λ events h. count_by is_start events ≡ sum_by started_by h) refl
     (λ events h k e one was.
-    sum_by-append (λ k. if is_start k then 1 else 0) events (k ∷ [])
-    ∙ one_more (count_by is_start events) (count_by starts_one h) (is_start k) (starts_one e) was (starts_alike k e one)
-    ∙ sym (sum_by-append (λ e. if starts_one e then 1 else 0) (e ∷ []) h))
+    sum_by-append kept_starts events (k ∷ [])
+    ∙ one_more (count_by is_start events) (sum_by started_by h) (kept_starts k) (started_by e) was (starts_alike k e one)
+    ∙ sym (sum_by-append started_by (e ∷ []) h))
     events h told
 
 -- who has ended
@@ -173,6 +183,9 @@ happens_suits s n k (Act b own w) a span told allowed was =
     (subst (λ (o : Option Actor). Suits (span_after a one n span) ((acted s b own w o).actors a)) (sym is)
     (suits_put s.actors b _ a one n span (λ f. refl) (λ f. refl)
     (λ same. suits_still a one n span _ refl refl (same_suits span reads.0 _ refl (subst (Suits span) (ap s.actors same ∙ is) was))) was))
+happens_suits s n k (Child parent own b program) a span told allowed was = absurd told
+happens_suits s n k (Generation sender clean lspawn rspawn) a span told allowed was = absurd told
+happens_suits s n k (Report slot letter text) a span told allowed was = absurd told
 happens_suits s n k (End b read ready status) a span told allowed was =
     let one : Kept = kept.End b read ready status in
     let is = allowed.reads.is in

@@ -28,19 +28,22 @@ use Rattle.queue_inject.specs.Rows.{is_open, part_in}
 use Rattle.queue_inject.specs.Stands.{GoesOn, Stands, ContinuesBy, Continues, EndsBy, Ends}
 use Rattle.queue_inject.proofs.Kept.{asked_by, fed_inside}
 use Rattle.mail_world.specs.declared.event.Program.{Program}
-use Rattle.mail_world.specs.declared.event.Program.TheVariants.{Injector}
+use Rattle.mail_world.specs.declared.event.Program.TheVariants.{Injector, Cleaner}
 use Rattle.mail_world.specs.declared.mailer.Mailer.{Mailer}
 use Rattle.mail_world.specs.History.{next_of}
 use Rattle.mail_world.specs.World.{input_ready}
-use Rattle.mail_world.specs.ByKind.{IsInput, AreInputs, Mails}
+use Rattle.queue_clean.specs.Machine.{Machine as Cleaning}
+use Rattle.queue_clean.specs.Stands.{Stands as Cleaned}
+use Rattle.queue_clean.specs.Table.{Next as CleansNext}
+use Rattle.mail_world.specs.ByKind.{IsMail, IsInput, AreInputs, Mails, Cleans}
 use Rattle.mail_world.specs.Acting.{most_read, HasFew}
 use Rattle.queue_inject.proofs.Acts.{IsAct}
 use Rattle.mail_world.proofs.Programs.{program_acts}
 
 -- an injector that finds its input ready neither waits nor needs anything but a call
-pub calls_or_ends : (n : Need) (program : Program) (past : List Own) (now : ℕ) → due_of n ≡ next_of program past now input_ready
+pub calls_or_ends : (n : Need) (program : Program) → IsMail program → (past : List Own) (now : ℕ) → due_of n ≡ next_of program past now input_ready
     → ((c : Call) → n ≡ need.File c → ⊥) → ((status : ℕ) → n ≡ need.Ended status → ⊥) → ⊥
-calls_or_ends n program past now is no_call no_status = by_need n (subst IsAct (sym is) (program_acts program past now)) no_call no_status where
+calls_or_ends n program mail past now is no_call no_status = by_need n (subst IsAct (sym is) (program_acts program mail past now)) no_call no_status where
   by_need : (n : Need) → IsAct (due_of n) → ((c : Call) → n ≡ need.File c → ⊥) → ((status : ℕ) → n ≡ need.Ended status → ⊥) → ⊥
   by_need (need.File c) act no_file no_end = no_file c refl
   by_need (need.Take port) act no_file no_end = act
@@ -117,18 +120,34 @@ pub still_mails : (m : Mailer) (n : Machine) (program : Program) (past : List Ow
     → ((args : Arguments) → AreInputs args m.message m.envelope → Stands m.injector args past → Stands n args past)
     → Mails m program past → Mails (record m { injector = n }) program past
 still_mails m n (Injector args) past stands f = record { stands = stands args f.inputs f.stands; inputs = f.inputs }
+still_mails m n other past stands f = absurd f
 
 -- one that was told what came stands for the past with it as its newest event
 pub told_mails : (m : Mailer) (n : Machine) (program : Program) (past : List Own) (event : Own)
     → ((args : Arguments) → Stands m.injector args past → Stands n args (event ∷ past))
     → Mails m program past → Mails (record m { injector = n }) program (event ∷ past)
 told_mails m n (Injector args) past event stands f = record { stands = stands args f.stands; inputs = f.inputs }
+told_mails m n other past event stands f = absurd f
 
 -- what it needs is what is next
 pub mail_needs : (m : Mailer) (program : Program) (past : List Own) (due : NeedData) (now : ℕ) (ready : Ready)
     → ((args : Arguments) → Stands m.injector args past → due ≡ Next args past now ready)
     → Mails m program past → due ≡ next_of program past now ready
 mail_needs m (Injector args) past due now ready needs f = needs args f.stands
+mail_needs m other past due now ready needs f = absurd f
+
+-- Whole cleaners
+
+-- one that stands for each past for which that one stands, stands so for that program
+pub still_cleans : (m n : Cleaning) (program : Program) (past later : List Own) → ((args : Unit {0}) → Cleaned m args past → Cleaned n args later)
+    → Cleans m program past → Cleans n program later
+still_cleans m n (Cleaner start) past later stands f = stands tt f
+still_cleans m n other past later stands f = absurd f
+
+pub clean_needs : (m : Cleaning) (program : Program) (past : List Own) (due : NeedData) (now : ℕ) (ready : Ready)
+    → ((args : Unit {0}) → Cleaned m args past → due ≡ CleansNext args past now ready) → Cleans m program past → due ≡ next_of program past now ready
+clean_needs m (Cleaner start) past due now ready needs f = needs tt f
+clean_needs m other past due now ready needs f = absurd f
 
 -- The bytes of a read
 

@@ -1,31 +1,186 @@
 -- What each program of the world keeps to. A new program is one case of each of these.
-use Rattle.std.proofs.Common.{ℕ, List, refl}
+use Rattle.std.proofs.Common.{◌≡◌, ◌≢◌, ℕ, ◌+◌, ◌≤◌, List, [], ◌∷◌, Option, None, refl, sym, subst}
+use Rattle.call_fs.specs.declared.calls.CallData.{CallData}
+use Rattle.call_fs.specs.declared.calls.Answer.{Answer}
+use Rattle.call_fs.specs.declared.calls.Told.{Told}
 use Rattle.call_fs.specs.declared.program.Ready.{Ready}
+use Rattle.call_fs.specs.declared.past.ChildData.{ChildData}
+use Rattle.call_fs.specs.declared.past.NeedData.{NeedData}
+use Rattle.call_fs.specs.declared.past.NeedData.TheVariants as needs
 use Rattle.call_fs.specs.declared.past.Own.{Own}
+use Rattle.call_fs.specs.Apply.{effect, Fits}
 use Rattle.call_fs.specs.Past.{IsRunBy, UsesHeld, held}
+use Rattle.queue_inject.specs.declared.row.Row.TheVariants as at
+use Rattle.queue_inject.specs.Table.{row_after}
 use Rattle.queue_inject.proofs.Holds.{holds_what_it_uses}
-use Rattle.queue_inject.proofs.Acts.{IsAct, next_act}
+use Rattle.queue_inject.proofs.Acts.{IsAct, IsAlone, next_act, next_alone}
+use Rattle.queue_clean.specs.Asked.{IsAsked}
+use Rattle.queue_clean.specs.Asked.IsAsked.{Searches, Stats, Unlinks, Takes, Gives, Ends}
+use Rattle.queue_clean.proofs.Demands.{asks, needs_none}
 use Rattle.mail_world.specs.declared.event.Program.{Program}
-use Rattle.mail_world.specs.declared.event.Program.TheVariants.{Injector}
+use Rattle.mail_world.specs.declared.event.Program.TheVariants.{Injector, Cleaner}
 use Rattle.mail_world.specs.declared.any_machine.AnyMachine.{AnyMachine}
-use Rattle.mail_world.specs.declared.any_machine.AnyMachine.TheVariants.{Mail}
-use Rattle.mail_world.specs.History.{next_of}
-use Rattle.mail_world.specs.ByKind.{CanFind, IsSettled}
+use Rattle.mail_world.specs.declared.any_machine.AnyMachine.TheVariants.{Mail, Clean}
+use Rattle.mail_world.specs.Pipework.{Slot}
+use Rattle.mail_world.specs.History.{Life, State, InputIsFound, FindsInputAlone, MayFind, MayRun, next_of, latest, own_call, booked_by, held_by, cut_off}
+use Rattle.mail_world.specs.History.Life.{Alive, Over}
+use Rattle.mail_world.specs.Headline.{IsBooked, EndsWell}
+use Rattle.mail_world.specs.ByKind.{IsMail, CanFind, IsSettled}
 use Rattle.mail_world.specs.World.{input_ready}
+use Rattle.mail_world.proofs.Invariant.{Role, Queue, InjectorFares, Sound}
+use Rattle.mail_world.proofs.Frame.{Elsewhere, Outside, injector_frame}
+use Rattle.mail_world.proofs.Halts.{after_halt, injector_halt}
+use Rattle.mail_world.proofs.Owns.{IsPass}
+use Rattle.mail_world.proofs.Injectors.{injector_start, injector_later, injector_over, injector_done, injector_calls}
+
+-- What it asks for
+
+-- a cleaner starts none
+asks_no_start : {due : NeedData} → IsAsked due → (asked : ChildData) → due ≡ needs.Start asked → ⊥
+asks_no_start (Searches dir last) asked is = cc
+asks_no_start (Stats name) asked is = cc
+asks_no_start (Unlinks name) asked is = cc
+asks_no_start Takes asked is = cc
+asks_no_start (Gives bytes) asked is = cc
+asks_no_start (Ends status) asked is = cc
 
 -- a call that is due in a run uses only what the run holds open
 pub program_uses : (program : Program) (past : List Own) (now : ℕ) (ready : Ready) → IsRunBy (next_of program) past
     → UsesHeld (held past) (next_of program past now ready)
 program_uses (Injector args) past now ready run = holds_what_it_uses args past now ready run
+program_uses (Cleaner start) past now ready run = needs_none (held past) (asks tt past now ready)
 
 -- it may always be told that its input is ready
 pub machine_finds : (m : AnyMachine) → CanFind m input_ready
 machine_finds (Mail mailer) = tt
+machine_finds (Clean cleaner) = tt
 
 -- it takes no memory
 pub machine_settled : (m : AnyMachine) → IsSettled m
 machine_settled (Mail mailer) = tt
+machine_settled (Clean cleaner) = tt
 
--- one that finds its input ready never waits
-pub program_acts : (program : Program) (past : List Own) (now : ℕ) → IsAct (next_of program past now input_ready)
-program_acts (Injector args) past now = next_act args past now input_ready refl
+-- that of a mail is one that a history may start
+pub mail_runs : (program : Program) → IsMail program → MayRun program
+mail_runs (Injector args) mail = tt
+mail_runs other mail = absurd mail
+
+-- its input is ready, so that it never waits
+pub program_acts : (program : Program) → IsMail program → (past : List Own) (now : ℕ) → IsAct (next_of program past now input_ready)
+program_acts (Injector args) mail past now = next_act args past now input_ready refl
+program_acts other mail past now = absurd mail
+
+-- it starts no program
+pub program_starts_none : (program : Program) (past : List Own) (now : ℕ) (ready : Ready) (asked : ChildData) → next_of program past now ready ≡ needs.Start asked → ⊥
+program_starts_none (Injector args) past now ready asked is = subst IsAlone is (next_alone args past now ready)
+program_starts_none (Cleaner start) past now ready asked is = asks_no_start (asks tt past now ready) asked is
+
+-- one that is no child may find its input ready, which stands in its start
+pub program_finds : (s : State) (a : List ℕ) (program : Program) → IsMail program → (past : List Own) (ready : Ready) → s.pipework.slots a ≡ None → FindsInputAlone ready
+    → MayFind s a program past ready
+program_finds s a (Injector args) mail past ready none alone =
+    (alone, subst (λ (slot : Option Slot). InputIsFound s.pipework a slot past ready) (sym none) tt)
+program_finds s a other mail past ready none alone = absurd mail
+
+-- How it fares
+
+-- what holds of an actor; no history starts a cleaner yet
+abbrev pub FaresBy : ℕ → Queue → List ℕ → Program → List Own → Life → Type 0
+FaresBy now q a (Injector args) past life = InjectorFares now q a args past life
+FaresBy now q a (Cleaner start) past life = ⊥
+
+-- so it is one that a history may start
+pub fares_runs : (now : ℕ) (q : Queue) (a : List ℕ) (program : Program) (past : List Own) (life : Life) → FaresBy now q a program past life → MayRun program
+fares_runs now q a (Injector args) past life F = tt
+fares_runs now q a (Cleaner start) past life F = absurd F
+
+-- one that has just started
+pub fares_start : (now : ℕ) (q : Queue) (a : List ℕ) (program : Program) → MayRun program → FaresBy now q a program [] Alive
+fares_start now q a (Injector args) runs = injector_start now q a args
+fares_start now q a (Cleaner start) runs = absurd runs
+
+-- what asks for nothing that concerns another program passes nothing
+passes_none : (due : NeedData) → IsAlone due → IsPass due → ⊥
+passes_none (needs.File call) alone pass = pass
+passes_none (needs.Take port) alone pass = alone
+passes_none (needs.Give port bytes) alone pass = alone
+passes_none (needs.Start asked) alone pass = alone
+passes_none (needs.Command bytes) alone pass = alone
+passes_none needs.Wait alone pass = pass
+passes_none (needs.Ended status) alone pass = pass
+
+-- after a taking, a giving, a start or a command of its own
+pub fares_passes : (now : ℕ) (q : Queue) (a : List ℕ) (program : Program) (past : List Own) (life : Life) (own : Own) → FaresBy now q a program past life
+    → next_of program past own.read own.ready ≡ own.due → IsPass own.due → FaresBy now q a program (own ∷ past) life
+fares_passes now q a (Injector args) past life own F next pass = absurd (passes_none own.due (subst IsAlone next (next_alone args past own.read own.ready)) pass)
+fares_passes now q a (Cleaner start) past life own F next pass = absurd F
+
+-- after a step of another actor
+pub fares_frame : (now : ℕ) (a : List ℕ) (m : Option ℕ) (q r : Queue) → Elsewhere now a m q r
+    → (o : List ℕ) → o ≢ a → (program : Program) (past : List Own) (life : Life) → FaresBy now q o program past life → FaresBy now r o program past life
+fares_frame now a m q r E o other (Injector args) past life F = injector_frame now a m q r E o other args past life F
+fares_frame now a m q r E o other (Cleaner start) past life F = absurd F
+
+-- after a machine stop
+pub fares_halt : (now : ℕ) (q : Queue) (contents : ℕ → List ℕ) (a : List ℕ) (program : Program) (past : List Own) (life : Life)
+    → FaresBy now q a program past life → FaresBy now (after_halt contents q) a program past (cut_off life)
+fares_halt now q contents a (Injector args) past life F = injector_halt now q contents a args past life F
+fares_halt now q contents a (Cleaner start) past life F = absurd F
+
+-- at a later moment
+pub fares_later : (now m : ℕ) → now ≤ m → (q : Queue) (a : List ℕ) (program : Program) (past : List Own) (life : Life)
+    → FaresBy now q a program past life → FaresBy m q a program past life
+fares_later now m later q a (Injector args) past life F = injector_later now m later q a args past life F
+fares_later now m later q a (Cleaner start) past life F = absurd F
+
+-- a program that is at its end with 0
+abbrev pub IsDone : Program → List Own → Type 0
+IsDone (Injector args) past = row_after args past ≡ at.Queued
+IsDone (Cleaner start) past = Unit {0}
+
+pub fares_done : (now : ℕ) (q : Queue) (a : List ℕ) (program : Program) (past : List Own) (life : Life) (read : ℕ) (ready : Ready)
+    → FaresBy now q a program past life → life ≡ Alive → next_of program past read ready ≡ needs.Ended 0 → IsDone program past
+fares_done now q a (Injector args) past life read ready F alive next = injector_done now q a args past life read ready F alive next
+fares_done now q a (Cleaner start) past life read ready F alive next = tt
+
+-- after its end or its stop
+pub fares_over : (now : ℕ) (q r : Queue) → r.books ≡ q.books → (a : List ℕ) (program : Program) (past : List Own) (old life : Life)
+    → FaresBy now q a program past old → (life ≡ Alive → ⊥) → (life ≡ Over 0 → IsDone program past) → FaresBy now r a program past life
+fares_over now q r same a (Injector args) past old life F dead ends = injector_over now q r same a args past old life F dead ends
+fares_over now q r same a (Cleaner start) past old life F dead ends = absurd F
+
+-- what its past has put into the books, and what its end with 0 says
+pub fares_booked : (now : ℕ) (q : Queue) (a : List ℕ) (program : Program) (past : List Own) (life : Life) → FaresBy now q a program past life → IsBooked q.books a program past
+fares_booked now q a (Injector args) past life F = F.queued
+fares_booked now q a (Cleaner start) past life F = absurd F
+
+pub fares_well : (now : ℕ) (q : Queue) (a : List ℕ) (program : Program) (past : List Own) (life : Life) → FaresBy now q a program past life → life ≡ Over 0 → EndsWell q.books a program
+fares_well now q a (Injector args) past life F over = F.queued (F.ends over)
+fares_well now q a (Cleaner start) past life F over = absurd F
+
+-- the queue after a call of it
+abbrev pub queue_by : Queue → List ℕ → Program → (read : ℕ) → CallData → Answer → (wrote : ℕ) → (ℕ → Role) → Queue
+queue_by q a program read call answer wrote role = record {
+  disk = effect q.disk read call answer wrote;
+  holder = held_by q.holder a call answer;
+  books = booked_by q.books a program call answer;
+  role = role;
+}
+
+-- what a call of it leads to
+pub record Calls (now : ℕ) (q : Queue) (a : List ℕ) (program : Program) (past : List Own) (life : Life) (read : ℕ) (ready : Ready) (call : CallData) (told : Told) (wrote : ℕ) : Type 0 where
+  pub role : ℕ → Role
+  pub number : Option ℕ
+  pub elsewhere : Elsewhere now a number q (queue_by q a program read call told.answer wrote role)
+  pub sound : Sound (queue_by q a program read call told.answer wrote role)
+  pub fares : FaresBy now (queue_by q a program read call told.answer wrote role) a program (own_call read ready call told ∷ past) life
+  pub outside : Outside q.disk (queue_by q a program read call told.answer wrote role).disk
+
+pub fares_calls : (now : ℕ) (q : Queue) (a : List ℕ) (program : Program) (past : List Own) (life : Life) (read : ℕ) (ready : Ready) (call : CallData) (told : Told) (wrote : ℕ)
+    → Sound q → FaresBy now q a program past life → life ≡ Alive → latest program past ≤ read → now ≤ read + 43200
+    → next_of program past read ready ≡ needs.File call → Fits q.disk call told.answer wrote
+    → Calls now q a program past life read ready call told wrote
+fares_calls now q a (Injector args) past life read ready call told wrote G F alive no_earlier no_stall next fits =
+    let w = injector_calls now q a args past life read ready call told wrote G F alive no_earlier no_stall next fits in
+    record { role = w.role; number = w.number; elsewhere = w.elsewhere; sound = w.sound; fares = w.fares; outside = w.outside }
+fares_calls now q a (Cleaner start) past life read ready call told wrote G F alive no_earlier no_stall next fits = absurd F

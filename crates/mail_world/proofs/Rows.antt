@@ -16,7 +16,7 @@ use Rattle.mail_world.proofs.Texts.{not_zero, message_fails, intd_fails, piece_c
 use Rattle.mail_world.proofs.Looks.{Entry, find_far, find_absent, find_near, found}
 use Rattle.mail_world.proofs.Invariant.{Queue, look, IsRecent, about, Phase, IsBegun, IsBare, IsWhole, HasIntd, Holds, AtMess, AtTodo, Basis, Sound}
 use Rattle.mail_world.proofs.Invariant.Role.{AsMessage, AsPart}
-use Rattle.mail_world.proofs.Deeds.{made, written, begun_phase, made_for, made_same, made_other, own_apart, Leads, made_outcome, written_outcome}
+use Rattle.mail_world.proofs.Deeds.{made, written, begun_phase, later_far, made_for, made_same, made_other, own_apart, Leads, made_outcome, written_outcome}
 
 -- a synced file holds what it held, on the disk
 synced_with : (f : File) (bytes : List ℕ) → f.bytes ≡ bytes → IsSynced (synced f) bytes
@@ -102,6 +102,7 @@ module _ (now : ℕ) (q : Queue) (a : List ℕ) (args : Arguments) (G : Sound q)
       let begins : IsBegun (about r n) a args n = record {
         file = b.file;
         mess = other (Of Mess n) (λ s. cc) ∙ b.mess;
+        unsorted = λ part later. other (Of part n) (later_far x part n refl later) ∙ b.unsorted part later;
         no_todo = other (Of Todo n) (λ s. cc) ∙ b.no_todo;
         lives = b.lives;
       } in
@@ -137,6 +138,7 @@ module _ (now : ℕ) (q : Queue) (a : List ℕ) (args : Arguments) (G : Sound q)
         begins = record {
           file = f;
           mess = find_near q.disk.names q.disk.files (Of Mess n) _ f b.mess;
+          unsorted = λ part later. find_absent q.disk.names q.disk.files (Of part n) n f (b.unsorted part later);
           no_todo = find_absent q.disk.names q.disk.files (Of Todo n) n f b.no_todo;
           lives = b.lives;
         };
@@ -146,7 +148,7 @@ module _ (now : ℕ) (q : Queue) (a : List ℕ) (args : Arguments) (G : Sound q)
   mess_row : (n : ℕ) (f : File) (row : Row) → q.role n ≡ AsMessage a args → IsBare (about q n) a args n → args.start ≤ f.moment
       → Basis (written q n f) a args row → To (written q n f) row
   mess_row n f row mine bare late next =
-      written_outcome now q a args G n f n row mine (ap (made_for n) mine) (subst (IsRecent f) (sym mine) late) (bare_written n f bare).begins next
+      written_outcome now q a args G (Of Mess n) n f n row (found q.disk.names q.disk.files (Of Mess n) _ bare.begins.mess).0 mine (ap (made_for n) mine) (subst (IsRecent f) (sym mine) late) (bare_written n f bare).begins next
 
   draft_bytes : (n fd : ℕ) (bytes : List ℕ) → AtMess q a args n fd bytes → (q.disk.files n).bytes ≡ bytes
   draft_bytes n fd bytes h = let d = h.holds.rest in ap (λ (f : File). f.bytes) (sym (file_is (Of Mess n) n _ d.bare.begins.mess)) ∙ d.holds
@@ -210,6 +212,7 @@ module _ (now : ℕ) (q : Queue) (a : List ℕ) (args : Arguments) (G : Sound q)
         begins = record {
           file = b.file;
           mess = find_far q.disk.names q.disk.files (Of Mess n) i f (λ y e s. far (cc (b.mess, e, s))) ∙ b.mess;
+          unsorted = λ part later. find_absent q.disk.names q.disk.files (Of part n) i f (b.unsorted part later);
           no_todo = find_absent q.disk.names q.disk.files (Of Todo n) i f b.no_todo;
           lives = b.lives;
         };
@@ -223,7 +226,7 @@ module _ (now : ℕ) (q : Queue) (a : List ℕ) (args : Arguments) (G : Sound q)
       → Basis (written q i f) a args row → To (written q i f) row
   todo_row n i f row P h next =
       let role = (G.suits (Of Intd n) _ h.rest.intd).0 in
-      written_outcome now q a args G i f n row h.mine (ap (made_for i) role) (subst (IsRecent f) (sym role) tt)
+      written_outcome now q a args G (Of Intd n) i f n row (found q.disk.names q.disk.files (Of Intd n) _ h.rest.intd).0 h.mine (ap (made_for i) role) (subst (IsRecent f) (sym role) tt)
       (intd_written n i f P (λ _. Unit {0}) h.mine h.rest tt).begins next
 
   todo_bytes : (n fd : ℕ) (bytes : List ℕ) (h : AtTodo q a args n fd bytes) → (q.disk.files h.number).bytes ≡ bytes

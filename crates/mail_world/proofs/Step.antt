@@ -26,7 +26,7 @@ use Rattle.mail_world.proofs.Tests.{same_text}
 use Rattle.mail_world.proofs.Texts.{IsFailure, fails, not_zero, if_either}
 use Rattle.mail_world.proofs.Looks.{Entry, find_none, found}
 use Rattle.mail_world.proofs.Invariant.{Role, Queue, look, About, about, HasIntd, IsOpen, IsBegun, IsBare, IsWhole, Holds, AtLink, AtMess, AtUnlink, AtTodo, AtLinkTodo, Basis, Sound}
-use Rattle.mail_world.proofs.Frame.{Elsewhere}
+use Rattle.mail_world.proofs.Frame.{Elsewhere, outside_same}
 use Rattle.mail_world.proofs.Deeds.{Outcome, named, written}
 use Rattle.mail_world.proofs.Rows.{create_row, intd_row, append_mess_row, cut_mess_row, sync_mess_row, append_todo_row, cut_todo_row, sync_todo_row}
 use Rattle.mail_world.proofs.Links.{accepting, link_row, unlink_row, clean_intd_row, clean_mess_row, link_todo_row}
@@ -58,6 +58,7 @@ stays now q a args row G next = record {
   suits = G.suits;
   fine = λ n h. absurd (cc);
   over = G.over;
+  outside = outside_same q.disk q.disk.opens;
   next = next;
 }
 

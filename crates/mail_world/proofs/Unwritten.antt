@@ -32,13 +32,13 @@ called_same : (s : State) (a : List ℕ) (read : ℕ) (ready : Ready) (c : CallD
 called_same s a read ready c got w v None same = refl
 called_same s a read ready c got w v (Some x) same =
     let t = called s a read ready c got w (Some x) in
-    ap (λ (d : Disk). record { disk = d; holder = t.holder; now = t.now; actors = t.actors; books = t.books }) same
+    ap (λ (d : Disk). record { disk = d; holder = t.holder; now = t.now; actors = t.actors; books = t.books; pipework = t.pipework }) same
 
 -- so the event may be read as one that wrote nothing
 pub call_wrote_nothing : (s : State) (a : List ℕ) (read : ℕ) (ready : Ready) (c : CallData) (got : Told) (w : ℕ) → got.answer ≢ Refused Fault → Allowed s (call_act a read ready c got w)
     → Allowed s (call_act a read ready c got 0) × (happens s (call_act a read ready c got w) ≡ happens s (call_act a read ready c got 0))
 call_wrote_nothing s a read ready c got w other allowed =
     let same = wrote_nothing s.disk c got.answer w other in (
-      record { actor = allowed.actor; reads = allowed.reads; due = allowed.due; fits = same.0 allowed.fits; bytes = allowed.bytes },
+      record { actor = allowed.actor; reads = allowed.reads; finds = allowed.finds; due = allowed.due; came = (same.0 allowed.came.0, allowed.came.1) },
       called_same s a read ready c got w 0 (s.actors a) (same.1 read),
     )

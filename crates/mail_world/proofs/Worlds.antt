@@ -28,7 +28,7 @@ use Rattle.mail_world.specs.History.Event.{Start, Moment, Halt}
 use Rattle.mail_world.specs.History.Life.{Over, Stopped}
 use Rattle.mail_world.specs.World.{next_pid, is_start, input_ready, IsStep, span_after, span_of, was_started, EndsAt}
 use Rattle.mail_world.specs.World.Span.{OverAt}
-use Rattle.mail_world.specs.ByKind.{Follows}
+use Rattle.mail_world.specs.ByKind.{IsMail, Follows}
 use Rattle.mail_world.specs.Inside.{known, span_by, IsMember, AreActors, IsOpenTo, IsLed, IsWorld}
 use Rattle.mail_world.specs.Acting.{MayAct, MayMake, AreOpen, AreCutOff, HasActed, IsFinished, call_event, open_after, shut}
 use Rattle.mail_world.proofs.Known.{known_push}
@@ -101,6 +101,7 @@ may_act told places actors s events p n i x w at =
       program = m.actor.program;
       past = past;
       follows = m.follows;
+      mail = m.mail;
       run = m.run;
       may = on_told told (λ d. IsOpenTo d actors s) (λ d. MayMake d due)
           (λ d o. may_make d (held past) due (owns_backs d s.holder x.name (held past) ((o.each i x at.is).owns m.actor m.is (m.alive at.lives))) (due_uses s events p x m)) w.opens;
@@ -121,7 +122,7 @@ look_keeps told places actors s events p n i x y w at name ended list follows = 
 }
 
 acting : (s : State) (p : ℕ) (x : Held) (events : List Kept) (m : IsMember s events p x) → x.ended ≡ None → IsActing s x.name p m.actor
-acting s p x events m lives = record { is = m.is; alive = m.alive lives; in_order = m.in_order }
+acting s p x events m lives = record { is = m.is; mail = m.mail; alive = m.alive lives; in_order = m.in_order }
 
 -- what is open after a call
 call_open : (d e : Disk) (places : List ℕ → Option ℕ) (actors : List Held) (s : State) (events : List Kept) (p i : ℕ) (x y : Held) (at : StandsAt places actors s events p i x) (c : CallData) (got : Told)
@@ -141,7 +142,7 @@ call_leads_on : (old new : Option Disk) (places : List ℕ → Option ℕ) (acto
     → Meets old new (λ d e. Apply d p c got.answer e × IsReadBy d c got)
     → LeadsOn old new events (events ++ call_event x.name p c got ∷ []) p p
 call_leads_on old new places actors events p i x c got at due made =
-    call_told old new events p x.name at.member.actor input_ready c got (acting (known events) p x events at.member at.lives) due made
+    call_told old new events p x.name at.member.actor input_ready c got (acting (known events) p x events at.member at.lives) (refl, refl) due made
 
 -- an actor made a call
 pub call_keeps : (old new : Option Disk) (places : List ℕ → Option ℕ) (actors : List Held) (events : List Kept) (p n i : ℕ) (x y : Held) (c : CallData) (got : Told)
@@ -189,7 +190,7 @@ end_leads_on : (old new : Option Disk) (places : List ℕ → Option ℕ) (actor
     → Meets old new (λ d e. e ≡ shut x.descriptors.items d)
     → LeadsOn old new events (events ++ kept.End x.name p input_ready status ∷ []) p p
 end_leads_on old new places actors events p n i x status w at due made =
-    end_told old new events p x.name at.member.actor input_ready status (acting (known events) p x events at.member at.lives) due
+    end_told old new events p x.name at.member.actor input_ready status (acting (known events) p x events at.member at.lives) (refl, refl) due
     (shut_is old new places actors (known events) events p n i x w at made)
 
 -- and with its stop
@@ -341,16 +342,16 @@ in_range told places actors s events p n a w i place =
     slice_get_within actors i named.0 named.1
 
 -- what led here goes on with a start
-pub start_leads_on : (told : Option Disk) (places : List ℕ → Option ℕ) (actors : List Held) (events : List Kept) (p n : ℕ) (a : List ℕ) (program : Program)
+pub start_leads_on : (told : Option Disk) (places : List ℕ → Option ℕ) (actors : List Held) (events : List Kept) (p n : ℕ) (a : List ℕ) (program : Program) → IsMail program
     → IsWorld told places actors (known events) events p n → places a ≡ None → LeadsOn told told events (events ++ kept.Start a program ∷ []) p p
-start_leads_on told places actors events p n a program w new = start_told told events p a program (w.kept.strangers a new).unknown
+start_leads_on told places actors events p n a program mail w new = start_told told events p a program mail (w.kept.strangers a new).unknown
 
 -- an actor started
-pub start_keeps : (told : Option Disk) (places next : List ℕ → Option ℕ) (actors : List Held) (events : List Kept) (p n q : ℕ) (y : Held) (a : List ℕ) (program : Program)
+pub start_keeps : (told : Option Disk) (places next : List ℕ → Option ℕ) (actors : List Held) (events : List Kept) (p n q : ℕ) (y : Held) (a : List ℕ) (program : Program) → IsMail program
     → IsWorld told places actors (known events) events p n → places a ≡ None → ((b : List ℕ) → next b ≡ put_at places a (Some (length actors)) b)
     → y.name ≡ a → y.ended ≡ None → y.descriptors.items ≡ [] → Follows y.machine program [] → start_of program ≡ p → q ≡ min (n + 1) (2 ^ 32 - 1)
     → IsWorld told next (actors ++ y ∷ []) (known (events ++ kept.Start a program ∷ [])) (events ++ kept.Start a program ∷ []) p q
-start_keeps told places next actors events p n q y a program w new put name ended list follows start pid =
+start_keeps told places next actors events p n q y a program mail w new put name ended list follows start pid =
     let s = known events in
     let k = kept.Start a program in
     let t = happens s (Start a program) in
@@ -360,10 +361,10 @@ start_keeps told places next actors events p n q y a program w new put name ende
       now = w.now;
       pid = omega (arith, pid_push events k);
       kept = crew_starts places actors s t events k p a y next w.kept new put name (start_alone s a program)
-          (start_member s events p y a program (w.kept.strangers a new) name ended follows start);
+          (start_member s events p y a program mail (w.kept.strangers a new) name ended follows start);
       opens = on_told told (λ d. IsOpenTo d actors s) (λ d. IsOpenTo d (actors ++ y ∷ []) t)
           (λ d o. start_opens places actors s events p y a program d w.kept new name list o) w.opens;
-      led = led_still told events (events ++ k ∷ []) p p (start_leads_on told places actors events p n a program w new) w.led;
+      led = led_still told events (events ++ k ∷ []) p p (start_leads_on told places actors events p n a program mail w new) w.led;
     })
 
 -- a world without actors

@@ -1,6 +1,7 @@
 -- One step of an actor: what it needs, and what it does to the disk, to the actor and to the history.
 use Rattle.std.specs.Prelude.{◌≡◌, ℕ, ◌≤◌, ◌==◌, List, [], ◌∷◌, ◌++◌, length, false, not, if◌then◌else◌, Option, Some, None, IsSome, IsSomeAnd}
 use Rattle.std.specs.List.{filter, slice_get}
+use Rattle.call_fs.specs.declared.file_system.TheConstants.{PIECE}
 use Rattle.call_fs.specs.declared.calls.Fd.{Fd}
 use Rattle.call_fs.specs.declared.calls.CallData.{CallData}
 use Rattle.call_fs.specs.declared.calls.CallData.TheVariants.{Close, ReadAt}
@@ -28,7 +29,7 @@ use Rattle.mail_world.specs.declared.error.WorldError.{WorldError}
 use Rattle.mail_world.specs.declared.error.WorldError.TheVariants as why
 use Rattle.mail_world.specs.History.{next_of}
 use Rattle.mail_world.specs.World.{input_ready, kept_call}
-use Rattle.mail_world.specs.ByKind.{Follows}
+use Rattle.mail_world.specs.ByKind.{IsMail, Follows}
 use Rattle.mail_world.specs.Inside.{has}
 
 -- the others of these
@@ -61,6 +62,7 @@ pub record MayAct (disk : Option Disk) (machine : AnyMachine) (now : ℕ) : Type
   pub program : Program
   pub past : List Own
   pub follows : Follows machine program past
+  pub mail : IsMail program
   pub run : IsRunBy (next_of program) past
   pub may : OnTold disk (λ d. MayMake d (next_of program past now input_ready))
 
@@ -91,7 +93,7 @@ most_read call = 0
 
 -- an answer counts no more bytes than this, and no more than a piece
 abbrev pub HasFew : ℕ → Answer → Type 0
-HasFew most (answer.Count count) = (count ≤ most) × (count ≤ 8192)
+HasFew most (answer.Count count) = (count ≤ most) × (count ≤ PIECE)
 HasFew most other = Unit {0}
 
 -- a call that came, as it is kept

@@ -11,11 +11,23 @@ use Rattle.queue_inject.specs.declared.injection.Part.{Part}
 use Rattle.queue_inject.specs.declared.injection.Part.TheVariants.{Message, Envelope}
 use Rattle.queue_inject.specs.Machine.{due_now}
 use Rattle.queue_inject.specs.Stands.{Stands}
+use Rattle.queue_clean.specs.Machine.{Machine as Cleaning, due_now as cleaning_due}
+use Rattle.queue_clean.specs.Stands.{Stands as CleansAfter}
 use Rattle.mail_world.specs.declared.event.Program.{Program}
-use Rattle.mail_world.specs.declared.event.Program.TheVariants.{Injector}
+use Rattle.mail_world.specs.declared.event.Program.TheVariants.{Injector, Cleaner}
 use Rattle.mail_world.specs.declared.mailer.Mailer.{Mailer}
 use Rattle.mail_world.specs.declared.any_machine.AnyMachine.{AnyMachine}
-use Rattle.mail_world.specs.declared.any_machine.AnyMachine.TheVariants.{Mail}
+use Rattle.mail_world.specs.declared.any_machine.AnyMachine.TheVariants.{Mail, Clean}
+
+-- what an injector is started with, and no other program
+abbrev pub injection_of : Program → Option Arguments
+injection_of (Injector args) = Some args
+injection_of other = None
+
+-- A program that a world runs so far. Its input is ready at any point, and it takes, gives and starts nothing.
+abbrev pub IsMail : Program → Type 0
+IsMail (Injector args) = Unit {0}
+IsMail other = ⊥
 
 -- The injector of a mail, which is fed its input
 
@@ -40,40 +52,56 @@ pub record Injects (mailer : Mailer) (args : Arguments) (past : List Own) : Type
 -- an injector with its input is that of this program with this past
 abbrev pub Mails : Mailer → Program → List Own → Type 0
 Mails mailer (Injector args) past = Injects mailer args past
+Mails mailer other past = ⊥
+
+-- The cleaner
+
+-- a cleaner is that of this program with this past
+abbrev pub Cleans : Cleaning → Program → List Own → Type 0
+Cleans cleaner (Cleaner start) past = CleansAfter cleaner tt past
+Cleans cleaner other past = ⊥
 
 -- Any machine
 
 -- the moment that it was told last
 abbrev pub present_of : AnyMachine → ℕ
 present_of (Mail mailer) = mailer.injector.present
+present_of (Clean cleaner) = cleaner.present
 
 -- what it was told last to be ready
 abbrev pub found_of : AnyMachine → Ready
 found_of (Mail mailer) = mailer.injector.ready
+found_of (Clean cleaner) = cleaner.ready
 
 -- it was told them since its last event
 abbrev pub looked_of : AnyMachine → Bool
 looked_of (Mail mailer) = true
+looked_of (Clean cleaner) = true
 
 -- it may be told that this is ready
 abbrev pub CanFind : AnyMachine → Ready → Type 0
 CanFind (Mail mailer) ready = Unit {0}
+CanFind (Clean cleaner) ready = Unit {0}
 
 -- what it does next
 abbrev pub need_of : AnyMachine → NeedData
 need_of (Mail mailer) = due_now mailer.injector
+need_of (Clean cleaner) = cleaning_due cleaner
 
 -- how many bytes it may be handed of one taking
 abbrev pub takes_of : AnyMachine → ℕ
 takes_of (Mail mailer) = 0
+takes_of (Clean cleaner) = 8192
 
 -- it takes no memory any more
 abbrev pub IsSettled : AnyMachine → Type 0
 IsSettled (Mail mailer) = Unit {0}
+IsSettled (Clean cleaner) = Unit {0}
 
 -- it stands for this program and this past
 abbrev pub Follows : AnyMachine → Program → List Own → Type 0
 Follows (Mail mailer) program past = Mails mailer program past
+Follows (Clean cleaner) program past = Cleans cleaner program past
 
 -- what is due and what came of it as the newest event of a past
 abbrev pub with_own : AnyMachine → GotData → List Own → List Own

@@ -1,38 +1,55 @@
 -- Histories: what happens, the state after it, and which histories are legal. A history is the list of its events,
 -- the newest first, so that what is left of it is a history too.
-use Rattle.std.specs.Prelude.{◌≡◌, ℕ, ◌+◌, ◌≤◌, List, [], ◌∷◌, ◌++◌, Bool, true, false, Option, Some, None, option_map, option_to_list, if◌then◌else◌, bytes_eq, Contains}
+use Rattle.std.specs.Prelude.{◌≡◌, ◌≢◌, ◌⊎◌, ℕ, ◌+◌, ◌≤◌, List, [], ◌∷◌, ◌++◌, length, Bool, true, false, Option, Some, None, option_map, option_to_list, if◌then◌else◌, bytes_eq, codes, Contains}
 use Rattle.call_fs.specs.declared.calls.CallData.{CallData}
-use Rattle.call_fs.specs.declared.calls.CallData.TheVariants.{Close, Link}
+use Rattle.call_fs.specs.declared.calls.CallData.TheVariants.{Append, Close, Link}
 use Rattle.call_fs.specs.declared.calls.Answer.{Answer}
 use Rattle.call_fs.specs.declared.calls.Answer.TheVariants.{Created, Opened, Done}
 use Rattle.call_fs.specs.declared.calls.Told.{Told}
+use Rattle.call_fs.specs.declared.program.Port.TheVariants as port
 use Rattle.call_fs.specs.declared.program.Ready.{Ready}
 use Rattle.call_fs.specs.declared.crash_file_system.Survival.{Survival}
 use Rattle.call_fs.specs.Maps.{put, put_at}
 use Rattle.call_fs.specs.Disk.{Disk, IsSynced}
 use Rattle.mail_bytes.specs.Moments.{IsMoment}
+use Rattle.mail_bytes.specs.Netstring.{head}
 use Rattle.call_fs.specs.Apply.{effect, Fits, IsReadBy}
 use Rattle.call_fs.specs.Survival.{AllSurvive, halted}
+use Rattle.call_fs.specs.declared.past.ChildData.{ChildData}
+use Rattle.call_fs.specs.declared.past.ChildData.TheVariants as child
 use Rattle.call_fs.specs.declared.past.GotData.{GotData}
-use Rattle.call_fs.specs.declared.past.GotData.TheVariants.{Answered}
+use Rattle.call_fs.specs.declared.past.GotData.TheVariants.{Answered, Ended, Crashed, Gave, Started, Failed, Memory}
 use Rattle.call_fs.specs.declared.past.NeedData.{NeedData}
 use Rattle.call_fs.specs.declared.past.NeedData.TheVariants as needs
 use Rattle.call_fs.specs.declared.past.Own.{Own}
+use Rattle.call_fs.specs.Past.{HasCall}
+use Rattle.call_fs.specs.Program.{IsKind}
+use Rattle.received_line.specs.declared.line.Invoked.TheVariants as invoking
 use Rattle.queue_inject.specs.declared.injection.Arguments.{Arguments}
+use Rattle.queue_limits.specs.declared.times.TheConstants.{LONGEST_STALL}
+use Rattle.queue_inject.specs.declared.injection.InputEnd.TheVariants.{Whole}
 use Rattle.queue_paths.specs.Dirs.{queue_dirs}
 use Rattle.queue_paths.specs.Names.{Name, Part, path, parse}
 use Rattle.queue_paths.specs.Names.Name.{Of}
 use Rattle.queue_paths.specs.Names.Part.{Mess, Intd, Todo}
-use Rattle.queue_inject.specs.Table.{Next}
+use Rattle.queue_inject.specs.Table.{Next, has_input}
+use Rattle.queue_clean.specs.Table.{Next as CleansNext}
 use Rattle.mail_world.specs.declared.event.Program.{Program}
-use Rattle.mail_world.specs.declared.event.Program.TheVariants.{Injector}
+use Rattle.mail_world.specs.declared.event.Program.TheVariants.{Injector, Cleaner}
+use Rattle.mail_world.specs.MailNames.{members}
+use Rattle.mail_world.specs.Pipework.{Pipework, Tenant, Slot, is_ready, Yields, no_pipework, slot_of, pipework_after, with_child, without_writer, with_generation, with_report}
+use Rattle.mail_world.specs.Pipework.Tenant.{Runs, Remote}
 
--- One event. `own` is an event of the actor's own past; `wrote` is how many bytes a failed write had written, which no
--- program is told. `contents` is what a
--- machine stop left of each file; `how` is what it was called, and limits nothing.
+-- One event. `own` is an event of the actor's own past, and the start of a child is its parent's too. `wrote` is how many
+-- bytes a failed write had written, or a failed giving had given, which no program is told. A generation is its four
+-- members, which start together. A report is what the remote program in a slot ended with. `contents` is what a machine
+-- stop left of each file; `how` is what it was called, and limits nothing.
 pub data Event : Type 0 where
   Start : (actor : List ℕ) (program : Program) → Event
   Act : (actor : List ℕ) (own : Own) (wrote : ℕ) → Event
+  Child : (parent : List ℕ) (own : Own) (actor : List ℕ) (program : Program) → Event
+  Generation : (sender clean lspawn rspawn : Program) → Event
+  Report : (slot letter : ℕ) (text : List ℕ) → Event
   End : (actor : List ℕ) (read : ℕ) (ready : Ready) (status : ℕ) → Event
   Stop : (actor : List ℕ) → Event
   Moment : ℕ → Event
@@ -46,22 +63,32 @@ own_call read ready call told = record { read = read; ready = ready; due = needs
 abbrev pub call_act : List ℕ → ℕ → Ready → CallData → Told → ℕ → Event
 call_act a read ready call told wrote = Act a (own_call read ready call told) wrote
 
--- any start
-abbrev pub is_start : Event → Bool
-is_start (Start a program) = true
-is_start (Act a own wrote) = false
-is_start (End a read ready status) = false
-is_start (Stop a) = false
-is_start (Moment m) = false
-is_start (Halt how contents) = false
+-- an actor's event started a program
+abbrev pub starts_program : NeedData → GotData → Bool
+starts_program (needs.Start asked) (Started pid) = true
+starts_program due came = false
+
+-- how many programs an event starts: each takes a process number, a remote program too
+abbrev pub started_by : Event → ℕ
+started_by (Start a program) = 1
+started_by (Act a own wrote) = if starts_program own.due own.came then 1 else 0
+started_by (Child parent own a program) = 1
+started_by (Generation sender clean lspawn rspawn) = 4
+started_by (Report slot letter text) = 0
+started_by (End a read ready status) = 0
+started_by (Stop a) = 0
+started_by (Moment m) = 0
+started_by (Halt how contents) = 0
 
 -- what a program must do next: after this past, newest event first, at this moment, with this ready
 abbrev pub next_of : Program → List Own → ℕ → Ready → NeedData
 next_of (Injector args) past now ready = Next args past now ready
+next_of (Cleaner start) past now ready = CleansNext tt past now ready
 
 -- the moment at which a program was started
 abbrev pub start_of : Program → ℕ
 start_of (Injector args) = args.start
+start_of (Cleaner start) = start
 
 -- alive, ended with a status, or stopped from outside
 pub data Life : Type 0 where
@@ -89,13 +116,19 @@ pub record Books : Type 0 where
   pub living : ℕ → Option Injection
   pub over : List Injection
 
--- The state after a history: the disk, who holds each open descriptor, the present moment, the actors and the books.
+-- an actor that has just started
+abbrev pub newborn : Program → Actor
+newborn program = record { program = program; past = []; life = Alive }
+
+-- The state after a history: the disk, who holds each open descriptor, the present moment, the actors, the books, and the
+-- pipes and slots between actors.
 pub record State : Type 0 where
   pub disk : Disk
   pub holder : ℕ → Option (List ℕ)
   pub now : ℕ
   pub actors : List ℕ → Option Actor
   pub books : Books
+  pub pipework : Pipework
 
 abbrev pub begun : List ℕ → Arguments → ℕ → Injection
 begun a args n = record { number = n; actor = a; args = args; accepted = false }
@@ -122,6 +155,7 @@ booked b a args call answer = b
 -- what they say after a call, by the program that made it
 abbrev pub booked_by : Books → List ℕ → Program → CallData → Answer → Books
 booked_by b a (Injector args) call answer = booked b a args call answer
+booked_by b a (Cleaner start) call answer = b
 
 -- who holds each descriptor after a call
 abbrev pub held_by : (ℕ → Option (List ℕ)) → List ℕ → CallData → Answer → ℕ → Option (List ℕ)
@@ -153,6 +187,7 @@ acted s a own wrote (Some x) = record {
   now = s.now;
   actors = put_at s.actors a (Some (record { program = x.program; past = own ∷ x.past; life = x.life }));
   books = books_after s.books a x.program own.due own.came;
+  pipework = pipework_after s.pipework a own.due own.came wrote;
 }
 
 -- so after a file call
@@ -177,6 +212,7 @@ finished s a life (Some x) = record {
   now = s.now;
   actors = put_at s.actors a (Some (record { program = x.program; past = x.past; life = life }));
   books = s.books;
+  pipework = without_writer s.pipework a;
 }
 
 abbrev pub cut_off : Life → Life
@@ -187,25 +223,57 @@ cut_off Stopped = Stopped
 abbrev pub stopped : Actor → Actor
 stopped x = record { program = x.program; past = x.past; life = cut_off x.life }
 
--- the state after one event more
-abbrev pub happens : State → Event → State
-happens s (Start a program) = record {
+-- an actor has started
+abbrev pub begins : State → List ℕ → Program → Pipework → State
+begins s a program pipework = record {
   disk = s.disk;
   holder = s.holder;
   now = s.now;
-  actors = put_at s.actors a (Some (record { program = program; past = []; life = Alive }));
+  actors = put_at s.actors a (Some (newborn program));
   books = s.books;
+  pipework = pipework;
 }
+
+-- the slot in which a child starts
+abbrev pub slot_by : NeedData → ℕ
+slot_by (needs.Start asked) = slot_of asked
+slot_by due = 0
+
+-- the state after the start of a child, which was its parent's event
+abbrev pub bears : State → List ℕ → Own → List ℕ → Program → State
+bears s parent own a program = begins s a program (with_child s.pipework parent (slot_by own.due) a)
+
+-- the output of a remote program that its report stands for
+abbrev pub report_text : ℕ → List ℕ → List ℕ
+report_text letter text = codes "r" ++ (0 ∷ letter ∷ text ++ (0 ∷ []))
+
+-- the state after one event more
+abbrev pub happens : State → Event → State
+happens s (Start a program) = begins s a program s.pipework
 happens s (Act a own wrote) = acted s a own wrote (s.actors a)
+happens s (Child parent own a program) = bears (acted s parent own 0 (s.actors parent)) parent own a program
+happens s (Generation sender clean lspawn rspawn) =
+    let pipework = with_generation s.pipework in
+    begins (begins (begins (begins s (codes "sender") sender pipework) (codes "clean") clean pipework) (codes "lspawn") lspawn pipework)
+    (codes "rspawn") rspawn pipework
+happens s (Report slot letter text) = record {
+  disk = s.disk;
+  holder = s.holder;
+  now = s.now;
+  actors = s.actors;
+  books = s.books;
+  pipework = with_report s.pipework slot (report_text letter text);
+}
 happens s (End a read ready status) = finished s a (Over status) (s.actors a)
 happens s (Stop a) = finished s a Stopped (s.actors a)
-happens s (Moment m) = record { disk = s.disk; holder = s.holder; now = m; actors = s.actors; books = s.books }
+happens s (Moment m) = record { disk = s.disk; holder = s.holder; now = m; actors = s.actors; books = s.books; pipework = s.pipework }
 happens s (Halt how contents) = record {
   disk = halted contents s.disk;
   holder = λ _. None;
   now = s.now;
   actors = λ a. option_map stopped (s.actors a);
   books = s.books;
+  pipework = no_pipework;
 }
 
 -- the last moment that an actor read
@@ -220,45 +288,163 @@ pub record MayRead (s : State) (a : List ℕ) (x : Actor) (read : ℕ) : Type 0 
   pub alive : x.life ≡ Alive
   pub no_earlier : latest x.program x.past ≤ read
   pub no_later : read ≤ s.now
-  pub no_stall : s.now ≤ read + 43200
+  pub no_stall : s.now ≤ read + LONGEST_STALL
+
+-- A program that a history may start so far: no cleaner, since its sender is still to come.
+abbrev pub MayRun : Program → Type 0
+MayRun (Injector args) = Unit {0}
+MayRun (Cleaner start) = ⊥
 
 -- a start takes a name that no actor had
 pub record MayStart (s : State) (a : List ℕ) (program : Program) : Type 0 where
   pub new : s.actors a ≡ None
+  pub runs : MayRun program
 
--- a call that is next by the actor's table, with an answer that the disk may give, and the bytes of a read
-pub record MayCall (s : State) (a : List ℕ) (read : ℕ) (ready : Ready) (call : CallData) (told : Told) (wrote : ℕ) : Type 0 where
+-- a call is an append
+abbrev pub IsAppend : CallData → Answer → Type 0
+IsAppend (Append fd bytes) answer = Unit {0}
+IsAppend call answer = ⊥
+
+-- An injector may find its input ready: a mail's, which stands in its start, at any point; a child's before its first
+-- append, and where it was given or its writer is gone.
+abbrev pub InputIsFound : Pipework → List ℕ → Option Slot → List Own → Ready → Type 0
+InputIsFound pipework a None past ready = Unit {0}
+InputIsFound pipework a (Some slot) past ready =
+    (HasCall past IsAppend → ⊥) ⊎ (has_input ready ≡ true → is_ready (pipework.pipes a port.Input) ≡ true)
+
+-- nothing but its input is ready to an actor that has no other pipe, and no program in a slot
+abbrev pub FindsInputAlone : Ready → Type 0
+FindsInputAlone ready = (ready.links ≡ has_input ready ∷ false ∷ false ∷ false ∷ []) × (ready.child ≡ None)
+
+-- What an actor found ready is no more than what lies in its pipes, and may be less. The input of a cleaner may be found
+-- ready at any point.
+abbrev pub MayFind : State → List ℕ → Program → List Own → Ready → Type 0
+MayFind s a (Injector args) past ready = FindsInputAlone ready × InputIsFound s.pipework a (s.pipework.slots a) past ready
+MayFind s a (Cleaner start) past ready = FindsInputAlone ready
+
+-- a status of a program that has ended, or was stopped
+abbrev pub IsStatusOf : Life → GotData → Type 0
+IsStatusOf Alive came = ⊥
+IsStatusOf (Over status) came = came ≡ Ended status
+IsStatusOf Stopped came = came ≡ Crashed
+
+-- what may come of taking the status of the program in a slot
+abbrev pub TenantEnds : State → Option Tenant → GotData → Type 0
+TenantEnds s (Some (Runs a)) came = (x : Actor) × (s.actors a ≡ Some x) × IsStatusOf x.life came
+TenantEnds s (Some (Remote true)) came = came ≡ Ended 0
+TenantEnds s other came = ⊥
+
+-- a text as a netstring: its length, `:`, the text and `,`
+abbrev pub netstring : List ℕ → List ℕ
+netstring text = head (length text) ++ (text ++ 44 ∷ [])
+
+-- these bytes are the whole input of a child: of an injector its message and its envelope, each as a netstring
+abbrev pub IsInputOf : Program → List ℕ → Type 0
+IsInputOf (Injector args) bytes =
+    (bytes ≡ netstring args.message ++ netstring args.envelope) × (args.message_end ≡ Whole) × (args.envelope_end ≡ Whole)
+IsInputOf (Cleaner start) bytes = ⊥
+
+-- What is given to a child is the input that stands in its start. A remote program takes what it is given.
+abbrev pub IsFed : State → Option Tenant → List ℕ → Type 0
+IsFed s (Some (Runs a)) bytes = (x : Actor) → s.actors a ≡ Some x → IsInputOf x.program bytes
+IsFed s other bytes = Unit {0}
+
+-- What may come of what was due: of a file call an answer that the disk may give, with the bytes of a read; of a taking
+-- what lies in the pipe; of a giving that it was given, or a failure after some of the bytes; of a start that was no child's
+-- a remote program's, or a failure. A child's start is an event of its own.
+abbrev pub ComesOf : State → List ℕ → NeedData → GotData → ℕ → Type 0
+ComesOf s a (needs.File call) (Answered told) wrote = Fits s.disk call told.answer wrote × IsReadBy s.disk call told
+ComesOf s a (needs.Take (port.Status d)) came wrote = (came ≡ Failed) ⊎ TenantEnds s (s.pipework.programs a d) came
+ComesOf s a (needs.Take port) came wrote = Yields (s.pipework.pipes a port) came
+ComesOf s a (needs.Give (port.Program d) bytes) Gave wrote = IsFed s (s.pipework.programs a d) bytes
+ComesOf s a (needs.Give port bytes) Gave wrote = Unit {0}
+ComesOf s a (needs.Give port bytes) Failed wrote = wrote ≤ length bytes
+ComesOf s a (needs.Start (child.Remote slot domain sender recipient)) (Started pid) wrote = Unit {0}
+ComesOf s a (needs.Start asked) Failed wrote = Unit {0}
+ComesOf s a (needs.Start asked) Memory wrote = Unit {0}
+ComesOf s a (needs.Command bytes) came wrote = IsKind (needs.Command bytes) came
+ComesOf s a due came wrote = ⊥
+
+-- what an actor does is next by its table, and what came of it may come
+pub record MayDo (s : State) (a : List ℕ) (own : Own) (wrote : ℕ) : Type 0 where
   pub actor : Actor
-  pub reads : MayRead s a actor read
-  pub due : next_of actor.program actor.past read ready ≡ needs.File call
-  pub fits : Fits s.disk call told.answer wrote
-  pub bytes : IsReadBy s.disk call told
+  pub reads : MayRead s a actor own.read
+  pub finds : MayFind s a actor.program actor.past own.ready
+  pub due : next_of actor.program actor.past own.read own.ready ≡ own.due
+  pub came : ComesOf s a own.due own.came wrote
+
+-- the program of a child that was asked for, with this process number; its input is what its parent gives it later
+abbrev pub IsProgramOf : ChildData → ℕ → Program → Type 0
+IsProgramOf (child.Bounce room) pid (Injector args) = (args.invoked ≡ invoking.Bounce) × (args.uid ≡ 0) × (args.pid ≡ pid)
+IsProgramOf (child.Forward uid room) pid (Injector args) = (args.invoked ≡ invoking.Uid uid) × (args.uid ≡ uid) × (args.pid ≡ pid)
+IsProgramOf asked pid program = ⊥
+
+-- A child starts under a name that no actor had, if its start is next by the table of its parent, which is told its process
+-- number. Its own clock tells its start, not before what its parent read.
+pub record MayBear (s : State) (parent : List ℕ) (own : Own) (a : List ℕ) (program : Program) : Type 0 where
+  pub actor : Actor
+  pub reads : MayRead s parent actor own.read
+  pub finds : MayFind s parent actor.program actor.past own.ready
+  pub due : next_of actor.program actor.past own.read own.ready ≡ own.due
+  pub asked : ChildData
+  pub starts : own.due ≡ needs.Start asked
+  pub pid : ℕ
+  pub came : own.came ≡ Started pid
+  pub new : s.actors a ≡ None
+  pub is : IsProgramOf asked pid program
+  pub no_earlier : own.read ≤ start_of program
+  pub no_later : start_of program ≤ s.now
+
+-- an actor that lives
+pub record IsLiving (s : State) (a : List ℕ) : Type 0 where
+  pub actor : Actor
+  pub is : s.actors a ≡ Some actor
+  pub alive : actor.life ≡ Alive
+
+-- Which program each member of a generation is. The sender and the spawners aren't programs of histories yet, so no
+-- generation starts so far.
+abbrev pub IsSender : Program → Type 0
+IsSender (Injector args) = ⊥
+IsSender (Cleaner start) = ⊥
+
+abbrev pub IsCleaner : Program → Type 0
+IsCleaner (Injector args) = ⊥
+IsCleaner (Cleaner start) = Unit {0}
+
+abbrev pub IsSpawner : Program → Type 0
+IsSpawner (Injector args) = ⊥
+IsSpawner (Cleaner start) = ⊥
+
+-- a generation starts only when no member of the old one lives
+pub record MayBegin (s : State) (sender clean lspawn rspawn : Program) : Type 0 where
+  pub over : (a : List ℕ) (x : Actor) → Contains members a → s.actors a ≡ Some x → x.life ≢ Alive
+  pub runs : MayRun sender × MayRun clean × MayRun lspawn × MayRun rspawn
+  pub kinds : IsSender sender × IsCleaner clean × IsSpawner lspawn × IsSpawner rspawn
+
+-- a report comes only for a slot in which the living remote spawner has a program without one
+pub record MayReport (s : State) (slot : ℕ) : Type 0 where
+  pub lives : IsLiving s (codes "rspawn")
+  pub runs : s.pipework.programs (codes "rspawn") slot ≡ Some (Remote false)
 
 -- an end that is next by the actor's table
 pub record MayEnd (s : State) (a : List ℕ) (read : ℕ) (ready : Ready) (status : ℕ) : Type 0 where
   pub actor : Actor
   pub reads : MayRead s a actor read
+  pub finds : MayFind s a actor.program actor.past ready
   pub due : next_of actor.program actor.past read ready ≡ needs.Ended status
-
-pub record IsLiving (s : State) (a : List ℕ) : Type 0 where
-  pub actor : Actor
-  pub is : s.actors a ≡ Some actor
-  pub alive : actor.life ≡ Alive
 
 -- a moment that comes: moments don't fall
 pub record MayCome (s : State) (m : ℕ) : Type 0 where
   pub moment : IsMoment m
   pub no_earlier : s.now ≤ m
 
--- What an actor may do: a file call. Takings, givings, starts and commands come with the first program that has a pipe.
-abbrev pub MayDo : State → List ℕ → ℕ → Ready → NeedData → GotData → ℕ → Type 0
-MayDo s a read ready (needs.File call) (Answered told) wrote = MayCall s a read ready call told wrote
-MayDo s a read ready due came wrote = ⊥
-
 -- which events may happen in a state
 abbrev pub Allowed : State → Event → Type 0
 Allowed s (Start a program) = MayStart s a program
-Allowed s (Act a own wrote) = MayDo s a own.read own.ready own.due own.came wrote
+Allowed s (Act a own wrote) = MayDo s a own wrote
+Allowed s (Child parent own a program) = MayBear s parent own a program
+Allowed s (Generation sender clean lspawn rspawn) = MayBegin s sender clean lspawn rspawn
+Allowed s (Report slot letter text) = MayReport s slot
 Allowed s (End a read ready status) = MayEnd s a read ready status
 Allowed s (Stop a) = IsLiving s a
 Allowed s (Moment m) = MayCome s m
@@ -273,7 +459,7 @@ pub record Opening (d : Disk) : Type 0 where
   pub settled : (name : List ℕ) (n : ℕ) → d.names name ≡ Some n → IsSynced (d.files n) (d.files n).bytes
 
 abbrev pub opening : Disk → State
-opening d = record { disk = d; holder = λ _. None; now = 0; actors = λ _. None; books = record { living = λ _. None; over = [] } }
+opening d = record { disk = d; holder = λ _. None; now = 0; actors = λ _. None; books = record { living = λ _. None; over = [] }; pipework = no_pipework }
 
 -- the state after a history that began with this disk
 abbrev pub after : Disk → List Event → State

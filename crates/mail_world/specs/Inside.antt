@@ -10,7 +10,7 @@ use Rattle.call_fs.specs.Past.{IsRunBy, held}
 use Rattle.mail_world.specs.declared.event.Event.{Event as Kept}
 use Rattle.mail_world.specs.declared.event.Event.TheVariants as kept
 use Rattle.mail_world.specs.declared.actor.Actor.{Actor as Held}
-use Rattle.mail_world.specs.ByKind.{Follows}
+use Rattle.mail_world.specs.ByKind.{IsMail, Follows}
 use Rattle.mail_world.specs.History.{Event, Actor, State, after, latest, next_of}
 use Rattle.mail_world.specs.History.Event.{Start, Act, End, Stop, Moment, Halt}
 use Rattle.mail_world.specs.History.Life.{Alive}
@@ -44,6 +44,7 @@ pub record IsMember (s : State) (events : List Kept) (present : ℕ) (x : Held) 
   pub actor : Actor
   pub is : s.actors x.name ≡ Some actor
   pub follows : Follows x.machine actor.program actor.past
+  pub mail : IsMail actor.program
   pub run : IsRunBy (next_of actor.program) actor.past
   pub in_order : latest actor.program actor.past ≤ present
   pub alive : x.ended ≡ None → actor.life ≡ Alive

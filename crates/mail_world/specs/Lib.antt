@@ -1,3 +1,5 @@
+-- pipes, and who runs in whose slot
+pub mod Pipework
 -- histories: what happens, the state after it, and which are legal
 pub mod History
 -- what is claimed of each state, and the headline

@@ -18,18 +18,22 @@ use Rattle.received_line.specs.declared.line.Invoked.TheVariants.{Uid}
 use Rattle.mail_world.specs.declared.event.Event.{Event as Kept}
 use Rattle.mail_world.specs.declared.event.Event.TheVariants as kept
 use Rattle.mail_world.specs.declared.event.Program.TheVariants.{Injector}
-use Rattle.mail_world.specs.History.{Event, own_call, after, EachAllowed, Legal}
-use Rattle.mail_world.specs.History.Event.{Start, Act, End, Stop, Moment, Halt}
+use Rattle.mail_world.specs.History.{Event, own_call, starts_program, after, EachAllowed, Legal}
+use Rattle.mail_world.specs.History.Event.{Start, Act, Child, Generation, Report, End, Stop, Moment, Halt}
 use Rattle.mail_world.specs.Headline.{Safe}
 
 -- an actor's file call, as it is kept
 abbrev pub kept_call : List ℕ → ℕ → Ready → CallData → Told → Kept
 kept_call a read ready call told = kept.Act a (own_call read ready call told)
 
--- A kept event tells an event: all of it but how much a failed write had written, which no program is told.
+-- A kept event tells an event: all of it but how much a failed write had written, which no program is told. A world makes no
+-- children, generations and reports yet.
 abbrev pub Tells : Kept → Event → Type 0
 Tells event (Start a program) = event ≡ kept.Start a program
 Tells event (Act a own wrote) = event ≡ kept.Act a own
+Tells event (Child parent own a program) = ⊥
+Tells event (Generation sender clean lspawn rspawn) = ⊥
+Tells event (Report slot letter text) = ⊥
 Tells event (End a read ready status) = event ≡ kept.End a read ready status
 Tells event (Stop a) = event ≡ kept.Stop a
 Tells event (Moment m) = event ≡ kept.Moment m
@@ -39,6 +43,9 @@ Tells event (Halt how contents) = event ≡ kept.Halt how
 abbrev pub IsByName : Disk → Event → Type 0
 IsByName d (Start a program) = Unit {0}
 IsByName d (Act a own wrote) = Unit {0}
+IsByName d (Child parent own a program) = Unit {0}
+IsByName d (Generation sender clean lspawn rspawn) = Unit {0}
+IsByName d (Report slot letter text) = Unit {0}
 IsByName d (End a read ready status) = Unit {0}
 IsByName d (Stop a) = Unit {0}
 IsByName d (Moment m) = Unit {0}
@@ -129,10 +136,10 @@ span_of a (event ∷ before) = span_after a event (length before) (span_of a bef
 abbrev pub EndsAt : List Kept → List ℕ → ℕ → Type 0
 EndsAt events a at = span_of a (reverse events) ≡ OverAt at
 
--- any start
+-- any start of a program
 abbrev pub is_start : Kept → Bool
 is_start (kept.Start b program) = true
-is_start (kept.Act b own) = false
+is_start (kept.Act b own) = starts_program own.due own.came
 is_start (kept.End b read ready status) = false
 is_start (kept.Stop b) = false
 is_start (kept.Moment m) = false

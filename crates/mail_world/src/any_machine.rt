@@ -5,6 +5,7 @@ use crate::Program;
 use crate::mailer::Mailer;
 use call_fs::{Got, Machine, Need, Ready};
 use mail_bytes::Memory;
+use queue_clean::Cleaner;
 use std::alloc::Global;
 
 /// A program of the world as a machine, with what the world keeps beside it: a case for each kind.
@@ -12,6 +13,8 @@ use std::alloc::Global;
 pub enum AnyMachine {
     /// The injector of a mail, and its input.
     Mail(Mailer),
+    /// A cleaner. The world makes none yet: it starts with its generation.
+    Clean(Cleaner),
 }
 
 impl Machine for AnyMachine {
@@ -44,24 +47,28 @@ impl Machine for AnyMachine {
     fn look(&mut self, now: u64, ready: Ready) {
         match self {
             AnyMachine::Mail(mailer) => mailer.look(now, ready),
+            AnyMachine::Clean(cleaner) => cleaner.look(now, ready),
         }
     }
 
     fn need(&self) -> Need<'_> {
         match self {
             AnyMachine::Mail(mailer) => mailer.need(),
+            AnyMachine::Clean(cleaner) => cleaner.need(),
         }
     }
 
     fn taking_room(&self) -> usize {
         match self {
             AnyMachine::Mail(mailer) => mailer.taking_room(),
+            AnyMachine::Clean(cleaner) => cleaner.taking_room(),
         }
     }
 
     fn done(&mut self, alloc: Global, got: Got<'_>) -> Result<(), Memory> {
         match self {
             AnyMachine::Mail(mailer) => mailer.done(alloc, got),
+            AnyMachine::Clean(cleaner) => cleaner.done(got),
         }
     }
 

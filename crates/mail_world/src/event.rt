@@ -12,6 +12,26 @@ use std::alloc::Global;
 pub enum Program {
     /// An injector.
     Injector(Arguments),
+    /// A cleaner, which was started at this moment. No history starts one yet.
+    Cleaner {
+        /// The moment of its start.
+        start: u64,
+    },
+}
+
+impl Program {
+    ghost use Rattle.std.specs.Prelude.{◌≡◌, option_map};
+    ghost use Rattle.mail_world.specs.ByKind.{injection_of};
+
+    /// What an injector was started with; `None` for every other program.
+    pub fn injection(&self) -> Option<&Arguments>
+        ensures { option_map (λ args. args.now) result ≡ injection_of self.now }
+    {
+        match self {
+            Program::Injector(arguments) => Some(arguments),
+            Program::Cleaner { .. } => None,
+        }
+    }
 }
 
 /// One event of a history. An actor's event also tells the moment that it read and what it found ready.

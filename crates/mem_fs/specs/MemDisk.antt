@@ -1,9 +1,10 @@
 -- A disk in memory: the lists that it keeps, and the disk that they stand for.
-use Rattle.std.specs.Prelude.{◌≡◌, ◌⊎◌, ℕ, ◌<◌, ◌≤◌, ◌+◌, ◌-◌, ◌^◌, ◌==◌, ◌++◌, List, [], ◌∷◌, Bool, true, false, IsTrue, Option, Some, None, unwrap_or, count_by, Result, Ok, Err, Contains, ◌↔◌, min, if◌then◌else◌}
+use Rattle.std.specs.Prelude.{◌≡◌, ◌⊎◌, ℕ, ◌<◌, ◌≤◌, ◌+◌, ◌-◌, ◌^◌, ◌==◌, ◌++◌, List, [], ◌∷◌, Bool, true, false, IsTrue, Option, Some, None, unwrap_or, count_by, Result, Ok, Err, Contains, ◌↔◌, if◌then◌else◌}
 use Rattle.std.specs.Option.{option_map}
 use Rattle.call_fs.specs.declared.calls.FsError.{FsError}
 use Rattle.call_fs.specs.declared.calls.FsError.TheVariants.{NotThere, Exists, Fault, Memory}
 use Rattle.mem_fs.specs.declared.file.Inode.{Inode}
+use Rattle.mail_bytes.specs.Told.{raised}
 use Rattle.call_fs.specs.Disk.{File, Open, Disk}
 use Rattle.call_fs.specs.Free.{IsFree, IsLeastFree}
 use Rattle.call_fs.specs.Plan.{Plan, no_plan}
@@ -143,10 +144,6 @@ pub record Planned : Type 0 where
   pub made : ℕ
   pub faults : ℕ
 
--- one more, if a u64 has room for it
-abbrev pub one_more : ℕ → ℕ
-one_more n = min (n + 1) (2 ^ 64 - 1)
-
 -- a disk in memory that holds nothing and has made no call
 abbrev pub fresh : List ℕ → List ℕ → Planned
 fresh picks plan = record { held = held_nothing; picks = picks; plan = plan; made = 0; faults = 0 }
@@ -161,10 +158,10 @@ is_fault (Ok x) = false
 
 -- A call was counted. It failed with a fault exactly if it was planned, and then left the lists as they were.
 pub record CountsCall {T : Type 0} (old new : Planned) (result : Result T FsError) : Type 0 where
-  pub made : new.made ≡ one_more old.made
+  pub made : new.made ≡ raised old.made
   pub plan : new.plan ≡ old.plan
-  pub planned : IsTrue (is_fault result) ↔ Contains old.plan (one_more old.made)
-  pub faults : new.faults ≡ (if is_fault result then one_more old.faults else old.faults)
+  pub planned : IsTrue (is_fault result) ↔ Contains old.plan (raised old.made)
+  pub faults : new.faults ≡ (if is_fault result then raised old.faults else old.faults)
   pub nothing_done : is_fault result ≡ true → new.held ≡ old.held
 
 -- only the lists changed

@@ -1,7 +1,7 @@
 // Which calls are to fail.
 ghost use Rattle.std.specs.Prelude.{◌≡◌, ◌↔◌, Contains, IsErr, IsOkUnless, OnErr, ◌≤◌, is_err, if◌then◌else◌};
 ghost use Rattle.mail_bytes.specs.Told.{Rose};
-ghost use Rattle.mem_fs.specs.MemDisk.{one_more};
+ghost use Rattle.mail_bytes.specs.Told.{raised};
 
 use call_fs::FsError;
 
@@ -20,12 +20,12 @@ impl Plan {
     /// Counts a call; `Fault` exactly if it was planned.
     pub fn begin(&mut self) -> Result<(), FsError>
         ensures plan { self.new.at.items ≡ self.old.at.items }
-        ensures made { self.new.made ≡ one_more self.old.made }
-        ensures planned { IsErr result ↔ Contains self.old.at.items (one_more self.old.made) }
+        ensures made { self.new.made ≡ raised self.old.made }
+        ensures planned { IsErr result ↔ Contains self.old.at.items (raised self.old.made) }
         ensures fault { IsOkUnless result FsError.Fault }
         ensures later { self.old.faults ≤ self.new.faults }
         ensures rose { OnErr result (Rose self.old.faults self.new.faults) }
-        ensures faults { self.new.faults ≡ (if is_err result then one_more self.old.faults else self.old.faults) }
+        ensures faults { self.new.faults ≡ (if is_err result then raised self.old.faults else self.old.faults) }
     {
         self.made = self.made.saturating_add(1);
         if self.at.contains(&self.made) {

@@ -15,7 +15,7 @@ ghost use Rattle.mem_fs.specs.MemDisk.{disk_of, held_nothing, IsOpenOn, bytes_at
 use crate::file::{FileData, Inode};
 use crate::open_file::OpenFile;
 use crate::{files, halt, names, numbers, part};
-use call_fs::{Fd, How, Stat, Survival};
+use call_fs::{Fd, How, Stat, Survival, is_name};
 use mail_bytes::{ByteText, Memory};
 use std::alloc::{AllocError, Global};
 use std::marker::Model;
@@ -60,11 +60,11 @@ impl Store {
         part::is_dir(&self.dirs, dir)
     }
 
-    /// Whether the directory of this name is there.
+    /// Whether the directory of this name is there. What isn't of the form of a name has none.
     pub fn has_dir(&self, name: &[u8]) -> bool
         ensures { IsTrue result ↔ HasDir (disk_of self.now) name.now }
     {
-        self.is_dir(part::dir_of(name))
+        is_name(name) && self.is_dir(part::dir_of(name))
     }
 
     /// The number of a name.

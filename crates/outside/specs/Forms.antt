@@ -1,16 +1,14 @@
 -- Forms in memory of what lies outside a program: what each holds.
 use Rattle.std.specs.Prelude.{◌≡◌, ◌⊎◌, ℕ, zero, suc, ◌+◌, ◌-◌, ◌^◌, ◌<◌, ◌≤◌, min, max, List, [], ◌∷◌, ◌++◌, length, take, drop, slice_get, slice_set, slice_index_or, flat_map, Option, None, Some, IsSomeAnd, Bool, true, false, if◌then◌else◌, Contains}
 use Rattle.std.specs.Option.{option_map}
+use Rattle.mail_bytes.specs.declared.moments.TheConstants.{LAST_MOMENT}
+use Rattle.mail_bytes.specs.Told.{raised}
 use Rattle.outside.specs.declared.spawner.Started.{Started}
 use Rattle.outside.specs.declared.spawner.Started.TheVariants as outcome
 use Rattle.outside.specs.declared.spawner.Status.{Status}
 use Rattle.outside.specs.declared.spawner.Status.TheVariants as status
 use Rattle.outside.specs.declared.spawner.MemChild.{MemChild}
 use Rattle.outside.specs.Children.{Arrival}
-
--- a count that stands still at u64's last value
-abbrev pub raised : ℕ → ℕ
-raised n = min (n + 1) (2 ^ 64 - 1)
 
 -- The calls of a form so far, the numbers of those that fail, and how many have failed.
 pub record FailurePlan : Type 0 where
@@ -91,7 +89,7 @@ pub record ClockForm : Type 0 where
 -- it told the next moment, cut to the last one of all, and no earlier one than before
 abbrev pub next_told_of : List ℕ → ℕ → ℕ → ClockForm
 next_told_of [] last pid = record { ahead = []; last = last; pid = pid }
-next_told_of (m ∷ ahead) last pid = record { ahead = ahead; last = max last (min m 250000000000); pid = pid }
+next_told_of (m ∷ ahead) last pid = record { ahead = ahead; last = max last (min m LAST_MOMENT); pid = pid }
 
 abbrev pub next_told : ClockForm → ClockForm
 next_told k = next_told_of k.ahead k.last k.pid

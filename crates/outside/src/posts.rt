@@ -1,9 +1,9 @@
 // What children and the program's own input send.
 ghost use Rattle.std.specs.Prelude.{◌≡◌, ◌<◌, ℕ, List, [], Option, flat_map, if◌then◌else◌, length, map, slice_index_or};
-ghost use Rattle.mail_bytes.specs.Told.{Meets, Records};
+ghost use Rattle.mail_bytes.specs.Told.{Meets, Records, raised};
 ghost use Rattle.outside.specs.Streams.{CountsFailures};
 ghost use Rattle.outside.specs.Children.{Arrival, FillsFront, IsFailedPost, Posted, Receives, arrivals, is_failure, posted};
-ghost use Rattle.outside.specs.Forms.{IsWithin, raised, rest_from};
+ghost use Rattle.outside.specs.Forms.{IsWithin, rest_from};
 
 use crate::source::copy_front;
 use mail_bytes::ByteText;

@@ -6,7 +6,8 @@
 use mail_bytes::ByteText;
 use mem_fs::MemFs;
 use outside::{MemClock, MemPosts, MemSink, MemSource, MemSpawner, OpenGate};
-use qmail_top::{qmail, status};
+use qmail_top::qmail;
+use queue_limits::DONE;
 use std::{fs, io};
 
 /// How many bytes the output and the log have room for.
@@ -42,7 +43,7 @@ fn plays_as_expected(rt: &HostRuntime, name: &str) -> io::Result<bool> {
     let expected = read(rt, name, "out")?;
     let printed = play(rt, script)?;
     Ok(
-        printed.status == status::DONE
+        printed.status == DONE
             && printed.out.taken() == expected.as_slice()
             && printed.log.taken().is_empty(),
     )

@@ -10,6 +10,7 @@ use Rattle.call_fs.specs.declared.past.GotData.{GotData}
 use Rattle.call_fs.specs.declared.past.GotData.TheVariants as got
 use Rattle.call_fs.specs.declared.past.Own.{Own}
 use Rattle.call_fs.specs.Disk.{Disk}
+use Rattle.call_fs.specs.declared.file_system.TheConstants.{PIECE}
 use Rattle.call_fs.specs.Past.{HoldsOf, IsFault, Makes, kept_as}
 use Rattle.mail_bytes.specs.Moments.{IsMoment}
 use Rattle.mail_bytes.specs.Told.{Meets, Records, Rose}
@@ -103,4 +104,4 @@ read_count other = 0
 
 -- no more than a piece
 abbrev pub HasFew : Answer → Type 0
-HasFew answer = read_count answer ≤ 8192
+HasFew answer = read_count answer ≤ PIECE

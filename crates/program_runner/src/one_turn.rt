@@ -69,7 +69,7 @@ pub fn turn<M: Machine, D: CallFs, K: Clock, S: Source, O: Sink>(
 
 /// Takes bytes of an input into this buffer, at most so many.
 pub fn take<S: Source>(input: &mut S, most: usize, buffer: &mut [u8; PIECE]) -> Took
-    ensures fits { FitsInto result (min most 8192) }
+    ensures fits { FitsInto result (min most PIECE) }
     ensures told { Meets (S.left input.old) (S.left input.new) (TakesBytes result buffer.new) }
     ensures cause { CountsFailures (S.faults input.old) (S.faults input.new) (result ≡ Took.Failed) }
 {

@@ -20,7 +20,8 @@ use late_file::LateFile;
 use mail_bytes::Memory;
 use mem_fs::MemFs;
 use outside::{MemPosts, MemSpawner, OpenGate, Source};
-use qmail_top::{qmail, status};
+use qmail_top::qmail;
+use queue_limits::MEMORY;
 use reader_source::ReaderSource;
 use std::alloc::{AllocError, Global};
 use std::process::ExitCode;
@@ -37,7 +38,7 @@ fn main(rt: HostRuntime) -> ExitCode {
 fn program(rt: &HostRuntime) -> ExitCode {
     match run(rt, rt.alloc()) {
         Ok(status) => ExitCode::from(status),
-        Err(_) => ExitCode::from(status::MEMORY),
+        Err(_) => ExitCode::from(MEMORY),
     }
 }
 

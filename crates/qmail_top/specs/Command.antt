@@ -17,6 +17,7 @@ use Rattle.queue_command.specs.Injected.{HasInjected}
 use Rattle.scenario.specs.Lines.{IsRefused, most_bytes}
 use Rattle.qmail_top.specs.declared.play_command.Failure.{Failure}
 use Rattle.qmail_top.specs.declared.play_command.Failure.TheVariants.{Memory, Output, Input, Malformed}
+use Rattle.queue_limits.specs.declared.statuses.TheConstants.{INPUT, MALFORMED, MEMORY, OUTPUT}
 
 -- the words are `play`, `queue` with what it is told, or `audit` with a directory
 abbrev pub IsPlay : List (String Global) → Type 0
@@ -33,7 +34,7 @@ IsClean words = (dir : List ℕ) × Reads (map string_bytes words) (Clean dir)
 
 -- The command `clean` was run; or there was no memory for its words, and nothing was done.
 abbrev pub WasCleaned : Around → Around → ℕ → Type 0
-WasCleaned old new status = WasRun old new status ⊎ ((status ≡ 51) × (new ≡ old))
+WasCleaned old new status = WasRun old new status ⊎ ((status ≡ MEMORY) × (new ≡ old))
 
 -- by whom, or for what, the injector of a command was invoked
 abbrev pub invoked_by : QueueWords → Invoked
@@ -55,10 +56,10 @@ HasRunQueue queue pid message envelope old new status =
 
 -- the exit status of a failure
 abbrev pub status_of : Failure → ℕ
-status_of Memory = 51
-status_of Output = 53
-status_of Input = 54
-status_of Malformed = 91
+status_of Memory = MEMORY
+status_of Output = OUTPUT
+status_of Input = INPUT
+status_of Malformed = MALFORMED
 
 -- A count of failures, before and after a call.
 pub record Counted : Type 0 where

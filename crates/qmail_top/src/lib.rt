@@ -8,7 +8,6 @@
 
 mod play_command;
 mod refusing;
-pub mod status;
 mod top;
 
 pub use command_words::{Places, places};

@@ -7,8 +7,8 @@ ghost use Rattle.scenario.specs.Text.{Prints, BeginsAtMost, IsFrontAtMost, Print
 ghost use Rattle.qmail_top.specs.Command.{IsReading, IsChecked, IsPrintedAtEnd, HasReason, NoneFailed, IsBeforeOutput, status_of};
 
 use crate::refusing::refuse;
-use crate::status::{DONE, INPUT, MALFORMED, MEMORY, OUTPUT};
 use outside::{Sink, Source, Took};
+use queue_limits::{DONE, INPUT, MALFORMED, MEMORY, OUTPUT};
 use scenario::{MAX_SCRIPT, PlayError, ScriptError, play, read_script};
 use std::alloc::{AllocError, Global};
 

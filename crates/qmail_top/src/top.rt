@@ -10,13 +10,13 @@ ghost use Rattle.audit_command.specs.Audited.{HasAudited};
 ghost use Rattle.qmail_top.specs.Command.{IsPlay, IsPrintedAtEnd, IsQueue, IsAudit, IsClean, HasRunQueue, NoneFailed, WasCleaned, usage_line};
 
 use crate::play_command::play_script;
-use crate::status::{DONE, INPUT, MALFORMED, MEMORY, OUTPUT, USAGE};
 use audit_command::print_audit;
 use call_fs::CallFs;
 use clean_command::clean;
 use command_words::{Command, QueueWords, WordsError, read_words};
 use outside::{Clock, Gate, Posts, Sink, Source, Spawner};
 use queue_command::{Form, inject};
+use queue_limits::{DONE, INPUT, MALFORMED, MEMORY, OUTPUT, USAGE};
 use received_line::Invoked;
 use std::alloc::Global;
 

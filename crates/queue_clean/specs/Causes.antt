@@ -13,6 +13,7 @@ use Rattle.call_fs.specs.declared.past.GotData.TheVariants.{End, Failed}
 use Rattle.call_fs.specs.declared.past.Own.{Own}
 use Rattle.queue_clean.specs.Commands.{commands, command_of}
 use Rattle.queue_clean.specs.Table.{Place, place_after}
+use Rattle.queue_limits.specs.declared.statuses.TheConstants.{DONE, INPUT, OUTPUT}
 
 -- the command that was taken up last
 abbrev pub last_command : Place → Option (List ℕ)
@@ -27,8 +28,8 @@ abbrev pub EndsInFault : List Own → Type 0
 EndsInFault [] = ⊥
 EndsInFault (event ∷ before) = HoldsOf IsFailedUnlink event
 
--- Why a cleaner gives these bytes after a past: they answer the command that it took up last. It gives `x` exactly where
--- that is no command, `!` exactly where its last call was an unlink that failed, and else `+`.
+-- Why a cleaner gives these bytes after a past: they answer the command that it took up last. It gives `x` exactly if
+-- that is no command, `!` exactly if its last call was an unlink that failed, and else `+`.
 pub record IsAnswered (past : List Own) (port : Port) (bytes : List ℕ) : Type 0 where
   pub text : List ℕ
   pub command : last_command (place_after past) ≡ Some text
@@ -39,9 +40,9 @@ pub record IsAnswered (past : List Own) (port : Port) (bytes : List ℕ) : Type 
 
 -- with which status each last event ends it: 0, the input ended; 53, a give failed; 54, a take failed
 pub data EndsWith : ℕ → NeedData → GotData → Type 0 where
-  InputEnded : EndsWith 0 (needs.Take Input) End
-  GiveFailed : (bytes : List ℕ) → EndsWith 53 (needs.Give Output bytes) Failed
-  TakeFailed : EndsWith 54 (needs.Take Input) Failed
+  InputEnded : EndsWith DONE (needs.Take Input) End
+  GiveFailed : (bytes : List ℕ) → EndsWith OUTPUT (needs.Give Output bytes) Failed
+  TakeFailed : EndsWith INPUT (needs.Take Input) Failed
 
 -- why it has ended with this status after a past
 abbrev pub IsEnded : List Own → ℕ → Type 0

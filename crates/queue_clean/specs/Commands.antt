@@ -7,6 +7,7 @@ use Rattle.queue_paths.specs.Names.Name.{Of}
 use Rattle.queue_paths.specs.Names.Part.{Mess, Intd, Todo as TodoPart}
 use Rattle.queue_clean.specs.declared.command.Command.{Command}
 use Rattle.queue_clean.specs.declared.command.Command.TheVariants.{Foop, Todo}
+use Rattle.queue_clean.specs.declared.command.TheConstants.{LEAST_COMMAND, MOST_COMMAND}
 
 -- One command
 
@@ -30,7 +31,7 @@ second_name (Todo n) = Of TodoPart n
 
 -- a command has 7 to 100 bytes, its NUL among them
 abbrev pub is_sized : List ℕ → Bool
-is_sized text = nat_le 7 (length text + 1) && nat_le (length text + 1) 100
+is_sized text = nat_le LEAST_COMMAND (length text + 1) && nat_le (length text + 1) MOST_COMMAND
 
 abbrev pub named : List ℕ → ℕ → Option Command
 named word n =

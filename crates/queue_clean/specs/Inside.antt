@@ -5,14 +5,16 @@ use Rattle.queue_clean.specs.declared.intake.Intake.TheInside as intake
 use Rattle.queue_clean.specs.declared.machine.Cleaner.TheInside as cleaner
 use Rattle.queue_clean.specs.declared.named_row.NamedRow.TheInside as named
 use Rattle.queue_clean.specs.Machine.{Intake, Machine, unlinked}
+use Rattle.queue_clean.specs.declared.command.TheConstants.{MOST_COMMAND}
+use Rattle.queue_clean.specs.declared.intake.TheConstants.{ROUND}
 
 abbrev pub intake_of : intake.Inside → Intake
 intake_of i = record { word = i.word; pending = i.taken; turn = i.turn }
 
 -- at most 100 bytes of a command are kept, and what is counted modulo 31 is below 31
 pub record IsCounted (i : intake.Inside) : Type 0 where
-  pub short : length i.word ≤ 100
-  pub small : i.turn < 31
+  pub short : length i.word ≤ MOST_COMMAND
+  pub small : i.turn < ROUND
 
 -- the name that the row unlinks for a command
 abbrev pub HasName : named.Inside → Type 0

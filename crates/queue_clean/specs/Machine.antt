@@ -9,6 +9,8 @@ use Rattle.queue_clean.specs.declared.row.Row.TheVariants as at
 use Rattle.queue_clean.specs.Commands.{command_of, first_name, second_name}
 use Rattle.queue_clean.specs.Table.{first_row, Step, leads_to, due_at}
 use Rattle.queue_clean.specs.Table.Step.{Goes, Finds, Scanned, Takes, Answers}
+use Rattle.queue_clean.specs.declared.command.TheConstants.{MOST_COMMAND}
+use Rattle.queue_clean.specs.declared.intake.TheConstants.{ROUND}
 
 -- What a cleaner holds of its input: the first bytes of the command that it is reading, at most 100; the bytes that it
 -- took and hasn't read yet; and how many commands it has taken up, counted modulo 31.
@@ -33,7 +35,7 @@ is_nul b = b == 0
 
 -- of a command only its first 100 bytes are kept: with so many and a NUL it is too long
 abbrev pub kept : List ℕ → List ℕ → List ℕ
-kept word bytes = take 100 (word ++ bytes)
+kept word bytes = take MOST_COMMAND (word ++ bytes)
 
 -- the row to which the next command leads, by the place of the first NUL that wasn't read yet; without one, more of the
 -- input is taken
@@ -44,7 +46,7 @@ row_by (Some k) i = first_row (command_of (kept i.word (take k i.pending)))
 -- what it holds of its input then
 abbrev pub read_by : Option ℕ → Intake → Intake
 read_by None i = record i { word = kept i.word i.pending; pending = [] }
-read_by (Some k) i = record { word = []; pending = drop (k + 1) i.pending; turn = (i.turn + 1) % 31 }
+read_by (Some k) i = record { word = []; pending = drop (k + 1) i.pending; turn = (i.turn + 1) % ROUND }
 
 abbrev pub next_nul : Intake → Option ℕ
 next_nul i = position is_nul i.pending

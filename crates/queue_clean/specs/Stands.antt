@@ -5,6 +5,8 @@ use Rattle.queue_clean.specs.declared.row.Row.TheVariants as at
 use Rattle.queue_clean.specs.Commands.{ended, IsPlain}
 use Rattle.queue_clean.specs.Table.{Place, place_after}
 use Rattle.queue_clean.specs.Machine.{Intake, Machine}
+use Rattle.queue_clean.specs.declared.command.TheConstants.{MOST_COMMAND}
+use Rattle.queue_clean.specs.declared.intake.TheConstants.{ROUND}
 
 -- All that was taken is the commands that were taken up, each with its NUL; then what was read of the next one, of which
 -- the first bytes are kept; then what wasn't read yet.
@@ -15,8 +17,8 @@ pub record Hears (i : Intake) (taken : List ℕ) (begun : ℕ) : Type 0 where
   pub count : length before ≡ begun
   pub each : All IsPlain before
   pub plain : IsPlain read
-  pub word_is : i.word ≡ take 100 read
-  pub turn_is : i.turn ≡ begun % 31
+  pub word_is : i.word ≡ take MOST_COMMAND read
+  pub turn_is : i.turn ≡ begun % ROUND
 
 -- the cleaner stands where the table does, and takes more only once all that it took was read
 pub record StandsAt (m : Machine) (p : Place) : Type 0 where

@@ -18,6 +18,9 @@ use Rattle.queue_clean.specs.declared.row.Reply.TheVariants.{Removed, Failed, Un
 use Rattle.queue_clean.specs.declared.row.Row.{Row}
 use Rattle.queue_clean.specs.declared.row.Row.TheVariants as at
 use Rattle.queue_clean.specs.Commands.{commands, command_of, first_name, second_name}
+use Rattle.queue_clean.specs.declared.intake.TheConstants.{ROUND}
+use Rattle.queue_limits.specs.declared.statuses.TheConstants.{DONE, INPUT, OUTPUT}
+use Rattle.queue_limits.specs.declared.times.TheConstants.{PID_NAME_AGE}
 
 -- Where a cleaner stands: its row; the name that its scan of `pid` got last, empty before the first; all that it took of
 -- its input; and how many commands it has taken up.
@@ -101,12 +104,12 @@ stated (Some moment) = at.JudgePid moment
 
 abbrev pub took : GotData → Step
 took (Took bytes) = Takes bytes
-took End = Goes (at.Ended 0)
-took other = Goes (at.Ended 54)
+took End = Goes (at.Ended DONE)
+took other = Goes (at.Ended INPUT)
 
 abbrev pub gave : GotData → Step
 gave Gave = Answers
-gave other = Goes (at.Ended 53)
+gave other = Goes (at.Ended OUTPUT)
 
 -- one that isn't gone ends the command with `!`
 abbrev pub after_intd : Command → Bool → Row
@@ -119,7 +122,7 @@ after_second false = at.Answer Failed
 
 -- a file in `pid` was last written more than 36 hours ago
 abbrev pub is_old : ℕ → ℕ → Bool
-is_old moment now = nat_lt (moment + 129600) now
+is_old moment now = nat_lt (moment + PID_NAME_AGE) now
 
 -- what came of a row at this moment; of `JudgePid` it came of the unlink, which is passed over, or of the next search
 abbrev pub leads_to : Row → ℕ → GotData → Step
@@ -137,7 +140,7 @@ goes_on (Goes row) p = record p { row = row }
 goes_on (Finds name) p = record p { row = at.StatPid; name = name }
 goes_on Scanned p = next_command p
 goes_on (Takes bytes) p = next_command (record p { taken = p.taken ++ bytes })
-goes_on Answers p = if p.begun % 31 == 0 then record p { row = at.FindPid; name = [] } else next_command p
+goes_on Answers p = if p.begun % ROUND == 0 then record p { row = at.FindPid; name = [] } else next_command p
 
 abbrev pub moved : Place → Own → Place
 moved p event = goes_on (leads_to p.row event.read event.came) p

@@ -16,7 +16,7 @@ use Rattle.queue_clean.specs.Table.{Next}
 abbrev pub unready : Ready
 unready = record { links = false ∷ (false ∷ (false ∷ (false ∷ []))); child = None }
 
--- what a cleaner does after a past, and then at each of these moments, where this came of it
+-- what a cleaner does after a past, and then at each of these moments, when this came of it
 abbrev pub does : List Own → List (ℕ × GotData) → List NeedData
 does past [] = []
 does past ((now, came) ∷ later) =

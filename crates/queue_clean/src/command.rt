@@ -5,6 +5,12 @@ ghost use Rattle.queue_clean.specs.Commands.{command_of, command_by, named};
 use mail_bytes::undec;
 use queue_paths::Name;
 
+/// The fewest bytes that a command has, its NUL among them.
+pub const LEAST_COMMAND: usize = 7;
+
+/// The most bytes that a command may have, its NUL among them.
+pub const MOST_COMMAND: usize = 100;
+
 /// A command: to remove two names of the message with this number.
 #[derive(Clone, Copy)]
 pub enum Command {
@@ -39,12 +45,12 @@ impl Command {
     }
 }
 
-/// The command that a text is, without its NUL; `None` exactly where it is none.
+/// The command that a text is, without its NUL; `None` exactly if it is none.
 #[tactic(auto, unfolding(crate::specs::Commands::command_of))]
 pub(crate) fn read_command(text: &[u8]) -> Option<Command>
     ensures { result ≡ command_of text.now }
 {
-    if text.len() < 6 || text.len() > 99 {
+    if text.len() < LEAST_COMMAND - 1 || text.len() > MOST_COMMAND - 1 {
         return None;
     }
     let (word, number) = text.split_at(5);

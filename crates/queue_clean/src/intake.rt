@@ -5,19 +5,17 @@ ghost use Rattle.queue_clean.specs.Table.{first_row};
 ghost use Rattle.queue_clean.specs.Machine.{kept, next_nul, next_row, after_next};
 
 use crate::Row;
-use crate::command::read_command;
+use crate::command::{MOST_COMMAND, read_command};
 use crate::taken::Taken;
+use call_fs::PIECE;
 use mail_bytes::NameBuf;
 use std::marker::Model;
 
-/// So many bytes of a command are kept: with as many and a NUL it is too long, whatever comes after them.
-const KEPT: usize = 100;
-
 /// Before the first command, and before each one that comes so many after it, `pid` is gone through.
-const ROUND: u8 = 31;
+pub const ROUND: u8 = 31;
 
-/// What a cleaner holds of its input, in place: the first bytes of the command that it is reading, what it took and
-/// hasn't read yet, and how many commands it has taken up, counted modulo 31.
+/// What a cleaner holds of its input, in place: the first 100 bytes of the command that it is reading (with as many and a
+/// NUL it is too long, whatever comes after them), what it took and hasn't read yet, and how many commands it has taken up, counted modulo 31.
 #[derive(Drop)]
 pub struct Intake {
     word: NameBuf,
@@ -58,7 +56,7 @@ impl Intake {
 
     /// More of the input was taken; what was taken before was all read. The condition: these are at most 8192 bytes.
     pub fn take(&mut self, bytes: &[u8])
-        requires { length bytes.now ≤ 8192 }
+        requires { length bytes.now ≤ PIECE }
         ensures { self.new ≡ record self.old { pending = bytes.now } }
     {
         self.taken.set(bytes);
@@ -98,7 +96,7 @@ impl Intake {
           pending = drop count self.old.pending;
         } }
     {
-        let room = count.min(KEPT - self.word.as_slice().len());
+        let room = count.min(MOST_COMMAND - self.word.as_slice().len());
         put(&mut self.word, &self.taken.as_slice()[..room]);
         self.taken.pass(count);
     }
@@ -107,7 +105,7 @@ impl Intake {
     fn take_up(&mut self) -> Row
         requires { 1 ≤ length self.old.pending }
         ensures row { result ≡ first_row (command_of self.old.word) }
-        ensures rest { self.new ≡ record { word = []; pending = drop 1 self.old.pending; turn = (self.old.turn + 1) % 31 } }
+        ensures rest { self.new ≡ record { word = []; pending = drop 1 self.old.pending; turn = (self.old.turn + 1) % ROUND } }
     {
         let row = Row::first(read_command(self.word.as_slice()));
         self.word.clear();

@@ -10,6 +10,8 @@ ghost use Rattle.queue_clean.specs.Table.{Next};
 ghost use Rattle.queue_clean.specs.Asked.{IsAsked};
 ghost use Rattle.queue_clean.specs.Causes.{IsAnswered, IsEnded};
 ghost use Rattle.queue_clean.specs.Worked.{does, events, dues};
+ghost use Rattle.queue_clean.specs.declared.command.TheConstants.{LEAST_COMMAND, MOST_COMMAND};
+ghost use Rattle.queue_clean.specs.declared.intake.TheConstants.{ROUND};
 
 /// Each command has one text, and no other text is a command; and each text is cut into commands in one way.
 pub fn commands_are_exact()
@@ -46,4 +48,11 @@ pub fn asks_for_little()
 /// `foop/1`.
 pub fn a_worked_run()
     ensures { does [] events ≡ dues }
+{}
+
+/// A command has 7 to 100 bytes with its NUL, and `pid/` is scanned before each 31st command, from the first on.
+pub fn figures_are_these()
+    ensures least { LEAST_COMMAND ≡ 7 }
+    ensures most { MOST_COMMAND ≡ 100 }
+    ensures round { ROUND ≡ 31 }
 {}

@@ -19,6 +19,8 @@ mod row;
 mod taken;
 
 pub use command::Command;
-pub use laws::{a_worked_run, answers_have_causes, asks_for_little, commands_are_exact};
+pub use laws::{
+    a_worked_run, answers_have_causes, asks_for_little, commands_are_exact, figures_are_these,
+};
 pub use machine::Cleaner;
 pub use row::{Reply, Row};

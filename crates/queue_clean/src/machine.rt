@@ -14,11 +14,9 @@ use crate::pid_name::PidName;
 use crate::{Command, Reply, Row};
 use call_fs::{Answer, Call, FsError, Got, Machine, Need, PIECE, Port, Ready};
 use mail_bytes::Memory;
+use queue_limits::{DONE, INPUT, OUTPUT, PID_NAME_AGE};
 use std::alloc::Global;
 use std::marker::Model;
-
-/// A file in `pid` is old if it was last written more than this many seconds ago: 36 hours.
-const OLD: u64 = 129_600;
 
 /// The cleaner: the program that alone removes message files, as a machine.
 ///
@@ -106,7 +104,7 @@ impl Cleaner {
     /// Hands in what came of it. It takes no memory and never answers `Memory`. The condition: a taking brought at most 8192
     /// bytes. What isn't of the kind of its need counts as a failure.
     pub fn done(&mut self, got: Got<'_>) -> Result<(), Memory>
-        requires { IsWithin 8192 (came_of got) }
+        requires { IsWithin PIECE (came_of got) }
         ensures ok { IsOk result }
         ensures stands { (args : Unit {0}) (past : List Own) → Stands self.old args past → Stands self.new args
             (record { read = self.old.present; ready = self.old.ready; due = due_now self.old; came = came_of got.entry } ∷ past) }
@@ -118,7 +116,7 @@ impl Cleaner {
 
     /// Goes where it leads.
     fn go_on(&mut self, got: &Got<'_>)
-        requires { IsWithin 8192 (came_of got.now) }
+        requires { IsWithin PIECE (came_of got.now) }
         ensures { self.new ≡ gone_on self.old (came_of got.now) }
     {
         match self.place.row() {
@@ -151,7 +149,7 @@ impl Cleaner {
 
     /// After a taking.
     fn took(&mut self, got: &Got<'_>)
-        requires { IsWithin 8192 (came_of got.now) }
+        requires { IsWithin PIECE (came_of got.now) }
         ensures { self.new ≡ step_on (took (came_of got.now)) self.old }
     {
         match got {
@@ -159,8 +157,8 @@ impl Cleaner {
                 self.intake.take(bytes);
                 self.go_to_next();
             }
-            Got::End => self.place.go(Row::Ended { status: 0 }),
-            _ => self.place.go(Row::Ended { status: 54 }),
+            Got::End => self.place.go(Row::Ended { status: DONE }),
+            _ => self.place.go(Row::Ended { status: INPUT }),
         }
     }
 
@@ -170,7 +168,7 @@ impl Cleaner {
     {
         match got {
             Got::Gave => self.go_on_answered(),
-            _ => self.place.go(Row::Ended { status: 53 }),
+            _ => self.place.go(Row::Ended { status: OUTPUT }),
         }
     }
 
@@ -199,7 +197,7 @@ impl Cleaner {
 fn is_old(moment: u64, now: u64) -> bool
     ensures { result ≡ is_old moment now }
 {
-    now.saturating_sub(moment) > OLD
+    now.saturating_sub(moment) > PID_NAME_AGE
 }
 
 /// The name that a search gave.
@@ -304,6 +302,7 @@ impl Machine for Cleaner {
     ghost use Rattle.std.specs.Prelude.{◌≡◌, true, None};
     ghost use Rattle.queue_clean.specs.Machine.{due_now, gone_on};
     ghost use Rattle.queue_clean.specs.Stands.{Stands};
+    ghost use Rattle.call_fs.specs.declared.file_system.TheConstants.{PIECE};
     ghost use Rattle.queue_clean.specs.Table.{Next};
 
     type Arguments = ();
@@ -318,7 +317,7 @@ impl Machine for Cleaner {
 
     ghost due = { due_now };
 
-    ghost takes_at_most = { λ _. 8192 };
+    ghost takes_at_most = { λ _. PIECE };
 
     ghost has_room = { λ _. Unit {0} };
 

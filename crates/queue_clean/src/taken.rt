@@ -1,24 +1,26 @@
 // Bytes that were taken.
 ghost use Rattle.std.specs.Prelude.{◌≡◌, ◌≤◌, [], List, ℕ, length, drop};
 
+use call_fs::PIECE;
 use std::marker::Model;
 
 /// The bytes of a taking that weren't read yet, at most 8192, held in place; contracts see them as a list.
 #[derive(Drop)]
 pub struct Taken {
-    bytes: [u8; 8192],
+    bytes: [u8; PIECE],
     from: usize,
     to: usize,
 }
 
 impl Model for Taken {
     ghost use Rattle.std.specs.Prelude.{◌≤◌, ◌-◌, List, ℕ, take, drop};
+    ghost use Rattle.call_fs.specs.declared.file_system.TheConstants.{PIECE};
 
     ghost Value = { List ℕ };
 
     ghost view = { λ t. take (t.to - t.from) (drop t.from t.bytes) };
 
-    ghost invariant = { λ t. (t.from ≤ t.to) × (t.to ≤ 8192) };
+    ghost invariant = { λ t. (t.from ≤ t.to) × (t.to ≤ PIECE) };
 }
 
 impl Taken {
@@ -27,7 +29,7 @@ impl Taken {
         ensures { result ≡ [] }
     {
         Taken {
-            bytes: [0; 8192],
+            bytes: [0; PIECE],
             from: 0,
             to: 0,
         }
@@ -42,7 +44,7 @@ impl Taken {
 
     /// Becomes these bytes. The condition: they are at most 8192.
     pub fn set(&mut self, bytes: &[u8])
-        requires { length bytes.now ≤ 8192 }
+        requires { length bytes.now ≤ PIECE }
         ensures { self.new ≡ bytes.now }
     {
         self.bytes[..bytes.len()].copy_from_slice(bytes);

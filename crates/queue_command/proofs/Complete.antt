@@ -1,5 +1,5 @@
 -- A message that finds all that it needs is queued, or memory is wanted.
-use Rattle.std.proofs.Common.{◌≡◌, ◌≢◌, ◌⊎◌, inl, inr, ⊎_elim, ℕ, ◌+◌, ◌-◌, List, [], ◌∷◌, ◌++◌, length, take, length-append, true, not, Option, Some, None, refl, sym, ap, ◌∙◌, subst, arith}
+use Rattle.std.proofs.Common.{◌≡◌, ◌≢◌, ◌⊎◌, inl, inr, ⊎_elim, ℕ, ◌+◌, ◌-◌, ◌^◌, ◌<◌, List, [], ◌∷◌, ◌++◌, length, take, length-append, true, not, Option, Some, None, refl, sym, ap, ◌∙◌, subst, arith}
 use Rattle.std.specs.Prelude.{if◌then◌else◌, ◌==◌, nat_lt, Contains, codes, slice_get}
 use Rattle.std.specs.List.{AllByRecursion, suffix_len}
 use Rattle.std.specs.Option.{option_or}
@@ -42,40 +42,7 @@ use Rattle.queue_inject.specs.Causes.{first_fault, pid_name, IsTry, IsTaken, IsF
 use Rattle.queue_inject.proofs.Failures.{pid_is_no_part}
 use Rattle.call_fs.specs.Past.{LeadsTo, Makes, IsFault}
 use Rattle.queue_command.specs.Injected.{IsHomeless, HasPidName, IsOutOfPlace, MayBeQueued}
-
--- The pid names lie in one directory
-
-abbrev HasNoSlash : List ℕ → Type 0
-HasNoSlash text = AllByRecursion (λ b. not (b == 47) ≡ true) text
-
-no_slash-digits : (text : List ℕ) → AllByRecursion IsDigit text → HasNoSlash text
-no_slash-digits [] only = tt
-no_slash-digits (b ∷ text) only =
-    let first = only.0 in
-    (⊎_elim (λ w. let is = w.1 in absurd (omega arith)) (λ w. ap not w.0) (eqb_tells b 47), no_slash-digits text only.1)
-
-no_slash-append : (front back : List ℕ) → HasNoSlash front → HasNoSlash back → HasNoSlash (front ++ back)
-no_slash-append [] back h k = k
-no_slash-append (b ∷ front) back h k = (h.0, no_slash-append front back h.1 k)
-
-dir_pid : (rest : List ℕ) → HasNoSlash rest → dir_of (codes "pid/" ++ rest) ≡ codes "pid"
-dir_pid rest plain =
-    let name : List ℕ = codes "pid/" ++ rest in
-    let long = length-append (codes "pid/") rest in
-    let behind : suffix_len (λ b. not (b == 47)) name ≡ length name - 4 =
-    suffix_len_is (λ b. not (b == 47)) name 4 0 (omega arith)
-    (λ k from to. ap (λ b. not (b == 47)) (get_or-append_right (codes "pid/") rest 4 k 0 refl from) ∙ All-from_recursion (λ b. not (b == 47) ≡ true) rest plain (k - 4) 0 (omega arith))
-    (λ some. refl) in
-    let at : length name - suffix_len (λ b. not (b == 47)) name - 1 ≡ 3 = omega arith in
-    ap (λ n. take n name) at
-
-dir_pid_name : (args : Arguments) (k : ℕ) → dir_of (pid_name args k) ≡ codes "pid"
-unfolding path
-dir_pid_name args k =
-    let plain : (n : ℕ) → HasNoSlash (digits n) = λ n. no_slash-digits (digits n) (digits_only n) in
-    dir_pid (digits args.pid ++ 46 ∷ (digits args.start ++ 46 ∷ digits k))
-    (no_slash-append (digits args.pid) (46 ∷ (digits args.start ++ 46 ∷ digits k)) (plain args.pid)
-    (refl, no_slash-append (digits args.start) (46 ∷ digits k) (plain args.start) (refl, plain k)))
+use Rattle.queue_command.proofs.PidNames.{dir_pid_name, pid_name_is_name}
 
 -- The disk is the first one as long as pid names are tried
 
@@ -152,13 +119,14 @@ module _ (args : Arguments) (first : Disk) (P : CallData → Answer → Type 0) 
 -- No try fails where a pid name is free
 
 free_fails_none : (args : Arguments) (old new : Option Disk) (past : List Own) (last status : ℕ)
+    → args.pid < 2 ^ 32 → args.start < 2 ^ 64
     → IsRun args past → Meets old new (λ before after. LeadsTo before past after) → IsCausedBy args past last status → HasPidName args old past
     → (¬ (HasCall past (IsHomeless args))) × (¬ (HasCall past (IsTaken args 9)))
-free_fails_none args None new past last status run led caused (home, k, try, free) = (home, λ h. free (caused.tried h k try))
-free_fails_none args (Some d) None past last status run led caused has = absurd led
-free_fails_none args (Some d) (Some e) past last status run led caused (dir, k, try, free) = (
+free_fails_none args None new past last status low soon run led caused (home, k, try, free) = (home, λ h. free (caused.tried h k try))
+free_fails_none args (Some d) None past last status low soon run led caused has = absurd led
+free_fails_none args (Some d) (Some e) past last status low soon run led caused (dir, k, try, free) = (
   tells args d (IsHomeless args) ⊥
-      (λ call answer h. (h.0, NotThere, h.2, h.3, λ wrote none. none (subst (λ (name : List ℕ). Contains d.dirs name) (dir_pid_name args 1 ∙ sym (dir_pid_name args h.0)) dir)))
+      (λ call answer h. (h.0, NotThere, h.2, h.3, λ wrote none. none (pid_name_is_name args h.0 low soon h.1, subst (λ (name : List ℕ). Contains d.dirs name) (dir_pid_name args 1 ∙ sym (dir_pid_name args h.0)) dir)))
       e past run led,
   λ h. tells args d (IsTaken args k) ⊥
       (λ call answer h. (k, Exists, h.0, h.1, λ wrote there. let some = there.1 in cc))
@@ -211,8 +179,9 @@ no_fault args old past last may =
     ap (λ fault. option_or fault (intd_text args).fault) message ∙ envelope
 
 pub may_be_queued : (args : Arguments) (old new : Option Disk) (past : List Own) (last status : ℕ)
+    → args.pid < 2 ^ 32 → args.start < 2 ^ 64
     → IsRun args past → Meets old new (λ before after. LeadsTo before past after) → IsCausedBy args past last status
     → MayBeQueued args old past last → (status ≡ 0) ⊎ (status ≡ 51)
-may_be_queued args old new past last status run led caused may =
-    let none = free_fails_none args old new past last status run led caused may.pid_name_free in
+may_be_queued args old new past last status low soon run led caused may =
+    let none = free_fails_none args old new past last status low soon run led caused may.pid_name_free in
     caused.complete (no_fault args old past last may) may.in_time (none_fails args past may.calm may.in_place none.0 none.1)

@@ -8,8 +8,12 @@ pub mod Sources
 pub mod Keeping
 -- what was read of both inputs
 pub mod Portions
+-- some arguments are possible
+pub mod Possible
 -- an injector that runs to its end
 pub mod Runs
+-- pid names
+pub mod PidNames
 -- which injections are queued
 pub mod Complete
 -- a whole injection

@@ -1,5 +1,5 @@
 -- An injector that is fed and takes its turns, to its end.
-use Rattle.std.proofs.Common.{◌≡◌, ◌≢◌, ℕ, ◌+◌, ◌≤◌, List, [], ◌∷◌, ◌++◌, length, Bool, true, false, if◌then◌else◌, nat_lt, Option, Some, None, refl, sym, ap, ◌∙◌, subst, arith}
+use Rattle.std.proofs.Common.{◌≡◌, ◌≢◌, ℕ, ◌+◌, ◌≤◌, List, [], ◌∷◌, length, Bool, true, false, if◌then◌else◌, nat_lt, Option, Some, None, refl, sym, ap, ◌∙◌, subst, arith}
 use Rattle.call_fs.specs.declared.calls.Told.{Told}
 use Rattle.call_fs.specs.declared.program.Ready.{Ready}
 use Rattle.call_fs.specs.declared.past.GotData.{GotData}
@@ -34,12 +34,13 @@ use Rattle.queue_command.specs.declared.input.Form.{Form}
 use Rattle.queue_command.specs.declared.input.Form.TheVariants.{Beside, Netstrings}
 use Rattle.queue_command.specs.declared.netstring.Place.{Place}
 use Rattle.queue_command.specs.declared.netstring.Place.TheVariants.{Head}
-use Rattle.queue_command.specs.Inputs.{Heard, Stream, unread, Begins, AreRead}
+use Rattle.queue_command.specs.Inputs.{Heard, Stream, unread, AreRead}
 use Rattle.queue_command.specs.Feeding.{TellsBy, FeedsBy}
 use Rattle.queue_command.specs.Runs.{Outside, Who, IsPossible, HasRun}
 use Rattle.queue_command.specs.Injected.{HasInjectedFrom}
 use Rattle.queue_command.proofs.Keeping.{Keeps, KeepsMessage, KeepsIn, keeps_after, keeps_fed, heard_on, open_to, fewer, tells_more}
 use Rattle.queue_command.proofs.Portions.{feeds_on, nothing_read}
+use Rattle.queue_command.proofs.Possible.{some_arguments, some_possible}
 
 -- What an injector does next is a file call, or it has ended
 
@@ -88,37 +89,6 @@ came_answer (needs.Ended status) came act may = absurd may
 came_answer due came act may = absurd act
 
 -- One run
-
--- some arguments are possible
-abbrev some_end : Option InputEnd → InputEnd
-some_end None = ends.Whole
-some_end (Some end) = end
-
-begins_some : (bytes : List ℕ) (end : Option InputEnd) → Begins bytes (some_end end) (record { bytes = bytes; end = end })
-begins_some bytes None = ([], append-nil-right bytes) where
-  append-nil-right : (l : List ℕ) → l ≡ l ++ []
-  append-nil-right [] = refl
-  append-nil-right (x ∷ l) = ap (λ t. x ∷ t) (append-nil-right l)
-begins_some bytes (Some end) = (refl, refl)
-
-abbrev some_arguments : Who → ℕ → Heard → Arguments
-some_arguments who start heard = record {
-  uid = who.uid;
-  pid = who.pid;
-  invoked = who.invoked;
-  start = start;
-  message = heard.message.bytes;
-  message_end = some_end heard.message.end;
-  envelope = heard.envelope.bytes;
-  envelope_end = some_end heard.envelope.end;
-}
-
-some_possible : (who : Who) (start : ℕ) (heard : Heard) → IsPossible who start heard (some_arguments who start heard)
-some_possible who start heard = record {
-  started = record { uid_is = refl; pid_is = refl; invoked_is = refl; start_is = refl };
-  message = begins_some heard.message.bytes heard.message.end;
-  envelope = begins_some heard.envelope.bytes heard.envelope.end;
-}
 
 -- An injector that goes on: it ran so far for whatever arguments are possible, and keeps what was heard of its input.
 pub record IsInjecting (who : Who) (start : ℕ) (form : Form) (place : Place) (m : Machine) (from beside : Stream) (old now : Around) : Type 0 where

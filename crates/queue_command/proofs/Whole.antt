@@ -1,5 +1,5 @@
 -- A whole injection from its parts.
-use Rattle.std.proofs.Common.{◌≡◌, ℕ, List, Option}
+use Rattle.std.proofs.Common.{◌≡◌, ℕ, ◌^◌, ◌<◌, List, Option, subst, sym}
 use Rattle.call_fs.specs.declared.program.Ready.{Ready}
 use Rattle.mail_bytes.specs.Told.{Records}
 use Rattle.call_fs.specs.declared.past.NeedData.TheVariants as needs
@@ -20,9 +20,9 @@ abbrev pub HaveCauses : Type 0
 HaveCauses = (args : Arguments) (past : List Own) (now : ℕ) (ready : Ready) (status : ℕ) → IsRun args past → Next args past now ready ≡ needs.Ended status → IsCausedBy args past now status
 
 pub injected : (who : Who) (start : ℕ) (form : Form) (message envelope : Stream) (old new : Outside) (status : ℕ) (first_read : Option (List ℕ)) → HaveCauses
-    → Records old.moments first_read start → HasInjectedFrom who start form message envelope (record old { moments = first_read }) new status
+    → who.pid < 2 ^ 32 → start < 2 ^ 64 → Records old.moments first_read start → HasInjectedFrom who start form message envelope (record old { moments = first_read }) new status
     → HasReadAndRun who form message envelope old new status
-injected who start form message envelope old new status first_read law started from =
+injected who start form message envelope old new status first_read law low soon started from =
     let ran = from.ran in
     record {
       start = start;
@@ -30,6 +30,6 @@ injected who start form message envelope old new status first_read law started f
       started = started;
       from_start = from;
       caused = λ args is. law args ran.past ran.last INPUT_READY status (ran.run args is) (ran.ends args is);
-      complete = λ args is. may_be_queued args old.disk new.disk ran.past ran.last status (ran.run args is) ran.disk
+      complete = λ args is. may_be_queued args old.disk new.disk ran.past ran.last status (subst (λ p. p < 2 ^ 32) (sym is.started.pid_is) low) (subst (λ s. s < 2 ^ 64) (sym is.started.start_is) soon) (ran.run args is) ran.disk
           (law args ran.past ran.last INPUT_READY status (ran.run args is) (ran.ends args is));
     }

@@ -1,11 +1,11 @@
 -- A whole injection: what came in, what was done with it, and why it ended so.
-use Rattle.std.specs.Prelude.{◌≡◌, ◌≢◌, ◌⊎◌, ℕ, ◌≤◌, List, length, take, Option, Some, None}
+use Rattle.std.specs.Prelude.{◌≡◌, ◌≢◌, ◌⊎◌, ℕ, ◌≤◌, List, length, take, Contains, Option, Some, None}
 use Rattle.call_fs.specs.declared.calls.FsError.TheVariants.{NotThere, Exists}
 use Rattle.call_fs.specs.declared.calls.CallData.{CallData}
 use Rattle.call_fs.specs.declared.calls.CallData.TheVariants.{CreateExcl}
 use Rattle.call_fs.specs.declared.calls.Answer.{Answer}
 use Rattle.call_fs.specs.declared.calls.Answer.TheVariants.{Refused}
-use Rattle.call_fs.specs.Disk.{Disk, HasDir}
+use Rattle.call_fs.specs.Disk.{Disk, dir_of}
 use Rattle.mail_bytes.specs.Told.{Records}
 use Rattle.call_fs.specs.declared.past.Own.{Own}
 use Rattle.envelope_records.specs.Envelope.{HasEnvelope}
@@ -28,7 +28,7 @@ IsHomeless args call answer = (k : ℕ) × IsTry k × (call ≡ CreateExcl (pid_
 
 -- Of the pid names one is free, and their directory is there; where the disk doesn't tell, its answers say so.
 abbrev pub HasPidName : Arguments → Option Disk → List Own → Type 0
-HasPidName args (Some d) past = HasDir d (pid_name args 1) × (k : ℕ) × IsTry k × (d.names (pid_name args k) ≡ None)
+HasPidName args (Some d) past = Contains d.dirs (dir_of (pid_name args 1)) × (k : ℕ) × IsTry k × (d.names (pid_name args k) ≡ None)
 HasPidName args None past = (¬ (HasCall past (IsHomeless args))) × (k : ℕ) × IsTry k × (¬ (HasCall past (IsTaken args k)))
 
 -- another call than the creation of a pid name was refused, clean ups apart, since a name was there or missing

@@ -1,5 +1,5 @@
 // A whole injection.
-ghost use Rattle.std.specs.Prelude.{◌≡◌, IfOk, OnErr};
+ghost use Rattle.std.specs.Prelude.{◌≡◌, ◌<◌, ◌^◌, IfOk, OnErr};
 ghost use Rattle.mail_bytes.specs.Moments.{IsMoment};
 ghost use Rattle.queue_command.specs.Injected.{HasInjected, HasInjectedFrom};
 
@@ -77,6 +77,7 @@ fn inject_from<D: CallFs, M: Source, E: Source, K: Clock>(
         (record { disk = D.disk disk.old; calls = D.calls disk.old; faults = D.faults disk.old; moments = K.calls clock.old })
         (record { disk = D.disk disk.new; calls = D.calls disk.new; faults = D.faults disk.new; moments = K.calls clock.new })
         status) }
+    ensures number { pid < 2 ^ 32 }
     ensures beside { form ≡ Form.Netstrings → envelope.new ≡ envelope.old }
     ensures disk { OnErr result (disk.new ≡ disk.old) }
     ensures clock { OnErr result (clock.new ≡ clock.old) }

@@ -1,4 +1,4 @@
--- What an injector does next, once its input is ready: a file call, or its end.
+-- What an injector does next: a file call, or its end; and nothing while its input isn't ready.
 use Rattle.std.proofs.Common.{◌≡◌, ℕ, List, Bool, true, false, sym, subst}
 use Rattle.call_fs.specs.declared.program.Ready.{Ready}
 use Rattle.call_fs.specs.declared.past.NeedData.{NeedData}
@@ -45,3 +45,26 @@ pub next_act : (args : Arguments) (past : List Own) (now : ℕ) (ready : Ready) 
 next_act args past now ready has =
     subst (λ (b : Bool). IsAct (in_time b (is_late args now) (call_of args (row_after args past)))) (sym has)
     (in_time_act (is_late args now) (call_of args (row_after args past)) (row_act args (row_after args past)))
+
+-- nothing that concerns another program
+abbrev pub IsAlone : NeedData → Type 0
+IsAlone (needs.File c) = Unit {0}
+IsAlone (needs.Ended status) = Unit {0}
+IsAlone needs.Wait = Unit {0}
+IsAlone other = ⊥
+
+in_time_alone : (input late : Bool) (due : NeedData) → IsAct due → IsAlone (in_time input late due)
+in_time_alone true true (needs.File c) act = tt
+in_time_alone true false (needs.File c) act = tt
+in_time_alone false late (needs.File c) act = tt
+in_time_alone input late (needs.Ended status) act = tt
+in_time_alone input late (needs.Take port) act = absurd act
+in_time_alone input late (needs.Give port bytes) act = absurd act
+in_time_alone input late (needs.Start child) act = absurd act
+in_time_alone input late (needs.Command bytes) act = absurd act
+in_time_alone input late needs.Wait act = absurd act
+
+-- an injector takes, gives and starts nothing
+pub next_alone : (args : Arguments) (past : List Own) (now : ℕ) (ready : Ready) → IsAlone (Next args past now ready)
+next_alone args past now ready =
+    in_time_alone (has_input ready) (is_late args now) (call_of args (row_after args past)) (row_act args (row_after args past))

@@ -7,7 +7,6 @@ use Rattle.call_fs.specs.declared.calls.CallData.{CallData}
 use Rattle.call_fs.specs.declared.calls.Answer.TheVariants.{Refused}
 use Rattle.call_fs.specs.declared.calls.FsError.TheVariants.{Memory}
 use Rattle.call_fs.specs.declared.program.Ready.{Ready}
-use Rattle.call_fs.specs.declared.past.NeedData.{NeedData}
 use Rattle.call_fs.specs.declared.past.NeedData.TheVariants as needs
 use Rattle.call_fs.specs.declared.past.Own.{Own}
 use Rattle.envelope_records.specs.declared.envelope.EnvFault.{EnvFault}
@@ -77,6 +76,15 @@ input_status args = either_input (message_text args).fault (intd_text args).faul
 pub kind_of_input : (args : Arguments) (status : ℕ) → first_fault args ≡ Some status → IsOfKind true status
 kind_of_input args status e = subst IsInputStatus e (input_status args)
 
+-- of each text
+pub kind_of_message : (args : Arguments) (status : ℕ) → (message_text args).fault ≡ Some status → IsOfKind true status
+unfolding message_text
+kind_of_message args status e = subst IsInputStatus e (of_message (nat_lt limit (length args.message)) args.message_end)
+
+pub kind_of_todo : (args : Arguments) (status : ℕ) → (intd_text args).fault ≡ Some status → IsOfKind true status
+unfolding intd_text envelope_of
+kind_of_todo args status e = subst IsInputStatus e (of_envelope (read_envelope _) args.envelope_end (slice_get args.envelope limit))
+
 -- The end of a run
 
 data Outcome (args : Arguments) (past : List Own) (now status : ℕ) : Type 0 where
@@ -88,7 +96,7 @@ unqueued_at : (args : Arguments) (past : List Own) (status : ℕ) → IsEnding a
 unqueued_at args past status (ByInput clear fault) = clear.unqueued
 unqueued_at args past status (ByCall unqueued f one) = unqueued
 
-out_of_time : (input late : Bool) (call : CallData) (status : ℕ) → in_time input late (needs.File call) ≡ needs.Ended status → (late ≡ true) × (52 ≡ status)
+pub out_of_time : (input late : Bool) (call : CallData) (status : ℕ) → in_time input late (needs.File call) ≡ needs.Ended status → (late ≡ true) × (52 ≡ status)
 out_of_time true true call status e = (refl, cc)
 out_of_time true false call status e = absurd (cc)
 out_of_time false late call status e = absurd (cc)

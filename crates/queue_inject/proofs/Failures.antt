@@ -19,7 +19,7 @@ use Rattle.queue_inject.specs.Causes.FailsWith.{WantsMemory, Appends, Syncs, Tak
 
 -- Names
 
-same_name : (x y : Name) → path x ≡ path y → x ≡ y
+pub same_name : (x y : Name) → path x ≡ path y → x ≡ y
 same_name x y e =
     let told : ◌≡◌ {A = Option Name} (Some x) (Some y) = sym (exact.parse_path x) ∙ ap parse e ∙ exact.parse_path y in
     cc

@@ -1,5 +1,5 @@
 -- The rows of an injector use what it holds open.
-use Rattle.std.proofs.Common.{◌≡◌, ℕ, ◌+◌, List, [], ◌∷◌, length, take, drop, Bool, true, false, if◌then◌else◌, nat_lt, nat_le, Option, Some, None, IsSome, refl, sym, ap, ◌∙◌, subst}
+use Rattle.std.proofs.Common.{◌≡◌, ℕ, ◌+◌, List, [], ◌∷◌, length, take, drop, Bool, true, false, if◌then◌else◌, nat_lt, nat_le, Option, Some, None, IsSome, refl, sym, subst}
 use Rattle.std.specs.Prelude.{IsSomeAnd}
 use Rattle.call_fs.specs.declared.calls.CallData.{CallData}
 use Rattle.call_fs.specs.declared.calls.CallData.TheVariants as call
@@ -14,7 +14,7 @@ use Rattle.call_fs.specs.declared.past.GotData.TheVariants.{Answered}
 use Rattle.call_fs.specs.declared.past.Own.{Own}
 use Rattle.call_fs.specs.Columns.{IsAnswerTo}
 use Rattle.call_fs.specs.Disk.{Mode, IsForAppend}
-use Rattle.call_fs.specs.Past.{held, held_by, held_after, Uses, UsesHeld}
+use Rattle.call_fs.specs.Past.{held, held_by, held_after, UsesHeld}
 use Rattle.call_fs.proofs.Maps.{put_same}
 use Rattle.queue_paths.specs.Names.{path}
 use Rattle.queue_paths.specs.Names.Name.{Pid, Of}

@@ -1,9 +1,9 @@
 -- Each call brings an injector nearer to its end.
-use Rattle.std.proofs.Common.{◌≡◌, ℕ, ◌+◌, ◌-◌, ◌≤◌, ◌<◌, List, length, Bool, true, false, if◌then◌else◌, nat_lt, refl, sym, ap, ◌∙◌, subst, arith}
+use Rattle.std.proofs.Common.{◌≡◌, ℕ, ◌+◌, ◌≤◌, ◌<◌, List, length, Bool, true, false, if◌then◌else◌, nat_lt, refl, arith}
 use Rattle.std.proofs.lemmas.Bool.{ltb-true}
 use Rattle.call_fs.specs.declared.calls.Answer.{Answer}
 use Rattle.call_fs.specs.declared.calls.Answer.TheVariants as told
-use Rattle.call_fs.specs.declared.calls.FsError.TheVariants.{NotThere, Exists, Fault, Memory}
+use Rattle.call_fs.specs.declared.calls.FsError.TheVariants.{NotThere, Exists}
 use Rattle.queue_inject.specs.declared.intake.Verdict.{Verdict}
 use Rattle.queue_inject.specs.declared.intake.Verdict.TheVariants as verdict
 use Rattle.queue_inject.specs.declared.row.Row.{Row}
@@ -11,9 +11,9 @@ use Rattle.queue_inject.specs.declared.row.Row.TheVariants as at
 use Rattle.queue_inject.specs.Texts.{limit}
 use Rattle.call_fs.specs.declared.past.NeedData.{NeedData}
 use Rattle.call_fs.specs.declared.past.NeedData.TheVariants as needs
-use Rattle.queue_inject.specs.Table.{piece_size, goes_to, failure, call_at, in_time, has_input}
+use Rattle.queue_inject.specs.Table.{goes_to, call_at, in_time, has_input}
 use Rattle.queue_inject.specs.Rows.{has_piece, past_text, row_by}
-use Rattle.queue_inject.specs.Machine.{Machine, Heard, is_call, due_now, late_now, call_now, row_now, text_bound, ahead_by, ahead_of}
+use Rattle.queue_inject.specs.Machine.{Machine, Heard, is_call, due_now, late_now, call_now, row_now, ahead_by, ahead_of}
 use Rattle.queue_inject.specs.Inside.{Counts}
 
 -- so many bytes were written at most

@@ -60,7 +60,7 @@ IsAt args past (at.Failed status) = IsEnding args past status
 
 -- What follows the written bytes of a text
 
-past_written : (P : Row → Type 0) (bytes : List ℕ) (fault : Option ℕ) (done : ℕ) (more end : Row) (bad : ℕ → Row)
+pub past_written : (P : Row → Type 0) (bytes : List ℕ) (fault : Option ℕ) (done : ℕ) (more end : Row) (bad : ℕ → Row)
     → P more → (fault ≡ None → P end) → ((status : ℕ) → fault ≡ Some status → P (bad status)) → P (past_piece bytes fault done more end bad)
 past_written P bytes None done more end bad h whole faulty = either P (nat_lt done (length bytes)) more end h (whole refl)
 past_written P bytes (Some status) done more end bad h whole faulty = either P (nat_le (done + piece_size) (length bytes)) more (bad status) h (faulty status refl)
@@ -82,13 +82,13 @@ in_todo_at args past n fd done clear whole =
 
 -- One event more, of a call and its answer
 module _ (args : Arguments) (before : List Own) (read : ℕ) (ready : Ready) (bytes : List ℕ) where
-  abbrev called : CallData → Answer → Own
+  abbrev pub called : CallData → Answer → Own
   called call answer = record { read = read; ready = ready; due = needs.File call; came = Answered (record { answer = answer; bytes = bytes }) }
 
-  abbrev with_call : CallData → Answer → List Own
+  abbrev pub with_call : CallData → Answer → List Own
   with_call call answer = called call answer ∷ before
 
-  held : (P : CallData → Answer → Type 0) (call : CallData) (answer : Answer) → P call answer → HoldsOf P (called call answer)
+  pub held : (P : CallData → Answer → Type 0) (call : CallData) (answer : Answer) → P call answer → HoldsOf P (called call answer)
   held P call answer p = record { call = call; told = record { answer = answer; bytes = bytes }; due = refl; came = refl; holds = p }
 
   of_held : (P : CallData → Answer → Type 0) (call : CallData) (answer : Answer) → HoldsOf P (called call answer) → P call answer

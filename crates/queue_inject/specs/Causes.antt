@@ -8,7 +8,6 @@ use Rattle.call_fs.specs.declared.calls.Answer.TheVariants.{Done, Refused}
 use Rattle.call_fs.specs.declared.calls.Fd.{Fd}
 use Rattle.call_fs.specs.declared.calls.FsError.{FsError}
 use Rattle.call_fs.specs.declared.calls.FsError.TheVariants.{Exists, Fault, Memory}
-use Rattle.call_fs.specs.declared.past.NeedData.{NeedData}
 use Rattle.call_fs.specs.declared.past.NeedData.TheVariants as needs
 use Rattle.call_fs.specs.declared.past.Own.{Own}
 use Rattle.queue_paths.specs.Names.{path}
@@ -18,6 +17,8 @@ use Rattle.queue_inject.specs.declared.injection.Arguments.{Arguments}
 use Rattle.queue_inject.specs.Texts.{message_text, intd_text}
 use Rattle.queue_inject.specs.Table.{row_after, call_of}
 use Rattle.call_fs.specs.Past.{HasCall}
+use Rattle.queue_limits.specs.declared.statuses.TheConstants.{DONE, IN_INTD, IN_MESS, IN_PID, IN_TODO, INPUT, LATE, LONG_ADDRESS, MALFORMED, MEMORY, OUTPUT, TOO_LONG}
+use Rattle.queue_limits.specs.declared.times.TheConstants.{DAY}
 
 -- The input
 
@@ -55,21 +56,21 @@ pub record IsFailure (args : Arguments) (call : CallData) (answer : Answer) : Ty
 
 -- The exit status of each call that fails.
 pub data FailsWith (args : Arguments) : ℕ → CallData → Answer → Type 0 where
-  -- want of memory
-  WantsMemory : (call : CallData) → ¬ (IsCleanUp call) → FailsWith args 51 call (Refused Memory)
+  -- out of memory
+  WantsMemory : (call : CallData) → ¬ (IsCleanUp call) → FailsWith args MEMORY call (Refused Memory)
   -- a write or a sync
-  Appends : (fd : Fd) (bytes : List ℕ) → FailsWith args 53 (Append fd bytes) (Refused Fault)
-  Syncs : (fd : Fd) → FailsWith args 53 (Sync fd) (Refused Fault)
+  Appends : (fd : Fd) (bytes : List ℕ) → FailsWith args OUTPUT (Append fd bytes) (Refused Fault)
+  Syncs : (fd : Fd) → FailsWith args OUTPUT (Sync fd) (Refused Fault)
   -- in pid: all nine names are taken, or another failure
-  TakesAll : FailsWith args 63 (CreateExcl (pid_name args 9)) (Refused Exists)
-  MakesPid : (k : ℕ) (why : FsError) → IsTry k → why ≢ Exists → why ≢ Memory → FailsWith args 63 (CreateExcl (pid_name args k)) (Refused why)
-  LeavesPid : (k : ℕ) (why : FsError) → IsTry k → why ≢ Memory → FailsWith args 63 (Unlink (pid_name args k)) (Refused why)
+  TakesAll : FailsWith args IN_PID (CreateExcl (pid_name args 9)) (Refused Exists)
+  MakesPid : (k : ℕ) (why : FsError) → IsTry k → why ≢ Exists → why ≢ Memory → FailsWith args IN_PID (CreateExcl (pid_name args k)) (Refused why)
+  LeavesPid : (k : ℕ) (why : FsError) → IsTry k → why ≢ Memory → FailsWith args IN_PID (Unlink (pid_name args k)) (Refused why)
   -- in mess
-  LinksMess : (k n : ℕ) (why : FsError) → IsTry k → why ≢ Memory → FailsWith args 64 (Link (pid_name args k) (path (Of Mess n))) (Refused why)
+  LinksMess : (k n : ℕ) (why : FsError) → IsTry k → why ≢ Memory → FailsWith args IN_MESS (Link (pid_name args k) (path (Of Mess n))) (Refused why)
   -- in intd
-  MakesIntd : (n : ℕ) (why : FsError) → why ≢ Memory → FailsWith args 65 (CreateExcl (path (Of Intd n))) (Refused why)
+  MakesIntd : (n : ℕ) (why : FsError) → why ≢ Memory → FailsWith args IN_INTD (CreateExcl (path (Of Intd n))) (Refused why)
   -- in todo
-  LinksTodo : (n : ℕ) (why : FsError) → why ≢ Memory → FailsWith args 66 (Link (path (Of Intd n)) (path (Of Todo n))) (Refused why)
+  LinksTodo : (n : ℕ) (why : FsError) → why ≢ Memory → FailsWith args IN_TODO (Link (path (Of Intd n)) (path (Of Todo n))) (Refused why)
 
 -- The end
 
@@ -77,34 +78,34 @@ pub data FailsWith (args : Arguments) : ℕ → CallData → Answer → Type 0 w
 pub record IsCutShort (args : Arguments) (past : List Own) (now : ℕ) : Type 0 where
   pub next : CallData
   pub due : call_of args (row_after args past) ≡ needs.File next
-  pub late : args.start + 86400 < now
+  pub late : args.start + DAY < now
 
 -- the statuses of a fault of the input: an address is too long, a message or an envelope is too long, it could not be
 -- read to its end, its format is wrong
 abbrev pub is_of_input : ℕ → Bool
-is_of_input status = (status == 11) || ((status == 31) || ((status == 54) || (status == 91)))
+is_of_input status = (status == LONG_ADDRESS) || ((status == TOO_LONG) || ((status == INPUT) || (status == MALFORMED)))
 
--- the statuses of a failed call: want of memory; a write or a sync; in pid, mess, intd and todo
+-- the statuses of a failed call: out of memory; a write or a sync; in pid, mess, intd and todo
 abbrev pub is_of_call : ℕ → Bool
-is_of_call status = (status == 51) || ((status == 53) || ((status == 63) || ((status == 64) || ((status == 65) || (status == 66)))))
+is_of_call status = (status == MEMORY) || ((status == OUTPUT) || ((status == IN_PID) || ((status == IN_MESS) || ((status == IN_INTD) || (status == IN_TODO)))))
 
 -- The run that this past is, newest event first, ended at this moment with this status.
 pub record IsCausedBy (args : Arguments) (past : List Own) (now status : ℕ) : Type 0 where
-  pub known : IsTrue ((status == 0) || ((status == 52) || (is_of_input status || is_of_call status)))
-  -- 0 exactly where the link to todo was made; and exactly where the input has no fault, no call failed and the day wasn't
-  -- over at a call
-  pub queued : (status ≡ 0) ↔ HasCall past IsQueuing
-  pub well : (status ≡ 0) ↔ ((first_fault args ≡ None) × (¬ (HasCall past (IsFailure args))) × (¬ (IsCutShort args past now)))
-  -- 52 exactly where the day was over at a call
-  pub late : (status ≡ 52) ↔ IsCutShort args past now
-  -- 11, 31, 54 or 91 exactly where the first fault of the input has this status, no call failed before, and the day wasn't
+  pub known : IsTrue ((status == DONE) || ((status == LATE) || (is_of_input status || is_of_call status)))
+  -- 0 exactly if the link to todo was made; and exactly if the input has no fault, no call failed and the day wasn't over at
+  -- a call
+  pub queued : (status ≡ DONE) ↔ HasCall past IsQueuing
+  pub well : (status ≡ DONE) ↔ ((first_fault args ≡ None) × (¬ (HasCall past (IsFailure args))) × (¬ (IsCutShort args past now)))
+  -- 52 exactly if the day was over at a call
+  pub late : (status ≡ LATE) ↔ IsCutShort args past now
+  -- 11, 31, 54 or 91 exactly if the first fault of the input has this status, no call failed before, and the day wasn't
   -- over at a call
   pub input : (s : ℕ) → IsTrue (is_of_input s)
       → (status ≡ s) ↔ ((first_fault args ≡ Some s) × (¬ (HasCall past (IsFailure args))) × (¬ (IsCutShort args past now)))
-  -- 51, 53 or 63 to 66 exactly where a call failed that has this status, and the day wasn't over at a clean up
+  -- 51, 53 or 63 to 66 exactly if a call failed that has this status, and the day wasn't over at a clean up
   pub failed : (s : ℕ) → IsTrue (is_of_call s) → (status ≡ s) ↔ (HasCall past (FailsWith args s) × (¬ (IsCutShort args past now)))
-  -- where the ninth pid name was taken, each was
+  -- if the ninth pid name was taken, each was
   pub tried : HasCall past (IsTaken args 9) → (k : ℕ) → IsTry k → HasCall past (IsTaken args k)
-  -- 0 or 51 where the input has no fault, the day wasn't over at a call, and no call failed but for want of memory
+  -- 0 or 51 if the input has no fault, the day wasn't over at a call, and no call failed except that memory ran out
   pub complete : first_fault args ≡ None → ¬ (IsCutShort args past now)
-      → ¬ (HasCall past (λ call answer. IsFailure args call answer × (answer ≢ Refused Memory))) → (status ≡ 0) ⊎ (status ≡ 51)
+      → ¬ (HasCall past (λ call answer. IsFailure args call answer × (answer ≢ Refused Memory))) → (status ≡ DONE) ⊎ (status ≡ MEMORY)

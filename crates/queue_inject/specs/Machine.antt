@@ -1,5 +1,5 @@
 -- An injector as contracts see it.
-use Rattle.std.specs.Prelude.{◌≡◌, ℕ, ◌+◌, ◌-◌, min, List, [], ◌∷◌, ◌++◌, length, take, Option, Some, None, Bool, true, false, if◌then◌else◌, nat_lt}
+use Rattle.std.specs.Prelude.{ℕ, ◌+◌, ◌-◌, min, List, [], ◌∷◌, ◌++◌, length, take, Option, Some, None, Bool, true, false, if◌then◌else◌, nat_lt}
 use Rattle.call_fs.specs.declared.calls.Answer.{Answer}
 use Rattle.call_fs.specs.declared.program.Ready.{Ready}
 use Rattle.call_fs.specs.declared.past.NeedData.{NeedData}
@@ -15,6 +15,8 @@ use Rattle.queue_inject.specs.declared.row.Row.TheVariants as at
 use Rattle.queue_inject.specs.Texts.{limit, end_status}
 use Rattle.queue_inject.specs.Table.{piece_size, goes_to, call_at, has_input, in_time}
 use Rattle.queue_inject.specs.Rows.{is_open, part_in, row_by, message_over}
+use Rattle.queue_limits.specs.declared.statuses.TheConstants.{TOO_LONG}
+use Rattle.queue_limits.specs.declared.times.TheConstants.{DAY}
 
 -- What an injector holds of the text at hand: its next piece, as far as that was fed; how many bytes of the message, or of
 -- the envelope, were fed; what the text is so far; and the envelope's reader.
@@ -58,7 +60,7 @@ abbrev pub with_message : Heard → List ℕ → Heard
 with_message h bytes = record h {
   piece = h.piece ++ take (limit - h.fed) bytes;
   fed = h.fed + length bytes;
-  verdict = if nat_lt limit (h.fed + length bytes) then Faulty 31 else h.verdict;
+  verdict = if nat_lt limit (h.fed + length bytes) then Faulty TOO_LONG else h.verdict;
 }
 
 -- after the end of the part that was asked for
@@ -89,7 +91,7 @@ is_call (needs.Ended status) = false
 
 -- it has run for more than a day
 abbrev pub late_now : Machine → Bool
-late_now m = nat_lt (m.start + 86400) m.present
+late_now m = nat_lt (m.start + DAY) m.present
 
 -- its call, or its end, at whatever time
 abbrev pub call_now : Machine → NeedData

@@ -12,6 +12,7 @@ use Rattle.queue_inject.specs.declared.intake.Verdict.TheVariants.{Open, Whole, 
 use Rattle.queue_inject.specs.declared.row.Row.{Row}
 use Rattle.queue_inject.specs.declared.row.Row.TheVariants as at
 use Rattle.queue_inject.specs.Table.{piece_size}
+use Rattle.queue_limits.specs.declared.statuses.TheConstants.{INPUT, LONG_ADDRESS, MALFORMED, TOO_LONG}
 
 -- where an injector stands in its table, and whose names it uses
 pub record Place : Type 0 where
@@ -113,18 +114,18 @@ row_by verdict len row = row
 -- what a message is once its end is told
 abbrev pub message_over : InputEnd → Verdict
 message_over ends.Whole = Whole
-message_over ends.Unread = Faulty 54
-message_over ends.Malformed = Faulty 91
+message_over ends.Unread = Faulty INPUT
+message_over ends.Malformed = Faulty MALFORMED
 
 -- what a byte of an open envelope makes of it, by the reader's step and whether the byte is within the limit
 abbrev pub verdict_after : EnvStep → Bool → Verdict
-verdict_after (Fault TooLong) within = Faulty 11
-verdict_after (Fault EndEarly) within = if within then Faulty 54 else Faulty 31
-verdict_after (Fault Format) within = if within then Faulty 91 else Faulty 31
-verdict_after End within = if within then Whole else Faulty 31
-verdict_after More within = if within then Open else Faulty 31
-verdict_after Sender within = if within then Open else Faulty 31
-verdict_after Recipient within = if within then Open else Faulty 31
+verdict_after (Fault TooLong) within = Faulty LONG_ADDRESS
+verdict_after (Fault EndEarly) within = if within then Faulty INPUT else Faulty TOO_LONG
+verdict_after (Fault Format) within = if within then Faulty MALFORMED else Faulty TOO_LONG
+verdict_after End within = if within then Whole else Faulty TOO_LONG
+verdict_after More within = if within then Open else Faulty TOO_LONG
+verdict_after Sender within = if within then Open else Faulty TOO_LONG
+verdict_after Recipient within = if within then Open else Faulty TOO_LONG
 
 abbrev pub is_open : Verdict → Bool
 is_open Open = true

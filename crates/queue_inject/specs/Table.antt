@@ -18,6 +18,9 @@ use Rattle.queue_paths.specs.Names.{path}
 use Rattle.queue_paths.specs.Names.Name.{Pid, Of}
 use Rattle.queue_paths.specs.Names.Part.{Mess, Intd, Todo}
 use Rattle.queue_inject.specs.Texts.{Text, message_text, intd_text}
+use Rattle.call_fs.specs.declared.file_system.TheConstants.{PIECE}
+use Rattle.queue_limits.specs.declared.statuses.TheConstants.{DONE, IN_INTD, IN_MESS, IN_PID, IN_TODO, LATE, MEMORY, OUTPUT}
+use Rattle.queue_limits.specs.declared.times.TheConstants.{DAY}
 
 -- what an injector's table reads of its arguments: its process number, its start and the two texts that it writes
 pub record Work : Type 0 where
@@ -31,11 +34,11 @@ work_of args = record { pid = args.pid; start = args.start; message = message_te
 
 -- the bytes of one write
 abbrev pub piece_size : ℕ
-piece_size = 8192
+piece_size = PIECE
 
 -- a failed call ends with this status: out of memory has its own
 abbrev pub failure : Answer → ℕ → ℕ
-failure (Refused Memory) status = 51
+failure (Refused Memory) status = MEMORY
 failure answer status = status
 
 -- After so many bytes of a text were written: the next piece, what follows the text, or the clean up if the input failed.
@@ -56,24 +59,24 @@ in_todo text n fd done =
 -- to. After an append this is the next one, whether the text has more bytes or not.
 abbrev pub goes_to : Row → Answer → Row
 goes_to (at.Create seq) (Created fd n) = at.LinkMess seq n fd
-goes_to (at.Create seq) (Refused Exists) = if nat_lt seq 9 then at.Create (seq + 1) else at.Failed 63
-goes_to (at.Create seq) answer = at.Failed (failure answer 63)
+goes_to (at.Create seq) (Refused Exists) = if nat_lt seq 9 then at.Create (seq + 1) else at.Failed IN_PID
+goes_to (at.Create seq) answer = at.Failed (failure answer IN_PID)
 goes_to (at.LinkMess seq n fd) Done = at.UnlinkPid seq n fd
-goes_to (at.LinkMess seq n fd) answer = at.Failed (failure answer 64)
+goes_to (at.LinkMess seq n fd) answer = at.Failed (failure answer IN_MESS)
 goes_to (at.UnlinkPid seq n fd) Done = at.AppendMess n fd 0
-goes_to (at.UnlinkPid seq n fd) answer = at.CleanMess n (failure answer 63)
+goes_to (at.UnlinkPid seq n fd) answer = at.CleanMess n (failure answer IN_PID)
 goes_to (at.AppendMess n fd done) Done = at.AppendMess n fd (done + piece_size)
-goes_to (at.AppendMess n fd done) answer = at.CleanMess n (failure answer 53)
+goes_to (at.AppendMess n fd done) answer = at.CleanMess n (failure answer OUTPUT)
 goes_to (at.SyncMess n fd) Done = at.CreateIntd n
-goes_to (at.SyncMess n fd) answer = at.CleanMess n (failure answer 53)
+goes_to (at.SyncMess n fd) answer = at.CleanMess n (failure answer OUTPUT)
 goes_to (at.CreateIntd n) (Created fd i) = at.AppendTodo n fd 0
-goes_to (at.CreateIntd n) answer = at.CleanMess n (failure answer 65)
+goes_to (at.CreateIntd n) answer = at.CleanMess n (failure answer IN_INTD)
 goes_to (at.AppendTodo n fd done) Done = at.AppendTodo n fd (done + piece_size)
-goes_to (at.AppendTodo n fd done) answer = at.CleanIntd n (failure answer 53)
+goes_to (at.AppendTodo n fd done) answer = at.CleanIntd n (failure answer OUTPUT)
 goes_to (at.SyncTodo n fd) Done = at.LinkTodo n
-goes_to (at.SyncTodo n fd) answer = at.CleanIntd n (failure answer 53)
+goes_to (at.SyncTodo n fd) answer = at.CleanIntd n (failure answer OUTPUT)
 goes_to (at.LinkTodo n) Done = at.Queued
-goes_to (at.LinkTodo n) answer = at.Failed (failure answer 66)
+goes_to (at.LinkTodo n) answer = at.Failed (failure answer IN_TODO)
 goes_to (at.CleanIntd n status) Done = at.CleanMess n status
 goes_to (at.CleanIntd n status) (Refused NotThere) = at.CleanMess n status
 goes_to (at.CleanIntd n status) answer = at.Failed status
@@ -123,7 +126,7 @@ call_at pid start piece (at.SyncTodo n fd) = needs.File (call.Sync fd)
 call_at pid start piece (at.LinkTodo n) = needs.File (call.Link (path (Of Intd n)) (path (Of Todo n)))
 call_at pid start piece (at.CleanIntd n status) = needs.File (call.Unlink (path (Of Intd n)))
 call_at pid start piece (at.CleanMess n status) = needs.File (call.Unlink (path (Of Mess n)))
-call_at pid start piece at.Queued = needs.Ended 0
+call_at pid start piece at.Queued = needs.Ended DONE
 call_at pid start piece (at.Failed status) = needs.Ended status
 
 abbrev pub asked : Work → Row → NeedData
@@ -132,7 +135,7 @@ asked work row = call_at work.pid work.start (next_piece work row) row
 abbrev pub call_of : Arguments → Row → NeedData
 call_of args row = asked (work_of args) row
 
--- the first of some links, false where there is none
+-- the first of some links, false if there is none
 abbrev pub first_link : List Bool → Bool
 first_link [] = false
 first_link (link ∷ links) = link
@@ -143,12 +146,12 @@ has_input ready = first_link ready.links
 
 -- it has run for more than a day
 abbrev pub is_late : Arguments → ℕ → Bool
-is_late args now = nat_lt (args.start + 86400) now
+is_late args now = nat_lt (args.start + DAY) now
 
 -- An injector that has ended stays so. It waits while its input isn't ready, and makes no call after a day.
 abbrev pub in_time : Bool → Bool → NeedData → NeedData
 in_time input late (needs.Ended status) = needs.Ended status
-in_time true true (needs.File call) = needs.Ended 52
+in_time true true (needs.File call) = needs.Ended LATE
 in_time true false (needs.File call) = needs.File call
 in_time false late (needs.File call) = needs.Wait
 in_time input late due = due

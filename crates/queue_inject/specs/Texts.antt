@@ -6,54 +6,56 @@ use Rattle.queue_inject.specs.declared.injection.Arguments.{Arguments}
 use Rattle.queue_inject.specs.declared.injection.InputEnd.{InputEnd}
 use Rattle.queue_inject.specs.declared.injection.InputEnd.TheVariants as ends
 use Rattle.received_line.specs.Received.{received_text}
+use Rattle.queue_limits.specs.declared.lengths.TheConstants.{MOST_BYTES}
+use Rattle.queue_limits.specs.declared.statuses.TheConstants.{INPUT, LONG_ADDRESS, MALFORMED, TOO_LONG}
 use Rattle.envelope_records.specs.Envelope.{Stage, Step, step, bytes_to, records_of, Reading, read_envelope, todo_head}
 use Rattle.envelope_records.specs.Envelope.Step.{Goes, Ends, Fails}
 use Rattle.envelope_records.specs.Envelope.Reading.{Whole, Open, Broken}
 
 -- the most bytes that a message or an envelope may have
 abbrev pub limit : ℕ
-limit = 1073741824
+limit = MOST_BYTES
 
--- a text to be written, and the exit status of the fault that comes behind it, where there is one
+-- a text to be written, and the exit status of the fault that comes after it, if there is one
 pub record Text : Type 0 where
   pub bytes : List ℕ
   pub fault : Option ℕ
 
 -- an input that ended before its end, or could not be read: 54; one in a netstring with a wrong head or comma: 91
 abbrev pub end_status : InputEnd → ℕ
-end_status ends.Whole = 54
-end_status ends.Unread = 54
-end_status ends.Malformed = 91
+end_status ends.Whole = INPUT
+end_status ends.Unread = INPUT
+end_status ends.Malformed = MALFORMED
 
 -- of a message only its reading may fail
 abbrev pub message_end : InputEnd → Option ℕ
 message_end ends.Whole = None
-message_end ends.Unread = Some 54
-message_end ends.Malformed = Some 91
+message_end ends.Unread = Some INPUT
+message_end ends.Malformed = Some MALFORMED
 
 -- The message file: the first line, then the message. A message of over `limit` bytes fails with 31 at the first
 -- byte past it.
 unfoldable pub message_text : Arguments → Text
 message_text args = record {
   bytes = received_text args.pid args.invoked args.start ++ take limit args.message;
-  fault = if nat_lt limit (length args.message) then Some 31 else message_end args.message_end;
+  fault = if nat_lt limit (length args.message) then Some TOO_LONG else message_end args.message_end;
 }
 
 -- the status of a fault in an envelope
 abbrev pub fault_status : EnvFault → ℕ
-fault_status TooLong = 11
-fault_status EndEarly = 54
-fault_status Format = 91
+fault_status TooLong = LONG_ADDRESS
+fault_status EndEarly = INPUT
+fault_status Format = MALFORMED
 
--- The byte past the limit fails with 31; where it would also be the 1003rd of an address, with 11.
+-- The byte past the limit fails with 31; if it would also be the 1003rd of an address, with 11.
 abbrev pub past_limit : Step → ℕ
-past_limit (Fails TooLong) = 11
-past_limit (Fails Format) = 31
-past_limit (Fails EndEarly) = 31
-past_limit (Goes stage) = 31
-past_limit (Ends sender recipients) = 31
+past_limit (Fails TooLong) = LONG_ADDRESS
+past_limit (Fails Format) = TOO_LONG
+past_limit (Fails EndEarly) = TOO_LONG
+past_limit (Goes stage) = TOO_LONG
+past_limit (Ends sender recipients) = TOO_LONG
 
--- An envelope that is still open behind its last byte fails as its input ended; one that is still open at the byte past
+-- An envelope that is still open after its last byte fails as its input ended; one that is still open at the byte past
 -- the limit went over its greatest length.
 abbrev pub open_status : Stage → InputEnd → Option ℕ → ℕ
 open_status stage end None = end_status end

@@ -20,12 +20,10 @@ use crate::steps::after;
 use crate::{Arguments, InputEnd, Part, Row};
 use call_fs::{Answer, Got, Machine, Need, PIECE, Ready};
 use mail_bytes::Memory;
+use queue_limits::{DAY, LATE};
 use received_line::{Invoked, received};
 use std::alloc::{AllocError, Global};
 use std::marker::Model;
-
-/// An injector makes no call when this many seconds have passed since its start.
-const DAY: u64 = 86400;
 
 /// Nothing is ready.
 const UNREADY: Ready = Ready {
@@ -63,7 +61,7 @@ impl Model for Injector {
 
 impl Injector {
     /// An injector of this user, with this process number, started now. It waits until `look` has told it that its input is
-    /// ready. `room` is how many bytes its caller counts on it to keep of its input. Fails only for want of memory. The
+    /// ready. `room` is how many bytes its caller counts on it to keep of its input. Fails only if out of memory. The
     /// conditions: a clock may tell the start, and `room` is at least 8192, the bytes of a piece.
     pub fn new(
         alloc: Global,
@@ -74,7 +72,7 @@ impl Injector {
         room: usize,
     ) -> Result<Injector, Memory>
         requires moment { IsMoment start }
-        requires room { 8192 ≤ room }
+        requires room { PIECE ≤ room }
         ensures stands { IfOk result (λ m. (args : Arguments) → IsStartedBy args uid pid invoked start → Stands m args []) }
         ensures row { IfOk result (λ m. m.row ≡ Row.Create 1) }
         ensures fed { IfOk result (λ m. m.heard.fed ≡ 0) }
@@ -109,7 +107,7 @@ impl Injector {
     /// How many more bytes it may be fed now, at most 8192. Of a part that is too long one byte past the limit in all.
     pub fn room(&self) -> usize
         ensures room { result ≡ room_of self.now }
-        ensures short { result ≤ 8192 }
+        ensures short { result ≤ PIECE }
         ensures within { self.now.heard.fed + result ≤ limit + 1 }
     {
         let _ = &self.uid;
@@ -173,6 +171,7 @@ impl Injector {
         self.end(end);
     }
 
+    /// The part of its input that it asks for has ended so. When it asks for none, this tells it nothing.
     fn end(&mut self, end: InputEnd)
         ensures stands { (args : Arguments) (past : List Own) → Stands self.old args past
             → Ends self.old args end → Stands self.new args past }
@@ -215,30 +214,32 @@ impl Injector {
         self.due()
     }
 
+    /// What is due: its call or its end; a wait while its input isn't ready, and its end more than a day after its start.
     fn due(&self) -> Need<'_>
         ensures { due_of result ≡ due_now self.now }
     {
         match self.asked() {
             Need::File(_) if !self.ready.links[0] => Need::Wait,
-            Need::File(_) if self.is_late() => Need::Ended(52),
+            Need::File(_) if self.is_late() => Need::Ended(LATE),
             need => need,
         }
     }
 
-    // The call of its row, or its end, at whatever time.
+    /// The call of its row, or its end, at whatever time.
     fn asked(&self) -> Need<'_>
         ensures { due_of result ≡ call_now self.now }
     {
         self.place.need(self.row(), self.intake.piece())
     }
 
-    // The row whose call is due.
+    /// The row whose call is due.
     fn row(&self) -> Row
         ensures { result ≡ row_now self.now }
     {
         self.intake.next_row(self.place.row())
     }
 
+    /// Whether more than a day has passed since its start.
     fn is_late(&self) -> bool
         ensures { result ≡ late_now self.now }
     {
@@ -264,6 +265,7 @@ impl Injector {
         Ok(())
     }
 
+    /// Goes where this answer to its call leads. The condition: a call is due.
     fn go_on(&mut self, answer: &Answer)
         requires { IsTrue (is_call (due_now self.old)) }
         ensures { self.new ≡ gone_on self.old answer.now }

@@ -12,10 +12,8 @@ use crate::{InputEnd, Row};
 use call_fs::PIECE;
 use envelope_records::{EnvFault, EnvStep, EnvelopeReader};
 use mail_bytes::dec;
+use queue_limits::{INPUT, LONG_ADDRESS, MALFORMED, MOST_BYTES, TOO_LONG};
 use std::marker::Model;
-
-/// The most bytes that a message or an envelope may have.
-const LIMIT: usize = 1_073_741_824;
 
 /// What the text at hand is, as far as it was fed.
 #[derive(Clone, Copy, Debug, PartialEq, Eq)]
@@ -62,7 +60,7 @@ impl Model for Intake {
 impl Intake {
     /// Nothing of the message was fed yet: its file begins with this line. The condition: the line fits in a piece.
     pub fn new(line: &[u8]) -> Self
-        requires { length line.now ≤ 8192 }
+        requires { length line.now ≤ PIECE }
         ensures piece { result.piece ≡ line.now }
         ensures fed { result.fed ≡ 0 }
         ensures verdict { result.verdict ≡ Verdict.Open }
@@ -93,20 +91,20 @@ impl Intake {
 
     /// How many more bytes may be fed: as many as the piece has room for, and one past the limit in all.
     pub fn room(&self) -> usize
-        ensures { result ≡ min (8192 - length self.now.piece) ((limit + 1) - self.now.fed) }
+        ensures { result ≡ min (PIECE - length self.now.piece) ((limit + 1) - self.now.fed) }
     {
-        (PIECE - self.piece.len()).min((LIMIT + 1).saturating_sub(self.fed))
+        (PIECE - self.piece.len()).min((MOST_BYTES + 1).saturating_sub(self.fed))
     }
 
     /// The next piece of the text.
     pub fn piece(&self) -> &[u8]
         ensures piece { result.now ≡ self.now.piece }
-        ensures short { length result.now ≤ 8192 }
+        ensures short { length result.now ≤ PIECE }
     {
         self.piece.as_slice()
     }
 
-    /// The row whose call is due, where the last answer led to this one.
+    /// The row whose call is due, if the last answer led to this one.
     pub fn next_row(&self, row: Row) -> Row
         ensures { result ≡ row_by self.now.verdict (length self.now.piece) row }
     {
@@ -115,21 +113,21 @@ impl Intake {
 
     /// More of the message, of which nothing past the limit is kept. The condition: there is room.
     pub fn feed_message(&mut self, bytes: &[u8])
-        requires piece { length self.old.piece + length bytes.now ≤ 8192 }
+        requires piece { length self.old.piece + length bytes.now ≤ PIECE }
         requires fed { self.old.fed + length bytes.now ≤ limit + 1 }
         ensures { self.new ≡ with_message self.old bytes.now }
     {
-        let kept = LIMIT.saturating_sub(self.fed).min(bytes.len());
+        let kept = MOST_BYTES.saturating_sub(self.fed).min(bytes.len());
         self.piece.extend(&bytes[..kept]);
         self.fed += bytes.len();
-        if self.fed > LIMIT {
-            self.verdict = Verdict::Faulty { status: 31 };
+        if self.fed > MOST_BYTES {
+            self.verdict = Verdict::Faulty { status: TOO_LONG };
         }
     }
 
     /// More of the envelope. The condition: there is room.
     pub fn feed_envelope(&mut self, bytes: &[u8])
-        requires piece { length self.old.piece + length bytes.now ≤ 8192 }
+        requires piece { length self.old.piece + length bytes.now ≤ PIECE }
         requires fed { self.old.fed + length bytes.now ≤ limit + 1 }
         requires within { is_open self.old.verdict ≡ true → self.old.fed ≤ limit }
         ensures fed { self.new.fed ≡ self.old.fed + length bytes.now }
@@ -145,9 +143,9 @@ impl Intake {
         }
     }
 
-    // One byte of the envelope. Its last NUL isn't kept, nor what comes after it or after a fault.
+    /// One byte of the envelope. Its last NUL isn't kept, nor what comes after it or after a fault.
     fn feed_byte(&mut self, byte: u8)
-        requires piece { length self.old.piece < 8192 }
+        requires piece { length self.old.piece < PIECE }
         requires fed { self.old.fed ≤ limit }
         ensures fed { self.new.fed ≡ self.old.fed + 1 }
         ensures within { is_open self.new.verdict ≡ true → self.new.fed ≤ limit }
@@ -160,7 +158,7 @@ impl Intake {
     {
         if self.verdict.is_open() {
             let step = self.reader.feed(byte);
-            self.verdict = verdict_after(step, self.fed < LIMIT);
+            self.verdict = verdict_after(step, self.fed < MOST_BYTES);
             if self.verdict.is_open() {
                 self.piece.push(byte);
             }
@@ -174,8 +172,8 @@ impl Intake {
     {
         self.verdict = match end {
             InputEnd::Whole => Verdict::Whole,
-            InputEnd::Unread => Verdict::Faulty { status: 54 },
-            InputEnd::Malformed => Verdict::Faulty { status: 91 },
+            InputEnd::Unread => Verdict::Faulty { status: INPUT },
+            InputEnd::Malformed => Verdict::Faulty { status: MALFORMED },
         };
     }
 
@@ -184,8 +182,8 @@ impl Intake {
         ensures { self.new ≡ record self.old { verdict = Verdict.Faulty (end_status end) } }
     {
         let status = match end {
-            InputEnd::Whole | InputEnd::Unread => 54,
-            InputEnd::Malformed => 91,
+            InputEnd::Whole | InputEnd::Unread => INPUT,
+            InputEnd::Malformed => MALFORMED,
         };
         self.verdict = Verdict::Faulty { status };
     }
@@ -194,7 +192,7 @@ impl Intake {
     /// and process begins.
     pub fn go_on(&mut self, row: Row, uid: u32, pid: u32)
         ensures after { self.new ≡ heard_after row uid pid self.old }
-        ensures short { length self.old.piece ≤ 8192 → length self.new.piece ≤ 8192 }
+        ensures short { length self.old.piece ≤ PIECE → length self.new.piece ≤ PIECE }
     {
         match row {
             Row::AppendMess { .. } | Row::AppendTodo { .. } => self.piece.clear(),
@@ -203,10 +201,10 @@ impl Intake {
         }
     }
 
-    // Nothing of the envelope was fed yet.
+    /// Nothing of the envelope was fed yet.
     fn begin_todo(&mut self, uid: u32, pid: u32)
         ensures begun { self.new ≡ new_todo uid pid }
-        ensures short { length self.new.piece ≤ 8192 }
+        ensures short { length self.new.piece ≤ PIECE }
     {
         self.piece.clear();
         put_number(&mut self.piece, b'u', uid);
@@ -217,7 +215,7 @@ impl Intake {
     }
 }
 
-// A letter, the digits of a number, NUL, at the end of a piece. The condition: there is room.
+/// A letter, the digits of a number, NUL, at the end of a piece. The condition: there is room.
 fn put_number(piece: &mut Piece, letter: u8, number: u32)
     requires { length piece.old ≤ 8000 }
     ensures text { piece.new ≡ piece.old ++ letter ∷ (digits number ++ 0 ∷ []) }
@@ -230,15 +228,17 @@ fn put_number(piece: &mut Piece, letter: u8, number: u32)
     piece.push(0);
 }
 
-// What a byte of an open envelope makes of it; the first one past the limit is a fault in any case.
+/// What a byte of an open envelope makes of it; the first one past the limit is a fault in any case.
 fn verdict_after(step: EnvStep, within: bool) -> Verdict
     ensures { result ≡ verdict_after step within }
 {
     match step {
-        EnvStep::Fault(EnvFault::TooLong) => Verdict::Faulty { status: 11 },
-        _ if !within => Verdict::Faulty { status: 31 },
-        EnvStep::Fault(EnvFault::EndEarly) => Verdict::Faulty { status: 54 },
-        EnvStep::Fault(EnvFault::Format) => Verdict::Faulty { status: 91 },
+        EnvStep::Fault(EnvFault::TooLong) => Verdict::Faulty {
+            status: LONG_ADDRESS,
+        },
+        _ if !within => Verdict::Faulty { status: TOO_LONG },
+        EnvStep::Fault(EnvFault::EndEarly) => Verdict::Faulty { status: INPUT },
+        EnvStep::Fault(EnvFault::Format) => Verdict::Faulty { status: MALFORMED },
         EnvStep::End => Verdict::Whole,
         EnvStep::More | EnvStep::Sender | EnvStep::Recipient => Verdict::Open,
     }

@@ -7,6 +7,7 @@ ghost use Rattle.queue_inject.specs.Rows.{seq_in, number_in};
 use crate::Row;
 use call_fs::{Call, Need};
 use mail_bytes::NameBuf;
+use queue_limits::DONE;
 use queue_paths::{Name, path};
 use std::marker::Model;
 
@@ -110,7 +111,7 @@ impl NamedRow {
             Row::LinkTodo { .. } => Need::File(Call::Link(intd_name, self.todo_name.as_slice())),
             Row::CleanIntd { .. } => Need::File(Call::Unlink(intd_name)),
             Row::CleanMess { .. } => Need::File(Call::Unlink(mess_name)),
-            Row::Queued => Need::Ended(0),
+            Row::Queued => Need::Ended(DONE),
             Row::Failed { status } => Need::Ended(status),
         }
     }

@@ -7,16 +7,19 @@ use std::marker::Model;
 /// At most 8192 bytes, held in place, so that they take no memory; contracts see them as a list.
 #[derive(Drop)]
 pub struct Piece {
-    bytes: [u8; 8192],
+    bytes: [u8; PIECE],
     len: usize,
 }
 
 impl Model for Piece {
+    ghost use Rattle.std.specs.Prelude.{◌≤◌, List, ℕ, take};
+    ghost use Rattle.call_fs.specs.declared.file_system.TheConstants.{PIECE};
+
     ghost Value = { List ℕ };
 
     ghost view = { λ p. take p.len p.bytes };
 
-    ghost invariant = { λ p. p.len ≤ 8192 };
+    ghost invariant = { λ p. p.len ≤ PIECE };
 }
 
 impl Piece {
@@ -33,7 +36,7 @@ impl Piece {
     /// Its bytes.
     pub fn as_slice(&self) -> &[u8]
         ensures piece { result.now ≡ self.now }
-        ensures short { length result.now ≤ 8192 }
+        ensures short { length result.now ≤ PIECE }
     {
         &self.bytes[..self.len]
     }
@@ -41,7 +44,7 @@ impl Piece {
     /// How many bytes it has.
     pub fn len(&self) -> usize
         ensures len { result ≡ length self.now }
-        ensures short { result ≤ 8192 }
+        ensures short { result ≤ PIECE }
     {
         self.len
     }
@@ -55,7 +58,7 @@ impl Piece {
 
     /// Puts bytes at the end. The condition: there is room for them.
     pub fn extend(&mut self, bytes: &[u8])
-        requires { length self.old + length bytes.now ≤ 8192 }
+        requires { length self.old + length bytes.now ≤ PIECE }
         ensures { self.new ≡ self.old ++ bytes.now }
     {
         let end = self.len + bytes.len();
@@ -65,7 +68,7 @@ impl Piece {
 
     /// Puts a byte at the end. The condition: there is room for it.
     pub fn push(&mut self, byte: u8)
-        requires { length self.old < 8192 }
+        requires { length self.old < PIECE }
         ensures { self.new ≡ self.old ++ byte ∷ [] }
     {
         self.bytes[self.len] = byte;

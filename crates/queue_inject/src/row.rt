@@ -41,7 +41,7 @@ impl Row {
     ghost use Rattle.std.specs.Prelude.{◌≡◌};
     ghost use Rattle.queue_inject.specs.Rows.{seq_in, number_in, part_in};
 
-    // The number at the end of the pid name, when the call has that name.
+    /// The number at the end of the pid name, if the call has that name.
     pub(crate) fn seq(self) -> Option<u8>
         ensures { result ≡ seq_in self }
     {
@@ -53,7 +53,7 @@ impl Row {
         }
     }
 
-    // The number of the message, when it has one by then and the injector hasn't ended.
+    /// The number of the message, if it has one by then and the injector hasn't ended.
     pub(crate) fn number(self) -> Option<u64>
         ensures { result ≡ number_in self }
     {
@@ -67,7 +67,7 @@ impl Row {
         }
     }
 
-    // The part of the input whose text is written next, if one is.
+    /// The part of the input whose text is written next, if one is.
     pub(crate) fn part(self) -> Option<Part>
         ensures { result ≡ part_in self }
     {

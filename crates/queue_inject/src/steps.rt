@@ -6,6 +6,7 @@ ghost use Rattle.queue_inject.specs.Rows.{CountsOn, IsAfterMess, has_piece, row_
 use crate::Row;
 use crate::intake::Verdict;
 use call_fs::{Answer, FsError, PIECE};
+use queue_limits::{IN_INTD, IN_MESS, IN_PID, IN_TODO, MEMORY, OUTPUT};
 
 /// Where an answer to the call of `row` leads, with no look at the texts. After an append this is the next one, whether the
 /// text has more bytes or not. The condition: a piece more than was written can be counted.
@@ -18,7 +19,7 @@ pub fn after(row: Row, answer: &Answer) -> Row
         Row::LinkMess { seq, number, fd } => match answer {
             Answer::Done => Row::UnlinkPid { seq, number, fd },
             _ => Row::Failed {
-                status: failure(answer, 64),
+                status: failure(answer, IN_MESS),
             },
         },
         Row::UnlinkPid { number, fd, .. } => match answer {
@@ -27,24 +28,24 @@ pub fn after(row: Row, answer: &Answer) -> Row
                 fd,
                 done: 0,
             },
-            _ => clean_mess(number, answer, 63),
+            _ => clean_mess(number, answer, IN_PID),
         },
         Row::AppendMess { number, fd, done } => match answer {
             Answer::Done => {
                 let done = done + PIECE;
                 Row::AppendMess { number, fd, done }
             }
-            _ => clean_mess(number, answer, 53),
+            _ => clean_mess(number, answer, OUTPUT),
         },
         Row::SyncMess { number, .. } => match answer {
             Answer::Done => Row::CreateIntd { number },
-            _ => clean_mess(number, answer, 53),
+            _ => clean_mess(number, answer, OUTPUT),
         },
         _ => after_mess(row, answer),
     }
 }
 
-// Of the rows after the message's.
+/// Where an answer leads from a row after the message's. The conditions: it is one, and a piece more can be counted.
 fn after_mess(row: Row, answer: &Answer) -> Row
     requires rows { IsAfterMess row }
     requires counts { CountsOn row }
@@ -56,23 +57,23 @@ fn after_mess(row: Row, answer: &Answer) -> Row
                 let (fd, done) = (*fd, 0);
                 Row::AppendTodo { number, fd, done }
             }
-            _ => clean_mess(number, answer, 65),
+            _ => clean_mess(number, answer, IN_INTD),
         },
         Row::AppendTodo { number, fd, done } => match answer {
             Answer::Done => {
                 let done = done + PIECE;
                 Row::AppendTodo { number, fd, done }
             }
-            _ => clean_intd(number, answer, 53),
+            _ => clean_intd(number, answer, OUTPUT),
         },
         Row::SyncTodo { number, .. } => match answer {
             Answer::Done => Row::LinkTodo { number },
-            _ => clean_intd(number, answer, 53),
+            _ => clean_intd(number, answer, OUTPUT),
         },
         Row::LinkTodo { .. } => match answer {
             Answer::Done => Row::Queued,
             _ => Row::Failed {
-                status: failure(answer, 66),
+                status: failure(answer, IN_TODO),
             },
         },
         Row::CleanIntd { number, status } => match answer {
@@ -84,7 +85,7 @@ fn after_mess(row: Row, answer: &Answer) -> Row
     }
 }
 
-// A pid name was tried: the next one comes where this one is taken, nine in all.
+/// A pid name was tried: if it is taken, the next one comes, nine in all.
 fn after_create(seq: u8, answer: &Answer) -> Row
     ensures { result ≡ goes_to (Row.Create seq) answer.now }
 {
@@ -96,7 +97,7 @@ fn after_create(seq: u8, answer: &Answer) -> Row
         },
         Answer::Refused(FsError::Exists) if seq < 9 => Row::Create { seq: seq + 1 },
         _ => Row::Failed {
-            status: failure(answer, 63),
+            status: failure(answer, IN_PID),
         },
     }
 }
@@ -120,7 +121,7 @@ pub fn next_row(row: Row, verdict: Verdict, len: usize) -> Row
     }
 }
 
-// Whether a piece of so many bytes is written: before a fault only a full one, and no empty one.
+/// Whether a piece of so many bytes is written: before a fault only a full one, and no empty one.
 fn has_piece(verdict: Verdict, len: usize) -> bool
     ensures { result ≡ has_piece verdict len }
 {
@@ -131,6 +132,7 @@ fn has_piece(verdict: Verdict, len: usize) -> bool
     }
 }
 
+/// The row that cleans up from the message file on, after a failed call that has this status.
 fn clean_mess(number: u64, answer: &Answer, status: u8) -> Row
     ensures { result ≡ Row.CleanMess number (failure answer.now status) }
 {
@@ -138,6 +140,7 @@ fn clean_mess(number: u64, answer: &Answer, status: u8) -> Row
     Row::CleanMess { number, status }
 }
 
+/// The row that cleans up from the intd file on, after a failed call that has this status.
 fn clean_intd(number: u64, answer: &Answer, status: u8) -> Row
     ensures { result ≡ Row.CleanIntd number (failure answer.now status) }
 {
@@ -145,12 +148,12 @@ fn clean_intd(number: u64, answer: &Answer, status: u8) -> Row
     Row::CleanIntd { number, status }
 }
 
-// A failed call ends with this status: out of memory has its own.
+/// A failed call ends with this status: out of memory has its own.
 fn failure(answer: &Answer, status: u8) -> u8
     ensures { result ≡ failure answer.now status }
 {
     match answer {
-        Answer::Refused(FsError::Memory) => 51,
+        Answer::Refused(FsError::Memory) => MEMORY,
         _ => status,
     }
 }

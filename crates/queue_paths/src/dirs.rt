@@ -15,6 +15,11 @@ pub const SPLIT_DIRS: [&[u8]; 4] = [b"mess", b"info", b"local", b"remote"];
 /// How many splits there are.
 pub const SPLITS: u64 = 23;
 
+/// There are 23, from 0 to 22. A law: the contract of a function that does nothing.
+pub fn splits_are_23()
+    ensures { SPLITS ≡ 23 }
+{}
+
 /// The directory of a split: `DIR/SPLIT`. Fails only if out of memory.
 pub fn split_dir(alloc: Global, dir: &[u8], split: u64) -> Result<Vec<u8>, Memory>
     ensures { IfOk result (λ name. name.items ≡ dir.now ++ 47 ∷ digits split) }

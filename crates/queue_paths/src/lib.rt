@@ -8,5 +8,5 @@
 mod dirs;
 mod names;
 
-pub use dirs::{FLAT_DIRS, SPLIT_DIRS, SPLITS, queue_dirs, split_dir};
+pub use dirs::{FLAT_DIRS, SPLIT_DIRS, SPLITS, queue_dirs, split_dir, splits_are_23};
 pub use names::{Name, names_are_exact, parse, path, split};

@@ -14,13 +14,14 @@ use Rattle.call_fs.specs.Maps.{put_at}
 use Rattle.call_fs.proofs.Maps.{put_at_cases}
 use Rattle.mail_world.specs.declared.event.Program.{Program}
 use Rattle.mail_world.specs.History.{Event, call_act, Actor, Life, State, Legal, MayRead, next_of, latest, start_of, stopped, after, happens, called, finished}
-use Rattle.mail_world.specs.History.Event.{Start, Act, End, Stop, Moment, Halt}
+use Rattle.mail_world.specs.History.Event.{Start, End, Stop, Moment, Halt}
 use Rattle.mail_world.specs.History.Life.{Alive, Over, Stopped}
 use Rattle.mail_world.specs.Inside.{Owns}
 use Rattle.mail_world.specs.Acting.{MayMake}
 use Rattle.mail_world.specs.World.{input_ready}
 use Rattle.mail_world.proofs.Opens.{opens_by, fits_answer, owns_backs, closes_own, own_stays, owns_after}
-use Rattle.mail_world.proofs.Programs.{program_uses}
+use Rattle.mail_world.specs.ByKind.{IsMail}
+use Rattle.mail_world.proofs.Programs.{mail_runs, program_uses, program_finds}
 use Rattle.mail_world.proofs.Worlds.{may_make}
 use Rattle.mail_world.proofs.Hands.{own_after}
 use Rattle.scenario.specs.Played.{Answers, DoesNext, DoesAlive, DoesStep, StepsTo}
@@ -39,6 +40,8 @@ pub record Carries (s : State) : Type 0 where
   pub owns : (a : List ℕ) (x : Actor) → s.actors a ≡ Some x → x.life ≡ Alive → Owns s.disk s.holder a (held x.past)
   pub runs : (a : List ℕ) (x : Actor) → s.actors a ≡ Some x → IsRunBy (next_of x.program) x.past
   pub in_order : (a : List ℕ) (x : Actor) → s.actors a ≡ Some x → latest x.program x.past ≤ s.now
+  pub no_child : (a : List ℕ) → s.pipework.slots a ≡ None
+  pub mails : (a : List ℕ) (x : Actor) → s.actors a ≡ Some x → IsMail x.program
 
 -- A step of a living actor: a call with an answer, or its end.
 abbrev pub HasCalled : Plan → State → List ℕ → Actor → Event → Type 0
@@ -136,6 +139,11 @@ module _ (s : State) (a : List ℕ) (x : Actor) (carries : Carries s) (is : s.ac
             (λ h. subst (λ (z : Actor). latest z.program z.past ≤ s.now) h.1 (omega arith))
             (λ h. carries.in_order b y h.1)
             (put_actor s.actors a b now y here);
+        no_child = carries.no_child;
+        mails = λ b y here. ⊎_elim
+            (λ h. subst (λ (z : Actor). IsMail z.program) h.1 (carries.mails a x is))
+            (λ h. carries.mails b y h.1)
+            (put_actor s.actors a b now y here);
       }
 
 finished_carries : (s : State) (a : List ℕ) (x : Actor) (life : Life) → life ≢ Alive → Carries s → s.actors a ≡ Some x
@@ -157,11 +165,16 @@ finished_carries s a x life over carries is =
           (λ h. subst (λ (z : Actor). latest z.program z.past ≤ s.now) h.1 (carries.in_order a x is))
           (λ h. carries.in_order b y h.1)
           (put_actor s.actors a b gone y here);
+      no_child = carries.no_child;
+      mails = λ b y here. ⊎_elim
+          (λ h. subst (λ (z : Actor). IsMail z.program) h.1 (carries.mails a x is))
+          (λ h. carries.mails b y h.1)
+          (put_actor s.actors a b gone y here);
     }
 
-started_carries : (s : State) (a : List ℕ) (program : Program) → start_of program ≤ s.now → Carries s
+started_carries : (s : State) (a : List ℕ) (program : Program) → IsMail program → start_of program ≤ s.now → Carries s
     → Carries (happens s (Start a program))
-started_carries s a program begun carries =
+started_carries s a program mail begun carries =
     let new : Actor = record { program = program; past = []; life = Alive } in
     record {
       finite = carries.finite;
@@ -177,6 +190,11 @@ started_carries s a program begun carries =
       in_order = λ b y here. ⊎_elim
           (λ h. subst (λ (z : Actor). latest z.program z.past ≤ s.now) h.1 begun)
           (λ h. carries.in_order b y h.1)
+          (put_actor s.actors a b new y here);
+      no_child = carries.no_child;
+      mails = λ b y here. ⊎_elim
+          (λ h. subst (λ (z : Actor). IsMail z.program) h.1 mail)
+          (λ h. carries.mails b y h.1)
           (put_actor s.actors a b new y here);
     }
 
@@ -207,9 +225,9 @@ goes_step d h plan a e x so is alive (inl (c, got, due, given, same)) =
         record {
           actor = x;
           reads = may_read s a x carries is alive;
+          finds = program_finds s a x.program (carries.mails a x is) x.past input_ready (carries.no_child a) (refl, refl);
           due = due;
-          fits = given.fits;
-          bytes = given.bytes;
+          came = (given.fits, given.bytes);
         },
       );
       carries =
@@ -220,7 +238,15 @@ goes_step d h plan a e x so is alive (inr (status, due, same)) =
     let s = after d h in
     let carries = so.carries in
     subst (λ (e : Event). Goes d (e ∷ h)) (sym same) (record {
-      legal = (so.legal, record { actor = x; reads = may_read s a x carries is alive; due = due });
+      legal = (
+        so.legal,
+        record {
+          actor = x;
+          reads = may_read s a x carries is alive;
+          finds = program_finds s a x.program (carries.mails a x is) x.past input_ready (carries.no_child a) (refl, refl);
+          due = due;
+        },
+      );
       carries =
           subst (λ (o : Option Actor). Carries (finished s a (Over status) o)) (sym is)
           (finished_carries s a x (Over status) (λ e. absurd (cc)) carries is);
@@ -234,11 +260,11 @@ goes_on d h plan a e so steps =
     goes_step d h plan a e one.actor so one.is one.alive one.did
 
 -- and each start
-pub goes_started : (d : Disk) (h : List Event) (a : List ℕ) (program : Program) → Goes d h
+pub goes_started : (d : Disk) (h : List Event) (a : List ℕ) (program : Program) → IsMail program → Goes d h
     → (after d h).actors a ≡ None → start_of program ≤ (after d h).now → Goes d (Start a program ∷ h)
-goes_started d h a program so new begun = record {
-  legal = (so.legal, record { new = new });
-  carries = started_carries (after d h) a program begun so.carries;
+goes_started d h a program mail so new begun = record {
+  legal = (so.legal, record { new = new; runs = mail_runs program mail });
+  carries = started_carries (after d h) a program mail begun so.carries;
 }
 
 -- and each stop
@@ -265,6 +291,8 @@ goes_moment d h m so moment later =
         owns = carries.owns;
         runs = carries.runs;
         in_order = λ a x is. let before = carries.in_order a x is in omega arith;
+        no_child = carries.no_child;
+        mails = carries.mails;
       };
     }
 
@@ -288,5 +316,9 @@ goes_halted d h how named so =
         in_order = λ a x is.
             let w = mapped_some stopped (s.actors a) x is in
             subst (λ (x : Actor). latest x.program x.past ≤ s.now) w.2 (carries.in_order a w.0 w.1);
+        no_child = λ a. refl;
+        mails = λ a x is.
+            let w = mapped_some stopped (s.actors a) x is in
+            subst (λ (x : Actor). IsMail x.program) w.2 (carries.mails a w.0 w.1);
       };
     }

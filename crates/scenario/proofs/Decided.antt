@@ -1,7 +1,11 @@
 -- What holds or doesn't: tests of numbers, of options and of lists.
-use Rattle.std.proofs.Common.{◌≡◌, ◌⊎◌, inl, inr, ⊎_elim, ℕ, ◌≤◌, List, [], ◌∷◌, All, Contains, Bool, true, false, Option, Some, None, IsSome, refl, arith}
+use Rattle.std.proofs.Common.{◌≡◌, ◌⊎◌, inl, inr, ⊎_elim, ℕ, ◌≤◌, List, [], ◌∷◌, All, Contains, length, Bool, true, false, Option, Some, None, IsSome, refl, arith}
 use Rattle.std.proofs.lemmas.Bool.{cases_lt}
 use Rattle.std.proofs.lemmas.List.Elements.{All-nil, All-cons, All-head, All-tail}
+use Rattle.std.proofs.lemmas.Bool.Decides.{eqb_tells}
+use Rattle.std.specs.Prelude.{◌==◌}
+use Rattle.std.specs.List.{slice_split}
+use Rattle.call_fs.specs.Names.{IsPart, IsName, without_slash}
 use Rattle.mail_world.proofs.Tests.{text_cases}
 use Rattle.scenario.proofs.InOrder.{contains_among, among_contains}
 
@@ -32,6 +36,9 @@ is_true false = inr (λ e. absurd (cc))
 
 pub up_to : (low high : ℕ) → Decided (low ≤ high)
 up_to low high = ⊎_elim (λ above. inr (λ h. omega arith)) (λ h. inl h) (cases_lt high low)
+
+same_number : (m n : ℕ) → Decided (m ≡ n)
+same_number m n = ⊎_elim (λ w. inl w.1) (λ w. inr w.1) (eqb_tells m n)
 
 pub same_text : (x y : List ℕ) → Decided (x ≡ y)
 same_text x y = ⊎_elim (λ h. inl h.0) (λ h. inr h.0) (text_cases x y)
@@ -64,3 +71,14 @@ listed same (y ∷ xs) x = ⊎_elim
     (λ none. inr (λ here. ⊎_elim differs (λ later. none (among_contains xs x later)) (contains_among (y ∷ xs) x here)))
     (listed same xs x))
     (same x y)
+
+-- a text is one part of a name, or not
+part : (text : List ℕ) → Decided (IsPart text)
+part text = ⊎_elim
+    (λ h. inl (record { positive = h.0; short = h.1.0; no_nul = h.1.1 }))
+    (λ fails. inr (λ p. fails (p.positive, (p.short, p.no_nul))))
+    (both (up_to 1 (length text)) (both (up_to (length text) 255) (neither (listed same_number text 0))))
+
+-- a text has the form of a name, or not
+pub is_name : (name : List ℕ) → Decided (IsName name)
+is_name name = each IsPart part (slice_split (λ b. b == 47) (without_slash name))

@@ -23,15 +23,16 @@ use Rattle.queue_inject.specs.Table.{row_after, call_of, in_time, has_input, is_
 use Rattle.mail_world.specs.declared.event.Program.{Program}
 use Rattle.mail_world.specs.declared.event.Program.TheVariants.{Injector}
 use Rattle.mail_world.specs.History.{next_of}
+use Rattle.mail_world.specs.ByKind.{IsMail}
 use Rattle.scenario.specs.Played.{Answers}
 use Rattle.scenario.proofs.CountedCalls.{IsPlain, counted}
-use Rattle.scenario.proofs.Decided.{Decided, both, up_to, listed, same_text, some_or_none}
+use Rattle.scenario.proofs.Decided.{Decided, both, up_to, listed, same_text, is_name, some_or_none}
 use Rattle.scenario.proofs.FiniteDisks.{IsFinite}
 use Rattle.scenario.proofs.LeastFree.{next_descriptor, least_free, is_unused}
 
 -- a disk has the directory of a name, or not
 has_dir : (d : Disk) (name : List ℕ) → Decided (HasDir d name)
-has_dir d name = listed same_text d.dirs (dir_of name)
+has_dir d name = both (is_name name) (listed same_text d.dirs (dir_of name))
 
 -- no plain call reads bytes
 reads_none : (d : Disk) (c : CallData) (answer : Answer) → IsPlain c → IsReadBy d c (without_bytes answer)
@@ -175,8 +176,9 @@ in_time_given plan d input late (needs.Command bytes) given = tt
 in_time_given plan d input late needs.Wait given = tt
 in_time_given plan d input late (needs.Ended status) given = tt
 
-pub next_given : (plan : Plan) (d : Disk) (program : Program) (past : List Own) (now : ℕ) (ready : Ready) → IsFinite d
+pub next_given : (plan : Plan) (d : Disk) (program : Program) → IsMail program → (past : List Own) (now : ℕ) (ready : Ready) → IsFinite d
     → IsGiven plan d (next_of program past now ready)
-next_given plan d (Injector args) past now ready f =
+next_given plan d (Injector args) mail past now ready f =
     in_time_given plan d (has_input ready) (is_late args now) (call_of args (row_after args past))
     (row_given plan d args (row_after args past) f)
+next_given plan d other mail past now ready f = absurd mail

@@ -10,8 +10,6 @@ pub mod Divisions
 pub mod ContentTexts
 -- the texts of a script
 pub mod Scripts
--- the names of a directory, one after the other
-pub mod NamesAfter
 -- what is printed
 pub mod Printed
 -- the directories of each script's disk
@@ -28,10 +26,6 @@ pub mod ScriptLines
 pub mod StopsAndMoments
 -- the events that a line adds
 pub mod Tracings
--- the message numbers of the files in directories
-pub mod Gathered
--- the message numbers that aren't in S1
-pub mod NumbersInUse
 -- the fates of kept events
 pub mod KeptFates
 -- the recipients of an envelope, counted

@@ -17,7 +17,7 @@ use Rattle.scenario.proofs.Decided.{Decided, both, neither, is_true, up_to, is_s
 use Rattle.scenario.proofs.FiniteDisks.{IsFinite}
 use Rattle.scenario.proofs.InOrder.{contains_among, among_contains, passing, ordered, rises_pairs, equal_is, pairs_increase}
 use Rattle.queue_states.proofs.Listed.{same-text}
-use Rattle.scenario.proofs.NumbersInUse.{some_part, far_or_not}
+use Rattle.disk_numbers.proofs.NumbersInUse.{some_part, far_or_not}
 
 some_of : (o : Option ℕ) → IsSome o → (n : ℕ) × (o ≡ Some n)
 some_of None there = absurd (cc)

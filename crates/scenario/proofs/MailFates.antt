@@ -14,6 +14,7 @@ use Rattle.call_fs.specs.Disk.{Disk}
 use Rattle.call_fs.specs.Maps.{put_at}
 use Rattle.call_fs.specs.declared.past.NeedData.{NeedData}
 use Rattle.call_fs.specs.declared.past.NeedData.TheVariants as needs
+use Rattle.call_fs.specs.declared.past.GotData.{GotData}
 use Rattle.call_fs.specs.declared.past.Own.{Own}
 use Rattle.queue_inject.specs.declared.injection.Arguments.{Arguments}
 use Rattle.queue_inject.specs.declared.row.Row.{Row}
@@ -27,12 +28,14 @@ use Rattle.queue_paths.proofs.Paths.{exact}
 use Rattle.mail_world.specs.declared.event.Event.{Event as Kept}
 use Rattle.mail_world.specs.declared.event.Event.TheVariants as kept
 use Rattle.mail_world.specs.declared.event.Program.{Program}
-use Rattle.mail_world.specs.declared.event.Program.TheVariants.{Injector}
-use Rattle.mail_world.specs.History.{Event, Actor, Life, State, next_of, MayCall, stopped, cut_off as ends_as, acted, finished, happens, after, Legal}
-use Rattle.mail_world.specs.History.Event.{Start, Act, End, Stop, Moment, Halt}
+use Rattle.mail_world.specs.declared.event.Program.TheVariants.{Injector, Cleaner}
+use Rattle.mail_world.specs.History.{Event, Actor, Life, State, MayRun, next_of, stopped, cut_off as ends_as, acted, finished, happens, after, Legal}
+use Rattle.mail_world.specs.History.Event.{Start, Act, Child, Generation, Report, End, Stop, Moment, Halt}
 use Rattle.mail_world.specs.History.Life.{Alive, Over, Stopped}
 use Rattle.mail_world.specs.World.{Tells, was_started}
-use Rattle.mail_world.proofs.Owns.{by_call, may_read}
+use Rattle.mail_world.specs.ByKind.{injection_of}
+use Rattle.mail_world.proofs.Kept.{runs_always}
+use Rattle.mail_world.proofs.Owns.{MayCall, IsPass, by_act, may_read}
 use Rattle.mail_world.proofs.Lives.{started_is}
 use Rattle.std.specs.Option.{option_map}
 use Rattle.call_fs.proofs.Maps.{put_at_cases, put_at_same, put_at_other}
@@ -40,8 +43,8 @@ use Rattle.mail_world.proofs.Tests.{text_cases, same_text}
 use Rattle.scenario.specs.declared.fates.Fate.{Fate}
 use Rattle.scenario.specs.declared.fates.Life.{Life as ToldLife}
 use Rattle.scenario.specs.declared.fates.Life.TheVariants as left
-use Rattle.scenario.specs.Fates.{queues, queues_by, accepted, life_of, left_as, cut_off, fate_by, fate_in, fate_lines, start_lines}
-use Rattle.scenario.specs.Shown.{line_of, life_word, recipient_lines, is_to_todo, is_accepting, is_accepting_by, is_accepted, mail_lines, mails_of, all_mail_lines}
+use Rattle.scenario.specs.Fates.{queues, queues_by, accepted, life_of, left_as, cut_off, fate_by, fate_in, fate_lines, mail_fate, start_lines}
+use Rattle.scenario.specs.Shown.{line_of, life_word, recipient_lines, is_to_todo, is_accepting, is_accepting_by, is_accepted, mail_lines, mail_by, mails_of, all_mail_lines}
 
 -- Which calls accept a mail: an injector's link to todo is one of its intd.
 
@@ -93,12 +96,24 @@ timely true false (needs.File own) call h = h
 timely false late (needs.File own) call h = absurd (cc)
 timely input late due call h = absurd (cc)
 
-next_agrees : (program : Program) (past : List Own) (read : ℕ) (ready : Ready) (call : CallData) → next_of program past read ready ≡ needs.File call → Agrees call
-next_agrees (Injector args) past read ready call due = row_agrees args _ call (timely _ _ _ call due)
+next_agrees : (program : Program) (past : List Own) (read : ℕ) (ready : Ready) (call : CallData) → MayRun program → next_of program past read ready ≡ needs.File call → Agrees call
+next_agrees (Cleaner start) past read ready call runs due = absurd runs
+next_agrees (Injector args) past read ready call runs due = row_agrees args _ call (timely _ _ _ call due)
 
 call_agrees : (s : State) (a : List ℕ) (read : ℕ) (ready : Ready) (call : CallData) (got : Told) (wrote : ℕ)
-    → MayCall s a read ready call got wrote → is_accepting call got.answer ≡ queues call got.answer
-call_agrees s a read ready call got wrote may = next_agrees may.actor.program may.actor.past read ready call may.due got.answer
+    → ((x : Actor) → s.actors a ≡ Some x → MayRun x.program) → MayCall s a read ready call got wrote → is_accepting call got.answer ≡ queues call got.answer
+call_agrees s a read ready call got wrote runs may =
+    next_agrees may.actor.program may.actor.past read ready call (runs may.actor may.reads.is) may.due got.answer
+
+-- and what passes between programs accepts none
+pass_agrees : (due : NeedData) (came : GotData) → IsPass due → is_accepting_by due came ≡ queues_by due came
+pass_agrees (needs.Take port) came pass = refl
+pass_agrees (needs.Give port bytes) came pass = refl
+pass_agrees (needs.Start asked) came pass = refl
+pass_agrees (needs.Command bytes) came pass = refl
+pass_agrees (needs.File call) came pass = absurd pass
+pass_agrees needs.Wait came pass = refl
+pass_agrees (needs.Ended status) came pass = refl
 
 -- An actor's life, as its fate tells it.
 
@@ -177,6 +192,9 @@ fares_told d (k ∷ events) ((Act b own wrote) ∷ h) legal told a =
     subst (λ (k : Kept). Fares ((happens s (Act b own wrote)).actors a) (fate_by k (reverse events) (fate_in events) a)) (sym told.0)
     (subst (λ (o : Option Actor). Fares ((acted s b own wrote o).actors a) (fate_by (kept.Act b own) (reverse events) (fate_in events) a)) (sym reads.1.is)
     (call_fares s.actors (fate_in events) (queues_by own.due own.came) b reads.0 _ refl reads.1.is before a))
+fares_told d (k ∷ events) ((Child parent own b program) ∷ h) legal told a = absurd told.0
+fares_told d (k ∷ events) ((Generation sender clean lspawn rspawn) ∷ h) legal told a = absurd told.0
+fares_told d (k ∷ events) ((Report slot letter text) ∷ h) legal told a = absurd told.0
 fares_told d (k ∷ events) ((End b read ready status) ∷ h) legal told a =
     let s = after d h in
     let before = fares_told d events h legal.0 told.1 in
@@ -236,9 +254,14 @@ accepted_told d (k ∷ events) ((Start b program) ∷ h) legal told a =
     accepted_told d events h legal.0 told.1 a ∙ sym (ap (λ (k : Kept). (fate_by k (reverse events) (fate_in events) a).accepted) told.0)
 accepted_told d (k ∷ events) ((Act b own wrote) ∷ h) legal told a =
     ap (λ t. (bytes_eq b a && t) || is_accepted a h)
-    (by_call (after d h) b wrote (λ own. is_accepting_by own.due own.came ≡ queues_by own.due own.came) (λ read ready call got may. call_agrees (after d h) b read ready call got wrote may) own legal.1)
+    (by_act (after d h) b wrote (λ own. is_accepting_by own.due own.came ≡ queues_by own.due own.came)
+    (λ read ready call got may. call_agrees (after d h) b read ready call got wrote (runs_always d h legal.0 b) may)
+    (λ x read ready due came reads next pass. pass_agrees due came pass) own legal.1)
     ∙ accept_step (fate_in events) (queues_by own.due own.came) (is_accepted a h) b a (accepted_told d events h legal.0 told.1 a)
     ∙ sym (ap (λ (k : Kept). (fate_by k (reverse events) (fate_in events) a).accepted) told.0)
+accepted_told d (k ∷ events) ((Child parent own b program) ∷ h) legal told a = absurd told.0
+accepted_told d (k ∷ events) ((Generation sender clean lspawn rspawn) ∷ h) legal told a = absurd told.0
+accepted_told d (k ∷ events) ((Report slot letter text) ∷ h) legal told a = absurd told.0
 accepted_told d (k ∷ events) ((End b read ready status) ∷ h) legal told a =
     accepted_told d events h legal.0 told.1 a
     ∙ over_accepted (fate_in events) (left.Ended status) b a
@@ -260,6 +283,9 @@ abbrev IsStarted : List ℕ → List Event → Type 0
 IsStarted a [] = ⊥
 IsStarted a ((Start b program) ∷ h) = (b ≡ a) ⊎ IsStarted a h
 IsStarted a ((Act b own wrote) ∷ h) = IsStarted a h
+IsStarted a ((Child parent own b program) ∷ h) = (b ≡ a) ⊎ IsStarted a h
+IsStarted a ((Generation sender clean lspawn rspawn) ∷ h) = IsStarted a h
+IsStarted a ((Report slot letter text) ∷ h) = IsStarted a h
 IsStarted a ((End b read ready status) ∷ h) = IsStarted a h
 IsStarted a ((Stop b) ∷ h) = IsStarted a h
 IsStarted a ((Moment m) ∷ h) = IsStarted a h
@@ -291,6 +317,9 @@ started_some d (k ∷ events) ((Start b program) ∷ h) told a was =
     some_put (after d h).actors b _ a (⊎_elim (λ e. inl e) (λ w. inr (started_some d events h told.1 a w)) was)
 started_some d (k ∷ events) ((Act b own wrote) ∷ h) told a was =
     some_acted (after d h) b own wrote ((after d h).actors b) a (started_some d events h told.1 a was)
+started_some d (k ∷ events) ((Child parent own b program) ∷ h) told a was = absurd told.0
+started_some d (k ∷ events) ((Generation sender clean lspawn rspawn) ∷ h) told a was = absurd told.0
+started_some d (k ∷ events) ((Report slot letter text) ∷ h) told a was = absurd told.0
 started_some d (k ∷ events) ((End b read ready status) ∷ h) told a was =
     some_finished (after d h) b (Over status) ((after d h).actors b) a (started_some d events h told.1 a was)
 started_some d (k ∷ events) ((Stop b) ∷ h) told a was =
@@ -322,20 +351,29 @@ no_lines fates events k own is none =
     ∙ ap (λ l. flat_map (start_lines fates) (reverse events) ++ l) (ap (start_lines fates) is ∙ none)
     ∙ append-nil (flat_map (start_lines fates) (reverse events))
 
+-- the lines of an actor, if it is a mail
+mail_told : (fates : List ℕ → Fate) (g : List ℕ × Arguments → List ℕ) (a : List ℕ) (o : Option Arguments) → ((args : Arguments) → fate_lines a (fates a) args ≡ g (a, args))
+    → mail_fate fates a o ≡ flat_map g (mail_by a o)
+mail_told fates g a None each = refl
+mail_told fates g a (Some args) each = each args ∙ sym (append-nil (g (a, args)))
+
 lines_told : (fates : List ℕ → Fate) (g : List ℕ × Arguments → List ℕ) (events : List Kept) (h : List Event) → AllZip Tells events h
     → ((a : List ℕ) (args : Arguments) → IsStarted a h → fate_lines a (fates a) args ≡ g (a, args))
     → flat_map (start_lines fates) (reverse events) ≡ flat_map g (mails_of h)
 lines_told fates g [] [] told each = refl
 lines_told fates g [] (e ∷ h) told each = absurd told
 lines_told fates g (k ∷ events) [] told each = absurd told
-lines_told fates g (k ∷ events) ((Start b (Injector args)) ∷ h) told each =
+lines_told fates g (k ∷ events) ((Start b program) ∷ h) told each =
+    let mine = mail_by b (injection_of program) in
     lines_push (start_lines fates) events k
-    ∙ ap (λ l. flat_map (start_lines fates) (reverse events) ++ l) (ap (start_lines fates) told.0 ∙ each b args (inl refl))
-    ∙ ap (λ l. l ++ g (b, args)) (lines_told fates g events h told.1 (λ a args w. each a args (inr w)))
-    ∙ ap (λ l. flat_map g (mails_of h) ++ l) (sym (append-nil (g (b, args))))
-    ∙ sym (flat_map-append g (mails_of h) ((b, args) ∷ []))
+    ∙ ap (λ l. flat_map (start_lines fates) (reverse events) ++ l) (ap (start_lines fates) told.0 ∙ mail_told fates g b (injection_of program) (λ args. each b args (inl refl)))
+    ∙ ap (λ l. l ++ flat_map g mine) (lines_told fates g events h told.1 (λ a args w. each a args (inr w)))
+    ∙ sym (flat_map-append g (mails_of h) mine)
 lines_told fates g (k ∷ events) ((Act b own wrote) ∷ h) told each =
     no_lines fates events k _ told.0 refl ∙ lines_told fates g events h told.1 each
+lines_told fates g (k ∷ events) ((Child parent own b program) ∷ h) told each = absurd told.0
+lines_told fates g (k ∷ events) ((Generation sender clean lspawn rspawn) ∷ h) told each = absurd told.0
+lines_told fates g (k ∷ events) ((Report slot letter text) ∷ h) told each = absurd told.0
 lines_told fates g (k ∷ events) ((End b read ready status) ∷ h) told each =
     no_lines fates events k _ told.0 refl ∙ lines_told fates g events h told.1 each
 lines_told fates g (k ∷ events) ((Stop b) ∷ h) told each =

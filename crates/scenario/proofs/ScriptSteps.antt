@@ -19,7 +19,7 @@ use Rattle.mail_world.specs.declared.event.Event.{Event as Kept}
 use Rattle.mail_world.specs.declared.event.Event.TheVariants as kept
 use Rattle.mail_world.specs.declared.event.Program.{Program}
 use Rattle.mail_world.specs.History.{Event, call_act, Actor, Life, State, next_of, IsLiving, called, finished, after}
-use Rattle.mail_world.specs.History.Event.{Start, Act, End, Stop, Moment, Halt}
+use Rattle.mail_world.specs.History.Event.{Start, Act, Child, Generation, Report, End, Stop, Moment, Halt}
 use Rattle.mail_world.specs.History.Life.{Alive, Over, Stopped}
 use Rattle.mail_world.specs.World.{kept_call, Seen, Tells, IsHistory, GoesOn, IsStep, EndsAt, was_started, input_ready, GoesByPlan}
 use Rattle.mail_world.proofs.Lives.{started_is, ended_is}
@@ -46,6 +46,9 @@ call_told : (a : List ℕ) (p : ℕ) (ready : Ready) (call : CallData) (got : To
     → Tells (kept_call a p ready call got) e → (w : ℕ) × (e ≡ call_act a p ready call got w)
 call_told a p ready call got (Start b program) told = absurd (cc)
 call_told a p ready call got (Act b own w) told = (w, cc)
+call_told a p ready call got (Child parent own b other) told = absurd told
+call_told a p ready call got (Generation sender clean lspawn rspawn) told = absurd told
+call_told a p ready call got (Report slot letter text) told = absurd told
 call_told a p ready call got (End b q r status) told = absurd (cc)
 call_told a p ready call got (Stop b) told = absurd (cc)
 call_told a p ready call got (Moment m) told = absurd (cc)
@@ -54,6 +57,9 @@ call_told a p ready call got (Halt how contents) told = absurd (cc)
 end_told : (a : List ℕ) (p : ℕ) (ready : Ready) (status : ℕ) (e : Event) → Tells (kept.End a p ready status) e → e ≡ End a p ready status
 end_told a p ready status (Start b program) told = absurd (cc)
 end_told a p ready status (Act b own w) told = absurd (cc)
+end_told a p ready status (Child parent own b other) told = absurd told
+end_told a p ready status (Generation sender clean lspawn rspawn) told = absurd told
+end_told a p ready status (Report slot letter text) told = absurd told
 end_told a p ready status (End b q r other) told = cc
 end_told a p ready status (Stop b) told = absurd (cc)
 end_told a p ready status (Moment m) told = absurd (cc)
@@ -62,6 +68,9 @@ end_told a p ready status (Halt how contents) told = absurd (cc)
 pub start_told : (a : List ℕ) (program : Program) (e : Event) → Tells (kept.Start a program) e → e ≡ Start a program
 start_told a program (Start b other) told = cc
 start_told a program (Act b own w) told = absurd (cc)
+start_told a program (Child parent own b other) told = absurd told
+start_told a program (Generation sender clean lspawn rspawn) told = absurd told
+start_told a program (Report slot letter text) told = absurd told
 start_told a program (End b q r status) told = absurd (cc)
 start_told a program (Stop b) told = absurd (cc)
 start_told a program (Moment m) told = absurd (cc)
@@ -70,6 +79,9 @@ start_told a program (Halt how contents) told = absurd (cc)
 pub stop_told : (a : List ℕ) (e : Event) → Tells (kept.Stop a) e → e ≡ Stop a
 stop_told a (Start b program) told = absurd (cc)
 stop_told a (Act b own w) told = absurd (cc)
+stop_told a (Child parent own b other) told = absurd told
+stop_told a (Generation sender clean lspawn rspawn) told = absurd told
+stop_told a (Report slot letter text) told = absurd told
 stop_told a (End b q r status) told = absurd (cc)
 stop_told a (Stop b) told = cc
 stop_told a (Moment m) told = absurd (cc)
@@ -78,6 +90,9 @@ stop_told a (Halt how contents) told = absurd (cc)
 pub moment_told : (m : ℕ) (e : Event) → Tells (kept.Moment m) e → e ≡ Moment m
 moment_told m (Start b program) told = absurd (cc)
 moment_told m (Act b own w) told = absurd (cc)
+moment_told m (Child parent own b other) told = absurd told
+moment_told m (Generation sender clean lspawn rspawn) told = absurd told
+moment_told m (Report slot letter text) told = absurd told
 moment_told m (End b q r status) told = absurd (cc)
 moment_told m (Stop b) told = absurd (cc)
 moment_told m (Moment n) told = cc
@@ -133,7 +148,7 @@ call_steps o d d' plan left events p h a call got e was memory keeps is =
     let w = told.0 in
     let at_w : IsHistory o d' (events ++ k ∷ []) p (call_act a p input_ready call got w ∷ h) = subst (λ (e : Event). IsHistory o d' (events ++ k ∷ []) p (e ∷ h)) told.1 is in
     let made = at_w.legal.1 in
-    let by = done_by call s.disk plan left d d' got.answer w made.fits keeps in
+    let by = done_by call s.disk plan left d d' got.answer w made.came.0 keeps in
     let left_disk : effect s.disk p call got.answer w ≡ d' =
     subst (λ (m : Option Actor). effect s.disk p call got.answer w ≡ (called s a p input_ready call got w m).disk) (sym made.reads.is) refl ∙ at_w.disk in
     let zero = call_wrote_none s a p input_ready call got w (λ fault. left_disk ∙ by.nothing_done fault ∙ sym was.disk) made in
@@ -145,8 +160,8 @@ call_steps o d d' plan left events p h a call got e was memory keeps is =
         steps = does plan s a p may.actor (needs.File call) (Happens f) may.reads.is may.reads.alive was.moment may.due (
           got,
           record {
-            fits = may.fits;
-            bytes = may.bytes;
+            fits = may.came.0;
+            bytes = may.came.1;
             fails = by.fails;
             takes = subst (λ (d : Disk). Takes d plan.pick got.answer) (sym was.disk) by.takes;
             no_memory = memory;

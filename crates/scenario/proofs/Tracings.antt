@@ -10,6 +10,8 @@ use Rattle.call_fs.specs.Plan.{Plan}
 use Rattle.crash_fs.specs.Crash.{Crash}
 use Rattle.mail_world.specs.declared.event.Event.{Event as Kept}
 use Rattle.mail_world.specs.History.{Event}
+use Rattle.mail_world.specs.History.Event.{Start, Act, Child, Generation, Report, End, Stop, Moment, Halt}
+use Rattle.mail_world.specs.Inside.{event_of}
 use Rattle.mail_world.specs.World.{Seen, Tells}
 use Rattle.scenario.specs.declared.line.Line.{Line}
 use Rattle.scenario.specs.Playing.{IsPlaying, HasPlayed, HasPrinted}
@@ -67,10 +69,22 @@ zip_last R [] x (y ∷ z ∷ ys) a = absurd a.1
 zip_last R (w ∷ xs) x [] a = absurd a
 zip_last R (w ∷ xs) x (y ∷ ys) a = let h = zip_last R xs x ys a.1 in (y ∷ h.0, h.1, ap (λ l. y ∷ l) h.2, (a.0, h.3), h.4)
 
+-- a kept event has the line of each event that it tells
+line_told : (k : Kept) (e : Event) → Tells k e → event_line (event_of k) ≡ event_line e
+line_told k (Start a program) told = ap (λ (k : Kept). event_line (event_of k)) told
+line_told k (Act a own wrote) told = ap (λ (k : Kept). event_line (event_of k)) told
+line_told k (Child parent own a program) told = absurd told
+line_told k (Generation sender clean lspawn rspawn) told = absurd told
+line_told k (Report slot letter text) told = absurd told
+line_told k (End a read ready status) told = ap (λ (k : Kept). event_line (event_of k)) told
+line_told k (Stop a) told = ap (λ (k : Kept). event_line (event_of k)) told
+line_told k (Moment m) told = ap (λ (k : Kept). event_line (event_of k)) told
+line_told k (Halt how contents) told = ap (λ (k : Kept). event_line (event_of k)) told
+
 -- the line of one event more
 pub lines_more : (events : List Kept) (i : ℕ) (event : Kept) (start old new : List ℕ) → i < length events → event ≡ get_or events i event
     → ((happened : List Event) → AllZip Tells (take i events) happened → old ≡ start ++ flat_map event_line happened)
-    → ((e : Event) → Tells event e → new ≡ old ++ event_line e)
+    → new ≡ old ++ event_line (event_of event)
     → (happened : List Event) → AllZip Tells (take (i + 1) events) happened → new ≡ start ++ flat_map event_line happened
 lines_more events i event start old new inside is before one happened told =
     let grown : take (i + 1) events ≡ take i events ++ event ∷ [] = take_more events i event inside ∙ ap (λ e. take i events ++ e ∷ []) (sym is) in
@@ -79,7 +93,8 @@ lines_more events i event start old new inside is before one happened told =
     let last : Event = more.1 in
     let lines : flat_map event_line happened ≡ flat_map event_line front ++ event_line last =
     ap (flat_map event_line) more.2 ∙ flat_map-append event_line front (last ∷ []) ∙ ap (λ t. flat_map event_line front ++ t) (append-nil (event_line last)) in
-    one last more.4
+    one
+    ∙ ap (λ t. old ++ t) (line_told event last more.4)
     ∙ ap (λ t. t ++ event_line last) (before front more.3)
     ∙ append_assoc start (flat_map event_line front) (event_line last)
     ∙ ap (λ t. start ++ t) (sym lines)

@@ -11,7 +11,7 @@ use Rattle.mem_fs.specs.MemDisk.{bytes_at}
 use Rattle.queue_inject.specs.declared.injection.Arguments.{Arguments}
 use Rattle.mail_world.specs.declared.event.Program.TheVariants.{Injector}
 use Rattle.mail_world.specs.History.{Event, call_act, Actor, Life, State, Legal, next_of, after}
-use Rattle.mail_world.specs.History.Event.{Start, Act, End, Stop, Moment, Halt}
+use Rattle.mail_world.specs.History.Event.{Start, End, Stop, Moment, Halt}
 use Rattle.mail_world.specs.History.Life.{Alive, Over, Stopped}
 use Rattle.mail_world.specs.MailNames.{IsMailName, IsLetter, IsLetterOrDigit, members}
 use Rattle.mail_world.specs.World.{input_ready, mail}
@@ -63,7 +63,7 @@ step_life : (plan : Plan) (s : State) (a : List ℕ) (x : Actor) (life : Life) �
 step_life plan s a x Alive carries is alive =
     step_due plan s a (next_of x.program x.past s.now input_ready)
     (due_may s a x carries is alive)
-    (next_given plan s.disk x.program x.past s.now input_ready carries.finite)
+    (next_given plan s.disk x.program (carries.mails a x is) x.past s.now input_ready carries.finite)
 step_life plan s a x (Over status) carries is over = (Is Gone, refl)
 step_life plan s a x Stopped carries is over = (Is Gone, refl)
 
@@ -246,7 +246,7 @@ start_kept : (d : Disk) (h : List Event) (name message envelope : List ℕ) (out
     → Goes d (outcome_events outcome ++ h)
 start_kept d h name message envelope outcome so comes = ⊎_elim
     (λ good. subst (λ (o : Outcome). Goes d (outcome_events o ++ h)) (sym good.2)
-    (goes_started d h name (Injector (mail (next_pid h) (after d h).now message envelope)) so good.1 (omega arith)))
+    (goes_started d h name (Injector (mail (next_pid h) (after d h).now message envelope)) tt so good.1 (omega arith)))
     (λ bad. subst (λ (o : Outcome). Goes d (outcome_events o ++ h)) (sym bad.1) so)
     comes
 
@@ -394,6 +394,8 @@ goes_first opening d paths first =
         owns = λ a x is lives. absurd (cc);
         runs = λ a x is. absurd (cc);
         in_order = λ a x is. absurd (cc);
+        no_child = λ a. refl;
+        mails = λ a x is. absurd (cc);
       };
     }
 

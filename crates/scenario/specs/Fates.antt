@@ -1,5 +1,5 @@
 -- How the injectors fare, by the events that a world kept.
-use Rattle.std.specs.Prelude.{ℕ, List, [], ◌∷◌, ◌++◌, length, reverse, take, Bool, true, false, codes, bytes_eq, if◌then◌else◌}
+use Rattle.std.specs.Prelude.{ℕ, List, [], ◌∷◌, ◌++◌, length, reverse, take, Bool, true, false, codes, bytes_eq, if◌then◌else◌, Option, Some, None}
 use Rattle.std.specs.Option.{unwrap_or}
 use Rattle.std.specs.Ordering.{nat_cmp}
 use Rattle.std.specs.BTreeMap.{get_by}
@@ -17,7 +17,7 @@ use Rattle.queue_inject.specs.declared.injection.Arguments.{Arguments}
 use Rattle.queue_inject.specs.Texts.{recipients_of}
 use Rattle.mail_world.specs.declared.event.Event.{Event as Kept}
 use Rattle.mail_world.specs.declared.event.Event.TheVariants as kept
-use Rattle.mail_world.specs.declared.event.Program.TheVariants.{Injector}
+use Rattle.mail_world.specs.ByKind.{injection_of}
 use Rattle.mail_world.specs.History.{Life}
 use Rattle.mail_world.specs.History.Life.{Alive, Over, Stopped}
 use Rattle.mail_world.specs.World.{was_started}
@@ -86,9 +86,14 @@ abbrev pub fate_lines : List ℕ → Fate → Arguments → List ℕ
 fate_lines name fate args =
     line_of name (life_word (life_of fate.life)) ++ (if fate.accepted then recipient_lines name 1 (length (recipients_of args)) else [])
 
+-- those of an actor, if it is a mail
+abbrev pub mail_fate : (List ℕ → Fate) → List ℕ → Option Arguments → List ℕ
+mail_fate fates a None = []
+mail_fate fates a (Some args) = fate_lines a (fates a) args
+
 -- the lines of the mail that an event starts
 abbrev pub start_lines : (List ℕ → Fate) → Kept → List ℕ
-start_lines fates (kept.Start a (Injector args)) = fate_lines a (fates a) args
+start_lines fates (kept.Start a program) = mail_fate fates a (injection_of program)
 start_lines fates (kept.Act a own) = []
 start_lines fates (kept.End a read ready status) = []
 start_lines fates (kept.Stop a) = []

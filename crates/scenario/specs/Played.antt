@@ -1,5 +1,5 @@
 -- The history that a script plays, and what each of its lines prints. A call fails where the script says so, and only there.
-use Rattle.std.specs.Prelude.{◌≡◌, ◌≢◌, ◌⊎◌, ◌↔◌, ℕ, zero, suc, ◌<◌, ◌≤◌, List, [], ◌∷◌, ◌++◌, length, Bool, Option, Some, None, IsSome, count_by, codes}
+use Rattle.std.specs.Prelude.{◌≡◌, ◌≢◌, ◌⊎◌, ◌↔◌, ℕ, zero, suc, ◌<◌, ◌≤◌, List, [], ◌∷◌, ◌++◌, length, Bool, Option, Some, None, IsSome, codes}
 use Rattle.mail_bytes.specs.Decimal.{digits}
 use Rattle.mail_bytes.specs.Escape.{escaped}
 use Rattle.call_fs.specs.declared.calls.CallData.{CallData}
@@ -16,13 +16,14 @@ use Rattle.call_fs.specs.declared.past.NeedData.{NeedData}
 use Rattle.call_fs.specs.declared.past.NeedData.TheVariants as needs
 use Rattle.call_fs.specs.declared.past.GotData.{GotData}
 use Rattle.call_fs.specs.declared.past.GotData.TheVariants.{Answered}
+use Rattle.std.specs.List.{sum_by}
 use Rattle.mem_fs.specs.MemDisk.{bytes_at}
 use Rattle.queue_inject.specs.declared.injection.Arguments.{Arguments}
 use Rattle.mail_world.specs.declared.error.WorldError.{WorldError}
 use Rattle.mail_world.specs.declared.error.WorldError.TheVariants as error
 use Rattle.mail_world.specs.declared.event.Program.TheVariants.{Injector}
-use Rattle.mail_world.specs.History.{Event, Life, State, Actor, call_act, next_of, after, is_start}
-use Rattle.mail_world.specs.History.Event.{Start, Act, End, Stop, Moment, Halt}
+use Rattle.mail_world.specs.History.{Event, Life, State, Actor, call_act, next_of, after, started_by}
+use Rattle.mail_world.specs.History.Event.{Start, Act, Child, Generation, Report, End, Stop, Moment, Halt}
 use Rattle.mail_world.specs.History.Life.{Alive, Over, Stopped}
 use Rattle.mail_world.specs.MailNames.{IsMailName}
 use Rattle.mail_world.specs.World.{input_ready, mail, pid_after}
@@ -104,7 +105,7 @@ StepsTo plan s a outcome = DoesStep plan s a (s.actors a) outcome
 
 -- the process number of the next mail
 abbrev pub next_pid : List Event → ℕ
-next_pid h = pid_after (count_by is_start h)
+next_pid h = pid_after (sum_by started_by h)
 
 -- What the start of a mail comes to: it is refused if its name was used, or is none that a mail may have.
 abbrev pub MailComesTo : State → List ℕ → Arguments → Outcome → Type 0
@@ -130,6 +131,9 @@ plan_left_of due came plan = plan
 abbrev pub plan_by : Event → Plan → Plan
 plan_by (Start a program) plan = plan
 plan_by (Act a own wrote) plan = plan_left_of own.due own.came plan
+plan_by (Child parent own a program) plan = plan
+plan_by (Generation sender clean lspawn rspawn) plan = plan
+plan_by (Report slot letter text) plan = plan
 plan_by (End a read ready status) plan = plan
 plan_by (Stop a) plan = plan
 plan_by (Moment m) plan = plan

@@ -1,10 +1,5 @@
 -- What `show` prints: how many names `pid/` has, the state of each number that isn't in S1, and how each mail fares.
 use Rattle.std.specs.Prelude.{◌≡◌, ◌≢◌, ◌↔◌, ℕ, zero, suc, ◌+◌, ◌^◌, ◌<◌, ◌≤◌, List, [], ◌∷◌, ◌++◌, length, Bool, true, false, ◌||◌, ◌&&◌, Option, Some, None, All, Contains, codes, flat_map, bytes_eq, if◌then◌else◌}
-use Rattle.std.specs.List.{AllPairs}
-use Rattle.std.specs.List.Sorted.{IsStrictlyIncreasing}
-use Rattle.std.specs.Ordering.{nat_cmp}
-use Rattle.std.specs.Cmp.Lexicographic.{slice_cmp}
-use Rattle.std.specs.declared.cmp.Ordering.TheVariants.{Less}
 use Rattle.call_fs.specs.declared.calls.CallData.{CallData}
 use Rattle.call_fs.specs.declared.calls.CallData.TheVariants.{Link}
 use Rattle.call_fs.specs.declared.calls.Answer.{Answer}
@@ -13,7 +8,6 @@ use Rattle.call_fs.specs.declared.past.NeedData.TheVariants.{File}
 use Rattle.call_fs.specs.declared.past.GotData.{GotData}
 use Rattle.call_fs.specs.declared.past.GotData.TheVariants.{Answered}
 use Rattle.call_fs.specs.declared.calls.Answer.TheVariants.{Done}
-use Rattle.call_fs.specs.Apply.{StandsAfter}
 use Rattle.mail_bytes.specs.Decimal.{digits}
 use Rattle.call_fs.specs.Disk.{Disk}
 use Rattle.queue_inject.specs.declared.injection.Arguments.{Arguments}
@@ -21,21 +15,16 @@ use Rattle.queue_paths.specs.Names.{Name, path, parse}
 use Rattle.queue_paths.specs.Names.Name.{Of}
 use Rattle.queue_paths.specs.Names.Part.{Intd, Todo}
 use Rattle.queue_inject.specs.Texts.{recipients_of}
-use Rattle.mail_world.specs.declared.event.Program.TheVariants.{Injector}
+use Rattle.mail_world.specs.ByKind.{injection_of}
 use Rattle.queue_states.specs.declared.state.State.TheVariants.{S1}
 use Rattle.queue_states.specs.States.{state_of, is_there}
 pub use Rattle.queue_states.specs.Listing.{AreNamesIn}
+pub use Rattle.disk_numbers.specs.Numbers.{AreNumbersIn}
 pub use Rattle.queue_states.specs.Lines.{line_of, count_line, state_line}
 use Rattle.mail_world.specs.History.{Event, Life, State, Actor, Injection, after}
-use Rattle.mail_world.specs.History.Event.{Start, Act, End, Stop, Moment, Halt}
+use Rattle.mail_world.specs.History.Event.{Start, Act, Child, Generation, Report, End, Stop, Moment, Halt}
 use Rattle.mail_world.specs.History.Life.{Alive, Over, Stopped}
 use Rattle.mail_world.specs.Headline.{IsInjected}
-
--- the numbers that aren't in S1, in order; a message number is a u64 from 1
-pub record AreNumbersIn (d : Disk) (numbers : List ℕ) : Type 0 where
-  pub each : (n : ℕ) → 1 ≤ n → n < 2 ^ 64 → Contains numbers n ↔ (state_of d n ≢ S1)
-  pub only : All (λ n. (1 ≤ n) × (n < 2 ^ 64)) numbers
-  pub rising : IsStrictlyIncreasing numbers
 
 -- `pid COUNT`
 abbrev pub pid_line : List (List ℕ) → List ℕ
@@ -69,6 +58,9 @@ abbrev pub is_accepted : List ℕ → List Event → Bool
 is_accepted name [] = false
 is_accepted name ((Act a own wrote) ∷ before) = (bytes_eq a name && is_accepting_by own.due own.came) || is_accepted name before
 is_accepted name ((Start a program) ∷ before) = is_accepted name before
+is_accepted name ((Child parent own a program) ∷ before) = is_accepted name before
+is_accepted name ((Generation sender clean lspawn rspawn) ∷ before) = is_accepted name before
+is_accepted name ((Report slot letter text) ∷ before) = is_accepted name before
 is_accepted name ((End a read ready status) ∷ before) = is_accepted name before
 is_accepted name ((Stop a) ∷ before) = is_accepted name before
 is_accepted name ((Moment m) ∷ before) = is_accepted name before
@@ -85,11 +77,19 @@ mail_lines s h name args None = []
 mail_lines s h name args (Some x) =
     line_of name (life_word x.life) ++ (if is_accepted name h then recipient_lines name 1 (length (recipients_of args)) else [])
 
+-- an actor with what it was started with, if it is a mail
+abbrev pub mail_by : List ℕ → Option Arguments → List (List ℕ × Arguments)
+mail_by a None = []
+mail_by a (Some args) = (a, args) ∷ []
+
 -- the mails that were started, in order
 abbrev pub mails_of : List Event → List (List ℕ × Arguments)
 mails_of [] = []
-mails_of ((Start a (Injector args)) ∷ before) = mails_of before ++ (a, args) ∷ []
+mails_of ((Start a program) ∷ before) = mails_of before ++ mail_by a (injection_of program)
 mails_of ((Act a own wrote) ∷ before) = mails_of before
+mails_of ((Child parent own a program) ∷ before) = mails_of before ++ mail_by a (injection_of program)
+mails_of ((Generation sender clean lspawn rspawn) ∷ before) = mails_of before
+mails_of ((Report slot letter text) ∷ before) = mails_of before
 mails_of ((End a read ready status) ∷ before) = mails_of before
 mails_of ((Stop a) ∷ before) = mails_of before
 mails_of ((Moment m) ∷ before) = mails_of before

@@ -10,13 +10,19 @@ use Rattle.call_fs.specs.declared.calls.CallData.TheVariants.{CreateExcl, Open, 
 use Rattle.call_fs.specs.declared.calls.Answer.{Answer}
 use Rattle.call_fs.specs.declared.calls.Answer.TheVariants as answer
 use Rattle.call_fs.specs.declared.past.NeedData.{NeedData}
-use Rattle.call_fs.specs.declared.past.NeedData.TheVariants.{File}
+use Rattle.call_fs.specs.declared.past.ChildData.{ChildData}
+use Rattle.call_fs.specs.declared.past.ChildData.TheVariants as child
+use Rattle.call_fs.specs.declared.past.NeedData.TheVariants.{File, Take, Give, Start as Starts, Command, Wait}
+use Rattle.call_fs.specs.declared.past.NeedData.TheVariants as needs
 use Rattle.call_fs.specs.declared.past.GotData.{GotData}
-use Rattle.call_fs.specs.declared.past.GotData.TheVariants.{Answered}
+use Rattle.call_fs.specs.declared.past.GotData.TheVariants.{Answered, Took, End as Ends, Ended, Crashed, Gave, Started}
+use Rattle.call_fs.specs.declared.program.Port.{Port}
+use Rattle.call_fs.specs.declared.program.Port.TheVariants as port
 use Rattle.call_fs.specs.declared.crash_file_system.Survival.{Survival}
 use Rattle.call_fs.specs.declared.crash_file_system.Survival.TheVariants.{Keep, Lose, Junk}
+use Rattle.mail_world.specs.MailNames.{members}
 use Rattle.mail_world.specs.History.{Event}
-use Rattle.mail_world.specs.History.Event.{Start, Act, End, Stop, Moment, Halt}
+use Rattle.mail_world.specs.History.Event.{Start, Act, Child, Generation, Report, End, Stop, Moment, Halt}
 use Rattle.scenario.specs.declared.line.Line.{Line}
 use Rattle.scenario.specs.declared.line.Line.TheVariants as line
 use Rattle.scenario.specs.Shown.{line_of}
@@ -77,16 +83,75 @@ survival_word Keep = codes "keep"
 survival_word Lose = codes "lose"
 survival_word (Junk seed) = codes "junk"
 
--- the line of what an actor did: of a file call `ACTOR CALL = ANSWER`; nothing else is done yet
-abbrev pub act_line : List ℕ → NeedData → GotData → List ℕ
-act_line a (File call) (Answered told) = line_of a (call_text call told.answer ++ (codes " = " ++ answer_text told.answer))
-act_line a due came = []
+-- the word of a port
+abbrev pub port_text : Port → List ℕ
+port_text port.Input = codes "input"
+port_text port.Output = codes "output"
+port_text port.Clean = codes "clean"
+port_text port.Lspawn = codes "lspawn"
+port_text port.Rspawn = codes "rspawn"
+port_text port.Todo = codes "todo"
+port_text (port.Program slot) = codes "program." ++ digits slot
+port_text (port.Status slot) = codes "status." ++ digits slot
 
--- The line of an event: `ACTOR start`, `ACTOR CALL = ANSWER`, `ACTOR end STATUS`, `ACTOR stop`, `world moment N` or
--- `world halt WORD`.
+-- `WORD PORT LEN`
+abbrev pub with_port : List ℕ → Port → ℕ → List ℕ
+with_port word port count = word ++ 32 ∷ (port_text port ++ 32 ∷ digits count)
+
+-- `ACTOR take PORT LEN`, with 0 for an end or a status
+abbrev pub taken_line : List ℕ → Port → GotData → List ℕ
+taken_line a port (Took bytes) = line_of a (with_port (codes "take") port (length bytes))
+taken_line a port Ends = line_of a (with_port (codes "take") port 0)
+taken_line a port (Ended status) = line_of a (with_port (codes "take") port 0)
+taken_line a port Crashed = line_of a (with_port (codes "take") port 0)
+taken_line a port other = []
+
+-- `ACTOR give PORT LEN`
+abbrev pub given_line : List ℕ → Port → List ℕ → GotData → List ℕ
+given_line a port bytes Gave = line_of a (with_port (codes "give") port (length bytes))
+given_line a port bytes other = []
+
+-- `ACTOR start SLOT`, of a remote program
+abbrev pub remote_line : List ℕ → ℕ → GotData → List ℕ
+remote_line a slot (Started pid) = line_of a (codes "start " ++ digits slot)
+remote_line a slot other = []
+
+-- a child's start has the line of its own event
+abbrev pub started_line : List ℕ → ChildData → GotData → List ℕ
+started_line a (child.Remote slot domain sender recipient) came = remote_line a slot came
+started_line a other came = []
+
+-- `ACTOR command = STATUS`
+abbrev pub command_line : List ℕ → GotData → List ℕ
+command_line a (Ended status) = line_of a (codes "command = " ++ digits status)
+command_line a other = []
+
+-- `ACTOR CALL = ANSWER`
+abbrev pub call_line : List ℕ → CallData → GotData → List ℕ
+call_line a call (Answered told) = line_of a (call_text call told.answer ++ (codes " = " ++ answer_text told.answer))
+call_line a call other = []
+
+-- The line of what an actor did. What failed has none, a file call excepted: in a world nothing else fails.
+abbrev pub act_line : List ℕ → NeedData → GotData → List ℕ
+act_line a (File call) came = call_line a call came
+act_line a (Take port) came = taken_line a port came
+act_line a (Give port bytes) came = given_line a port bytes came
+act_line a (Starts asked) came = started_line a asked came
+act_line a (Command bytes) came = command_line a came
+act_line a Wait came = []
+act_line a (needs.Ended status) came = []
+
+abbrev pub start_line : List ℕ → List ℕ
+start_line a = line_of a (codes "start")
+
+-- The line of an event: `ACTOR start`, that of what an actor did, `rspawn report SLOT LETTER`, `ACTOR end STATUS`,
+-- `ACTOR stop`, `world moment N` or `world halt WORD`. A generation has a line for each of its members.
 abbrev pub event_line : Event → List ℕ
-event_line (Start a program) = line_of a (codes "start")
+event_line (Start a program) = start_line a
 event_line (Act a own wrote) = act_line a own.due own.came
+event_line (Child parent own a program) = start_line a
+event_line (Generation sender clean lspawn rspawn) = flat_map start_line members
+event_line (Report slot letter text) = line_of (codes "rspawn") (codes "report " ++ (digits slot ++ (32 ∷ letter ∷ [])))
 event_line (End a read ready status) = line_of a (codes "end " ++ digits status)
 event_line (Stop a) = line_of a (codes "stop")
 event_line (Moment m) = line_of (codes "world") (codes "moment " ++ digits m)

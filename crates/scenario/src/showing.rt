@@ -1,5 +1,5 @@
 // What `show` and `cat` print.
-ghost use Rattle.std.specs.Prelude.{◌≡◌, ◌++◌, ◌∷◌, List, ℕ, length, OnOk, codes, flat_map};
+ghost use Rattle.std.specs.Prelude.{◌≡◌, ◌++◌, ◌∷◌, List, ℕ, length, OnOk, codes, flat_map, option_map};
 ghost use Rattle.mail_bytes.specs.Decimal.{digits};
 ghost use Rattle.call_fs.specs.Disk.{Disk};
 ghost use Rattle.mem_fs.specs.MemDisk.{bytes_at};
@@ -9,15 +9,15 @@ ghost use Rattle.mail_world.specs.History.{Event as Happening};
 ghost use Rattle.mail_world.specs.World.{Happened};
 ghost use Rattle.scenario.specs.Shown.{IsShown, line_of, life_word, recipient_lines, number_line};
 ghost use Rattle.scenario.specs.Played.{cat_line};
-ghost use Rattle.scenario.specs.Fates.{fate_of, life_of, fate_lines, start_lines};
+ghost use Rattle.scenario.specs.Fates.{fate_of, life_of, fate_lines, mail_fate, start_lines};
 
 use crate::fates::{Fate, Fates, Life};
-use crate::numbers::{names_of, numbers_of, state_on};
 use crate::printing::{put_escaped, put_line, put_number};
 use crash_fs::CrashDisk;
+use disk_numbers::{names_of, numbers_of, state_on};
 use envelope_records::{EnvStep, EnvelopeReader};
 use mail_bytes::Memory;
-use mail_world::{Event, Program, World};
+use mail_world::{ActorName, Event, World};
 use queue_inject::Arguments;
 use queue_states::{put_count_line, put_state_line};
 use std::alloc::Global;
@@ -80,18 +80,27 @@ fn put_mail(text: &mut Vec<u8>, fates: &Fates, event: &Event) -> Result<(), Memo
     ensures { OnOk result (text.new.items ≡ text.old.items ++ start_lines (fate_of fates.now) event.now) }
 {
     match event {
-        Event::Start {
-            actor,
-            program: Program::Injector(arguments),
-        } => put_fate(
-            text,
-            actor.as_slice(),
-            fates.find(actor.as_slice()),
-            arguments,
-        ),
+        Event::Start { actor, program } => put_started(text, fates, actor, program.injection()),
         Event::Act { .. } | Event::End { .. } => Ok(()),
         Event::Stop { .. } | Event::Moment { .. } | Event::Halt { .. } => Ok(()),
     }
+}
+
+/// Puts the lines of an actor at the end of a text, if it is a mail, which was started with this.
+fn put_started(
+    text: &mut Vec<u8>,
+    fates: &Fates,
+    actor: &ActorName,
+    injection: Option<&Arguments>,
+) -> Result<(), Memory>
+    ensures { OnOk result (text.new.items ≡ text.old.items
+        ++ mail_fate (fate_of fates.now) actor.now (option_map (λ args. args.now) injection.entry)) }
+{
+    let Some(arguments) = injection else {
+        return Ok(());
+    };
+    let name = actor.as_slice();
+    put_fate(text, name, fates.find(name), arguments)
 }
 
 /// Puts the lines of a mail that fares so at the end of a text.

@@ -3,12 +3,14 @@ ghost use Rattle.std.specs.Prelude.{◌≡◌, ◌≤◌, ◌++◌, List, length
 ghost use Rattle.std.specs.List.{AllZip};
 ghost use Rattle.mail_bytes.specs.Decimal.{digits};
 ghost use Rattle.mail_world.specs.History.{Event as Happening};
+ghost use Rattle.mail_world.specs.Inside.{event_of};
 ghost use Rattle.mail_world.specs.World.{Tells};
 ghost use Rattle.scenario.specs.Shown.{line_of};
-ghost use Rattle.scenario.specs.Traced.{with_path, with_descriptor, with_count, call_text, answer_text, refusal_text, count_told, survival_word, act_line, event_line, traced_after};
+ghost use Rattle.scenario.specs.Traced.{with_path, with_descriptor, with_count, call_text, answer_text, refusal_text, count_told, survival_word, start_line, act_line, event_line, traced_after};
 ghost use Rattle.call_fs.specs.declared.past.NeedData.TheVariants.{File};
 
 use crate::Line;
+use crate::passing::{put_command, put_given, put_started, put_taken};
 use crate::printing::{put_escaped, put_line, put_number};
 use call_fs::{Answer, CallData, Fd, FsError, GotData, NeedData, Own, Survival};
 use mail_bytes::Memory;
@@ -58,27 +60,51 @@ fn put_events(alloc: Global, text: &mut Vec<u8>, events: &[Event]) -> Result<(),
 
 /// Puts the line of an event at the end of a text.
 fn put_event(alloc: Global, text: &mut Vec<u8>, event: &Event) -> Result<(), Memory>
-    ensures { OnOk result ((happened : Happening) → Tells event.now happened
-        → text.new.items ≡ text.old.items ++ event_line happened) }
+    ensures { OnOk result (text.new.items ≡ text.old.items ++ event_line (event_of event.now)) }
 {
     match event {
-        Event::Start { actor, .. } => put_line(text, actor.as_slice(), b"start"),
+        Event::Start { actor, .. } => put_start(text, actor),
         Event::Act { actor, own } => put_act(alloc, text, actor, own),
         Event::End { actor, status, .. } => put_end(text, actor, *status),
-        Event::Stop { actor } => put_line(text, actor.as_slice(), b"stop"),
+        Event::Stop { actor } => put_stop(text, actor),
         Event::Moment { moment } => put_moment(text, *moment),
-        Event::Halt { how } => put_line(text, b"world", halt_words(*how)),
+        Event::Halt { how } => put_halt(text, *how),
     }
 }
 
-/// Puts the line of what an actor did at the end of a text. Nothing but file calls is done yet.
+/// Puts the line of a start at the end of a text.
+fn put_start(text: &mut Vec<u8>, actor: &ActorName) -> Result<(), Memory>
+    ensures { OnOk result (text.new.items ≡ text.old.items ++ start_line actor.now) }
+{
+    put_line(text, actor.as_slice(), b"start")
+}
+
+/// Puts the line of a stop at the end of a text.
+fn put_stop(text: &mut Vec<u8>, actor: &ActorName) -> Result<(), Memory>
+    ensures { OnOk result (text.new.items ≡ text.old.items ++ line_of actor.now (codes "stop")) }
+{
+    put_line(text, actor.as_slice(), b"stop")
+}
+
+/// Puts the line of a machine stop at the end of a text.
+fn put_halt(text: &mut Vec<u8>, how: Survival) -> Result<(), Memory>
+    ensures { OnOk result (text.new.items ≡ text.old.items
+        ++ line_of (codes "world") (codes "halt " ++ survival_word how)) }
+{
+    put_line(text, b"world", halt_words(how))
+}
+
+/// Puts the line of what an actor did at the end of a text.
 fn put_act(alloc: Global, text: &mut Vec<u8>, actor: &ActorName, own: &Own) -> Result<(), Memory>
     ensures { OnOk result (text.new.items ≡ text.old.items ++ act_line actor.now own.now.due own.now.came) }
 {
     match &own.due {
         NeedData::File(call) => put_came(alloc, text, actor, call, &own.came),
-        NeedData::Take(_) | NeedData::Give(..) | NeedData::Start(_) => Ok(()),
-        NeedData::Command(_) | NeedData::Wait | NeedData::Ended(_) => Ok(()),
+        NeedData::Take(port) => put_taken(text, actor, *port, &own.came),
+        NeedData::Give(port, bytes) => put_given(text, actor, *port, bytes, &own.came),
+        NeedData::Start(child) => put_started(text, actor, child, &own.came),
+        NeedData::Command(_) => put_command(text, actor, &own.came),
+        NeedData::Wait | NeedData::Ended(_) => Ok(()),
     }
 }
 

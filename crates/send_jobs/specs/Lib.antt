@@ -12,3 +12,5 @@ pub mod Lanes
 pub mod Sending
 -- runs of calls, and what holds after each
 pub mod Runs
+-- the lines of the log that speak of deliveries
+pub mod Lines

@@ -1,5 +1,6 @@
 -- Both channels of the sender, and how many deliveries it has begun.
-use Rattle.std.specs.Prelude.{ℕ, ◌+◌, ◌-◌, ◌^◌, min, Option, Some, None}
+use Rattle.std.specs.Prelude.{ℕ, Option, Some, None}
+use Rattle.mail_bytes.specs.Told.{raised}
 use Rattle.send_jobs.specs.declared.channels.Channel.{Channel}
 use Rattle.send_jobs.specs.declared.channels.Channel.TheVariants.{Local, Remote}
 use Rattle.send_jobs.specs.declared.lane.Lane.{Lane}
@@ -23,7 +24,7 @@ none_out local remote = record { local = empty local; remote = empty remote; giv
 
 -- the number of the next delivery, which stays at u64's last value
 abbrev pub next_delivery : Slots → ℕ
-next_delivery s = min (s.given + 1) (2 ^ 64 - 1)
+next_delivery s = raised s.given
 
 abbrev pub sent_as : Option ℕ → Channel → ℕ → Slots → Slots
 sent_as None channel delivery s = s

@@ -3,7 +3,8 @@
 //!
 //! The contract of this crate, `slots_are_sound`: after every run of calls, two attempts in flight are never at one place
 //! of one message, each is one that the message's last pass read as `T`, and `finished` tells exactly when each place of
-//! that pass was reported. `Slots::take_lowest` takes the least free slot.
+//! that pass was reported. `Slots::take_lowest` takes the least free slot. It also puts the lines of the log that speak of
+//! deliveries.
 #![tactic(auto)]
 
 mod attempts;
@@ -12,6 +13,7 @@ mod jobs;
 mod lane;
 mod laws;
 mod left;
+mod lines;
 mod marks;
 mod slot_table;
 mod slots;
@@ -20,5 +22,6 @@ pub use attempts::{Attempt, Mark};
 pub use channels::{Channel, retry_at};
 pub use jobs::Job;
 pub use laws::{jobs_are_a_map, marks_have_room, slots_are_sound};
+pub use lines::{put_settled, put_starting, put_status};
 pub use slot_table::MAX_SLOTS;
 pub use slots::{OutOfRange, Slots};

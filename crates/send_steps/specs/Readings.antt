@@ -1,6 +1,7 @@
 -- How a file is read to its end: it is opened, read in pieces of 8192 bytes until one is shorter, and closed. A close doesn't
 -- fail.
 use Rattle.std.specs.Prelude.{ℕ, List, length, if◌then◌else◌, nat_lt}
+use Rattle.call_fs.specs.declared.file_system.TheConstants.{PIECE}
 use Rattle.call_fs.specs.declared.calls.Fd.{Fd}
 use Rattle.send_steps.specs.declared.reading.Progress.{Progress}
 use Rattle.send_steps.specs.declared.reading.Progress.TheVariants.{Goes, Whole, Missing, Failed}
@@ -18,7 +19,7 @@ opened way.Absent fd = Missing
 opened w fd = Failed
 
 abbrev pub read_more : Way → Fd → List ℕ → Progress
-read_more way.Fine fd bytes = if nat_lt (length bytes) 8192 then Goes (Closing fd) else Goes (Going fd)
+read_more way.Fine fd bytes = if nat_lt (length bytes) PIECE then Goes (Closing fd) else Goes (Going fd)
 read_more w fd bytes = Goes (Shutting fd)
 
 abbrev pub read_on : Reading → Said → Progress

@@ -2,6 +2,7 @@
 use Rattle.std.specs.Prelude.{ℕ, List, [], ◌∷◌, ◌++◌, codes}
 use Rattle.address_rules.specs.declared.control_file.ControlFile.{ControlFile}
 use Rattle.address_rules.specs.Files.{name as file_name}
+use Rattle.call_fs.specs.declared.file_system.TheConstants.{PIECE}
 use Rattle.call_fs.specs.declared.calls.CallData.TheVariants as call
 use Rattle.call_fs.specs.declared.calls.How.TheVariants as how
 use Rattle.call_fs.specs.declared.past.NeedData.{NeedData}
@@ -31,7 +32,7 @@ remove_text n = codes "foop/" ++ (digits n ++ 0 ∷ [])
 abbrev pub due_by : Step → List ℕ → NeedData
 due_by (step.OpenControl file) bytes = needs.File (call.Open (control_text file) how.Read)
 due_by (step.Open name how) bytes = needs.File (call.Open (path (name_of name)) how)
-due_by (step.Read fd at) bytes = needs.File (call.ReadAt fd at 8192)
+due_by (step.Read fd at) bytes = needs.File (call.ReadAt fd at PIECE)
 due_by (step.Mark fd place) bytes = needs.File (call.WriteAt fd place (codes "D"))
 due_by (step.Close fd) bytes = needs.File (call.Close fd)
 due_by (step.Unlink name) bytes = needs.File (call.Unlink (path (name_of name)))

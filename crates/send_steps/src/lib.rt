@@ -1,21 +1,44 @@
-//! What the sender does at a step, and what came of it, in small values that can be copied: a step with numbers in place of
-//! names (`Step`), the same with its name held in place (`NamedStep`), what came of it in five ways (`Reply`), how a file is
-//! read to its end (`Reading`), and what the files that it reads say: the records of a channel file, the sender of an info
-//! file, the number that a name is.
+//! Steps of the sender (qmail-send(8)), and the parts of its table that stand by themselves.
 //!
-//! The contract of this crate: what a named step needs is the call, taking or giving that its definition names.
+//! What it does at a step, and what came of it, are small values that can be copied: a step with numbers in place of names
+//! (`Step`), the same with its name held in place (`NamedStep`), what came of it in five ways (`Reply`), and how a file is
+//! read to its end (`Reading`). Then what the files that it reads say: the records of a channel file, the sender of an info
+//! file, the number that a name is. Over these stand the requests of a pass (`Requests`) and the link to a spawner (`Link`),
+//! and the rows of the start, of the finish of a message, and of the sweep, each with where its steps lead.
+//!
+//! The contracts of this crate: what a named step needs is the call, taking or giving that its definition names; the
+//! requests are those of the records that read `T`; and where a row leads is what its table says (`specs/Start.antt`,
+//! `specs/Finish.antt`, `specs/Sweep.antt`).
 #![tactic(auto)]
 
+mod book;
 mod dir;
+mod finish;
+mod lines;
+mod link;
 mod named_step;
 mod reading;
 mod reply;
+mod requests;
+mod row_steps;
+mod rows;
+mod start;
 mod step;
+mod sweep;
 mod texts;
 
+pub use book::Book;
 pub use dir::Dir;
+pub use finish::finish_to;
+pub use lines::{add_finished, is_skipped, make_room, put_skipped};
+pub use link::Link;
 pub use named_step::NamedStep;
 pub use reading::{Progress, Reading, read_on, reading_step};
 pub use reply::{Reply, Way, reply_of};
+pub use requests::{RequestText, Requests};
+pub use row_steps::{finish_step, start_step, sweep_step};
+pub use rows::{FinishRow, Search, StartRow, SweepRow};
+pub use start::{act_start, keep, remote_limit};
 pub use step::Step;
+pub use sweep::{act_sweep, judged};
 pub use texts::{hold, is_info, message_number, number_text, records_in, sender_in};

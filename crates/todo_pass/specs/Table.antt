@@ -1,6 +1,7 @@
 -- What a todo pass does next, as a function of its own past (INTERNALS, "How messages are preprocessed").
 use Rattle.std.specs.Prelude.{ℕ, ◌+◌, List, [], ◌∷◌, ◌++◌, length, take, drop, Bool, true, false, Option, Some, None, if◌then◌else◌, nat_lt, bytes_eq, Result, Ok, Err, codes}
 use Rattle.address_rules.specs.declared.controls.Controls.{Controls}
+use Rattle.call_fs.specs.declared.file_system.TheConstants.{PIECE}
 use Rattle.call_fs.specs.declared.calls.Answer.{Answer}
 use Rattle.call_fs.specs.declared.calls.Answer.TheVariants as answer
 use Rattle.call_fs.specs.declared.calls.CallData.TheVariants as call
@@ -45,7 +46,7 @@ begun n = record { n = n; row = at.Clear target.Info; size = 0; todo = []; sorte
 
 -- the bytes of one read or one append
 abbrev pub piece_size : ℕ
-piece_size = 8192
+piece_size = PIECE
 
 -- Where an answer leads. Where no row names an answer, it leads where a failure does.
 

@@ -8,7 +8,7 @@ use std::fs::{File, FileTimes};
 use std::os::unix::fs::MetadataExt;
 use std::test::Fail;
 use std::time::{Duration, SystemTime, UNIX_EPOCH};
-use std::{env, fs, process};
+use std::{env, fs, process, thread};
 
 /// A call, and what is seen; numbers and moments of files are 0 there.
 struct Row<'a>(Call<'a>, &'a str);
@@ -78,6 +78,36 @@ const NAMES: &[Row<'static>] = &[
     Row(Call::NextName(b"todo/9", b""), "NotThere"),
 ];
 
+/// Of a directory at rest each search finds what is there then, though its names are kept; and what was made since.
+const AT_REST: [&[Row<'static>]; 3] = [
+    &[
+        Row(Call::CreateExcl(b"todo/2"), "created 0 0"),
+        Row(Call::CreateExcl(b"todo/4"), "created 1 0"),
+        Row(Call::NextName(b"todo", b"2"), "name 4"),
+    ],
+    &[
+        Row(Call::NextName(b"todo", b""), "name 2"),
+        Row(Call::NextName(b"todo", b"2"), "name 4"),
+        Row(Call::NextName(b"todo", b"4"), "no name"),
+        Row(Call::NextName(b"todo", b""), "name 2"),
+        Row(Call::CreateExcl(b"todo/3"), "created 2 0"),
+        Row(Call::NextName(b"todo", b"2"), "name 3"),
+        Row(Call::NextName(b"todo", b"3"), "name 4"),
+    ],
+    &[
+        Row(Call::NextName(b"todo", b""), "name 2"),
+        Row(Call::NextName(b"todo", b"2"), "name 3"),
+        Row(Call::Unlink(b"todo/3"), "done"),
+        Row(Call::NextName(b"todo", b"2"), "name 4"),
+        Row(Call::Link(b"todo/2", b"todo/5"), "done"),
+        Row(Call::NextName(b"todo", b"4"), "name 5"),
+        Row(Call::NextName(b"mess", b""), "no name"),
+    ],
+];
+
+/// A little more than the time that a directory has to be at rest before its names are kept, in milliseconds.
+const PAUSE: u64 = 2100;
+
 /// A device that takes no bytes, and can't be synced.
 const FULL: &[Row<'static>] = &[
     Row(Call::Open(b"/dev/full", How::Append), "opened 0"),
@@ -122,6 +152,22 @@ fn play_in(
     Ok(play(alloc, &mut disk, rows))
 }
 
+/// Plays parts in a new directory under this one, with a pause before each.
+fn play_in_parts(
+    rt: &HostRuntime,
+    alloc: Global,
+    root: &str,
+    parts: &[&[Row<'_>]],
+) -> Result<String, Memory> {
+    let mut disk = HostFs::open(rt, alloc, root.as_bytes())?;
+    let mut wrong = String::new(alloc);
+    for rows in parts {
+        thread::sleep(rt, Duration::from_millis(PAUSE));
+        wrong.push_str(play(alloc, &mut disk, rows).as_str())?;
+    }
+    Ok(wrong)
+}
+
 /// A path that nothing else uses.
 fn scratch(rt: &HostRuntime, what: &str) -> Result<String, Fail> {
     let now = SystemTime::now(rt)?.duration_since(UNIX_EPOCH)?;
@@ -146,6 +192,15 @@ fn calls_on_real_files(rt: HostRuntime) -> Result<(), Fail> {
         wrong.push_str(play_alone(&rt, what, rows)?.as_str())?;
     }
     assert_eq!(rt; wrong.as_str(), "");
+    Ok(())
+}
+
+#[test]
+fn a_directory_at_rest_is_told_as_it_is(rt: HostRuntime) -> Result<(), Fail> {
+    let root = scratch(&rt, "at-rest")?;
+    let wrong = play_in_parts(&rt, rt.alloc(), root.as_str(), &AT_REST);
+    fs::remove_dir_all(&rt, root.as_str())?;
+    assert_eq!(rt; wrong?.as_str(), "");
     Ok(())
 }
 

@@ -10,23 +10,26 @@ use std::test::Fail;
 
 /// A call, the replies of the system, and what is seen: what the system was asked, and the answer. A fault stands with
 /// how many there were by then.
-struct Row<'a>(Call<'a>, &'a [Reply<'a>], &'a str);
+pub struct Row<'a>(pub Call<'a>, pub &'a [Reply<'a>], pub &'a str);
 
 /// The file of number 7, with 11 bytes.
-const SEVEN: Reply<'static> = Reply::File(7, 11, 99);
+pub const SEVEN: Reply<'static> = Reply::File(7, 11, 99);
 
 /// A name of 256 bytes, which is one too many.
-const LONG: [u8; 256] = [b'a'; 256];
+pub const LONG: [u8; 256] = [b'a'; 256];
 
-const MISSING: Reply<'static> = Reply::Fails(ErrorKind::NotFound);
+pub const MISSING: Reply<'static> = Reply::Fails(ErrorKind::NotFound);
 
 const NO_DIRECTORY: Reply<'static> = Reply::Fails(ErrorKind::NotADirectory);
 
 const THERE: Reply<'static> = Reply::Fails(ErrorKind::AlreadyExists);
 
-const FORBIDDEN: Reply<'static> = Reply::Fails(ErrorKind::PermissionDenied);
+pub const FORBIDDEN: Reply<'static> = Reply::Fails(ErrorKind::PermissionDenied);
 
 const INTERRUPTED: Reply<'static> = Reply::Fails(ErrorKind::Interrupted);
+
+/// A nanosecond less than two seconds after `Reply::Directory` was changed.
+const EARLY: Reply<'static> = Reply::Clock(2_999_999_999);
 
 /// Descriptors 0, 1 and 2 are the system's files 0, 1 and 2: made, opened to be overwritten, opened to be read.
 const OPENED: &[Row<'static>] = &[
@@ -317,10 +320,13 @@ const LINKED: &[Row<'static>] = &[
     Row(Call::Link(b"a\0", b"b"), &[], "Fault 7"),
 ];
 
+/// The directory was changed less than two seconds ago, so it is listed at each call.
 const LISTED: &[Row<'static>] = &[
     Row(
         Call::NextName(b"todo", b""),
         &[
+            Reply::Directory,
+            EARLY,
             Reply::Done,
             Reply::Bytes(b".\0..\09\010\0"),
             Reply::Directory,
@@ -329,22 +335,26 @@ const LISTED: &[Row<'static>] = &[
             SEVEN,
             Reply::Bytes(b""),
         ],
-        "list r/todo/; names; stat r/todo/.; stat r/todo/..; stat r/todo/9; stat r/todo/10; names; name 10",
+        "stat r/todo/; clock; list r/todo/; names; stat r/todo/.; stat r/todo/..; stat r/todo/9; stat r/todo/10; names; name 10",
     ),
     Row(
         Call::NextName(b"todo", b""),
         &[
+            Reply::Directory,
+            EARLY,
             Reply::Done,
             Reply::Bytes(b"1\0"),
             SEVEN,
             Reply::Bytes(b"2\0"),
             Reply::Bytes(b""),
         ],
-        "list r/todo/; names; stat r/todo/1; names; names; name 1",
+        "stat r/todo/; clock; list r/todo/; names; stat r/todo/1; names; names; name 1",
     ),
     Row(
         Call::NextName(b"todo", b"1"),
         &[
+            Reply::Directory,
+            EARLY,
             Reply::Done,
             Reply::Bytes(b"3\0"),
             SEVEN,
@@ -352,58 +362,81 @@ const LISTED: &[Row<'static>] = &[
             SEVEN,
             Reply::Bytes(b""),
         ],
-        "list r/todo/; names; stat r/todo/3; names; stat r/todo/2; names; name 2",
+        "stat r/todo/; clock; list r/todo/; names; stat r/todo/3; names; stat r/todo/2; names; name 2",
     ),
     Row(
         Call::NextName(b"todo", b"a"),
         &[
+            Reply::Directory,
+            EARLY,
             Reply::Done,
             Reply::Bytes(b"\xff\0b/c\0c\0"),
             SEVEN,
             Reply::Bytes(b""),
         ],
-        "list r/todo/; names; stat r/todo/c; names; name c",
-    ),
-    Row(
-        Call::NextName(b"todo", b"a"),
-        &[Reply::Done, Reply::Bytes(&LONG), Reply::Bytes(b"")],
-        "list r/todo/; names; names; no name",
+        "stat r/todo/; clock; list r/todo/; names; stat r/todo/c; names; name c",
     ),
     Row(
         Call::NextName(b"todo", b"a"),
         &[
+            Reply::Directory,
+            EARLY,
+            Reply::Done,
+            Reply::Bytes(&LONG),
+            Reply::Bytes(b""),
+        ],
+        "stat r/todo/; clock; list r/todo/; names; names; no name",
+    ),
+    Row(
+        Call::NextName(b"todo", b"a"),
+        &[
+            Reply::Directory,
+            EARLY,
             Reply::Done,
             Reply::Bytes(b"b\0c\0"),
             MISSING,
             Reply::Directory,
             Reply::Bytes(b""),
         ],
-        "list r/todo/; names; stat r/todo/b; stat r/todo/c; names; no name",
+        "stat r/todo/; clock; list r/todo/; names; stat r/todo/b; stat r/todo/c; names; no name",
     ),
     Row(
         Call::NextName(b"todo", b"a"),
-        &[Reply::Done, Reply::Bytes(b"b\0"), FORBIDDEN],
-        "list r/todo/; names; stat r/todo/b; Fault 1",
+        &[
+            Reply::Directory,
+            EARLY,
+            Reply::Done,
+            Reply::Bytes(b"b\0"),
+            FORBIDDEN,
+        ],
+        "stat r/todo/; clock; list r/todo/; names; stat r/todo/b; Fault 1",
     ),
     Row(
         Call::NextName(b"todo", b"a"),
-        &[Reply::Done, Reply::Bytes(b"b\0"), SEVEN, FORBIDDEN],
-        "list r/todo/; names; stat r/todo/b; names; Fault 2",
+        &[
+            Reply::Directory,
+            EARLY,
+            Reply::Done,
+            Reply::Bytes(b"b\0"),
+            SEVEN,
+            FORBIDDEN,
+        ],
+        "stat r/todo/; clock; list r/todo/; names; stat r/todo/b; names; Fault 2",
     ),
     Row(
         Call::NextName(b"todo", b""),
-        &[MISSING],
-        "list r/todo/; NotThere",
+        &[MISSING, MISSING],
+        "stat r/todo/; list r/todo/; NotThere",
     ),
     Row(
         Call::NextName(b"todo", b""),
-        &[NO_DIRECTORY],
-        "list r/todo/; NotThere",
+        &[NO_DIRECTORY, NO_DIRECTORY],
+        "stat r/todo/; list r/todo/; NotThere",
     ),
     Row(
         Call::NextName(b"todo", b""),
-        &[FORBIDDEN],
-        "list r/todo/; Fault 3",
+        &[FORBIDDEN, FORBIDDEN],
+        "stat r/todo/; list r/todo/; Fault 3",
     ),
     Row(Call::NextName(b"todo\xff", b""), &[], "Fault 4"),
 ];
@@ -426,7 +459,7 @@ fn play<'s>(
 }
 
 /// Plays two parts over one new disk, and tells what went otherwise.
-fn play_both(
+pub fn play_both(
     alloc: Global,
     system: &Scripted,
     first: &[Row<'static>],

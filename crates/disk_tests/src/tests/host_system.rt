@@ -9,6 +9,7 @@ use std::alloc::{AllocError, Global};
 use std::cell::{Cell, RefCell};
 use std::io::{self, ErrorKind, Read};
 use std::rc::Rc;
+use std::time::Duration;
 
 /// What the system answers to one call.
 #[derive(Clone, Copy)]
@@ -21,8 +22,12 @@ pub enum Reply<'a> {
     Bytes(&'a [u8]),
     /// A file with this number, length and time of modification.
     File(u64, u64, i64),
-    /// A directory.
+    /// A directory that was changed one second after 1970 began.
     Directory,
+    /// It is told so.
+    Told(Facts),
+    /// The clock tells so many nanoseconds since 1970.
+    Clock(u64),
     /// It failed so.
     Fails(ErrorKind),
 }
@@ -117,18 +122,34 @@ impl Script {
     fn ask_facts(&self, call: Result<String, AllocError>) -> io::Result<Facts> {
         match self.ask(call) {
             Reply::Fails(kind) => Err(io::Error::from(kind)),
+            Reply::Told(facts) => Ok(facts),
             Reply::File(number, length, modified) => Ok(Facts {
                 is_dir: false,
                 number,
                 length,
                 modified,
+                modified_nanos: 0,
+                changed: modified,
+                changed_nanos: 0,
             }),
             _ => Ok(Facts {
                 is_dir: true,
                 number: 2,
                 length: 4096,
                 modified: 1,
+                modified_nanos: 0,
+                changed: 1,
+                changed_nanos: 0,
             }),
+        }
+    }
+
+    /// As `ask`, of the clock.
+    fn ask_clock(&self) -> io::Result<Duration> {
+        match self.ask(format!(in self.alloc; "clock")) {
+            Reply::Fails(kind) => Err(io::Error::from(kind)),
+            Reply::Clock(nanos) => Ok(Duration::from_nanos(nanos)),
+            _ => Ok(Duration::ZERO),
         }
     }
 
@@ -243,5 +264,9 @@ impl<'s> System for &'s Scripted {
 
     fn make_dir(&self, _path: &str) -> io::Result<()> {
         Err(io::Error::from(ErrorKind::PermissionDenied))
+    }
+
+    fn now(&self) -> io::Result<Duration> {
+        self.0.ask_clock()
     }
 }

@@ -156,8 +156,9 @@ const NO_BYTES: &[Row] = &[
     (Call(Stat(b"pid/b")), File(u64::MAX - 1, 3, 7)),
 ];
 
-/// A name is taken byte by byte: only whether its directory is there, and whether it is, is asked.
-const NAMES_AS_GIVEN: &[Row] = &[
+/// A name with a `/` before its first part is another name than the one without. What isn't of the form of a name has no
+/// directory, so no disk has it.
+const FORMS_OF_NAMES: &[Row] = &[
     (Call(Create(b"pid//a")), Refused(FsError::NotThere)),
     (Call(Create(b"/pid/a")), Refused(FsError::NotThere)),
     (Call(Create(b"/a")), Refused(FsError::NotThere)),
@@ -167,7 +168,14 @@ const NAMES_AS_GIVEN: &[Row] = &[
     (Call(Create(b"a")), Made(2, 2)),
     (Call(Create(b"/pid/a")), Made(3, 3)),
     (Call(Create(b"pid/a")), Made(4, 4)),
-    (Call(Create(b"pid/")), Made(5, 5)),
+    (Call(Create(b"pid/")), Refused(FsError::NotThere)),
+    (Call(Create(b"")), Refused(FsError::NotThere)),
+    (Call(Create(b"//a")), Refused(FsError::NotThere)),
+    (Call(Create(b"pid/b\0")), Refused(FsError::NotThere)),
+    (Dir(b"pid/"), Done),
+    (Call(Create(b"pid//a")), Refused(FsError::NotThere)),
+    (Call(Link(b"pid/a", b"pid/")), Refused(FsError::NotThere)),
+    (Call(Link(b"pid/a", b"pid//b")), Refused(FsError::NotThere)),
     (Call(Next(b"pid", b"")), Bytes(b"a")),
     (Call(Next(b"pid", b"a")), Nothing),
     (Call(Next(b"/pid", b"")), Bytes(b"a")),
@@ -253,7 +261,7 @@ fn pick<D: CrashFs>(disk: &mut D, number: u64) -> Seen<'static>
 #[test]
 fn new_files_take_the_least_numbers(rt: HostRuntime) -> Result<(), Fail> {
     play(&rt, rt.alloc(), &[], &[], LEAST_NUMBERS)?;
-    play(&rt, rt.alloc(), &[], &[], NAMES_AS_GIVEN)?;
+    play(&rt, rt.alloc(), &[], &[], FORMS_OF_NAMES)?;
     Ok(())
 }
 

@@ -1,4 +1,4 @@
-use Rattle.std.proofs.Common.{◌≡◌, inl, ℕ, ◌∙◌, subst}
+use Rattle.std.proofs.Common.{◌≡◌, inl, ℕ, ◌∙◌, subst, arith}
 use Rattle.queue_command.specs.Inputs.{Stream}
 use Rattle.queue_command.specs.Runs.{Outside}
 use Rattle.queue_command.specs.Injected.{HasReadAndRun}
@@ -14,4 +14,4 @@ returns-in-Ok-clause-injected g c =
     let pid_is : c.pid-pid.result ≡ g.K.Clock.pid c.args.clock.now = c.pid-pid.ensures ∙ c.now-start.ensures.same in
     inl (subst (λ (pid : ℕ). HasReadAndRun (record { uid = c.args.uid; pid = pid; invoked = c.args.invoked }) c.args.form from beside old new c.in-Ok.status) pid_is
     (injected (record { uid = c.args.uid; pid = c.pid-pid.result; invoked = c.args.invoked }) c.now-start.result c.args.form from beside old new c.in-Ok.status
-    (g.K.Clock.calls c.now-start.new.self) c.statuses_have_causes.ensures c.now-start.ensures.told c.in-Ok.ensures.ran))
+    (g.K.Clock.calls c.now-start.new.self) c.statuses_have_causes.ensures c.inject_from.ensures.number (let soon = c.now-start.ensures.moment in omega arith) c.now-start.ensures.told c.in-Ok.ensures.ran))

@@ -51,7 +51,7 @@ pub unreachable-requires : goal.unreachable-requires
 unreachable-requires g c =
     let may = c.requires.may in
     let at = (goal.at.unreachable-requires g c).After-need in
-    calls_or_ends c.need.result may.program may.past c.args.now (asks_next g at) c.in_default.not-File c.in_default.not-Ended
+    calls_or_ends c.need.result may.program may.mail may.past c.args.now (asks_next g at) c.in_default.not-File c.in_default.not-Ended
 
 pub returns-in_ok-room-in-File-clause-made : goal.returns-in_ok-room-in-File-clause-made
 returns-in_ok-room-in-File-clause-made g c =

@@ -68,7 +68,7 @@ invariant_of-self-2 g c =
     let bound = living_push i.actors.items c.new-actor.result in
     let machine = subst (λ (m : AnyMachine). Follows m (Injector args) []) (sym c.new-actor.ensures.machine) c.in_ok-mailer.ensures in (
       rw (actors, event) (start_keeps (g.D.CallFs.disk i.disk) (place_of i.places) (place_of c.add.new.self) i.actors.items i.history.events.items i.present i.next_pid c.saturating_add-self-inside.result
-          c.new-actor.result a (Injector args) c.self.invariant.0 new put name c.new-actor.ensures.ended c.new-actor.ensures.descriptors machine refl c.saturating_add-self-inside.ensures),
+          c.new-actor.result a (Injector args) tt c.self.invariant.0 new put name c.new-actor.ensures.ended c.new-actor.ensures.descriptors machine refl c.saturating_add-self-inside.ensures),
       rw (actors) (c.put.ensures.room (living (i.actors.items ++ c.new-actor.result ∷ [])) (room_less c.reserve-2.new.self (c.len.result + 2) (living (i.actors.items ++ c.new-actor.result ∷ []) + 1)
           (omega (arith, len, bound)) c.in_ok-reserve-2.ensures.room)),
     )
@@ -81,4 +81,4 @@ returns-clause-goes_on g c =
     let args = mail i.next_pid i.present c.args.message.now c.args.envelope.now in
     let at = (goal.at.returns-clause-goes_on g c).After-saturating_add-self-inside in
     rw (← c.self.view_is, started g at) (goes_on told told events (events ++ kept.Start c.args.name.now (Injector args) ∷ []) i.present i.present
-    (start_leads_on told (place_of i.places) i.actors.items events i.present i.next_pid c.args.name.now (Injector args) c.self.invariant.0 (new_name g at)))
+    (start_leads_on told (place_of i.places) i.actors.items events i.present i.next_pid c.args.name.now (Injector args) tt c.self.invariant.0 (new_name g at)))

@@ -1,9 +1,9 @@
-use Rattle.std.proofs.Common.{◌≡◌, ◌<◌, ◌∷◌, refl, sym, ap, ◌∙◌, subst}
+use Rattle.std.proofs.Common.{◌≡◌, ◌<◌, ◌∷◌, sym, ap, subst}
 use Rattle.call_fs.specs.declared.calls.Told.{Told}
 use Rattle.call_fs.specs.declared.past.Own.{Own}
 use Rattle.call_fs.specs.declared.past.GotData.TheVariants.{Answered}
-use Rattle.call_fs.specs.Program.{came_of, IsKind}
-use Rattle.queue_inject.specs.Machine.{Machine, ahead_of, due_now, gone_on}
+use Rattle.call_fs.specs.Program.{came_of}
+use Rattle.queue_inject.specs.Machine.{Machine, ahead_of, due_now}
 use Rattle.queue_inject.specs.Inside.{IsInStep}
 use Rattle.queue_inject.specs.Stands.{Stands}
 use Rattle.queue_inject.proofs.Asks.{machine_answered, is_call_of, no_other_answer}

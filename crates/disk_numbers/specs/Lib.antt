@@ -1,0 +1,2 @@
+-- the numbers that have a file
+pub mod Numbers

@@ -1,0 +1,17 @@
+//! The times, lengths and exit statuses that more than one program of the queue counts with.
+//!
+//! Code and definitions both take them from here. Their figures are laws: the contracts of functions that do nothing.
+#![tactic(auto)]
+
+mod laws;
+mod lengths;
+mod statuses;
+mod times;
+
+pub use laws::{limits_are_these, statuses_are_these};
+pub use lengths::MOST_BYTES;
+pub use statuses::{
+    DONE, IN_INTD, IN_MESS, IN_PID, IN_TODO, INPUT, LATE, LONG_ADDRESS, MALFORMED, MEMORY, OUTPUT,
+    TOO_LONG, USAGE,
+};
+pub use times::{DAY, LONGEST_STALL, PID_NAME_AGE};

@@ -1,0 +1,12 @@
+use Rattle.std.proofs.Common.{◌≡◌, ◌≤◌, ◌++◌, drop}
+use Rattle.send_steps.specs.Lines.{reports_room}
+use Rattle.send_core.specs.Desk.{told_all}
+use Rattle.send_core.specs.Log.{told_lines}
+use Rattle.send_core.proofs.reports.tell_all.Given as goal
+
+abbrev pub invariant-loop-report : goal.invariant-loop-report
+invariant-loop-report l = record {
+  desk : told_all l.channel (drop l.report-index l.reports) l.desk ≡ told_all l.channel l.reports l.initial.desk;
+  lines : l.log.text ++ told_lines l.channel (drop l.report-index l.reports) l.desk ≡ l.initial.log.text ++ told_lines l.channel l.reports l.initial.desk;
+  room : reports_room (drop l.report-index l.reports) ≤ l.log.room;
+}

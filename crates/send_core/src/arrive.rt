@@ -1,0 +1,199 @@
+// Where a step comes from.
+ghost use Rattle.std.specs.Prelude.{◌≡◌};
+ghost use Rattle.std.specs.Option.{option_copied};
+ghost use Rattle.retry_schedule.specs.Due.{first_due};
+ghost use Rattle.send_core.specs.Desk.{due_on};
+ghost use Rattle.send_core.specs.Table.{beginning, finishing, from_begin, from_local, from_point, from_remote, from_reports, from_sweep, from_sweep_row, from_take, going_on, marking, marking_by, or_else, passing, row_now, sweeping, taking};
+
+use crate::desk::sweep_due;
+use crate::{Desk, MarkRow, Marked, Point, Row};
+use call_fs::Ready;
+use send_jobs::{Channel, Mark};
+use send_steps::{FinishRow, Reading, Search, SweepRow, judged};
+
+/// The row at which a sender that keeps this is, at this moment and with this ready.
+pub fn row_now(desk: &Desk, now: u64, ready: &Ready) -> Row
+    ensures { result ≡ row_now desk.now now ready.now }
+{
+    match desk.row {
+        Row::Turn(point) => from_point(point, desk, now, ready),
+        Row::Sweep(row) => Row::Sweep(from_sweep_row(row, now)),
+        row => row,
+    }
+}
+
+fn from_point(point: Point, desk: &Desk, now: u64, ready: &Ready) -> Row
+    ensures { result ≡ from_point point desk.now now ready.now }
+{
+    match point {
+        Point::TakeLocal => from_begin(desk, now, ready),
+        Point::TakeRemote => from_take(desk, now, ready),
+        Point::Reports => from_reports(desk, now),
+        Point::Pass(Channel::Local, may) => from_local(may, desk, now),
+        Point::Pass(Channel::Remote, may) => from_remote(may, desk, now),
+        Point::Todo => Row::FindTodo(Search::AfterLeft),
+        Point::Finish => or_else(finishing(desk, now), from_sweep(desk, now, ready)),
+        Point::Sweep => from_sweep(desk, now, ready),
+    }
+}
+
+fn from_sweep(desk: &Desk, now: u64, ready: &Ready) -> Row
+    ensures { result ≡ from_sweep desk.now now ready.now }
+{
+    or_else(sweeping(desk, now), from_begin(desk, now, ready))
+}
+
+fn from_begin(desk: &Desk, now: u64, ready: &Ready) -> Row
+    ensures { result ≡ from_begin desk.now now ready.now }
+{
+    or_else(taking(Channel::Local, ready), from_take(desk, now, ready))
+}
+
+fn from_take(desk: &Desk, now: u64, ready: &Ready) -> Row
+    ensures { result ≡ from_take desk.now now ready.now }
+{
+    or_else(taking(Channel::Remote, ready), from_reports(desk, now))
+}
+
+fn from_reports(desk: &Desk, now: u64) -> Row
+    ensures { result ≡ from_reports desk.now now }
+{
+    let row = or_else(marking(Channel::Remote, desk), from_local(true, desk, now));
+    or_else(marking(Channel::Local, desk), row)
+}
+
+fn from_local(may: bool, desk: &Desk, now: u64) -> Row
+    ensures { result ≡ from_local may desk.now now }
+{
+    or_else(
+        passing(Channel::Local, may, desk, now),
+        from_remote(true, desk, now),
+    )
+}
+
+fn from_remote(may: bool, desk: &Desk, now: u64) -> Row
+    ensures { result ≡ from_remote may desk.now now }
+{
+    or_else(
+        passing(Channel::Remote, may, desk, now),
+        Row::FindTodo(Search::AfterLeft),
+    )
+}
+
+fn or_else(first: Option<Row>, row: Row) -> Row
+    ensures { result ≡ or_else first row }
+{
+    match first {
+        None => row,
+        Some(first) => first,
+    }
+}
+
+/// The taking from a link that holds something or has ended.
+fn taking(channel: Channel, ready: &Ready) -> Option<Row>
+    ensures { result ≡ taking channel ready.now }
+{
+    let link = match channel {
+        Channel::Local => ready.links[1],
+        Channel::Remote => ready.links[2],
+    };
+    if link {
+        Some(Row::TakeLink(channel))
+    } else {
+        None
+    }
+}
+
+/// The mark of the first report that waits for one.
+fn marking(channel: Channel, desk: &Desk) -> Option<Row>
+    ensures { result ≡ marking channel desk.now }
+{
+    marking_by(channel, desk.slots.first_mark(channel))
+}
+
+fn marking_by(channel: Channel, first: Option<&Mark>) -> Option<Row>
+    ensures { result ≡ marking_by channel (option_copied first.entry) }
+{
+    match first {
+        None => None,
+        Some(mark) => {
+            let (n, place) = (mark.attempt.n, mark.attempt.place);
+            let marked = Marked { channel, n, place };
+            Some(Row::Mark(MarkRow::Open, marked))
+        }
+    }
+}
+
+/// The next step of the open pass while a slot is free, or the begin of one.
+fn passing(channel: Channel, may: bool, desk: &Desk, now: u64) -> Option<Row>
+    ensures { result ≡ passing channel may desk.now now }
+{
+    if desk.slots.next_place(channel).is_some() {
+        going_on(channel, desk.slots.lowest_free(channel))
+    } else {
+        beginning(channel, may, first_due(channel, desk, now))
+    }
+}
+
+/// The message that is due first on a channel.
+fn first_due(channel: Channel, desk: &Desk, now: u64) -> Option<(u64, u64)>
+    ensures { result ≡ first_due now (due_on channel desk.now.book.messages) }
+{
+    match channel {
+        Channel::Local => desk.book.messages.local.first(now),
+        Channel::Remote => desk.book.messages.remote.first(now),
+    }
+}
+
+fn going_on(channel: Channel, slot: Option<u8>) -> Option<Row>
+    ensures { result ≡ going_on channel slot }
+{
+    match slot {
+        None => None,
+        Some(_) => Some(Row::Request(channel)),
+    }
+}
+
+fn beginning(channel: Channel, may: bool, entry: Option<(u64, u64)>) -> Option<Row>
+    ensures { result ≡ beginning channel may entry }
+{
+    match entry {
+        Some(entry) if may => Some(Row::ReadFile {
+            channel,
+            n: entry.1,
+            begun: 0,
+            reading: Reading::Opening,
+        }),
+        _ => None,
+    }
+}
+
+/// The least number that may be finished.
+fn finishing(desk: &Desk, now: u64) -> Option<Row>
+    ensures { result ≡ finishing desk.now now }
+{
+    match desk.next_idle(now) {
+        None => None,
+        Some(n) => Some(Row::Finish(FinishRow::OpenBounce, n)),
+    }
+}
+
+/// The sweep, if it is due.
+fn sweeping(desk: &Desk, now: u64) -> Option<Row>
+    ensures { result ≡ sweeping desk.now now }
+{
+    if sweep_due(now, desk.swept) {
+        Some(Row::Sweep(SweepRow::First))
+    } else {
+        None
+    }
+}
+
+fn from_sweep_row(row: SweepRow, now: u64) -> SweepRow
+    ensures { result ≡ from_sweep_row row now }
+{
+    match row {
+        SweepRow::Judge { split, n, moment } => judged(split, n, moment, now),
+        row => row,
+    }
+}

@@ -1,0 +1,126 @@
+// Where the steps of the sweep lead.
+ghost use Rattle.std.specs.Prelude.{◌≡◌};
+ghost use Rattle.send_steps.specs.Replies.{said_of};
+ghost use Rattle.send_steps.specs.Sweep.{info_stated, judged, mess_stated, searched, sweep_given, sweep_row, sweep_taken, sweep_to, swept, todo_stated};
+
+use crate::{Book, Reply, SweepRow, Way, hold, message_number};
+use send_known::KnownList;
+
+/// What came at a row of the sweep, and where that leads. Takes no memory.
+pub fn act_sweep(book: &mut Book, row: SweepRow, reply: &Reply<'_>) -> SweepRow
+    ensures to { result ≡ sweep_to row (said_of reply.now) book.old }
+    ensures book { book.new ≡ searched row (said_of reply.now) book.old }
+{
+    let way = reply.way;
+    match row {
+        SweepRow::First => swept(book, 0, reply),
+        SweepRow::Next { split } => swept(book, split, reply),
+        SweepRow::StatMess { split, n } => mess_stated(way, split, n, reply.stat.moment),
+        SweepRow::StatInfo { split, n } => info_stated(way, split, n),
+        SweepRow::StatTodo { split, n, info } => todo_stated(way, split, n, info),
+        SweepRow::Give { split, n } => sweep_given(way, split, n),
+        SweepRow::Take { split, .. } => sweep_taken(way, split),
+        SweepRow::Judge { .. } | SweepRow::Over | SweepRow::Lost => row,
+    }
+}
+
+/// A name of the sweep.
+fn swept(book: &mut Book, split: u64, reply: &Reply<'_>) -> SweepRow
+    ensures to { result ≡ swept (said_of reply.now).way (said_of reply.now).bytes split book.old }
+    ensures book { book.new ≡ searched (SweepRow.Next split) (said_of reply.now) book.old }
+{
+    match reply.way {
+        Way::Fine => {
+            book.after = hold(reply.bytes);
+            sweep_row(message_number(reply.bytes), split, &book.messages.known)
+        }
+        _ if split < 22 => {
+            book.after.clear();
+            SweepRow::Next { split: split + 1 }
+        }
+        _ => {
+            book.after.clear();
+            SweepRow::Over
+        }
+    }
+}
+
+/// After a name of the sweep.
+fn sweep_row(n: Option<u64>, split: u64, known: &KnownList) -> SweepRow
+    ensures { result ≡ sweep_row n split known.now }
+{
+    match n {
+        Some(n) if !known.is_known(n) => SweepRow::StatMess { split, n },
+        _ => SweepRow::Next { split },
+    }
+}
+
+/// After the stat of a message file.
+fn mess_stated(way: Way, split: u64, n: u64, moment: u64) -> SweepRow
+    ensures { result ≡ mess_stated way split n moment }
+{
+    match way {
+        Way::Fine => SweepRow::Judge { split, n, moment },
+        _ => SweepRow::Next { split },
+    }
+}
+
+/// A message file that was last written more than 36 hours ago is looked at closer.
+pub fn judged(split: u64, n: u64, moment: u64, now: u64) -> SweepRow
+    ensures { result ≡ judged split n moment now }
+{
+    if now.saturating_sub(moment) > 129_600 {
+        SweepRow::StatInfo { split, n }
+    } else {
+        SweepRow::Next { split }
+    }
+}
+
+/// After the stat of its info file.
+fn info_stated(way: Way, split: u64, n: u64) -> SweepRow
+    ensures { result ≡ info_stated way split n }
+{
+    match way {
+        Way::Fine => SweepRow::StatTodo {
+            split,
+            n,
+            info: true,
+        },
+        Way::Absent => SweepRow::StatTodo {
+            split,
+            n,
+            info: false,
+        },
+        _ => SweepRow::Next { split },
+    }
+}
+
+/// After the stat of its todo file.
+fn todo_stated(way: Way, split: u64, n: u64, info: bool) -> SweepRow
+    ensures { result ≡ todo_stated way split n info }
+{
+    match way {
+        Way::Absent if !info => SweepRow::Give { split, n },
+        _ => SweepRow::Next { split },
+    }
+}
+
+/// After the command to remove it was given, or couldn't be.
+fn sweep_given(way: Way, split: u64, n: u64) -> SweepRow
+    ensures { result ≡ sweep_given way split n }
+{
+    match way {
+        Way::Fine => SweepRow::Take { split, n },
+        _ => SweepRow::Lost,
+    }
+}
+
+/// After that was answered.
+fn sweep_taken(way: Way, split: u64) -> SweepRow
+    ensures { result ≡ sweep_taken way split }
+{
+    match way {
+        Way::Fine => SweepRow::Next { split },
+        _ => SweepRow::Lost,
+    }
+}
