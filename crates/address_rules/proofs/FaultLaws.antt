@@ -210,7 +210,7 @@ first_file : (files : List (Option (List ℕ))) (some : List ControlFile) → Fi
 first_file files [] = NoFile (All-nil (Fine files)) refl
 first_file files (file ∷ some) = file_by files file some (fault_of files file) refl (first_file files some)
 
--- a file is fine exactly where it isn't faulty
+-- a file is fine exactly if it isn't faulty
 
 fine_of : (files : List (Option (List ℕ))) (file : ControlFile) → ¬ (IsFaulty files file) → (bytes : List ℕ) → content files file ≡ Some bytes → Faults (kind file) bytes → Fine files file
 fine_of files file sound bytes e (FaultAt line f h least) = absurd (sound (bytes, e, (line, h)))

@@ -17,7 +17,7 @@ use Rattle.address_rules.proofs.LookupLaws.{Looked, Found, Missing, looked, pref
 has_at : (box domain : List ℕ) → Contains (box ++ 64 ∷ domain) 64
 has_at box domain = Contains-append_right box (64 ∷ domain) 64 (here 64 domain)
 
--- with a host where there is none
+-- with a host if there is none
 
 qualified_by : (host address : List ℕ) → LastCut 64 address → IsQualified host address (qualified host address)
 qualified_by host address (LastCutAt box domain e cut) =

@@ -71,7 +71,7 @@ line_limit OneText = 400
 line_limit OneNumber = 400
 line_limit ManyLines = 1000
 
--- its bytes; none where it is missing
+-- its bytes; none if it is missing
 abbrev pub content : List (Option (List ℕ)) → ControlFile → Option (List ℕ)
 content files file = slice_index_or files (place file) None
 
@@ -119,7 +119,7 @@ is_number_file OneText = false
 is_number_file OneNumber = true
 is_number_file ManyLines = false
 
--- the first line with a fault, from 1; 0 where the file is too long
+-- the first line with a fault, from 1; 0 if the file is too long
 abbrev pub fault_line : Kind → List ℕ → Option ℕ
 fault_line it bytes =
     if nat_lt 1048576 (length bytes) then Some 0
@@ -139,7 +139,7 @@ fault_in files file = option_map (λ line. (file, line)) (fault_of files file)
 unfoldable pub first_fault : List (Option (List ℕ)) → Option Fault
 first_fault files = slice_get (filter_map (fault_in files) all_files) 0
 
--- A line of a file of this kind has a fault: line 0 where the file has over 1,048,576 bytes, line 1 where the value isn't
+-- A line of a file of this kind has a fault: line 0 if the file has over 1,048,576 bytes, line 1 if the value isn't
 -- a number that should be one, and a line that is too long or has a NUL.
 pub data HasFault (it : Kind) (bytes : List ℕ) (line : ℕ) : Type 0 where
   FileTooLong : 1048576 < length bytes → line ≡ 0 → HasFault it bytes line

@@ -1,6 +1,6 @@
 -- texts cut at a byte
 pub mod Cuts
--- keys, the same but for case, and lists of them
+-- keys, which differ at most in case, and lists of them
 pub mod Keys
 -- the lines of a control file, and its faults
 pub mod Lines

@@ -21,7 +21,7 @@ abbrev pub trimmed : List ℕ → List ℕ
 trimmed [] = []
 trimmed (b ∷ rest) = if list_all is_blank (b ∷ rest) then [] else b ∷ trimmed rest
 
--- The value of a file that holds one, in line 1: empty where that line is, or isn't there.
+-- The value of a file that holds one, in line 1: empty if that line is, or isn't there.
 abbrev pub value_of : List ℕ → List ℕ
 value_of bytes = trimmed (unwrap_or (slice_get (lines bytes) 0) [])
 

@@ -19,7 +19,7 @@ front_before end (b ∷ rest) = if bytes_eq (b ∷ rest) end then Some [] else o
 
 -- Prefixes
 
--- what comes after `prefix-` in an address, where the prefix isn't empty
+-- what comes after `prefix-` in an address, if the prefix isn't empty
 abbrev pub rest_after_prefix : List ℕ → List ℕ → Option (List ℕ)
 rest_after_prefix address [] = None
 rest_after_prefix address (b ∷ rest) = option_and_then (rest_after (45 ∷ [])) (rest_after (b ∷ rest) address)
@@ -45,7 +45,7 @@ pub record HasRest (lines : List VirtualDomain) (address rest : List ℕ) : Type
   pub some : ¬ (prefix ≡ [])
   pub split : address ≡ prefix ++ 45 ∷ rest
 
--- without the prefix where it has one, else as it is
+-- without the prefix if it has one, else as it is
 pub data IsStripped (lines : List VirtualDomain) (address text : List ℕ) : Type 0 where
   Prefixed : HasRest lines address text → IsStripped lines address text
   Bare : ((rest : List ℕ) → ¬ (HasRest lines address rest)) → text ≡ address → IsStripped lines address text

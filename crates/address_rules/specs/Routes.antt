@@ -19,7 +19,7 @@ qualified host address = with_host host address (last_cut 64 address)
 abbrev pub with_at : Parts → List ℕ
 with_at parts = parts.0 ++ 64 ∷ parts.1
 
--- One round of percenthack: where the domain is listed, `user%host@domain` becomes `user@host`, at the last `%`.
+-- One round of percenthack: if the domain is listed, `user%host@domain` becomes `user@host`, at the last `%`.
 abbrev pub hacked_at : List (List ℕ) → Parts → Option (List ℕ)
 hacked_at hacks parts = if is_listed hacks parts.1 then option_map with_at (last_cut 37 parts.0) else None
 
@@ -72,7 +72,7 @@ route_of controls address =
 
 -- The same as relations.
 
--- the address itself where it has an `@`, else with `@` and the host
+-- the address itself if it has an `@`, else with `@` and the host
 abbrev pub IsQualified : List ℕ → List ℕ → List ℕ → Type 0
 IsQualified host address full = (Contains address 64 × (full ≡ address)) ⊎ ((¬ (Contains address 64)) × (full ≡ address ++ 64 ∷ host))
 

@@ -47,7 +47,7 @@ pub enum ControlError {
     BadControl {
         /// The file.
         file: ControlFile,
-        /// Its first line with a fault, from 1; 0 where the file has over 1,048,576 bytes.
+        /// Its first line with a fault, from 1; 0 if the file has over 1,048,576 bytes.
         line: usize,
     },
     /// Out of memory.
@@ -67,11 +67,11 @@ impl From<AllocError> for ControlError {
 }
 
 impl Controls {
-    /// Reads the twelve files in the order of `ControlFile`, `None` where one is missing. Spaces and tabs at the end of
+    /// Reads the twelve files in the order of `ControlFile`, `None` if one is missing. Spaces and tabs at the end of
     /// a line are dropped; in a list empty lines and lines that begin with `#` are passed over, and in virtualdomains
     /// lines without `:`. Any other file has its value in its first line.
     ///
-    /// `BadControl` exactly where a file has over 1,048,576 bytes, a line has over 1000 bytes in a file with a list or
+    /// `BadControl` exactly if a file has over 1,048,576 bytes, a line has over 1000 bytes in a file with a list or
     /// over 400 in another one, a line has a NUL, or a number isn't 1 to 9 digits. It names the first file with a fault,
     /// and the least line of it that has one: 0 for the length of the file, 1 for a number.
     pub fn read(alloc: Global, files: &[Option<ByteText>; 12]) -> Result<Controls, ControlError>
@@ -115,7 +115,7 @@ fn fault_of(files: &[Option<ByteText>; 12], file: ControlFile) -> Option<usize>
     }
 }
 
-/// The first line of a file with a fault, from 1; 0 where the file is too long.
+/// The first line of a file with a fault, from 1; 0 if the file is too long.
 fn fault_line(file: ControlFile, bytes: &[u8]) -> Option<usize>
     ensures { result ≡ fault_line (kind file) bytes.now }
 {

@@ -30,7 +30,7 @@ pub fn prefix_for<'a>(lines: &'a [VirtualDomain], key: &[u8]) -> Option<&'a [u8]
     None
 }
 
-/// The prefix of the first line with this key, where it begins with a dot.
+/// The prefix of the first line with this key, if it begins with a dot.
 fn prefix_for_dotted<'a>(lines: &'a [VirtualDomain], key: &[u8]) -> Option<&'a [u8]>
     ensures { option_copied result ≡ prefix_for_dotted lines.now key.now }
 {
@@ -41,6 +41,7 @@ fn prefix_for_dotted<'a>(lines: &'a [VirtualDomain], key: &[u8]) -> Option<&'a [
     }
 }
 
+/// Whether a key is a suffix of domains.
 fn begins_with_dot(key: &[u8]) -> bool
     ensures { result ≡ begins_with_dot key.now }
 {

@@ -29,7 +29,7 @@ pub fn names_are_exact()
         stripped lines (prefix ++ 45 ∷ address) ≡ address }
 {}
 
-/// The fault that is told is in the first file with one, at the least line that has one; none is told exactly where no
+/// The fault that is told is in the first file with one, at the least line that has one; none is told exactly if no
 /// file has one.
 pub fn faults_are_exact()
     ensures first { (files : List (Option (List ℕ))) (file : ControlFile) (line : ℕ) →

@@ -22,6 +22,7 @@ fn cut_line(text: &[u8]) -> (&[u8], &[u8])
     }
 }
 
+/// Whether a byte is a space or a tab.
 fn is_blank(byte: u8) -> bool
     ensures { result ≡ is_blank byte }
 {
@@ -94,6 +95,7 @@ pub fn virtual_domains(alloc: Global, bytes: &[u8]) -> Result<VirtualDomains, Me
     Ok(VirtualDomains::from_vec(found))
 }
 
+/// A line of virtualdomains with copies of its two parts.
 fn virtual_domain(alloc: Global, domain: &[u8], prefix: &[u8]) -> Result<VirtualDomain, Memory>
     ensures domain { IfOk result (λ line. line.domain ≡ domain.now) }
     ensures prefix { IfOk result (λ line. line.prefix ≡ prefix.now) }
@@ -104,7 +106,7 @@ fn virtual_domain(alloc: Global, domain: &[u8], prefix: &[u8]) -> Result<Virtual
     })
 }
 
-/// The number of 1 to 9 digits; `None` exactly where the text is something else.
+/// The number of 1 to 9 digits; `None` exactly if the text is something else.
 pub fn short_number(text: &[u8]) -> Option<u32>
     ensures { result ≡ short_number text.now }
 {

@@ -11,7 +11,7 @@ use std::alloc::Global;
 
 /// The address without the prefix of its virtual domain. Virtualdomains is looked up by the domain, the text after the
 /// last `@`, each suffix of it from a dot, the longest first, and the empty text, and the first that is found decides:
-/// where its prefix isn't empty and the address begins with `prefix-`, the answer is what comes after. Else, and
+/// if its prefix isn't empty and the address begins with `prefix-`, the answer is what comes after. Else, and
 /// without `@`, it is the address. Takes no memory.
 pub fn strip_prefix<'a>(controls: &Controls, address: &'a [u8]) -> &'a [u8]
     ensures { result.now ≡ stripped controls.now.virtual_domains address.now }
@@ -39,7 +39,7 @@ fn front_before<'a>(text: &'a [u8], end: &[u8]) -> Option<&'a [u8]>
     text.strip_suffix(end)
 }
 
-/// The address after `prefix-`, where it begins so and the prefix isn't empty.
+/// The address after `prefix-`, if it begins so and the prefix isn't empty.
 fn without_prefix<'a>(address: &'a [u8], prefix: &[u8]) -> &'a [u8]
     ensures { result.now ≡ unwrap_or (rest_after_prefix address.now prefix.now) address.now }
 {

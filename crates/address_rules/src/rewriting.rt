@@ -31,7 +31,7 @@ pub fn rewrite(alloc: Global, controls: &Controls, address: &[u8]) -> Result<Rou
     decide(alloc, controls, full.as_slice(), domain_of(full.as_slice()))
 }
 
-/// What comes after the last `@`; nothing where there is none.
+/// What comes after the last `@`; nothing if there is none.
 fn domain_of(address: &[u8]) -> &[u8]
     ensures { result.now ≡ domain_of (last_cut 64 address.now) }
 {
@@ -50,7 +50,7 @@ fn full_address(alloc: Global, controls: &Controls, address: &[u8]) -> Result<Ve
     Ok(full)
 }
 
-/// The address, with `@` and the host where it has no `@`.
+/// The address, with `@` and the host if it has no `@`.
 fn qualified(alloc: Global, host: &[u8], address: &[u8]) -> Result<Vec<u8>, Memory>
     ensures { IfOk result (λ full. full.items ≡ qualified host.now address.now) }
 {

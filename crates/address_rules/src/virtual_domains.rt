@@ -9,7 +9,7 @@ use std::marker::Model;
 pub struct VirtualDomain {
     /// An address, a domain, the end of one from a dot, or nothing.
     pub domain: ByteText,
-    /// What is put before the address, with a `-`; empty where the address is remote.
+    /// What is put before the address, with a `-`; empty if the address is remote.
     pub prefix: ByteText,
 }
 

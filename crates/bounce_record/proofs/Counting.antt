@@ -99,7 +99,7 @@ scanned : (bytes : List ℕ) → notes_of bytes ≡ scan true [] bytes
 unfolding notes_of
 scanned bytes = sym (scan_is true [] bytes ∙ after_line [] (lines bytes))
 
--- what holds where the line ends, and where it goes on, holds
+-- what holds if the line ends, and if it goes on, holds
 at_byte : (R : List (List ℕ) → Type 0) (first : Bool) (line : List ℕ) (b : ℕ) (bytes : List ℕ)
     → (b ≡ 10 → R (named_if first line ++ scan (is_empty line) [] bytes)) → (b ≢ 10 → R (scan first (line ++ b ∷ []) bytes)) → R (scan first line (b ∷ bytes))
 at_byte R first line b bytes over goes = ⊎_elim

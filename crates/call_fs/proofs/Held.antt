@@ -12,7 +12,8 @@ use Rattle.call_fs.specs.declared.past.GotData.{GotData}
 use Rattle.call_fs.specs.declared.past.GotData.TheVariants as got
 use Rattle.call_fs.specs.declared.past.Own.{Own}
 use Rattle.call_fs.specs.Maps.{put}
-use Rattle.call_fs.specs.Disk.{Disk, File, Open, Mode}
+use Rattle.call_fs.specs.Disk.{Disk, File, Open}
+use Rattle.call_fs.specs.declared.modes.Mode.{Mode}
 use Rattle.call_fs.specs.declared.calls.How.{How}
 use Rattle.call_fs.specs.Apply.{effect, changed, with_new, with_open, without_open, Fits, MayCall, Apply}
 use Rattle.call_fs.specs.Columns.{HasRoomFor}

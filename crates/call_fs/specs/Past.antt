@@ -16,8 +16,9 @@ use Rattle.call_fs.specs.declared.past.GotData.TheVariants.{Answered}
 use Rattle.call_fs.specs.declared.past.Own.{Own}
 use Rattle.mail_bytes.specs.Moments.{IsMoment}
 use Rattle.call_fs.specs.Maps.{put}
-use Rattle.call_fs.specs.Disk.{Disk, Mode, IsForAppend, IsForWrite, IsForCut}
-use Rattle.call_fs.specs.Disk.Mode.{Created, Opened}
+use Rattle.call_fs.specs.Disk.{Disk, IsForAppend, IsForWrite, IsForCut}
+use Rattle.call_fs.specs.declared.modes.Mode.{Mode}
+use Rattle.call_fs.specs.declared.modes.Mode.TheVariants.{Created, Opened}
 use Rattle.call_fs.specs.Apply.{Apply, IsReadBy}
 use Rattle.call_fs.specs.Program.{MayCome}
 

@@ -15,7 +15,7 @@ pub named : (ws : List (String Global)) (word : Option (String Global)) → slic
 unfolding command_of
 named ws word first = ap (λ n. command_named n (map string_bytes ws)) (slice_get-map string_bytes ws 0 ∙ ap (option_map string_bytes) first)
 
--- the same, where the first word's text is known
+-- the same, if the first word's text is known
 pub named_word : (ws : List (String Global)) (word : String Global) (text known : List ℕ) → slice_get ws 0 ≡ Some word → text ≡ string_bytes word → text ≡ known
     → command_of (map string_bytes ws) ≡ command_named (Some known) (map string_bytes ws)
 named_word ws word text known first is same = named ws (Some word) first ∙ ap (λ t. command_named (Some t) (map string_bytes ws)) (sym is ∙ same)

@@ -70,7 +70,7 @@ fault_plain word h plain =
     ∙ ap (λ o. flag_word_fault line.rules false o word h) plain.long
     ∙ ap (λ o. option_map_or (λ flags. bundle_fault line.rules false flags h) o none) plain.short
 
--- between two words, where no `--` stood
+-- between two words, if no `--` stood
 abbrev pub at : Held → Waiting → ℕ → Walk
 at h waiting position = record { held = h; waiting = waiting; position = position; is_trailing = false; stopped = None }
 

@@ -1,12 +1,16 @@
 -- A disk in memory whose machine can be stopped.
-use Rattle.std.specs.Prelude.{◌≡◌, ◌≢◌, ℕ, Option, Some, Result, IsErrOf}
+use Rattle.std.specs.Prelude.{◌≡◌, ◌≢◌, ℕ, Option, Some, None}
 use Rattle.std.specs.Option.{option_map}
-use Rattle.call_fs.specs.declared.calls.FsError.{FsError}
 use Rattle.call_fs.specs.declared.calls.FsError.TheVariants.{Fault}
+use Rattle.call_fs.specs.declared.calls.CallData.{CallData}
+use Rattle.call_fs.specs.declared.calls.Told.{Told}
+use Rattle.call_fs.specs.declared.calls.Answer.{Answer}
+use Rattle.call_fs.specs.declared.calls.Answer.TheVariants.{Refused}
 use Rattle.mail_bytes.specs.Told.{raised, summed}
 use Rattle.call_fs.specs.Disk.{Disk}
-use Rattle.call_fs.specs.Plan.{Plan, no_plan, nearer}
-use Rattle.mem_fs.specs.MemDisk.{Planned, Held, disk_of, empty_plan, CountsCall, with_held}
+use Rattle.call_fs.specs.Plan.{Plan, no_plan, plan_left}
+use Rattle.call_fs.specs.Went.{Went}
+use Rattle.mem_fs.specs.MemDisk.{Planned, Held, disk_of, empty_plan, Counts, with_held}
 
 -- The disk below, which call fails next and which number the next new file takes, and how many calls have failed by that
 -- choice.
@@ -27,11 +31,14 @@ crash_faults c = summed c.below.faults c.failed
 abbrev pub crash_plan : Crash → Option Plan
 crash_plan c = option_map (λ none. c.plan) (empty_plan c.below.picks c.below.plan)
 
--- A call was counted. If it was the chosen one it failed, and the disk below wasn't asked; else that disk made it.
-pub record Passes {T : Type 0} (old new : Crash) (result : Result T FsError) : Type 0 where
-  pub nearer_is : new.plan.fault ≡ nearer old.plan.fault
-  pub due : old.plan.fault ≡ Some 1 → IsErrOf result Fault × (new.below ≡ old.below) × (new.failed ≡ raised old.failed)
-  pub passed : old.plan.fault ≢ Some 1 → CountsCall old.below new.below result × (new.failed ≡ old.failed)
+-- A call was counted.
+pub record Passes (old new : Crash) (answer : Answer) : Type 0 where
+  -- what is chosen is nearer by one call; a new file has used the number up
+  pub left : new.plan ≡ plan_left old.plan answer
+  -- the chosen call failed, and the disk below wasn't asked
+  pub due : old.plan.fault ≡ Some 1 → (answer ≡ Refused Fault) × (new.below ≡ old.below) × (new.failed ≡ raised old.failed)
+  -- any other was made by that disk, with the chosen number
+  pub passed : old.plan.fault ≢ Some 1 → Counts old.below new.below old.plan.pick answer × (new.failed ≡ old.failed)
 
 -- nothing is chosen, and nothing has failed by a choice
 abbrev pub crash_over : Planned → Crash
@@ -44,3 +51,7 @@ with_below c h = record { below = with_held c.below h; plan = c.plan; failed = c
 -- only what is chosen changed
 abbrev pub with_plan : Crash → Plan → Crash
 with_plan c plan = record { below = c.below; plan = plan; failed = c.failed }
+
+-- how a call went, as such a disk tells it: it keeps no calls
+abbrev pub CrashWent : Crash → Crash → ℕ → CallData → Told → Type 0
+CrashWent = Went (λ c. Some (crash_disk c)) (λ c. None) crash_plan crash_faults

@@ -1,18 +1,15 @@
 // A disk in memory whose machine can be stopped.
-ghost use Rattle.std.specs.Prelude.{◌≡◌, ◌≤◌, ◌↔◌, ℕ, Some, None, [], length, IsOk, IfOk, IfSome, IfNone, OnOk, OnErr};
+ghost use Rattle.std.specs.Prelude.{◌≡◌, ◌≤◌, ◌↔◌, Some, None, length, IsOk, IfSome, IfNone, OnOk, OnErr};
 ghost use Rattle.std.specs.Option.{option_copied};
 ghost use Rattle.call_fs.specs.declared.calls.CallData.TheVariants as call;
 ghost use Rattle.call_fs.specs.Disk.{IsUnused, MayUse, MayAppend, MayWrite, MayCut};
 ghost use Rattle.mail_bytes.specs.Moments.{IsMoment};
-ghost use Rattle.call_fs.specs.Calls.{created, opened, counted, done, stated, next_found};
-ghost use Rattle.call_fs.specs.Apply.{Apply, IsNextName, IsLastName};
-ghost use Rattle.call_fs.specs.Columns.{IsRead};
-ghost use Rattle.call_fs.specs.Free.{IsNextDescriptor};
+ghost use Rattle.call_fs.specs.Calls.{created, opened, counted, done, stated, next_found, told_with, without_bytes};
+ghost use Rattle.call_fs.specs.Apply.{IsNextName, IsLastName};
 ghost use Rattle.call_fs.specs.Plan.{with_fault, with_pick};
 ghost use Rattle.call_fs.specs.Choices.{Halts};
-ghost use Rattle.call_fs.specs.Told.{HasCause};
-ghost use Rattle.mem_fs.specs.MemDisk.{with_dir, bytes_at, Places, IsPickedNumber};
-ghost use Rattle.crash_fs.specs.Crash.{crash_disk, crash_faults, crash_plan, crash_over, with_below, with_plan, Passes};
+ghost use Rattle.mem_fs.specs.MemDisk.{with_dir, bytes_at, Places};
+ghost use Rattle.crash_fs.specs.Crash.{crash_disk, crash_faults, crash_plan, crash_over, with_below, with_plan, Passes, CrashWent};
 
 use crate::chosen_fault::ChosenFault;
 use call_fs::{CallFs, CrashFs, Fd, FsError, How, Stat, Survival, Taken};
@@ -109,16 +106,8 @@ impl CallFs for CrashDisk {
     /// disk below; it takes the least free descriptor.
     fn create_excl(&mut self, alloc: Global, now: u64, name: &[u8]) -> Result<(Fd, u64), FsError>
         requires { IsMoment now }
-        ensures told { Apply (crash_disk self.old) now (call.CreateExcl name.now) (created result) (crash_disk self.new) }
-        ensures from_one { IfOk result (λ made. 1 ≤ made.1) }
-        ensures number { IfOk result (λ made. IsPickedNumber (crash_disk self.old) self.old.plan.pick self.old.below.picks made.1
-            self.new.below.picks) }
-        ensures descriptor { IfOk result (λ made. IsNextDescriptor (crash_disk self.old) made.0.0) }
-        ensures cause { HasCause (crash_faults self.old) (crash_faults self.new) result }
-        ensures passes { Passes self.old self.new result }
-        ensures pick { OnOk result (self.new.plan.pick ≡ None) }
-        ensures picks { OnErr result ((self.new.below.picks ≡ self.old.below.picks)
-            × (self.new.plan.pick ≡ self.old.plan.pick)) }
+        ensures went { CrashWent self.old self.new now (call.CreateExcl name.now) (without_bytes (created result)) }
+        ensures passes { Passes self.old self.new (created result) }
     {
         self.fault.begin()?;
         let made = self.below.create_picked(alloc, now, name, self.pick)?;
@@ -128,12 +117,8 @@ impl CallFs for CrashDisk {
 
     /// As the trait says. It takes the least free descriptor.
     fn open(&mut self, alloc: Global, name: &[u8], how: How) -> Result<Fd, FsError>
-        ensures told { Apply (crash_disk self.old) 0 (call.Open name.now how) (opened result) (crash_disk self.new) }
-        ensures descriptor { IfOk result (λ fd. IsNextDescriptor (crash_disk self.old) fd.0) }
-        ensures cause { HasCause (crash_faults self.old) (crash_faults self.new) result }
-        ensures passes { Passes self.old self.new result }
-        ensures picks { self.new.below.picks ≡ self.old.below.picks }
-        ensures pick { self.new.plan.pick ≡ self.old.plan.pick }
+        ensures went { CrashWent self.old self.new 0 (call.Open name.now how) (without_bytes (opened result)) }
+        ensures passes { Passes self.old self.new (opened result) }
     {
         self.fault.begin()?;
         self.below.open(alloc, name, how)
@@ -141,12 +126,9 @@ impl CallFs for CrashDisk {
 
     fn read_at(&mut self, fd: Fd, at: u64, into: &mut [u8]) -> Result<u64, FsError>
         requires { MayUse (crash_disk self.old) fd.0 }
-        ensures told { Apply (crash_disk self.old) 0 (call.ReadAt fd at (length into.old)) (counted result) (crash_disk self.new) }
-        ensures read { IfOk result (λ count. IsRead (crash_disk self.old) fd.0 at (length into.old) count into.new) }
-        ensures cause { HasCause (crash_faults self.old) (crash_faults self.new) result }
-        ensures passes { Passes self.old self.new result }
-        ensures picks { self.new.below.picks ≡ self.old.below.picks }
-        ensures pick { self.new.plan.pick ≡ self.old.plan.pick }
+        ensures went { CrashWent self.old self.new 0 (call.ReadAt fd at (length into.old))
+            (told_with (counted result) into.new) }
+        ensures passes { Passes self.old self.new (counted result) }
     {
         self.fault.begin()?;
         self.below.read_at(fd, at, into)
@@ -162,11 +144,9 @@ impl CallFs for CrashDisk {
     ) -> Result<(), FsError>
         requires moment { IsMoment now }
         requires fits { MayWrite (crash_disk self.old) fd.0 }
-        ensures told { Apply (crash_disk self.old) now (call.WriteAt fd at bytes.now) (done result) (crash_disk self.new) }
-        ensures cause { HasCause (crash_faults self.old) (crash_faults self.new) result }
-        ensures passes { Passes self.old self.new result }
-        ensures picks { self.new.below.picks ≡ self.old.below.picks }
-        ensures pick { self.new.plan.pick ≡ self.old.plan.pick }
+        ensures went { CrashWent self.old self.new now (call.WriteAt fd at bytes.now)
+            (without_bytes (done result)) }
+        ensures passes { Passes self.old self.new (done result) }
     {
         self.fault.begin()?;
         self.below.write_at(alloc, now, fd, at, bytes)
@@ -175,11 +155,8 @@ impl CallFs for CrashDisk {
     fn append(&mut self, alloc: Global, now: u64, fd: Fd, bytes: &[u8]) -> Result<(), FsError>
         requires moment { IsMoment now }
         requires fits { MayAppend (crash_disk self.old) fd.0 }
-        ensures told { Apply (crash_disk self.old) now (call.Append fd bytes.now) (done result) (crash_disk self.new) }
-        ensures cause { HasCause (crash_faults self.old) (crash_faults self.new) result }
-        ensures passes { Passes self.old self.new result }
-        ensures picks { self.new.below.picks ≡ self.old.below.picks }
-        ensures pick { self.new.plan.pick ≡ self.old.plan.pick }
+        ensures went { CrashWent self.old self.new now (call.Append fd bytes.now) (without_bytes (done result)) }
+        ensures passes { Passes self.old self.new (done result) }
     {
         self.fault.begin()?;
         self.below.append(alloc, now, fd, bytes)
@@ -187,11 +164,8 @@ impl CallFs for CrashDisk {
 
     fn truncate(&mut self, fd: Fd, len: u64) -> Result<(), FsError>
         requires { MayCut (crash_disk self.old) fd.0 }
-        ensures told { Apply (crash_disk self.old) 0 (call.Truncate fd len) (done result) (crash_disk self.new) }
-        ensures cause { HasCause (crash_faults self.old) (crash_faults self.new) result }
-        ensures passes { Passes self.old self.new result }
-        ensures picks { self.new.below.picks ≡ self.old.below.picks }
-        ensures pick { self.new.plan.pick ≡ self.old.plan.pick }
+        ensures went { CrashWent self.old self.new 0 (call.Truncate fd len) (without_bytes (done result)) }
+        ensures passes { Passes self.old self.new (done result) }
     {
         self.fault.begin()?;
         self.below.truncate(fd, len)
@@ -199,11 +173,8 @@ impl CallFs for CrashDisk {
 
     fn sync(&mut self, fd: Fd) -> Result<(), FsError>
         requires { MayUse (crash_disk self.old) fd.0 }
-        ensures told { Apply (crash_disk self.old) 0 (call.Sync fd) (done result) (crash_disk self.new) }
-        ensures cause { HasCause (crash_faults self.old) (crash_faults self.new) result }
-        ensures passes { Passes self.old self.new result }
-        ensures picks { self.new.below.picks ≡ self.old.below.picks }
-        ensures pick { self.new.plan.pick ≡ self.old.plan.pick }
+        ensures went { CrashWent self.old self.new 0 (call.Sync fd) (without_bytes (done result)) }
+        ensures passes { Passes self.old self.new (done result) }
     {
         self.fault.begin()?;
         self.below.sync(fd)
@@ -212,53 +183,40 @@ impl CallFs for CrashDisk {
     /// As the trait says. It isn't counted as a call.
     fn close(&mut self, fd: Fd) -> Result<(), FsError>
         requires { MayUse (crash_disk self.old) fd.0 }
-        ensures told { Apply (crash_disk self.old) 0 (call.Close fd) (done result) (crash_disk self.new) }
-        ensures always { IsOk result }
+        ensures went { CrashWent self.old self.new 0 (call.Close fd) (without_bytes (done result)) }
         ensures rest { self.new ≡ with_below self.old self.new.below.held }
     {
         self.below.close(fd)
     }
 
     fn link(&mut self, alloc: Global, old: &[u8], new: &[u8]) -> Result<(), FsError>
-        ensures told { Apply (crash_disk self.old) 0 (call.Link old.now new.now) (done result) (crash_disk self.new) }
-        ensures cause { HasCause (crash_faults self.old) (crash_faults self.new) result }
-        ensures passes { Passes self.old self.new result }
-        ensures picks { self.new.below.picks ≡ self.old.below.picks }
-        ensures pick { self.new.plan.pick ≡ self.old.plan.pick }
+        ensures went { CrashWent self.old self.new 0 (call.Link old.now new.now) (without_bytes (done result)) }
+        ensures passes { Passes self.old self.new (done result) }
     {
         self.fault.begin()?;
         self.below.link(alloc, old, new)
     }
 
     fn unlink(&mut self, name: &[u8]) -> Result<(), FsError>
-        ensures told { Apply (crash_disk self.old) 0 (call.Unlink name.now) (done result) (crash_disk self.new) }
-        ensures cause { HasCause (crash_faults self.old) (crash_faults self.new) result }
-        ensures passes { Passes self.old self.new result }
-        ensures picks { self.new.below.picks ≡ self.old.below.picks }
-        ensures pick { self.new.plan.pick ≡ self.old.plan.pick }
+        ensures went { CrashWent self.old self.new 0 (call.Unlink name.now) (without_bytes (done result)) }
+        ensures passes { Passes self.old self.new (done result) }
     {
         self.fault.begin()?;
         self.below.unlink(name)
     }
 
     fn stat(&mut self, name: &[u8]) -> Result<Stat, FsError>
-        ensures told { Apply (crash_disk self.old) 0 (call.Stat name.now) (stated result) (crash_disk self.new) }
-        ensures moment { IfOk result (λ stat. IsMoment stat.moment) }
-        ensures cause { HasCause (crash_faults self.old) (crash_faults self.new) result }
-        ensures passes { Passes self.old self.new result }
-        ensures picks { self.new.below.picks ≡ self.old.below.picks }
-        ensures pick { self.new.plan.pick ≡ self.old.plan.pick }
+        ensures went { CrashWent self.old self.new 0 (call.Stat name.now) (without_bytes (stated result)) }
+        ensures passes { Passes self.old self.new (stated result) }
     {
         self.fault.begin()?;
         self.below.stat(name)
     }
 
     fn next_name(&mut self, dir: &[u8], after: &[u8], into: &mut NameBuf) -> Result<bool, FsError>
-        ensures told { Apply (crash_disk self.old) 0 (call.NextName dir.now after.now) (next_found result into.new) (crash_disk self.new) }
-        ensures cause { HasCause (crash_faults self.old) (crash_faults self.new) result }
-        ensures passes { Passes self.old self.new result }
-        ensures picks { self.new.below.picks ≡ self.old.below.picks }
-        ensures pick { self.new.plan.pick ≡ self.old.plan.pick }
+        ensures went { CrashWent self.old self.new 0 (call.NextName dir.now after.now)
+            (without_bytes (next_found result into.new)) }
+        ensures passes { Passes self.old self.new (next_found result into.new) }
     {
         self.fault.begin()?;
         self.below.next_name(dir, after, into)

@@ -48,7 +48,7 @@ number_is o name m there is n =
 abbrev pub HasFile : Disk → ℕ → Type 0
 HasFile d n = IsTrue (is_number n) × (part : Part) × IsTrue (is_there d part n)
 
--- the number of the name with this text, where it has one
+-- the number of the name with this text, if it has one
 abbrev pub IsNumberOf : Option ℕ → List ℕ → Type 0
 IsNumberOf o text = (n : ℕ) → (o ≡ Some n) ↔ ((part : Part) × (used_name text ≡ Some (Of part n)))
 
@@ -64,7 +64,7 @@ AddsOnlyFiles d old new = (n : ℕ) → Contains new n → Contains old n ⊎ Ha
 abbrev pub FoundIn : Disk → (ℕ → List ℕ) → List ℕ → List ℕ → Type 0
 FoundIn d tail numbers dir = (part : Part) (n : ℕ) → IsTrue (is_number n) → path (Of part n) ≡ dir ++ 47 ∷ tail n → IsTrue (is_there d part n) → Contains numbers n
 
--- the number of this name of a directory, where it has one, is among the numbers
+-- the number of this name of a directory, if it has one, is among the numbers
 abbrev pub IsListed : List ℕ → List ℕ → List ℕ → Type 0
 IsListed dir numbers name = (part : Part) (n : ℕ) → used_name (dir ++ 47 ∷ name) ≡ Some (Of part n) → Contains numbers n
 

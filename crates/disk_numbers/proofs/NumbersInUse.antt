@@ -30,7 +30,7 @@ every_tells f h b = tells (f true) (f false) refl refl h b
     tells true y e k h false = k ∙ h
     tells false y e k h b = absurd (false≢true h)
 
--- S1 is exactly where no file is there
+-- the state is S1 exactly if no file is there
 abbrev is_s1 : State → Bool
 is_s1 S1 = true
 is_s1 S2 = false
@@ -46,7 +46,7 @@ abbrev one_of : Bool → Bool → Bool → Bool → Bool → Bool → Bool → B
 one_of mess intd todo info local remote bounce =
     if is_s1 (state_by mess intd todo info local remote bounce) then not (any mess intd todo info local remote bounce) else any mess intd todo info local remote bounce
 
--- a test holds everywhere where it holds of true and of false
+-- a test holds everywhere if it holds of true and of false
 one_tells : (mess intd todo info local remote bounce : Bool) → one_of mess intd todo info local remote bounce ≡ true
 one_tells mess intd todo info local remote bounce =
     every_tells (λ g. one_of mess intd todo info local remote g)

@@ -5,7 +5,8 @@ use Rattle.call_fs.specs.declared.calls.Fd.{Fd}
 use Rattle.call_fs.specs.declared.calls.How.{How}
 use Rattle.call_fs.specs.declared.calls.CallData.TheVariants.{Open}
 use Rattle.call_fs.specs.declared.calls.Answer.TheVariants.{Opened}
-use Rattle.call_fs.specs.Disk.{Open as OpenFile, Mode, Disk, MayUse, MayWrite, IsForWrite}
+use Rattle.call_fs.specs.Disk.{Open as OpenFile, Disk, MayUse, MayWrite, IsForWrite}
+use Rattle.call_fs.specs.declared.modes.Mode.{Mode}
 use Rattle.call_fs.specs.Apply.{Apply}
 use Rattle.call_fs.proofs.Maps.{put_same}
 

@@ -5,7 +5,8 @@ use Rattle.call_fs.specs.declared.calls.Fd.{Fd}
 use Rattle.call_fs.specs.declared.calls.CallData.TheVariants.{CreateExcl, Append, Sync, Close, Link}
 use Rattle.call_fs.specs.declared.calls.Answer.TheVariants.{Created, Done}
 use Rattle.call_fs.specs.Maps.{put, put_at}
-use Rattle.call_fs.specs.Disk.{File, Open, Mode, Disk, MayUse, MayAppend, IsSynced}
+use Rattle.call_fs.specs.Disk.{File, Open, Disk, MayUse, MayAppend, IsSynced}
+use Rattle.call_fs.specs.declared.modes.Mode.{Mode}
 use Rattle.call_fs.specs.Apply.{Apply, changed, empty_file, grown, synced}
 use Rattle.mail_bytes.specs.Told.{Meets}
 use Rattle.mem_fs.proofs.InTurn.{told_weaker, told_then}
@@ -120,7 +121,7 @@ module _ (before d1 d2 d3 d4 after : Disk) (now n : ℕ) (fd : Fd) (first second
     opens = opens_after;
   }
 
--- the same where a disk may tell what it holds
+-- the same if a disk may tell what it holds
 pub in_turn : (o0 o1 o2 o3 o4 o5 : Option Disk) (now n : ℕ) (fd : Fd) (first second bytes : List ℕ)
     → Meets o0 o1 (λ x y. Apply x now (CreateExcl first) (Created fd n) y) → Meets o1 o2 (λ x y. Apply x now (Append fd bytes) Done y) → Meets o2 o3 (λ x y. Apply x 0 (Sync fd) Done y)
     → Meets o3 o4 (λ x y. Apply x 0 (Close fd) Done y) → Meets o4 o5 (λ x y. Apply x 0 (Link first second) Done y)

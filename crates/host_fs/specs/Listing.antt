@@ -4,6 +4,10 @@ use Rattle.std.specs.Ordering.{nat_cmp, is_lt}
 use Rattle.std.specs.Cmp.Lexicographic.{slice_cmp}
 use Rattle.std.specs.Str.{IsUtf8}
 use Rattle.call_fs.specs.Names.{IsPart}
+use Rattle.call_fs.specs.declared.calls.CallData.{CallData}
+use Rattle.call_fs.specs.declared.calls.CallData.TheVariants.{NextName}
+use Rattle.call_fs.specs.declared.calls.Answer.{Answer}
+use Rattle.call_fs.specs.declared.calls.Answer.TheVariants.{Name}
 
 -- one name stands before another in byte order
 abbrev pub is_before : List ℕ → List ℕ → Bool
@@ -23,3 +27,8 @@ pub record IsEntry (name : List ℕ) : Type 0 where
 abbrev pub FoundAfter : Bool → List ℕ → List ℕ → Type 0
 FoundAfter true after name = IsTrue (is_before after name) × IsEntry name
 FoundAfter false after name = Unit {0}
+
+-- a name that is answered to a search stands after the one asked for
+abbrev pub ComesAfter : CallData → Answer → Type 0
+ComesAfter (NextName dir after) (Name name) = FoundAfter true after name
+ComesAfter call answer = Unit {0}

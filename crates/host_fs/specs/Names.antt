@@ -2,6 +2,8 @@
 use Rattle.std.specs.Prelude.{◌⊎◌, ℕ, ◌≤◌, ◌==◌, List, [], ◌∷◌, ◌++◌, length, Bool, false, if◌then◌else◌, IsTrue, Contains}
 use Rattle.std.specs.Str.{IsUtf8}
 use Rattle.call_fs.specs.Names.{IsName}
+use Rattle.call_fs.specs.declared.calls.CallData.{CallData}
+use Rattle.call_fs.specs.declared.calls.CallData.TheVariants.{CreateExcl, Open, Link, Unlink, Stat, NextName}
 
 -- a name that begins with `/` is a path of the machine
 abbrev pub is_of_machine : List ℕ → Bool
@@ -23,3 +25,13 @@ pub record IsPath (root name : List ℕ) : Type 0 where
 -- the path of a name under this root
 abbrev pub path_text : List ℕ → List ℕ → List ℕ
 path_text root name = if is_of_machine name then name else root ++ 47 ∷ name
+
+-- a name of the call has no path
+abbrev pub LacksPath : List ℕ → CallData → Type 0
+LacksPath root (CreateExcl name) = ¬ (IsPath root name)
+LacksPath root (Open name how) = ¬ (IsPath root name)
+LacksPath root (Link old new) = (¬ (IsPath root old)) ⊎ (¬ (IsPath root new))
+LacksPath root (Unlink name) = ¬ (IsPath root name)
+LacksPath root (Stat name) = ¬ (IsPath root name)
+LacksPath root (NextName dir after) = ¬ (IsPath root dir)
+LacksPath root call = ⊥

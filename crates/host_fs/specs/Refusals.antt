@@ -6,6 +6,8 @@ use Rattle.mail_bytes.specs.Told.{raised}
 use Rattle.mail_bytes.specs.declared.moments.TheConstants.{LAST_MOMENT}
 use Rattle.call_fs.specs.declared.calls.FsError.{FsError}
 use Rattle.call_fs.specs.declared.calls.FsError.TheVariants.{NotThere, Exists, Fault, Memory}
+use Rattle.call_fs.specs.declared.calls.Answer.{Answer}
+use Rattle.call_fs.specs.declared.calls.Answer.TheVariants.{Refused}
 
 -- of a call that needs a name, or a directory, that is there: a part on the way that is no directory is missing too
 abbrev pub missing_or_fault : ErrorKind → FsError
@@ -37,3 +39,8 @@ or_fault (Err _) = Err Fault
 abbrev pub count_after : {T : Type 0} → ℕ → Result T FsError → ℕ
 count_after before (Err Fault) = raised before
 count_after before outcome = before
+
+-- the same after an answer
+abbrev pub count_told : ℕ → Answer → ℕ
+count_told before (Refused Fault) = raised before
+count_told before answer = before

@@ -1,11 +1,14 @@
 // The file system of the machine, below one directory.
 ghost use Rattle.std.specs.Prelude.{◌≡◌, ◌≤◌, IfOk, IsOk, IsSome, IsSomeAnd, IsErrOf, OnErr, length, Some, None};
+ghost use Rattle.call_fs.specs.declared.calls.CallData.TheVariants as call;
 ghost use Rattle.call_fs.specs.declared.calls.FsError.TheVariants as FsError;
-ghost use Rattle.call_fs.specs.Disk.{IsForAppend, IsForWrite, IsForCut, Mode as made};
+ghost use Rattle.call_fs.specs.declared.modes.Mode.TheVariants as made;
+ghost use Rattle.call_fs.specs.Disk.{IsForAppend, IsForWrite, IsForCut};
+ghost use Rattle.call_fs.specs.Calls.{created, opened, counted, done, stated, next_found, told_with, without_bytes};
 ghost use Rattle.mail_bytes.specs.Moments.{IsMoment};
 ghost use Rattle.call_fs.specs.Told.{HasCause};
 ghost use Rattle.host_fs.specs.Listing.{FoundAfter};
-ghost use Rattle.host_fs.specs.Modes.{as_mode, Opens, OpensNone, Closes};
+ghost use Rattle.host_fs.specs.Modes.{Opens, OpensNone};
 ghost use Rattle.host_fs.specs.Names.{IsPath};
 ghost use Rattle.host_fs.specs.Refusals.{count_after};
 
@@ -13,13 +16,13 @@ use crate::directories::make_directories;
 use crate::files::{create_new, link_file, open_file, stat_file, unlink_file};
 use crate::kept::Kept;
 use crate::listing;
-use crate::modes::{Mode, OpenFile};
+use crate::open_file::OpenFile;
 use crate::paths::path_of;
 use crate::refusals::{or_fault, without_memory};
 use crate::system::System;
 use crate::table::Table;
 use crate::transfers::{Cursor, End, lying, read_full};
-use call_fs::{CallFs, Fd, FsError, How, Stat};
+use call_fs::{CallFs, Fd, FsError, How, Mode, Stat};
 use mail_bytes::{ByteText, Memory, NameBuf};
 use std::alloc::Global;
 use std::io::Write;
@@ -98,7 +101,7 @@ impl<S: System> HostFs<S> {
 
     /// The open file of a descriptor.
     fn target(&self, fd: Fd) -> Result<&OpenFile<S::File>, FsError>
-        ensures open { IfOk result (λ target. opens_of self.now fd.0 ≡ Some (as_mode target.now.mode)) }
+        ensures open { IfOk result (λ target. opens_of self.now fd.0 ≡ Some target.now.mode) }
         ensures fault { OnErr result (IsErrOf result FsError.Fault) }
     {
         self.table.get(fd.0).ok_or(FsError::Fault)
@@ -254,7 +257,7 @@ impl<S: System> HostFs<S> {
 }
 
 impl<S: System> CallFs for HostFs<S> {
-    ghost use Rattle.host_fs.specs.HostFs.{root_of, opens_of, faults_of};
+    ghost use Rattle.host_fs.specs.HostFs.{faults_of, HostWent, Serves};
 
     ghost disk = { λ _. None };
 
@@ -268,42 +271,26 @@ impl<S: System> CallFs for HostFs<S> {
         self.faults
     }
 
-    fn create_excl(&mut self, alloc: Global, _now: u64, name: &[u8]) -> Result<(Fd, u64), FsError>
-        ensures number { IfOk result (λ created. 1 ≤ created.1) }
-        ensures no_path { ¬ (IsPath (root_of self.old) name.now) → IsErrOf result FsError.Fault }
-        ensures opens { IfOk result (λ created. Opens (opens_of self.old) (opens_of self.new) created.0.0 made.Created) }
-        ensures none { OnErr result (OpensNone (opens_of self.old) (opens_of self.new)) }
-        ensures root { root_of self.new ≡ root_of self.old }
-        ensures count { faults_of self.new ≡ count_after (faults_of self.old) result }
-        ensures cause { HasCause (faults_of self.old) (faults_of self.new) result }
+    fn create_excl(&mut self, alloc: Global, now: u64, name: &[u8]) -> Result<(Fd, u64), FsError>
+        ensures went { HostWent self.old self.new now (call.CreateExcl name.now) (without_bytes (created result)) }
+        ensures serves { Serves self.old self.new (call.CreateExcl name.now) (created result) }
     {
         let outcome = self.create(alloc, name);
         self.counted(outcome)
     }
 
     fn open(&mut self, alloc: Global, name: &[u8], how: How) -> Result<Fd, FsError>
-        ensures exists { ¬ (IsErrOf result FsError.Exists) }
-        ensures no_path { ¬ (IsPath (root_of self.old) name.now) → IsErrOf result FsError.Fault }
-        ensures opens { IfOk result (λ fd. Opens (opens_of self.old) (opens_of self.new) fd.0 (made.Opened how)) }
-        ensures none { OnErr result (OpensNone (opens_of self.old) (opens_of self.new)) }
-        ensures root { root_of self.new ≡ root_of self.old }
-        ensures count { faults_of self.new ≡ count_after (faults_of self.old) result }
-        ensures cause { HasCause (faults_of self.old) (faults_of self.new) result }
+        ensures went { HostWent self.old self.new 0 (call.Open name.now how) (without_bytes (opened result)) }
+        ensures serves { Serves self.old self.new (call.Open name.now how) (opened result) }
     {
         let outcome = self.open_name(alloc, name, how);
         self.counted(outcome)
     }
 
     fn read_at(&mut self, fd: Fd, at: u64, into: &mut [u8]) -> Result<u64, FsError>
-        ensures bytes { IfOk result (λ count. count ≤ length into.old) }
-        ensures fits { IsOk result → IsSome (opens_of self.old fd.0) }
-        ensures not_there { ¬ (IsErrOf result FsError.NotThere) }
-        ensures exists { ¬ (IsErrOf result FsError.Exists) }
-        ensures memory { ¬ (IsErrOf result FsError.Memory) }
-        ensures root { root_of self.new ≡ root_of self.old }
-        ensures opens { OpensNone (opens_of self.old) (opens_of self.new) }
-        ensures count { faults_of self.new ≡ count_after (faults_of self.old) result }
-        ensures cause { HasCause (faults_of self.old) (faults_of self.new) result }
+        ensures went { HostWent self.old self.new 0 (call.ReadAt fd at (length into.old))
+            (told_with (counted result) into.new) }
+        ensures serves { Serves self.old self.new (call.ReadAt fd at (length into.old)) (counted result) }
     {
         let outcome = self.read(fd, at, into);
         self.counted(outcome)
@@ -312,71 +299,45 @@ impl<S: System> CallFs for HostFs<S> {
     fn write_at(
         &mut self,
         _alloc: Global,
-        _now: u64,
+        now: u64,
         fd: Fd,
         at: u64,
         bytes: &[u8],
     ) -> Result<(), FsError>
-        ensures fits { IsOk result → IsSomeAnd (opens_of self.old fd.0) IsForWrite }
-        ensures not_there { ¬ (IsErrOf result FsError.NotThere) }
-        ensures exists { ¬ (IsErrOf result FsError.Exists) }
-        ensures memory { ¬ (IsErrOf result FsError.Memory) }
-        ensures root { root_of self.new ≡ root_of self.old }
-        ensures opens { OpensNone (opens_of self.old) (opens_of self.new) }
-        ensures count { faults_of self.new ≡ count_after (faults_of self.old) result }
-        ensures cause { HasCause (faults_of self.old) (faults_of self.new) result }
+        ensures went { HostWent self.old self.new now (call.WriteAt fd at bytes.now) (without_bytes (done result)) }
+        ensures serves { Serves self.old self.new (call.WriteAt fd at bytes.now) (done result) }
     {
         let outcome = self.write(fd, at, bytes);
         self.counted(outcome)
     }
 
-    fn append(&mut self, _alloc: Global, _now: u64, fd: Fd, bytes: &[u8]) -> Result<(), FsError>
-        ensures fits { IsOk result → IsSomeAnd (opens_of self.old fd.0) IsForAppend }
-        ensures not_there { ¬ (IsErrOf result FsError.NotThere) }
-        ensures exists { ¬ (IsErrOf result FsError.Exists) }
-        ensures memory { ¬ (IsErrOf result FsError.Memory) }
-        ensures root { root_of self.new ≡ root_of self.old }
-        ensures opens { OpensNone (opens_of self.old) (opens_of self.new) }
-        ensures count { faults_of self.new ≡ count_after (faults_of self.old) result }
-        ensures cause { HasCause (faults_of self.old) (faults_of self.new) result }
+    fn append(&mut self, _alloc: Global, now: u64, fd: Fd, bytes: &[u8]) -> Result<(), FsError>
+        ensures went { HostWent self.old self.new now (call.Append fd bytes.now) (without_bytes (done result)) }
+        ensures serves { Serves self.old self.new (call.Append fd bytes.now) (done result) }
     {
         let outcome = self.put_at_end(fd, bytes);
         self.counted(outcome)
     }
 
     fn truncate(&mut self, fd: Fd, len: u64) -> Result<(), FsError>
-        ensures fits { IsOk result → IsSomeAnd (opens_of self.old fd.0) IsForCut }
-        ensures not_there { ¬ (IsErrOf result FsError.NotThere) }
-        ensures exists { ¬ (IsErrOf result FsError.Exists) }
-        ensures memory { ¬ (IsErrOf result FsError.Memory) }
-        ensures root { root_of self.new ≡ root_of self.old }
-        ensures opens { OpensNone (opens_of self.old) (opens_of self.new) }
-        ensures count { faults_of self.new ≡ count_after (faults_of self.old) result }
-        ensures cause { HasCause (faults_of self.old) (faults_of self.new) result }
+        ensures went { HostWent self.old self.new 0 (call.Truncate fd len) (without_bytes (done result)) }
+        ensures serves { Serves self.old self.new (call.Truncate fd len) (done result) }
     {
         let outcome = self.cut(fd, len);
         self.counted(outcome)
     }
 
     fn sync(&mut self, fd: Fd) -> Result<(), FsError>
-        ensures fits { IsOk result → IsSome (opens_of self.old fd.0) }
-        ensures not_there { ¬ (IsErrOf result FsError.NotThere) }
-        ensures exists { ¬ (IsErrOf result FsError.Exists) }
-        ensures memory { ¬ (IsErrOf result FsError.Memory) }
-        ensures root { root_of self.new ≡ root_of self.old }
-        ensures opens { OpensNone (opens_of self.old) (opens_of self.new) }
-        ensures count { faults_of self.new ≡ count_after (faults_of self.old) result }
-        ensures cause { HasCause (faults_of self.old) (faults_of self.new) result }
+        ensures went { HostWent self.old self.new 0 (call.Sync fd) (without_bytes (done result)) }
+        ensures serves { Serves self.old self.new (call.Sync fd) (done result) }
     {
         let outcome = self.settle(fd);
         self.counted(outcome)
     }
 
     fn close(&mut self, fd: Fd) -> Result<(), FsError>
-        ensures always { IsOk result }
-        ensures closes { Closes (opens_of self.old) (opens_of self.new) fd.0 }
-        ensures root { root_of self.new ≡ root_of self.old }
-        ensures cause { faults_of self.new ≡ faults_of self.old }
+        ensures went { HostWent self.old self.new 0 (call.Close fd) (without_bytes (done result)) }
+        ensures serves { Serves self.old self.new (call.Close fd) (done result) }
     {
         self.table.remove(fd.0);
         Ok(())
@@ -384,39 +345,24 @@ impl<S: System> CallFs for HostFs<S> {
 
     /// The name is on the disk once this is `Ok`. After a fault it may be there.
     fn link(&mut self, alloc: Global, old: &[u8], new: &[u8]) -> Result<(), FsError>
-        ensures no_old { ¬ (IsPath (root_of self.old) old.now) → IsErrOf result FsError.Fault }
-        ensures no_new { ¬ (IsPath (root_of self.old) new.now) → IsErrOf result FsError.Fault }
-        ensures root { root_of self.new ≡ root_of self.old }
-        ensures opens { OpensNone (opens_of self.old) (opens_of self.new) }
-        ensures count { faults_of self.new ≡ count_after (faults_of self.old) result }
-        ensures cause { HasCause (faults_of self.old) (faults_of self.new) result }
+        ensures went { HostWent self.old self.new 0 (call.Link old.now new.now) (without_bytes (done result)) }
+        ensures serves { Serves self.old self.new (call.Link old.now new.now) (done result) }
     {
         let outcome = self.link_names(alloc, old, new);
         self.counted(outcome)
     }
 
     fn unlink(&mut self, name: &[u8]) -> Result<(), FsError>
-        ensures no_path { ¬ (IsPath (root_of self.old) name.now) → IsErrOf result FsError.Fault }
-        ensures exists { ¬ (IsErrOf result FsError.Exists) }
-        ensures memory { ¬ (IsErrOf result FsError.Memory) }
-        ensures root { root_of self.new ≡ root_of self.old }
-        ensures opens { OpensNone (opens_of self.old) (opens_of self.new) }
-        ensures count { faults_of self.new ≡ count_after (faults_of self.old) result }
-        ensures cause { HasCause (faults_of self.old) (faults_of self.new) result }
+        ensures went { HostWent self.old self.new 0 (call.Unlink name.now) (without_bytes (done result)) }
+        ensures serves { Serves self.old self.new (call.Unlink name.now) (done result) }
     {
         let outcome = self.unlink_name(name);
         self.counted(outcome)
     }
 
     fn stat(&mut self, name: &[u8]) -> Result<Stat, FsError>
-        ensures moment { IfOk result (λ stat. IsMoment stat.moment) }
-        ensures no_path { ¬ (IsPath (root_of self.old) name.now) → IsErrOf result FsError.Fault }
-        ensures exists { ¬ (IsErrOf result FsError.Exists) }
-        ensures memory { ¬ (IsErrOf result FsError.Memory) }
-        ensures root { root_of self.new ≡ root_of self.old }
-        ensures opens { OpensNone (opens_of self.old) (opens_of self.new) }
-        ensures count { faults_of self.new ≡ count_after (faults_of self.old) result }
-        ensures cause { HasCause (faults_of self.old) (faults_of self.new) result }
+        ensures went { HostWent self.old self.new 0 (call.Stat name.now) (without_bytes (stated result)) }
+        ensures serves { Serves self.old self.new (call.Stat name.now) (stated result) }
     {
         let outcome = self.stat_name(name);
         self.counted(outcome)
@@ -424,14 +370,9 @@ impl<S: System> CallFs for HostFs<S> {
 
     /// A name that it gives is one part of a name, in UTF-8. Entries of another name are passed over, as directories are.
     fn next_name(&mut self, dir: &[u8], after: &[u8], into: &mut NameBuf) -> Result<bool, FsError>
-        ensures later { IfOk result (λ found. FoundAfter found after.now into.new) }
-        ensures no_path { ¬ (IsPath (root_of self.old) dir.now) → IsErrOf result FsError.Fault }
-        ensures exists { ¬ (IsErrOf result FsError.Exists) }
-        ensures memory { ¬ (IsErrOf result FsError.Memory) }
-        ensures root { root_of self.new ≡ root_of self.old }
-        ensures opens { OpensNone (opens_of self.old) (opens_of self.new) }
-        ensures count { faults_of self.new ≡ count_after (faults_of self.old) result }
-        ensures cause { HasCause (faults_of self.old) (faults_of self.new) result }
+        ensures went { HostWent self.old self.new 0 (call.NextName dir.now after.now)
+            (without_bytes (next_found result into.new)) }
+        ensures serves { Serves self.old self.new (call.NextName dir.now after.now) (next_found result into.new) }
     {
         let outcome = self.name_after(dir, after, into);
         self.counted(outcome)

@@ -15,7 +15,7 @@ mod files;
 mod host_fs;
 mod kept;
 mod listing;
-mod modes;
+mod open_file;
 mod paths;
 mod refusals;
 mod system;

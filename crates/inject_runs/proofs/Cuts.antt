@@ -71,7 +71,7 @@ cuts_some text done less none = let left = length-drop done text in absurd (omeg
 cuts_next : (text : List ℕ) (done : ℕ) (more : List (List ℕ)) → Cuts (drop piece_size (drop done text)) more → Cuts (drop (done + piece_size) text) more
 cuts_next text done more rest = subst (λ t. Cuts t more) (drop-drop piece_size done text) rest
 
--- where no whole piece is left, so few bytes are
+-- if no whole piece is left, so few bytes are
 cuts_left : (text : List ℕ) (done : ℕ) (pieces : List (List ℕ)) → length text < done + piece_size → Cuts (drop done text) pieces → length (concat pieces) < piece_size
 cuts_left text done pieces short cuts =
     let is = ap length (cuts_join (drop done text) pieces cuts) in

@@ -24,7 +24,7 @@ use Rattle.queue_inject.specs.declared.injection.Arguments.{Arguments}
 use Rattle.queue_inject.specs.declared.row.Row.{Row}
 use Rattle.queue_inject.specs.declared.row.Row.TheVariants as at
 use Rattle.queue_inject.specs.Texts.{message_text, intd_text}
-use Rattle.queue_inject.specs.Table.{piece_size, failure, in_message, in_todo, settled, work_of, moved, row_after, call_of, in_time, is_late, has_input, Next}
+use Rattle.queue_inject.specs.Table.{piece_size, failure, in_message, in_todo, past_bytes, work_of, moved, row_after, call_of, in_time, is_late, has_input, Next}
 use Rattle.queue_inject.specs.Run.{IsDue, IsRun}
 use Rattle.queue_inject.specs.Causes.{pid_name}
 use Rattle.inject_runs.specs.Written.{Act, act, acts_of}
@@ -119,7 +119,7 @@ either_status status Memory = inr refl
 
 -- What is left, by the row
 
--- the clean up of mess/N is due: the pid name is there too where it couldn't be removed
+-- the clean up of mess/N is due: the pid name is there too if it couldn't be removed
 pub data IsCleaning (args : Arguments) (past : List Own) (n : ℕ) : Type 0 where
   InS2 : LeavesJust (acts_of past) (path (Of Mess n) ∷ []) → IsCleaning args past n
   Beside : (k : ℕ) → LeavesJust (acts_of past) (path (Of Mess n) ∷ (pid_name args k ∷ [])) → HasCall past IsStaying → IsCleaning args past n
@@ -176,7 +176,7 @@ module _ (args : Arguments) (before : List Own) (read : ℕ) (ready : Ready) (by
   creates k (Created fd n) just fit = just_made (acts_of before) (CreateExcl (pid_name args k)) (Created fd n) (pid_name args k) [] refl just
   creates k (Refused Exists) just fit =
       let same : LeavesJust (acts_of (after (CreateExcl (pid_name args k)) (Refused Exists))) [] = just_same (acts_of before) (CreateExcl (pid_name args k)) (Refused Exists) [] refl just in
-      either (λ row. LeftAt args (after (CreateExcl (pid_name args k)) (Refused Exists)) (settled (work_of args) row)) (nat_lt k 9) (at.Create (k + 1)) (at.Failed 63) same
+      either (λ row. LeftAt args (after (CreateExcl (pid_name args k)) (Refused Exists)) (past_bytes (work_of args) row)) (nat_lt k 9) (at.Create (k + 1)) (at.Failed 63) same
       (nothing_left args (after (CreateExcl (pid_name args k)) (Refused Exists)) 63 refl same)
   creates k (Refused NotThere) just fit = nothing_left args _ 63 refl (just_same (acts_of before) (CreateExcl (pid_name args k)) (Refused NotThere) [] refl just)
   creates k (Refused Fault) just fit = nothing_left args _ 63 refl (just_same (acts_of before) (CreateExcl (pid_name args k)) (Refused Fault) [] refl just)

@@ -23,7 +23,7 @@ use Rattle.queue_inject.specs.declared.injection.Arguments.{Arguments}
 use Rattle.queue_inject.specs.declared.row.Row.{Row}
 use Rattle.queue_inject.specs.declared.row.Row.TheVariants as at
 use Rattle.queue_inject.specs.Texts.{message_text, intd_text}
-use Rattle.queue_inject.specs.Table.{piece_size, failure, in_message, in_todo, settled, work_of, moved, after_came, row_after, call_of}
+use Rattle.queue_inject.specs.Table.{piece_size, failure, in_message, in_todo, past_bytes, work_of, moved, after_came, row_after, call_of}
 use Rattle.queue_inject.specs.Run.{IsDue, IsRun}
 use Rattle.queue_inject.specs.Causes.{first_fault, pid_name, IsTry, FailsWith}
 use Rattle.queue_inject.specs.Causes.FailsWith.{WantsMemory, Appends, Syncs, TakesAll, MakesPid, LeavesPid, LinksMess, MakesIntd, LinksTodo}
@@ -105,7 +105,7 @@ module _ (args : Arguments) (mess todo : List (List ℕ)) (mess_cuts : Cuts (mes
         (is ∙ sym (append-nil (taken_names args t))) f
 
     finds_taken : (t : ℕ) → t ≤ 8 → acts ≡ taken_names args t → (b : Bool) → nat_lt (suc t) 9 ≡ b
-        → At (acts ++ act (CreateExcl (pid_name args (suc t))) (Refused Exists) ∷ []) (settled (work_of args) (if b then at.Create (suc t + 1) else at.Failed 63))
+        → At (acts ++ act (CreateExcl (pid_name args (suc t))) (Refused Exists) ∷ []) (past_bytes (work_of args) (if b then at.Create (suc t + 1) else at.Failed 63))
     finds_taken t few is true less =
         let small : suc t < 9 = ltb-true (suc t) 9 less in
         let within : suc t ≤ 8 = omega arith in

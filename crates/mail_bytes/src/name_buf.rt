@@ -50,7 +50,7 @@ impl NameBuf {
         self.len = 0;
     }
 
-    /// Puts a byte at the end; `NoRoom` exactly where it is full, and then it is as before.
+    /// Puts a byte at the end; `NoRoom` exactly if it is full, and then it is as before.
     pub fn push(&mut self, byte: u8) -> Result<(), NoRoom>
         ensures room { IsOk result ↔ (length self.old < 255) }
         ensures ok { OnOk result (self.new ≡ self.old ++ byte ∷ []) }
@@ -63,7 +63,7 @@ impl NameBuf {
         Ok(())
     }
 
-    /// Puts bytes at the end; `NoRoom` exactly where there is no room for all of them, and then it is as before.
+    /// Puts bytes at the end; `NoRoom` exactly if there is no room for all of them, and then it is as before.
     pub fn extend(&mut self, bytes: &[u8]) -> Result<(), NoRoom>
         ensures room { IsOk result ↔ (length self.old + length bytes.now ≤ 255) }
         ensures ok { OnOk result (self.new ≡ self.old ++ bytes.now) }

@@ -22,7 +22,7 @@ use Rattle.mail_world.specs.World.{kept_call, span_of, ends, starts, is_start}
 use Rattle.mail_world.specs.ByKind.{IsMail, Follows}
 use Rattle.mail_world.specs.Inside.{event_of, span_by, IsMember, IsStranger, is_by}
 use Rattle.call_fs.proofs.Maps.{put_same, put_other, put_at_same, put_at_other}
-use Rattle.mail_world.proofs.Tests.{same_text, other_text}
+use Rattle.queue_law.proofs.Tests.{same_text, other_text}
 use Rattle.mail_world.proofs.Spans.{span_push, span_stays, span_begins, span_ends}
 use Rattle.mail_world.proofs.Crew.{ActsAlone, StartsAlone}
 

@@ -17,7 +17,7 @@ use Rattle.mail_world.specs.ByKind.{Follows}
 use Rattle.mail_world.specs.Inside.{span_by, IsMember, IsStranger, AreActors, is_by}
 use Rattle.mail_world.specs.Acting.{ended_by, IsCutOff, AreCutOff}
 use Rattle.call_fs.proofs.Maps.{put_at_same, put_at_other}
-use Rattle.mail_world.proofs.Tests.{text_cases, same_text, other_text}
+use Rattle.queue_law.proofs.Tests.{text_cases, same_text, other_text}
 use Rattle.mail_world.proofs.Lists.{each_set, some_set, each_push, some_push, some_last, some_at, some_within}
 use Rattle.mail_world.proofs.Spans.{span_push, span_stays}
 

@@ -6,7 +6,6 @@ use Rattle.std.proofs.lemmas.Bool.{eqb-false}
 use Rattle.std.proofs.lemmas.Bool.Decides.{eqb_tells}
 use Rattle.std.proofs.lemmas.List.Folds.{list_any-append}
 use Rattle.std.proofs.lemmas.Map.Views.{any-filter_same}
-use Rattle.std.specs.Prelude.{IsOk}
 use Rattle.call_fs.specs.declared.calls.Fd.{Fd}
 use Rattle.call_fs.specs.declared.calls.FsError.{FsError}
 use Rattle.call_fs.specs.declared.calls.CallData.TheVariants as call
@@ -15,6 +14,7 @@ use Rattle.call_fs.specs.Disk.{Disk, Open, MayUse}
 use Rattle.call_fs.specs.Maps.{put}
 use Rattle.call_fs.specs.Apply.{effect, Apply}
 use Rattle.call_fs.specs.Calls.{done}
+use Rattle.call_fs.specs.Columns.{IsAnswerTo}
 use Rattle.mail_bytes.specs.Told.{OnTold, Meets}
 use Rattle.mail_world.specs.History.{unless_by, shut_by}
 use Rattle.call_fs.proofs.Maps.{put_other}
@@ -22,10 +22,10 @@ use Rattle.mail_world.specs.Inside.{has, AreApart, is_by}
 use Rattle.mail_world.specs.Acting.{AreOpen, shut, without}
 
 -- a close is always Ok
-pub close_told : (old new : Option Disk) (fd : Fd) (result : Result (Unit {0}) FsError) → IsOk result
+pub close_told : (old new : Option Disk) (fd : Fd) (result : Result (Unit {0}) FsError) → IsAnswerTo (call.Close fd) (done result)
     → Meets old new (λ d e. Apply d 0 (call.Close fd) (done result) e) → Meets old new (λ d e. Apply d 0 (call.Close fd) told.Done e)
-close_told old new fd (Ok x) ok h = h
-close_told old new fd (Err why) ok h = absurd (cc)
+close_told old new fd (Ok x) kind h = h
+close_told old new fd (Err why) kind h = absurd kind
 
 pub eqb_flip : (a b : ℕ) → eqb a b ≡ eqb b a
 eqb_flip a b = ⊎_elim
@@ -109,7 +109,7 @@ shut_one a (Some b) file = refl
 pub shut_listed : (d : Disk) (a : List ℕ) (holder : ℕ → Option (List ℕ)) (fds : List Fd) → ((fd : ℕ) → has fd fds ≡ is_by a (holder fd)) → shut fds d ≡ shut_by a holder d
 shut_listed d a holder fds lists = ap (with_opens d) (fun_ext (λ q. ap (λ (b : Bool). if b then None else d.opens q) (lists q) ∙ shut_one a (holder q) (d.opens q)))
 
--- closing the last of a list of open descriptors, where the disk tells
+-- closing the last of a list of open descriptors, if the disk tells
 pub may_close_last : (t : Option Disk) (all fds : List Fd) (fd : Fd) → all ≡ fds ++ fd ∷ [] → OnTold t (λ d. AreOpen d all) → OnTold t (λ d. MayUse d fd.0)
 may_close_last None all fds fd is each = tt
 may_close_last (Some d) all fds fd is each = (open_last d fds fd (subst (AreOpen d) is each)).0

@@ -8,7 +8,8 @@ use Rattle.call_fs.specs.declared.calls.CallData.{CallData}
 use Rattle.call_fs.specs.declared.calls.Answer.{Answer}
 use Rattle.call_fs.specs.declared.calls.Told.{Told}
 use Rattle.call_fs.specs.declared.program.Ready.{Ready}
-use Rattle.call_fs.specs.Disk.{Disk, Open, Mode}
+use Rattle.call_fs.specs.Disk.{Disk, Open}
+use Rattle.call_fs.specs.declared.modes.Mode.{Mode}
 use Rattle.call_fs.specs.Maps.{put}
 use Rattle.call_fs.specs.declared.past.NeedData.TheVariants as needs
 use Rattle.call_fs.specs.declared.past.GotData.TheVariants.{Answered}
@@ -23,12 +24,12 @@ use Rattle.mail_world.specs.Inside.{IsMember, AreActors, HasOpen, IsOpenTo, IsOw
 use Rattle.mail_world.specs.Acting.{AreOpen, AreCutOff, open_after}
 use Rattle.mail_world.proofs.Lists.{each_set, each_push}
 use Rattle.call_fs.proofs.Maps.{put_cases, put_same, put_other, put_at_same, put_at_other}
-use Rattle.mail_world.proofs.Tests.{same_text, other_text}
+use Rattle.queue_law.proofs.Tests.{same_text, other_text}
 use Rattle.mail_world.proofs.Descriptors.{has_push, apart_push, has_without, apart_without, all_open}
 use Rattle.mail_world.proofs.Opens.{Opens, ClosesOwn, closes_own, own_stays, owns_after}
 use Rattle.mail_world.proofs.Crew.{Halted, apart_by, was_there}
 use Rattle.mail_world.proofs.Halts.{never_alive}
-use Rattle.mail_world.proofs.Looks.{mapped_some}
+use Rattle.queue_law.proofs.Looks.{mapped_some}
 use Rattle.mail_world.proofs.Acts.{freed, kept_on}
 
 -- what is held stays open
@@ -53,7 +54,7 @@ nobody : (d : Disk) (o : Option (List ℕ)) (b : List ℕ) (fd : ℕ) → d.open
 nobody d None b fd new held = refl
 nobody d (Some c) b fd new held = absurd (cc (subst IsSome new (held c refl)))
 
--- what is put in somebody's hands, or in nobody's, where it wasn't in another's, is not in another's
+-- what is put in somebody's hands, or in nobody's, if it wasn't in another's, is not in another's
 others_same : (h g : ℕ → Option (List ℕ)) (b : List ℕ) (k : ℕ) (v : Option (List ℕ)) (fds : List Fd) → g ≡ put h k v → is_by b (h k) ≡ false → is_by b v ≡ false
     → ((fd : ℕ) → has fd fds ≡ is_by b (h fd)) → (fd : ℕ) → has fd fds ≡ is_by b (g fd)
 others_same h g b k v fds is was now lists fd =

@@ -9,11 +9,13 @@ use Rattle.queue_inject.specs.Texts.{message_text, intd_text, entered, todo_of}
 use Rattle.queue_states.specs.declared.state.State.TheVariants.{Other}
 use Rattle.queue_states.specs.States.{state_by, is_there, state_of}
 use Rattle.mail_world.specs.History.{Event, Injection, State, after, Legal}
-use Rattle.mail_world.specs.Headline.{IsInjected, IsValid, IsPending, Safe, Headline}
+use Rattle.queue_law.specs.Books.{IsInjected, IsValid}
+use Rattle.mail_world.specs.Headline.{IsPending, Safe, Headline}
 use Rattle.mail_world.specs.Headline.Accounted.{Pending}
-use Rattle.mail_world.proofs.Looks.{Entry, find_some, find_none, not_found, found}
-use Rattle.mail_world.proofs.Invariant.{About, about, is_later, IsUnsorted, IsQueued, Phase, queue}
-use Rattle.mail_world.proofs.Invariant.Phase.{Free, Queued}
+use Rattle.queue_law.specs.Numbers.{Entry, About, about, is_later, IsQueued, Phase}
+use Rattle.queue_law.proofs.Looks.{find_some, find_none, not_found, found}
+use Rattle.mail_world.specs.Untouched.{queue}
+use Rattle.queue_law.specs.Numbers.Phase.{Free, Queued, Sorted}
 use Rattle.mail_world.proofs.Programs.{fares_booked, fares_well}
 use Rattle.mail_world.proofs.Kept.{Inv, always}
 
@@ -45,11 +47,7 @@ todo_is args = refl
 bare_below : (w : About) → Phase w → w.parts Mess ≡ None → (w.parts Intd ≡ None) × (w.parts Todo ≡ None)
 bare_below w (Free h) none = (h.intd_below none, h.no_todo)
 bare_below w (Queued h) none = let t = h.mess_there in absurd (cc)
-
--- so far no number is preprocessed
-unsorted : (w : About) → Phase w → IsUnsorted w
-unsorted w (Free h) = h.unsorted
-unsorted w (Queued h) = h.unsorted
+bare_below w (Sorted some h) none = let t = h.mess_there in absurd (cc)
 
 -- an accepted injection whose life lasts is queued
 record IsKept (d : Disk) (i : Injection) : Type 0 where
@@ -61,7 +59,7 @@ module _ (s : State) (I : Inv s) where
   states : (n : ℕ) → state_of s.disk n ≢ Other
   states n =
       let d = s.disk in
-      let none = unsorted (about (queue s I.role) n) (I.sound.fine n) in
+      let none = I.early n in
       let later = λ (part : Part) (is : is_later part ≡ true). ap is_some (not_found d.names d.files (Of part n) (none part is)) in
       let below = λ (h : is_there d Mess n ≡ false). bare_below _ (I.sound.fine n) (find_none d.names d.files (Of Mess n) (is_none _ h)) in
       let known = known_state (is_there d Mess n) (is_there d Intd n) (is_there d Todo n)
@@ -101,6 +99,7 @@ module _ (s : State) (I : Inv s) where
       by_phase : Phase (about (queue s I.role) i.number) → IsKept s.disk i
       by_phase (Free h) = absurd (h.not_accepted i lives accepted)
       by_phase (Queued h) = kept_queued i h lives
+      by_phase (Sorted some h) = absurd (some.2 (I.early i.number some.0 some.1))
 
   lives_on : (i : Injection) → IsInjected s.books i → i.accepted ≡ true → s.books.living i.number ≡ Some i
   lives_on i h accepted = ⊎_elim (λ (l : s.books.living i.number ≡ Some i). l) (λ (o : Among i s.books.over). absurd (I.sound.over i o accepted)) h

@@ -1,4 +1,4 @@
--- What led to a world's disk goes on with one event more; and where it began with an opening disk, it is legal.
+-- What led to a world's disk goes on with one event more; and if it began with an opening disk, it is legal.
 use Rattle.std.proofs.Common.{◌≡◌, ℕ, ◌≤◌, List, [], ◌∷◌, ◌++◌, Option, Some, None, IsSomeAnd, refl, sym, ap, ◌∙◌, subst, arith}
 use Rattle.std.proofs.lemmas.List.{reverse-append}
 use Rattle.std.specs.List.{AllZip}
@@ -220,7 +220,7 @@ pub halt_told : (old new : Option Disk) (events : List Kept) (p : ℕ) (how : Su
     → LeadsOn old new events (events ++ kept.Halt how ∷ []) p p
 halt_told old new events p how met o h is = let next = halt_leads old new events p how met o h is in (Halt how next.0, next.1)
 
--- so, where a history led to the old disk, one leads to the new one
+-- so, if a history led to the old disk, one leads to the new one
 pub led_on : (old new : Option Disk) (R : Disk → Disk → Type 0) (events later : List Kept) (p q : ℕ)
     → Meets old new R → LeadsOn old new events later p q → OnTold old (λ d. IsLed d events p) → OnTold new (λ d. IsLed d later q)
 led_on None None R events later p q met on led = tt
@@ -246,7 +246,7 @@ legal_allowed : (d : Disk) (h : List Event) → Legal d h → EachAllowed d h
 legal_allowed d [] legal = tt
 legal_allowed d (e ∷ h) legal = (legal_allowed d h legal.0, legal.1)
 
--- what led from a disk to begin with is legal
+-- what led from an initial disk is legal
 history_of : (o : Disk) (h : List Event) (new : Option Disk) (later : List Kept) (q : ℕ) (e : Event) → Opening o
     → IsSomeAnd new (λ d. Leads o d later q (e ∷ h)) → IsSomeAnd new (λ d. IsHistory o d later q (e ∷ h))
 history_of o h None later q e opens leads = absurd leads
@@ -273,7 +273,7 @@ halt_goes_with (Some d) new events p how met o h is =
     let next = halt_leads (Some d) new events p how met o h (leads_of o d h events p is) in
     (next.0, history_of o h new (events ++ kept.Halt how ∷ []) p (Halt how next.0) (legal_opens o h is.legal) next.1)
 
--- what led to a world from a disk to begin with is legal and safe
+-- what led to a world from an initial disk is legal and safe
 pub led_safe : Headline → (told : Option Disk) (events : List Kept) (p : ℕ) → OnTold told (λ d. IsLed d events p)
     → OnTold told (λ d. (o : Disk) × (h : List Event) × Leads o d events p h × (Opening o → Legal o h × EachSafe o h))
 led_safe law None events p led = tt

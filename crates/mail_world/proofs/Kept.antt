@@ -1,6 +1,6 @@
 -- The invariant, and that each legal event keeps it.
-use Rattle.std.proofs.Common.{◌≡◌, ◌≢◌, ℕ, ◌≤◌, List, [], ◌∷◌, Bool, true, false, Option, Some, None, refl, sym, ap, ◌∙◌, subst, ⊎_elim, codes}
-use Rattle.call_fs.specs.Disk.{Disk}
+use Rattle.std.proofs.Common.{◌≡◌, ◌≢◌, ℕ, ◌≤◌, List, [], ◌∷◌, true, Option, Some, None, refl, sym, ap, ◌∙◌, subst, ⊎_elim, codes}
+use Rattle.call_fs.specs.Disk.{Disk, Open}
 use Rattle.call_fs.specs.Maps.{put_at}
 use Rattle.call_fs.specs.Survival.{AllSurvive}
 use Rattle.call_fs.specs.declared.crash_file_system.Survival.{Survival}
@@ -15,21 +15,25 @@ use Rattle.call_fs.specs.Apply.{Fits}
 use Rattle.queue_paths.specs.Names.Part.{Intd, Todo}
 use Rattle.queue_paths.specs.Names.Name.{Pid, Of}
 use Rattle.mail_world.specs.declared.event.Program.{Program}
-use Rattle.mail_world.specs.History.{Event, Life, Actor, State, newborn, begins, report_text, next_of, own_call, acted, called, unless_by, shut_by, finished, stopped, happens, MayRun, MayRead, MayEnd, IsLiving, Allowed, Opening, opening, after, Legal}
+use Rattle.mail_world.specs.History.{Event, Life, Injection, Books, Actor, State, newborn, begins, report_text, next_of, own_call, acted, called, unless_by, shut_by, finished, stopped, happens, MayRun, MayRead, MayEnd, IsLiving, Allowed, Opening, opening, after, Legal}
 use Rattle.mail_world.specs.History.Event.{Start, Act, Child, Generation, Report, End, Stop, Moment, Halt}
 use Rattle.mail_world.specs.History.Life.{Alive, Over, Stopped}
 use Rattle.call_fs.proofs.Maps.{put_at_cases}
 use Rattle.mail_world.proofs.Owns.{MayCall, IsPass, own_of, by_act}
 use Rattle.mail_world.specs.Pipework.{Pipework, pipework_after, without_writer, with_generation, with_report}
-use Rattle.mail_world.proofs.Tests.{unless_same}
-use Rattle.mail_world.proofs.Looks.{find_none, found, mapped_some}
-use Rattle.mail_world.proofs.Invariant.{Role, Queue, NamesSuit, about, IsSorted, Phase, IsHeld, Sound, queue, about_in}
-use Rattle.mail_world.proofs.Invariant.Role.{AsOld}
-use Rattle.mail_world.proofs.Invariant.Phase.{Free, Queued}
-use Rattle.mail_world.proofs.Frame.{Elsewhere, Outside, outside_same}
-use Rattle.mail_world.proofs.Step.{nothing_elsewhere}
-use Rattle.mail_world.proofs.Halts.{after_halt, sound_after}
-use Rattle.mail_world.proofs.Programs.{program_starts_none, FaresBy, IsDone, fares_passes, fares_runs, fares_start, fares_frame, fares_halt, fares_later, fares_over, fares_done, queue_by, fares_calls}
+use Rattle.queue_law.specs.Books.{IsInjected}
+use Rattle.queue_law.proofs.Tests.{unless_same}
+use Rattle.queue_law.proofs.Looks.{find_none, found, mapped_some}
+use Rattle.queue_law.specs.Numbers.{Role, Queue, NamesSuit, about, find, IsSorted, IsUnsorted, Sound}
+use Rattle.queue_law.specs.Injectors.{IsHeld}
+use Rattle.mail_world.specs.Untouched.{queue, about_in, LeavesBy, program_of, doer, LeavesRest, EventsLeave}
+use Rattle.queue_law.specs.Numbers.Role.{AsOld}
+use Rattle.queue_law.specs.Numbers.Phase.{Free}
+use Rattle.queue_law.specs.Steps.{Elsewhere, Outside, after_halt}
+use Rattle.queue_law.proofs.Frame.{outside_same}
+use Rattle.queue_law.proofs.Step.{nothing_elsewhere}
+use Rattle.queue_law.proofs.Halts.{still_absent, sound_after}
+use Rattle.mail_world.proofs.Programs.{program_starts_none, FaresBy, IsDone, fares_passes, fares_runs, fares_start, fares_frame, fares_halt, fares_later, fares_over, fares_done, queue_by, fares_calls, leaves_same}
 
 -- what holds of an actor
 abbrev pub Fares : ℕ → Queue → List ℕ → Actor → Type 0
@@ -39,7 +43,18 @@ Fares now q a x = FaresBy now q a x.program x.past x.life
 pub record Inv (s : State) : Type 0 where
   pub role : ℕ → Role
   pub sound : Sound (queue s role)
+  -- no program that moves so far preprocesses a number
+  pub early : (n : ℕ) → IsUnsorted (about_in s n)
   pub actors : (a : List ℕ) (x : Actor) → s.actors a ≡ Some x → Fares s.now (queue s role) a x
+
+-- What an event of one actor keeps: the invariant, what isn't the queue's, what others hold open, what was accepted, and each
+-- preprocessed number.
+record KeptBy (s : State) (a : List ℕ) (p : Option Program) (t : State) : Type 0 where
+  inv : Inv t
+  outside : LeavesBy p s.disk t.disk
+  opens : (o : List ℕ) (fd : ℕ) (how : Open) → o ≢ a → IsHeld s.disk.opens s.holder o fd how → IsHeld t.disk.opens t.holder o fd how
+  accepted : (i : Injection) → IsInjected s.books i → i.accepted ≡ true → IsInjected t.books i
+  sorted : (n : ℕ) → IsSorted (about_in s n) → about_in t n ≡ about_in s n
 
 -- an actor with one event more
 abbrev with_own : Actor → Own → Actor
@@ -51,11 +66,12 @@ with_actor s r l a y = record { disk = r.disk; holder = r.holder; now = s.now; a
 
 module _ (s : State) (I : Inv s) where
   -- what stands after a step of one actor, and how the actor fares
-  kept_by : (a : List ℕ) (m : Option ℕ) (r : Queue) (l : Pipework) (y : Actor) → Elsewhere s.now a m (queue s I.role) r → Sound r → Fares s.now r a y
+  kept_by : (a : List ℕ) (m : Option ℕ) (r : Queue) (l : Pipework) (y : Actor) → Elsewhere s.now a m (queue s I.role) r → Sound r → ((n : ℕ) → IsUnsorted (about r n)) → Fares s.now r a y
       → Inv (with_actor s r l a y)
-  kept_by a m r l y E G F = record {
+  kept_by a m r l y E G early F = record {
     role = r.role;
     sound = G;
+    early = early;
     actors = λ o x h. ⊎_elim
         (λ (c : (o ≡ a) × (put_at s.actors a (Some y) o ≡ Some y)).
         let same : y ≡ x = (let w = c.1 in cc) in
@@ -67,39 +83,48 @@ module _ (s : State) (I : Inv s) where
 
   kept_start : (a : List ℕ) (program : Program) → MayRun program → (l : Pipework) → Inv (begins s a program l)
   kept_start a program runs l =
-      kept_by a None (queue s I.role) l (newborn program) (nothing_elsewhere s.now (queue s I.role) a) I.sound (fares_start s.now (queue s I.role) a program runs)
+      kept_by a None (queue s I.role) l (newborn program) (nothing_elsewhere s.now (queue s I.role) a) I.sound I.early (fares_start s.now (queue s I.role) a program runs)
 
   -- the queue is as before, and one actor as told
-  still : (a : List ℕ) (y : Actor) (l : Pipework) → Fares s.now (queue s I.role) a y
-      → Inv (with_actor s (queue s I.role) l a y) × Outside s.disk s.disk
-  still a y l F = (kept_by a None (queue s I.role) l y (nothing_elsewhere s.now (queue s I.role) a) I.sound F, outside_same s.disk s.disk.opens)
+  still : (a : List ℕ) (y : Actor) (l : Pipework) → Fares s.now (queue s I.role) a y → KeptBy s a (Some y.program) (with_actor s (queue s I.role) l a y)
+  still a y l F = record {
+    inv = kept_by a None (queue s I.role) l y (nothing_elsewhere s.now (queue s I.role) a) I.sound I.early F;
+    outside = leaves_same y.program s.disk s.disk.opens;
+    opens = λ o fd how other h. h;
+    accepted = λ i h t. h;
+    sorted = λ n h. refl;
+  }
 
-  -- what holds after an event of one actor, and what it leaves outside the queue
-  abbrev KeepsBy : (Option Actor → State) → Option Actor → Type 0
-  KeepsBy change o = Inv (change o) × Outside s.disk (change o).disk
+  -- what holds after an event of one actor
+  abbrev KeepsBy : List ℕ → (Option Actor → State) → Option Actor → Type 0
+  KeepsBy a change o = KeptBy s a (program_of o) (change o)
 
   -- a call, by the program that makes it
   called_by : (a : List ℕ) (read : ℕ) (ready : Found) (call : CallData) (told : Told) (wrote : ℕ) (x : Actor)
       → MayRead s a x read → next_of x.program x.past read ready ≡ needs.File call
-      → Fits s.disk call told.answer wrote → KeepsBy (called s a read ready call told wrote) (Some x)
+      → Fits s.disk call told.answer wrote → KeepsBy a (called s a read ready call told wrote) (Some x)
   called_by a read ready call told wrote x reads next fits =
       let q = queue s I.role in
-      let w = fares_calls s.now q a x.program x.past x.life read ready call told wrote I.sound (I.actors a x reads.is) reads.alive reads.no_earlier reads.no_stall next fits in (
-        kept_by a w.number (queue_by q a x.program read call told.answer wrote w.role) s.pipework
+      let w = fares_calls s.now q a x.program x.past x.life read ready call told wrote I.sound (I.actors a x reads.is) reads.alive reads.no_earlier reads.no_stall next fits in
+      record {
+        inv = kept_by a w.number (queue_by q a x.program read call told.answer wrote w.role) s.pipework
             (with_own x (own_call read ready call told))
-            w.elsewhere w.sound w.fares,
-        w.outside,
-      )
+            w.elsewhere w.sound (λ n. w.unsorted n (I.early n)) w.fares;
+        outside = w.outside;
+        opens = w.elsewhere.opens;
+        accepted = w.elsewhere.accepted;
+        sorted = w.sorted;
+      }
 
   kept_call : (a : List ℕ) (read : ℕ) (ready : Found) (call : CallData) (told : Told) (wrote : ℕ)
-      → MayCall s a read ready call told wrote → KeepsBy (called s a read ready call told wrote) (s.actors a)
+      → MayCall s a read ready call told wrote → KeepsBy a (called s a read ready call told wrote) (s.actors a)
   kept_call a read ready call told wrote m =
-      subst (KeepsBy (called s a read ready call told wrote)) (sym m.reads.is) (called_by a read ready call told wrote m.actor m.reads m.due m.fits)
+      subst (KeepsBy a (called s a read ready call told wrote)) (sym m.reads.is) (called_by a read ready call told wrote m.actor m.reads m.due m.fits)
 
   -- what passes between programs, which concerns nothing of the queue
   passed_by : (a : List ℕ) (read : ℕ) (ready : Found) (due : NeedData) (came : GotData) (wrote : ℕ) (x : Actor) → IsPass due
       → Fares s.now (queue s I.role) a (with_own x (own_of read ready due came))
-      → KeepsBy (acted s a (own_of read ready due came) wrote) (Some x)
+      → KeepsBy a (acted s a (own_of read ready due came) wrote) (Some x)
   passed_by a read ready (needs.Take port) came wrote x pass F =
       still a (with_own x (own_of read ready (needs.Take port) came)) (pipework_after s.pipework a (needs.Take port) came wrote) F
   passed_by a read ready (needs.Give port bytes) came wrote x pass F =
@@ -113,15 +138,15 @@ module _ (s : State) (I : Inv s) where
   passed_by a read ready (needs.Ended status) came wrote x pass F = absurd pass
 
   kept_pass : (a : List ℕ) (wrote : ℕ) (x : Actor) (read : ℕ) (ready : Found) (due : NeedData) (came : GotData)
-      → MayRead s a x read → next_of x.program x.past read ready ≡ due → IsPass due → KeepsBy (acted s a (own_of read ready due came) wrote) (s.actors a)
+      → MayRead s a x read → next_of x.program x.past read ready ≡ due → IsPass due → KeepsBy a (acted s a (own_of read ready due came) wrote) (s.actors a)
   kept_pass a wrote x read ready due came reads next pass =
-      subst (KeepsBy (acted s a (own_of read ready due came) wrote)) (sym reads.is) (passed_by a read ready due came wrote x pass
+      subst (KeepsBy a (acted s a (own_of read ready due came) wrote)) (sym reads.is) (passed_by a read ready due came wrote x pass
       (fares_passes s.now (queue s I.role) a x.program x.past x.life (own_of read ready due came) (I.actors a x reads.is) next pass))
 
   -- an end or a stop shuts what the actor had open
-  still_open : (a o : List ℕ) (fd i : ℕ) → o ≢ a → IsHeld s.disk.opens s.holder o fd i
-      → IsHeld (shut_by a s.holder s.disk).opens (λ k. unless_by a (s.holder k) (s.holder k)) o fd i
-  still_open a o fd i other h = record {
+  still_open : (a o : List ℕ) (fd : ℕ) (how : Open) → o ≢ a → IsHeld s.disk.opens s.holder o fd how
+      → IsHeld (shut_by a s.holder s.disk).opens (λ k. unless_by a (s.holder k) (s.holder k)) o fd how
+  still_open a o fd how other h = record {
     opened = ap (λ w. unless_by a w (s.disk.opens fd)) h.held ∙ unless_same o a None (s.disk.opens fd) other ∙ h.opened;
     held = ap (λ w. unless_by a w (s.holder fd)) h.held ∙ unless_same o a None (s.holder fd) other ∙ h.held;
   }
@@ -131,9 +156,9 @@ module _ (s : State) (I : Inv s) where
   shut_queue a = record { disk = shut_by a s.holder s.disk; holder = λ fd. unless_by a (s.holder fd) (s.holder fd); books = s.books; role = I.role }
 
   finished_by : (a : List ℕ) (life : Life) (x : Actor) → Fares s.now (queue s I.role) a x
-      → (life ≡ Alive → ⊥) → (life ≡ Over 0 → IsDone x.program x.past) → KeepsBy (finished s a life) (Some x)
-  finished_by a life x F dead ends = (
-    kept_by a None
+      → (life ≡ Alive → ⊥) → (life ≡ Over 0 → IsDone x.program x.past) → KeepsBy a (finished s a life) (Some x)
+  finished_by a life x F dead ends = record {
+    inv = kept_by a None
         (shut_queue a)
         (without_writer s.pipework a)
         (record { program = x.program; past = x.past; life = life })
@@ -146,28 +171,33 @@ module _ (s : State) (I : Inv s) where
           accepted = λ _ h _. h;
         })
         (record { suits = I.sound.suits; fine = I.sound.fine; over = I.sound.over })
-        (fares_over s.now (queue s I.role) (shut_queue a) refl a x.program x.past x.life life F dead ends),
-    outside_same s.disk (shut_by a s.holder s.disk).opens,
-  )
+        I.early
+        (fares_over s.now (queue s I.role) (shut_queue a) refl a x.program x.past x.life life F dead ends);
+    outside = leaves_same x.program s.disk (shut_by a s.holder s.disk).opens;
+    opens = still_open a;
+    accepted = λ i h t. h;
+    sorted = λ n h. refl;
+  }
 
   kept_finish : (a : List ℕ) (life : Life) (x : Actor) → s.actors a ≡ Some x
-      → (life ≡ Alive → ⊥) → (life ≡ Over 0 → IsDone x.program x.past) → KeepsBy (finished s a life) (s.actors a)
-  kept_finish a life x is dead ends = subst (KeepsBy (finished s a life)) (sym is) (finished_by a life x (I.actors a x is) dead ends)
+      → (life ≡ Alive → ⊥) → (life ≡ Over 0 → IsDone x.program x.past) → KeepsBy a (finished s a life) (s.actors a)
+  kept_finish a life x is dead ends = subst (KeepsBy a (finished s a life)) (sym is) (finished_by a life x (I.actors a x is) dead ends)
 
-  kept_end : (a : List ℕ) (read : ℕ) (ready : Found) (status : ℕ) → MayEnd s a read ready status → KeepsBy (finished s a (Over status)) (s.actors a)
+  kept_end : (a : List ℕ) (read : ℕ) (ready : Found) (status : ℕ) → MayEnd s a read ready status → KeepsBy a (finished s a (Over status)) (s.actors a)
   kept_end a read ready status m =
       let x = m.actor in
       kept_finish a (Over status) x m.reads.is (λ h. cc) (λ h.
       let zero_status : status ≡ 0 = cc in
       fares_done s.now (queue s I.role) a x.program x.past x.life read ready (I.actors a x m.reads.is) m.reads.alive (m.due ∙ ap needs.Ended zero_status))
 
-  kept_stop : (a : List ℕ) → IsLiving s a → KeepsBy (finished s a Stopped) (s.actors a)
+  kept_stop : (a : List ℕ) → IsLiving s a → KeepsBy a (finished s a Stopped) (s.actors a)
   kept_stop a m = kept_finish a Stopped m.actor m.is (λ h. cc) (λ h. absurd (cc))
 
   kept_moment : (m : ℕ) → s.now ≤ m → Inv (record { disk = s.disk; holder = s.holder; now = m; actors = s.actors; books = s.books; pipework = s.pipework })
   kept_moment m later = record {
     role = I.role;
     sound = I.sound;
+    early = I.early;
     actors = λ a x h. fares_later s.now m later (queue s I.role) a x.program x.past x.life (I.actors a x h);
   }
 
@@ -176,6 +206,7 @@ module _ (s : State) (I : Inv s) where
   kept_halt how contents survives = record {
     role = I.role;
     sound = sound_after (queue s I.role) contents survives I.sound;
+    early = λ n part later. still_absent (queue s I.role) contents survives (Of part n) (I.early n part later);
     actors = λ a y h.
         let w = mapped_some stopped (s.actors a) y h in
         let q = queue s I.role in
@@ -185,18 +216,6 @@ module _ (s : State) (I : Inv s) where
   -- each actor runs a program that a history may start
   runs : (a : List ℕ) (x : Actor) → s.actors a ≡ Some x → MayRun x.program
   runs a x is = fares_runs s.now (queue s I.role) a x.program x.past x.life (I.actors a x is)
-
--- a machine stop
-abbrev pub is_halt : Event → Bool
-is_halt (Start a program) = false
-is_halt (Act a own wrote) = false
-is_halt (Child parent own a program) = false
-is_halt (Generation sender clean lspawn rspawn) = false
-is_halt (Report slot letter text) = false
-is_halt (End a read ready status) = false
-is_halt (Stop a) = false
-is_halt (Moment m) = false
-is_halt (Halt how contents) = true
 
 -- four actors more
 kept_four : (s : State) (a b c d : List ℕ) (p q r t : Program) (l : Pipework) → MayRun p × MayRun q × MayRun r × MayRun t → Inv s → Inv (begins (begins (begins (begins s a p l) b q l) c r l) d t l)
@@ -208,41 +227,54 @@ kept_four s a b c d p q r t l runs I =
 
 -- the pipework concerns nothing of the queue
 kept_pipework : (s : State) (l : Pipework) → Inv s → Inv (record { disk = s.disk; holder = s.holder; now = s.now; actors = s.actors; books = s.books; pipework = l })
-kept_pipework s l I = record { role = I.role; sound = I.sound; actors = I.actors }
+kept_pipework s l I = record { role = I.role; sound = I.sound; early = I.early; actors = I.actors }
 
--- What a legal event keeps: the invariant; what isn't the queue's, of which a machine stop leaves what survives; and all that
--- concerns a preprocessed number, of which there is none yet.
-pub record Keeps (s : State) (e : Event) : Type 0 where
-  pub inv : Inv (happens s e)
-  pub outside : is_halt e ≡ false → Outside s.disk (happens s e).disk
-  pub sorted : (n : ℕ) → IsSorted (about_in s n) → about_in (happens s e) n ≡ about_in s n
+-- what a legal event keeps: the invariant, and all that it leaves
+record Keeps (s : State) (e : Event) : Type 0 where
+  inv : Inv (happens s e)
+  rest : LeavesRest s e
 
-none_sorted : (s : State) → Inv s → (n : ℕ) → IsSorted (about_in s n) → ⊥
-none_sorted s I n sorted = by_phase (I.sound.fine n) where
-  by_phase : Phase (about (queue s I.role) n) → ⊥
-  by_phase (Free h) = sorted.2 (h.unsorted sorted.0 sorted.1)
-  by_phase (Queued h) = sorted.2 (h.unsorted sorted.0 sorted.1)
-
-keeps : (s : State) (e : Event) → Inv s → Inv (happens s e) → (is_halt e ≡ false → Outside s.disk (happens s e).disk) → Keeps s e
-keeps s e I after outside = record { inv = after; outside = outside; sorted = λ n sorted. absurd (none_sorted s I n sorted) }
+-- an event of no actor, after which disk, descriptors and books are the same
+keeps : (s : State) (e : Event) → Inv (happens s e) → (happens s e).disk ≡ s.disk → (happens s e).holder ≡ s.holder → (happens s e).books ≡ s.books → doer s e ≡ None → Keeps s e
+keeps s e after disk holder books none = record {
+  inv = after;
+  rest = record {
+    outside = λ _. subst (λ (p : Option Program). LeavesBy p s.disk (happens s e).disk) (sym none) (subst (Outside s.disk) (sym disk) (outside_same s.disk s.disk.opens));
+    opens = λ o fd how other h. record { opened = ap (λ (d : Disk). d.opens fd) disk ∙ h.opened; held = ap (λ (f : ℕ → Option (List ℕ)). f fd) holder ∙ h.held };
+    accepted = λ i h t. subst (λ (b : Books). IsInjected b i) (sym books) h;
+    sorted = λ _ n h i. record { parts = λ part. find (disk i).names (disk i).files (Of part n); living = (books i).living n };
+  };
+}
 
 kept : (s : State) (e : Event) → Inv s → Allowed s e → Keeps s e
-kept s (Start a program) I h = keeps s (Start a program) I (kept_start s I a program h.runs s.pipework) (λ _. outside_same s.disk s.disk.opens)
+kept s (Start a program) I h = keeps s (Start a program) (kept_start s I a program h.runs s.pipework) refl refl refl refl
 kept s (Act a own wrote) I h =
-    let w = by_act s a wrote (λ own. Inv (acted s a own wrote (s.actors a)) × Outside s.disk (acted s a own wrote (s.actors a)).disk)
+    let w = by_act s a wrote (λ own. KeptBy s a (program_of (s.actors a)) (acted s a own wrote (s.actors a)))
     (λ read ready call told may. kept_call s I a read ready call told wrote may) (kept_pass s I a wrote) own h in
-    keeps s (Act a own wrote) I w.0 (λ _. w.1)
+    record { inv = w.inv; rest = record { outside = λ _. w.outside; opens = w.opens; accepted = w.accepted; sorted = λ _. w.sorted } }
 kept s (Child parent own a program) I h = absurd (program_starts_none h.actor.program h.actor.past own.read own.ready h.asked (h.due ∙ h.starts))
 kept s (Generation sender clean lspawn rspawn) I h =
-    keeps s (Generation sender clean lspawn rspawn) I
+    keeps s (Generation sender clean lspawn rspawn)
     (kept_four s (codes "sender") (codes "clean") (codes "lspawn") (codes "rspawn") sender clean lspawn rspawn (with_generation s.pipework) h.runs I)
-    (λ _. outside_same s.disk s.disk.opens)
+    refl refl refl refl
 kept s (Report slot letter text) I h =
-    keeps s (Report slot letter text) I (kept_pipework s (with_report s.pipework slot (report_text letter text)) I) (λ _. outside_same s.disk s.disk.opens)
-kept s (End a read ready status) I h = let w = kept_end s I a read ready status h in keeps s (End a read ready status) I w.0 (λ _. w.1)
-kept s (Stop a) I h = let w = kept_stop s I a h in keeps s (Stop a) I w.0 (λ _. w.1)
-kept s (Moment m) I h = keeps s (Moment m) I (kept_moment s I m h.no_earlier) (λ _. outside_same s.disk s.disk.opens)
-kept s (Halt how contents) I h = keeps s (Halt how contents) I (kept_halt s I how contents h) (λ e. absurd (cc))
+    keeps s (Report slot letter text) (kept_pipework s (with_report s.pipework slot (report_text letter text)) I) refl refl refl refl
+kept s (End a read ready status) I h =
+    let w = kept_end s I a read ready status h in
+    record { inv = w.inv; rest = record { outside = λ _. w.outside; opens = w.opens; accepted = w.accepted; sorted = λ _. w.sorted } }
+kept s (Stop a) I h =
+    let w = kept_stop s I a h in
+    record { inv = w.inv; rest = record { outside = λ _. w.outside; opens = w.opens; accepted = w.accepted; sorted = λ _. w.sorted } }
+kept s (Moment m) I h = keeps s (Moment m) (kept_moment s I m h.no_earlier) refl refl refl refl
+kept s (Halt how contents) I h = record {
+  inv = kept_halt s I how contents h;
+  rest = record {
+    outside = λ e. absurd (cc);
+    opens = λ o fd opened other w. absurd other;
+    accepted = λ i w t. w;
+    sorted = λ e. absurd (cc);
+  };
+}
 
 kept_opening : (d : Disk) → Opening d → Inv (opening d)
 kept_opening d o = record {
@@ -257,6 +289,7 @@ kept_opening d o = record {
     });
     over = λ i h t. h;
   };
+  early = λ n part later. find_none d.names d.files (Of part n) (o.empty part n);
   actors = λ a x h. absurd (cc);
 }
   where
@@ -271,3 +304,7 @@ always d (e ∷ before) l = (kept (after d before) e (always d before l.0) l.1).
 -- so it is after each legal history
 pub runs_always : (d : Disk) (h : List Event) → Legal d h → (a : List ℕ) (x : Actor) → (after d h).actors a ≡ Some x → MayRun x.program
 runs_always d h l = runs (after d h) (always d h l)
+
+-- and each event of one leaves the rest
+pub events_leave : EventsLeave
+events_leave d e before l = (kept (after d before) e (always d before l.0) l.1).rest

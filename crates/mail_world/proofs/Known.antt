@@ -1,4 +1,4 @@
--- What kept events tell is the same of each history that they tell, but for the disk and the books.
+-- What kept events tell is the same of each history that they tell, except the disk and the books.
 use Rattle.std.proofs.Common.{◌≡◌, ◌∙◌, ℕ, List, [], ◌∷◌, ◌++◌, Option, Some, None, refl, sym, ap, subst, map, reverse}
 use Rattle.std.proofs.lemmas.List.{reverse-append}
 use Rattle.std.specs.List.{AllZip}

@@ -1,25 +1,8 @@
--- tests of texts, numbers and names
-pub mod Tests
--- pieces of a text, and statuses
-pub mod Texts
--- names and their files
-pub mod Looks
--- what holds after each legal history
-pub mod Invariant
--- what a step leaves of the others
-pub mod Frame
--- what one call does to the queue
-pub mod Deeds
--- the rows at which a file is made or written
-pub mod Rows
--- the rows at which a name comes or goes
-pub mod Links
--- one call of one injector
-pub mod Step
--- a machine stop
+-- lemmas that scenario cites
+pub use Rattle.queue_law.proofs.Tests
+pub use Rattle.queue_law.proofs.Looks
+-- what a machine stop makes of a life
 pub mod Halts
--- how an injector fares
-pub mod Injectors
 -- what each program keeps to, and how it fares
 pub mod Programs
 -- an event of an actor that may happen
@@ -60,3 +43,11 @@ pub mod Refusals
 pub mod Lives
 -- calls that left nothing half written
 pub mod Unwritten
+-- the recipients of an envelope, counted
+pub mod Recipients
+-- the books of a world, one event after the other
+pub mod Booked
+-- the books of a world are those of the history
+pub mod ModelBooks
+-- who is accepted in them
+pub mod QueuedBooks

@@ -20,7 +20,7 @@ use Rattle.mail_world.specs.History.Event.{Start, Act, Child, Generation, Report
 use Rattle.mail_world.specs.History.Life.{Alive, Over, Stopped}
 use Rattle.mail_world.specs.World.{Tells, Span, span_after, span_of, EndsAt, starts, ends, was_started, is_start}
 use Rattle.mail_world.specs.World.Span.{Unborn, Lasting, OverAt}
-use Rattle.mail_world.proofs.Tests.{text_cases, same_text, other_text}
+use Rattle.queue_law.proofs.Tests.{text_cases, same_text, other_text}
 use Rattle.mail_world.proofs.Owns.{may_read}
 use Rattle.mail_world.proofs.Crew.{started_push}
 use Rattle.mail_world.proofs.Spans.{span_still, span_begins, span_ends}
@@ -40,7 +40,7 @@ along P none more events h told = subst (λ (l : List Kept). P l h) (reverse-rev
 
 -- who was started
 
--- another value where there was one leaves where there is any
+-- another value in place of an old one: what had a value has one, and nothing else
 still_there : (m : List ℕ → Option Actor) (b : List ℕ) (x y : Actor) (a : List ℕ) → m b ≡ Some x → is_some (put_at m b (Some y) a) ≡ is_some (m a)
 still_there m b x y a is = ⊎_elim
     (λ f. ap is_some (ap (put_at m b (Some y)) f.0 ∙ put_at_same m b (Some y)) ∙ sym (ap is_some (ap m f.0 ∙ is)))

@@ -8,7 +8,8 @@ use Rattle.call_fs.specs.declared.calls.CallData.{CallData}
 use Rattle.call_fs.specs.declared.calls.CallData.TheVariants as call
 use Rattle.call_fs.specs.declared.calls.Answer.{Answer}
 use Rattle.call_fs.specs.declared.calls.Answer.TheVariants as told
-use Rattle.call_fs.specs.Disk.{Disk, File, Open, Mode}
+use Rattle.call_fs.specs.Disk.{Disk, File, Open}
+use Rattle.call_fs.specs.declared.modes.Mode.{Mode}
 use Rattle.call_fs.specs.Maps.{put}
 use Rattle.call_fs.specs.Apply.{effect, changed, with_open, Fits}
 use Rattle.call_fs.specs.Columns.{IsAnswerTo}

@@ -1,5 +1,5 @@
 -- What each program of the world keeps to. A new program is one case of each of these.
-use Rattle.std.proofs.Common.{◌≡◌, ◌≢◌, ℕ, ◌+◌, ◌≤◌, List, [], ◌∷◌, Option, None, refl, sym, subst}
+use Rattle.std.proofs.Common.{◌≡◌, ◌≢◌, ℕ, ◌+◌, ◌≤◌, List, [], ◌∷◌, true, false, Option, None, refl, sym, ap, subst}
 use Rattle.call_fs.specs.declared.calls.CallData.{CallData}
 use Rattle.call_fs.specs.declared.calls.Answer.{Answer}
 use Rattle.call_fs.specs.declared.calls.Told.{Told}
@@ -9,6 +9,7 @@ use Rattle.call_fs.specs.declared.past.NeedData.{NeedData}
 use Rattle.call_fs.specs.declared.past.NeedData.TheVariants as needs
 use Rattle.call_fs.specs.declared.past.Own.{Own}
 use Rattle.call_fs.specs.Apply.{effect, Fits}
+use Rattle.call_fs.specs.Disk.{Disk, Open}
 use Rattle.call_fs.specs.Past.{IsRunBy, UsesHeld, held}
 use Rattle.queue_inject.specs.declared.row.Row.TheVariants as at
 use Rattle.queue_inject.specs.Table.{row_after}
@@ -25,13 +26,16 @@ use Rattle.mail_world.specs.Pipework.{Slot}
 use Rattle.mail_world.specs.History.{Life, State, InputIsFound, FindsInputAlone, MayFind, MayRun, next_of, latest, own_call, booked_by, held_by, cut_off}
 use Rattle.mail_world.specs.History.Life.{Alive, Over}
 use Rattle.mail_world.specs.Headline.{IsBooked, EndsWell}
-use Rattle.mail_world.specs.ByKind.{IsMail, CanFind, IsSettled}
+use Rattle.mail_world.specs.ByKind.{IsMail, CanFind, HasRoom, Leaves}
 use Rattle.mail_world.specs.World.{input_ready}
-use Rattle.mail_world.proofs.Invariant.{Role, Queue, InjectorFares, Sound}
-use Rattle.mail_world.proofs.Frame.{Elsewhere, Outside, injector_frame}
-use Rattle.mail_world.proofs.Halts.{after_halt, injector_halt}
+use Rattle.queue_law.specs.Numbers.{Role, Queue, about, IsSorted, IsUnsorted, Sound}
+use Rattle.queue_law.specs.Injectors.{InjectorFares}
+use Rattle.queue_law.specs.Steps.{Elsewhere, after_halt}
+use Rattle.queue_law.proofs.Frame.{injector_frame, outside_same}
+use Rattle.queue_law.proofs.Halts.{injector_halt}
+use Rattle.mail_world.proofs.Halts.{is_alive, is_well, alive_is, well_is, after_stop}
 use Rattle.mail_world.proofs.Owns.{IsPass}
-use Rattle.mail_world.proofs.Injectors.{injector_start, injector_later, injector_over, injector_done, injector_calls}
+use Rattle.queue_law.proofs.Injectors.{injector_start, injector_later, injector_over, injector_done, injector_calls}
 
 -- What it asks for
 
@@ -56,9 +60,9 @@ machine_finds (Mail mailer) = tt
 machine_finds (Clean cleaner) = tt
 
 -- it takes no memory
-pub machine_settled : (m : AnyMachine) → IsSettled m
-machine_settled (Mail mailer) = tt
-machine_settled (Clean cleaner) = tt
+pub machine_has_room : (m : AnyMachine) → HasRoom m
+machine_has_room (Mail mailer) = tt
+machine_has_room (Clean cleaner) = tt
 
 -- that of a mail is one that a history may start
 pub mail_runs : (program : Program) → IsMail program → MayRun program
@@ -86,7 +90,7 @@ program_finds s a other mail past ready none alone = absurd mail
 
 -- what holds of an actor; no history starts a cleaner yet
 abbrev pub FaresBy : ℕ → Queue → List ℕ → Program → List Own → Life → Type 0
-FaresBy now q a (Injector args) past life = InjectorFares now q a args past life
+FaresBy now q a (Injector args) past life = InjectorFares now q a args past (is_alive life) (is_well life)
 FaresBy now q a (Cleaner start) past life = ⊥
 
 -- so it is one that a history may start
@@ -118,19 +122,20 @@ fares_passes now q a (Cleaner start) past life own F next pass = absurd F
 -- after a step of another actor
 pub fares_frame : (now : ℕ) (a : List ℕ) (m : Option ℕ) (q r : Queue) → Elsewhere now a m q r
     → (o : List ℕ) → o ≢ a → (program : Program) (past : List Own) (life : Life) → FaresBy now q o program past life → FaresBy now r o program past life
-fares_frame now a m q r E o other (Injector args) past life F = injector_frame now a m q r E o other args past life F
+fares_frame now a m q r E o other (Injector args) past life F = injector_frame now a m q r E o other args past (is_alive life) (is_well life) F
 fares_frame now a m q r E o other (Cleaner start) past life F = absurd F
 
 -- after a machine stop
 pub fares_halt : (now : ℕ) (q : Queue) (contents : ℕ → List ℕ) (a : List ℕ) (program : Program) (past : List Own) (life : Life)
     → FaresBy now q a program past life → FaresBy now (after_halt contents q) a program past (cut_off life)
-fares_halt now q contents a (Injector args) past life F = injector_halt now q contents a args past life F
+fares_halt now q contents a (Injector args) past life F =
+    after_stop (InjectorFares now (after_halt contents q) a args past) life (injector_halt now q contents a args past (is_alive life) (is_well life) F)
 fares_halt now q contents a (Cleaner start) past life F = absurd F
 
 -- at a later moment
 pub fares_later : (now m : ℕ) → now ≤ m → (q : Queue) (a : List ℕ) (program : Program) (past : List Own) (life : Life)
     → FaresBy now q a program past life → FaresBy m q a program past life
-fares_later now m later q a (Injector args) past life F = injector_later now m later q a args past life F
+fares_later now m later q a (Injector args) past life F = injector_later now m later q a args past (is_alive life) (is_well life) F
 fares_later now m later q a (Cleaner start) past life F = absurd F
 
 -- a program that is at its end with 0
@@ -140,13 +145,14 @@ IsDone (Cleaner start) past = Unit {0}
 
 pub fares_done : (now : ℕ) (q : Queue) (a : List ℕ) (program : Program) (past : List Own) (life : Life) (read : ℕ) (ready : Ready)
     → FaresBy now q a program past life → life ≡ Alive → next_of program past read ready ≡ needs.Ended 0 → IsDone program past
-fares_done now q a (Injector args) past life read ready F alive next = injector_done now q a args past life read ready F alive next
+fares_done now q a (Injector args) past life read ready F alive next = injector_done now q a args past (is_alive life) (is_well life) read ready F (ap is_alive alive) next
 fares_done now q a (Cleaner start) past life read ready F alive next = tt
 
 -- after its end or its stop
 pub fares_over : (now : ℕ) (q r : Queue) → r.books ≡ q.books → (a : List ℕ) (program : Program) (past : List Own) (old life : Life)
     → FaresBy now q a program past old → (life ≡ Alive → ⊥) → (life ≡ Over 0 → IsDone program past) → FaresBy now r a program past life
-fares_over now q r same a (Injector args) past old life F dead ends = injector_over now q r same a args past old life F dead ends
+fares_over now q r same a (Injector args) past old life F dead ends =
+    injector_over now q r same a args past (is_alive old) (is_well old) (is_alive life) (is_well life) F (λ h. dead (alive_is life h)) (λ h. ends (well_is life h))
 fares_over now q r same a (Cleaner start) past old life F dead ends = absurd F
 
 -- what its past has put into the books, and what its end with 0 says
@@ -155,7 +161,7 @@ fares_booked now q a (Injector args) past life F = F.queued
 fares_booked now q a (Cleaner start) past life F = absurd F
 
 pub fares_well : (now : ℕ) (q : Queue) (a : List ℕ) (program : Program) (past : List Own) (life : Life) → FaresBy now q a program past life → life ≡ Over 0 → EndsWell q.books a program
-fares_well now q a (Injector args) past life F over = F.queued (F.ends over)
+fares_well now q a (Injector args) past life F over = F.queued (F.ends (ap is_well over))
 fares_well now q a (Cleaner start) past life F over = absurd F
 
 -- the queue after a call of it
@@ -167,6 +173,11 @@ queue_by q a program read call answer wrote role = record {
   role = role;
 }
 
+-- what isn't the queue's is left if it makes no file call
+pub leaves_same : (program : Program) (d : Disk) (opens : ℕ → Option Open) → Leaves program d (record { dirs = d.dirs; names = d.names; files = d.files; opens = opens })
+leaves_same (Injector args) d opens = outside_same d opens
+leaves_same (Cleaner start) d opens = outside_same d opens
+
 -- what a call of it leads to
 pub record Calls (now : ℕ) (q : Queue) (a : List ℕ) (program : Program) (past : List Own) (life : Life) (read : ℕ) (ready : Ready) (call : CallData) (told : Told) (wrote : ℕ) : Type 0 where
   pub role : ℕ → Role
@@ -174,13 +185,18 @@ pub record Calls (now : ℕ) (q : Queue) (a : List ℕ) (program : Program) (pas
   pub elsewhere : Elsewhere now a number q (queue_by q a program read call told.answer wrote role)
   pub sound : Sound (queue_by q a program read call told.answer wrote role)
   pub fares : FaresBy now (queue_by q a program read call told.answer wrote role) a program (own_call read ready call told ∷ past) life
-  pub outside : Outside q.disk (queue_by q a program read call told.answer wrote role).disk
+  pub outside : Leaves program q.disk (queue_by q a program read call told.answer wrote role).disk
+  pub sorted : (n : ℕ) → IsSorted (about q n) → about (queue_by q a program read call told.answer wrote role) n ≡ about q n
+  pub unsorted : (n : ℕ) → IsUnsorted (about q n) → IsUnsorted (about (queue_by q a program read call told.answer wrote role) n)
 
 pub fares_calls : (now : ℕ) (q : Queue) (a : List ℕ) (program : Program) (past : List Own) (life : Life) (read : ℕ) (ready : Ready) (call : CallData) (told : Told) (wrote : ℕ)
     → Sound q → FaresBy now q a program past life → life ≡ Alive → latest program past ≤ read → now ≤ read + 43200
     → next_of program past read ready ≡ needs.File call → Fits q.disk call told.answer wrote
     → Calls now q a program past life read ready call told wrote
 fares_calls now q a (Injector args) past life read ready call told wrote G F alive no_earlier no_stall next fits =
-    let w = injector_calls now q a args past life read ready call told wrote G F alive no_earlier no_stall next fits in
-    record { role = w.role; number = w.number; elsewhere = w.elsewhere; sound = w.sound; fares = w.fares; outside = w.outside }
+    let lives : InjectorFares now q a args past true false = subst (λ (l : Life). InjectorFares now q a args past (is_alive l) (is_well l)) alive F in
+    let w = injector_calls now q a args past read ready call told wrote G lives no_earlier no_stall next fits in
+    let r = queue_by q a (Injector args) read call told.answer wrote w.role in
+    let fares = subst (λ (l : Life). InjectorFares now r a args (own_call read ready call told ∷ past) (is_alive l) (is_well l)) (sym alive) w.fares in
+    record { role = w.role; number = w.number; elsewhere = w.elsewhere; sound = w.sound; fares = fares; outside = w.outside; sorted = w.sorted; unsorted = w.unsorted }
 fares_calls now q a (Cleaner start) past life read ready call told wrote G F alive no_earlier no_stall next fits = absurd F

@@ -21,12 +21,12 @@ no_end places actors s events p a i crew place lives at ends =
     let lasts = ap (λ (a : List ℕ). span_of a (reverse events)) (sym named.2) ∙ (crew.members i named.0 named.1).spans ∙ ap span_by living in
     let both : Lasting ≡ OverAt at = sym lasts ∙ ends in absurd (cc)
 
--- where it has no end, `Gone` never comes
+-- if it has no end, `Gone` never comes
 pub not_gone : {T : Type 0} (r : Result T WorldError) (events : List Kept) (a : List ℕ) → ((name : List ℕ) (at : ℕ) → r ≢ Err (why.Gone name at)) → ((at : ℕ) → ¬ EndsAt events a at)
     → (name : List ℕ) (at : ℕ) → (r ≡ Err (why.Gone name at)) ↔ ((name ≡ a) × EndsAt events a at)
 not_gone r events a other none name at = (λ e. absurd (other name at e), λ h. absurd (none at h.1))
 
--- where there is no living actor of the name
+-- if there is no living actor of the name
 pub gone_exactly : {T : Type 0} (places : List ℕ → Option ℕ) (actors : List Held) (s : State) (events : List Kept) (p : ℕ) (a : List ℕ) (error : WorldError)
     → AreActors places actors s events p → IsNoLiving places actors a error
     → (name : List ℕ) (at : ℕ) → (◌≡◌ {A = Result T WorldError} (Err error) (Err (why.Gone name at))) ↔ ((name ≡ a) × EndsAt events a at)
@@ -48,7 +48,7 @@ gone_exactly {T} places actors s events p a why.Taken crew none name at = absurd
 gone_exactly {T} places actors s events p a (why.Past now) crew none name at = absurd none
 gone_exactly {T} places actors s events p a why.Memory crew none name at = absurd none
 
--- want of memory is another refusal, and an Ok is none
+-- out of memory is another refusal, and an Ok is none
 pub memory_other : {T : Type 0} (r : Result T WorldError) → r ≡ Err why.Memory → (name : List ℕ) (at : ℕ) → r ≢ Err (why.Gone name at)
 memory_other r is name at e = let both = sym is ∙ e in absurd (cc)
 

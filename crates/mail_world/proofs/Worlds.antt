@@ -6,7 +6,8 @@ use Rattle.std.specs.Prelude.{count_by, if◌then◌else◌}
 use Rattle.std.specs.List.{slice_get}
 use Rattle.call_fs.specs.declared.calls.CallData.{CallData}
 use Rattle.call_fs.specs.declared.calls.Told.{Told}
-use Rattle.call_fs.specs.Disk.{Disk, Mode}
+use Rattle.call_fs.specs.Disk.{Disk}
+use Rattle.call_fs.specs.declared.modes.Mode.{Mode}
 use Rattle.call_fs.specs.Columns.{IsAnswerTo}
 use Rattle.call_fs.specs.Past.{Uses, UsesHeld, Backs, held}
 use Rattle.call_fs.proofs.Held.{may_call}
@@ -42,7 +43,7 @@ use Rattle.mail_world.proofs.Crew.{Halted, crew_halts, crew_acts, crew_looks, cr
 use Rattle.mail_world.proofs.Acts.{Finishes, call_alone, end_finishes, stop_finishes, finish_alone, start_alone, call_member, finish_member, start_member, look_member}
 use Rattle.mail_world.proofs.Hands.{call_opens, finish_opens, start_opens, moment_opens, halt_opens, look_opens, may_close}
 
--- where the disk tells
+-- if the disk tells
 on_told : {X : Type 0} (t : Option X) (P Q : X → Type 0) → ((x : X) → P x → Q x) → OnTold t P → OnTold t Q
 on_told None P Q f h = tt
 on_told (Some x) P Q f h = f x h

@@ -113,7 +113,7 @@ pub record HasCalled (old new : Option Disk) (x y : Held) (before now_kept : Lis
   pub descriptors : y.descriptors.items ≡ open_after x.descriptors.items call told.answer
   pub ended : y.ended ≡ x.ended
 
--- the index of the event with which an actor's life ended, where else it is this one's
+-- the index of the event with which an actor's life ended, or else this one's
 abbrev pub ended_by : ℕ → Option ℕ → Option ℕ
 ended_by at None = Some at
 ended_by at (Some before) = Some before
@@ -136,7 +136,7 @@ abbrev pub HasActed : Option ℕ → Option Disk → Option Disk → Held → He
 HasActed None old new x y before now_kept now = HasCalled old new x y before now_kept now
 HasActed (Some status) old new x y before now_kept now = HasEnded status old new x y before now_kept now
 
--- an actor's life ended with the machine stop of this index, where it lasted, and it has nothing open any more
+-- an actor's life ended with the machine stop of this index, if it lasted until then, and it has nothing open any more
 pub record IsCutOff (at : ℕ) (x y : Held) : Type 0 where
   pub name : y.name ≡ x.name
   pub machine : y.machine ≡ x.machine

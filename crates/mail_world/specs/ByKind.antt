@@ -13,6 +13,8 @@ use Rattle.queue_inject.specs.Machine.{due_now}
 use Rattle.queue_inject.specs.Stands.{Stands}
 use Rattle.queue_clean.specs.Machine.{Machine as Cleaning, due_now as cleaning_due}
 use Rattle.queue_clean.specs.Stands.{Stands as CleansAfter}
+use Rattle.call_fs.specs.Disk.{Disk}
+use Rattle.queue_law.specs.Steps.{Outside}
 use Rattle.mail_world.specs.declared.event.Program.{Program}
 use Rattle.mail_world.specs.declared.event.Program.TheVariants.{Injector, Cleaner}
 use Rattle.mail_world.specs.declared.mailer.Mailer.{Mailer}
@@ -94,9 +96,9 @@ takes_of (Mail mailer) = 0
 takes_of (Clean cleaner) = 8192
 
 -- it takes no memory any more
-abbrev pub IsSettled : AnyMachine → Type 0
-IsSettled (Mail mailer) = Unit {0}
-IsSettled (Clean cleaner) = Unit {0}
+abbrev pub HasRoom : AnyMachine → Type 0
+HasRoom (Mail mailer) = Unit {0}
+HasRoom (Clean cleaner) = Unit {0}
 
 -- it stands for this program and this past
 abbrev pub Follows : AnyMachine → Program → List Own → Type 0
@@ -106,3 +108,10 @@ Follows (Clean cleaner) program past = Cleans cleaner program past
 -- what is due and what came of it as the newest event of a past
 abbrev pub with_own : AnyMachine → GotData → List Own → List Own
 with_own machine came past = (record { read = present_of machine; ready = found_of machine; due = need_of machine; came = came }) ∷ past
+
+-- What isn't the queue's
+
+-- what an event of a program leaves of what isn't the queue's: all, so far
+abbrev pub Leaves : Program → Disk → Disk → Type 0
+Leaves (Injector args) d e = Outside d e
+Leaves (Cleaner start) d e = Outside d e

@@ -1,13 +1,12 @@
 -- What is claimed of each state, and the headline: no accepted message is lost.
-use Rattle.std.specs.Prelude.{◌≡◌, ◌≢◌, ◌⊎◌, ℕ, ◌<◌, List, ◌++◌, length, true, Some, None}
-use Rattle.call_fs.specs.Disk.{Disk, Among, IsSynced}
+use Rattle.std.specs.Prelude.{◌≡◌, ◌≢◌, ℕ, ◌<◌, List, ◌++◌, length, true, Some}
+use Rattle.call_fs.specs.Disk.{Disk, IsSynced}
 use Rattle.queue_paths.specs.Names.{path}
 use Rattle.queue_paths.specs.Names.Part.{Mess, Todo}
 use Rattle.queue_paths.specs.Names.Name.{Of}
-use Rattle.queue_inject.specs.declared.injection.Arguments.{Arguments}
 use Rattle.queue_inject.specs.declared.row.Row.TheVariants as Row
 use Rattle.queue_inject.specs.Table.{row_after}
-use Rattle.queue_inject.specs.Texts.{message_text, intd_text, entered, todo_of, recipients_of}
+use Rattle.queue_inject.specs.Texts.{entered, todo_of, recipients_of}
 use Rattle.call_fs.specs.declared.past.Own.{Own}
 use Rattle.mail_world.specs.declared.event.Program.{Program}
 use Rattle.mail_world.specs.declared.event.Program.TheVariants.{Injector, Cleaner}
@@ -15,10 +14,8 @@ use Rattle.queue_states.specs.declared.state.State.TheVariants.{Other}
 use Rattle.queue_states.specs.States.{state_of}
 use Rattle.mail_world.specs.History.{Event, Actor, Injection, Books, State, after, Legal}
 use Rattle.mail_world.specs.History.Life.{Over}
-
--- an injection, whether its life lasts or is over
-abbrev pub IsInjected : Books → Injection → Type 0
-IsInjected b q = (b.living q.number ≡ Some q) ⊎ Among q b.over
+-- injections, and what is valid
+pub use Rattle.queue_law.specs.Books.{IsInjected, IsValid, HasQueued}
 
 -- todo is there, with the injection's text, and all of it is on the disk
 pub record IsPending (d : Disk) (q : Injection) : Type 0 where
@@ -26,18 +23,9 @@ pub record IsPending (d : Disk) (q : Injection) : Type 0 where
   pub there : d.names (path (Of Todo q.number)) ≡ Some file
   pub text : IsSynced (d.files file) (todo_of q.args)
 
--- the message was read to its end, and a front of the envelope's bytes is an envelope
-pub record IsValid (args : Arguments) : Type 0 where
-  pub message : (message_text args).fault ≡ None
-  pub envelope : (intd_text args).fault ≡ None
-
 -- how a recipient of an injection is accounted for
 pub data Accounted (s : State) (q : Injection) (recipient : ℕ) : Type 0 where
   Pending : s.books.living q.number ≡ Some q → IsPending s.disk q → Accounted s q recipient
-
--- an accepted injection of that actor, with its arguments
-abbrev pub HasQueued : Books → List ℕ → Arguments → Type 0
-HasQueued b a args = (q : Injection) × IsInjected b q × (q.actor ≡ a) × (q.args ≡ args) × (q.accepted ≡ true)
 
 -- what the past of a program has put into the books: where an injector has queued its message, its accepted injection
 abbrev pub IsBooked : Books → List ℕ → Program → List Own → Type 0

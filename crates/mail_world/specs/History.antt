@@ -1,15 +1,14 @@
 -- Histories: what happens, the state after it, and which histories are legal. A history is the list of its events,
 -- the newest first, so that what is left of it is a history too.
-use Rattle.std.specs.Prelude.{◌≡◌, ◌≢◌, ◌⊎◌, ℕ, ◌+◌, ◌≤◌, List, [], ◌∷◌, ◌++◌, length, Bool, true, false, Option, Some, None, option_map, option_to_list, if◌then◌else◌, bytes_eq, codes, Contains}
+use Rattle.std.specs.Prelude.{◌≡◌, ◌≢◌, ◌⊎◌, ℕ, ◌+◌, ◌≤◌, List, [], ◌∷◌, ◌++◌, length, Bool, true, false, Option, Some, None, option_map, if◌then◌else◌, bytes_eq, codes, Contains}
 use Rattle.call_fs.specs.declared.calls.CallData.{CallData}
-use Rattle.call_fs.specs.declared.calls.CallData.TheVariants.{Append, Close, Link}
+use Rattle.call_fs.specs.declared.calls.CallData.TheVariants.{Append}
 use Rattle.call_fs.specs.declared.calls.Answer.{Answer}
-use Rattle.call_fs.specs.declared.calls.Answer.TheVariants.{Created, Opened, Done}
 use Rattle.call_fs.specs.declared.calls.Told.{Told}
 use Rattle.call_fs.specs.declared.program.Port.TheVariants as port
 use Rattle.call_fs.specs.declared.program.Ready.{Ready}
 use Rattle.call_fs.specs.declared.crash_file_system.Survival.{Survival}
-use Rattle.call_fs.specs.Maps.{put, put_at}
+use Rattle.call_fs.specs.Maps.{put_at}
 use Rattle.call_fs.specs.Disk.{Disk, IsSynced}
 use Rattle.mail_bytes.specs.Moments.{IsMoment}
 use Rattle.mail_bytes.specs.Netstring.{head}
@@ -25,20 +24,20 @@ use Rattle.call_fs.specs.declared.past.Own.{Own}
 use Rattle.call_fs.specs.Past.{HasCall}
 use Rattle.call_fs.specs.Program.{IsKind}
 use Rattle.received_line.specs.declared.line.Invoked.TheVariants as invoking
-use Rattle.queue_inject.specs.declared.injection.Arguments.{Arguments}
 use Rattle.queue_limits.specs.declared.times.TheConstants.{LONGEST_STALL}
 use Rattle.queue_inject.specs.declared.injection.InputEnd.TheVariants.{Whole}
 use Rattle.queue_paths.specs.Dirs.{queue_dirs}
-use Rattle.queue_paths.specs.Names.{Name, Part, path, parse}
+use Rattle.queue_paths.specs.Names.{Part, path}
 use Rattle.queue_paths.specs.Names.Name.{Of}
-use Rattle.queue_paths.specs.Names.Part.{Mess, Intd, Todo}
 use Rattle.queue_inject.specs.Table.{Next, has_input}
 use Rattle.queue_clean.specs.Table.{Next as CleansNext}
 use Rattle.mail_world.specs.declared.event.Program.{Program}
 use Rattle.mail_world.specs.declared.event.Program.TheVariants.{Injector, Cleaner}
-use Rattle.mail_world.specs.MailNames.{members}
+use Rattle.actor_names.specs.MailNames.{members}
 use Rattle.mail_world.specs.Pipework.{Pipework, Tenant, Slot, is_ready, Yields, no_pipework, slot_of, pipework_after, with_child, without_writer, with_generation, with_report}
 use Rattle.mail_world.specs.Pipework.Tenant.{Runs, Remote}
+-- the injections of the books
+pub use Rattle.queue_law.specs.Books.{own_call, last_read, Injection, Books, begun, accept, linked, booked, held_by}
 
 -- One event. `own` is an event of the actor's own past, and the start of a child is its parent's too. `wrote` is how many
 -- bytes a failed write had written, or a failed giving had given, which no program is told. A generation is its four
@@ -54,10 +53,6 @@ pub data Event : Type 0 where
   Stop : (actor : List ℕ) → Event
   Moment : ℕ → Event
   Halt : (how : Survival) (contents : ℕ → List ℕ) → Event
-
--- a file call and what was told, as an event of a program's own past
-abbrev pub own_call : ℕ → Ready → CallData → Told → Own
-own_call read ready call told = record { read = read; ready = ready; due = needs.File call; came = Answered told }
 
 -- an actor's file call
 abbrev pub call_act : List ℕ → ℕ → Ready → CallData → Told → ℕ → Event
@@ -102,20 +97,6 @@ pub record Actor : Type 0 where
   pub past : List Own
   pub life : Life
 
--- An injection: an Ok link by an injector to the name of a message. It is accepted where that injector's link of intd
--- to todo answered Ok.
-pub record Injection : Type 0 where
-  pub number : ℕ
-  pub actor : List ℕ
-  pub args : Arguments
-  pub accepted : Bool
-
--- The injections: of each number the one whose life lasts, and those whose life is over. A life lasts until the next
--- link to the name of that number.
-pub record Books : Type 0 where
-  pub living : ℕ → Option Injection
-  pub over : List Injection
-
 -- an actor that has just started
 abbrev pub newborn : Program → Actor
 newborn program = record { program = program; past = []; life = Alive }
@@ -130,39 +111,10 @@ pub record State : Type 0 where
   pub books : Books
   pub pipework : Pipework
 
-abbrev pub begun : List ℕ → Arguments → ℕ → Injection
-begun a args n = record { number = n; actor = a; args = args; accepted = false }
-
--- the injection of that actor is accepted
-abbrev pub accept : List ℕ → Option Injection → Option Injection
-accept a None = None
-accept a (Some q) =
-    if bytes_eq q.actor a then Some (record { number = q.number; actor = q.actor; args = q.args; accepted = true }) else Some q
-
--- what an Ok link to this name means
-abbrev pub linked : Books → List ℕ → Arguments → List ℕ → Option Name → Books
-linked b a args old (Some (Of Mess n)) =
-    record { living = put b.living n (Some (begun a args n)); over = option_to_list (b.living n) ++ b.over }
-linked b a args old (Some (Of Todo n)) =
-    if bytes_eq old (path (Of Intd n)) then record { living = put b.living n (accept a (b.living n)); over = b.over } else b
-linked b a args old name = b
-
--- what the books say after a call of an injector
-abbrev pub booked : Books → List ℕ → Arguments → CallData → Answer → Books
-booked b a args (Link old new) Done = linked b a args old (parse new)
-booked b a args call answer = b
-
 -- what they say after a call, by the program that made it
 abbrev pub booked_by : Books → List ℕ → Program → CallData → Answer → Books
 booked_by b a (Injector args) call answer = booked b a args call answer
 booked_by b a (Cleaner start) call answer = b
-
--- who holds each descriptor after a call
-abbrev pub held_by : (ℕ → Option (List ℕ)) → List ℕ → CallData → Answer → ℕ → Option (List ℕ)
-held_by holder a call (Created fd n) = put holder fd.0 (Some a)
-held_by holder a call (Opened fd) = put holder fd.0 (Some a)
-held_by holder a (Close fd) Done = put holder fd.0 None
-held_by holder a call answer = holder
 
 -- What an event of an actor does to the disk, to the descriptors and to the books: a file call its effect, any other
 -- nothing.
@@ -278,8 +230,7 @@ happens s (Halt how contents) = record {
 
 -- the last moment that an actor read
 abbrev pub latest : Program → List Own → ℕ
-latest program [] = start_of program
-latest program (event ∷ before) = event.read
+latest program past = last_read (start_of program) past
 
 -- A living actor may read this moment: none that lies before one that it read, or after the present one, and none
 -- that lies over twelve hours back.
@@ -450,7 +401,7 @@ Allowed s (Stop a) = IsLiving s a
 Allowed s (Moment m) = MayCome s m
 Allowed s (Halt how contents) = AllSurvive s.disk contents
 
--- A disk to begin with: the queue's directories are there, of the queue's names there are pid names at most, nothing
+-- An initial disk: the queue's directories are there, of the queue's names there are pid names at most, nothing
 -- is open, and each file is synced.
 pub record Opening (d : Disk) : Type 0 where
   pub dirs : (dir : List ℕ) → Contains queue_dirs dir → Contains d.dirs dir

@@ -2,7 +2,8 @@
 use Rattle.std.specs.Prelude.{◌≡◌, ℕ, ◌≤◌, ◌==◌, List, [], ◌∷◌, map, reverse, count_by, Bool, false, Option, Some, None, IsSome, IsSomeAnd, is_some, is_none, bytes_eq}
 use Rattle.std.specs.List.{list_any, slice_get}
 use Rattle.call_fs.specs.declared.calls.Fd.{Fd}
-use Rattle.call_fs.specs.Disk.{Disk, Mode}
+use Rattle.call_fs.specs.Disk.{Disk}
+use Rattle.call_fs.specs.declared.modes.Mode.{Mode}
 use Rattle.mail_bytes.specs.Moments.{IsMoment}
 use Rattle.call_fs.specs.Apply.{empty_file}
 use Rattle.mail_bytes.specs.Told.{OnTold}

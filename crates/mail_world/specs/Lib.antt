@@ -4,10 +4,10 @@ pub mod Pipework
 pub mod History
 -- what is claimed of each state, and the headline
 pub mod Headline
+-- what each event leaves as it was
+pub mod Untouched
 -- the history that a world keeps
 pub mod Kept
--- the names of mails
-pub mod MailNames
 -- what is promised of a world
 pub mod World
 -- the machines of actors
@@ -18,3 +18,5 @@ pub mod Inside
 pub mod Acting
 -- where each actor stands
 pub mod Places
+-- what became of each injection
+pub mod Books

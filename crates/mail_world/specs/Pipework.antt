@@ -10,7 +10,7 @@ use Rattle.call_fs.specs.declared.past.NeedData.TheVariants.{Take, Give, Start}
 use Rattle.call_fs.specs.declared.past.GotData.{GotData}
 use Rattle.call_fs.specs.declared.past.GotData.TheVariants.{Took, End, Ended, Crashed, Gave, Started, Failed}
 use Rattle.call_fs.specs.Maps.{put_at}
-use Rattle.mail_world.specs.MailNames.{members}
+use Rattle.actor_names.specs.MailNames.{members}
 
 -- Pipes
 

@@ -106,7 +106,7 @@ starts a (kept.Halt how) = false
 abbrev pub was_started : List Kept → List ℕ → Bool
 was_started events a = list_any (starts a) events
 
--- an event with which the life of that actor ends, where it lives: its end or its stop, or a machine stop
+-- an event with which the life of that actor ends, if it lives: its end or its stop, or a machine stop
 abbrev pub ends : List ℕ → Kept → Bool
 ends a (kept.Start b program) = false
 ends a (kept.Act b own) = false

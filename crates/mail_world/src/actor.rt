@@ -41,7 +41,7 @@ pub struct Actor {
     pub machine: AnyMachine,
     /// Its open descriptors.
     pub descriptors: Vec<Fd>,
-    /// The index of its end or stop in the history, where it has ended.
+    /// The index of its end or stop in the history, if it has ended.
     pub ended: Option<u64>,
 }
 
@@ -217,7 +217,7 @@ impl Actor {
         close_all(disk, &mut self.descriptors);
     }
 
-    /// The machine stopped, with the event of this index: it is over, where it wasn't, and has nothing open any more.
+    /// The machine stopped, with the event of this index: it is over, if it wasn't, and has nothing open any more.
     fn cut_off(&mut self, index: u64)
         ensures { IsCutOff index self.old self.new }
     {

@@ -20,7 +20,7 @@ pub enum AnyMachine {
 impl Machine for AnyMachine {
     ghost use Rattle.std.specs.Prelude.{None};
     ghost use Rattle.mail_world.specs.History.{next_of};
-    ghost use Rattle.mail_world.specs.ByKind.{present_of, found_of, looked_of, CanFind, need_of, takes_of, IsSettled, Follows};
+    ghost use Rattle.mail_world.specs.ByKind.{present_of, found_of, looked_of, CanFind, need_of, takes_of, HasRoom, Follows};
 
     type Arguments = Program;
 
@@ -36,7 +36,7 @@ impl Machine for AnyMachine {
 
     ghost takes_at_most = { takes_of };
 
-    ghost has_room = { IsSettled };
+    ghost has_room = { HasRoom };
 
     ghost ahead = { λ _. None };
 

@@ -22,7 +22,7 @@ pub enum WorldError {
     /// The moment lies before the present one, which is told.
     #[error("the moment has passed")]
     Past(u64),
-    /// Want of memory.
+    /// Out of memory.
     #[error("out of memory")]
     Memory,
 }

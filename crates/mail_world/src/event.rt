@@ -1,5 +1,5 @@
 // What happened, and the list of it.
-ghost use Rattle.std.specs.Prelude.{◌≡◌, ◌∷◌, ◌++◌, ◌+◌, [], List, ℕ, length, OnOk};
+ghost use Rattle.std.specs.Prelude.{◌≡◌, ◌∷◌, ◌++◌, ◌+◌, ◌-◌, ◌≤◌, [], List, ℕ, length, get_or, OnOk};
 
 use crate::ActorName;
 use call_fs::{Own, Ready, Survival};
@@ -109,6 +109,14 @@ impl History {
         ensures { result.now ≡ events_of self.now }
     {
         self.events.as_slice()
+    }
+
+    /// The newest event. The condition: there is one.
+    pub(crate) fn newest(&self) -> &Event
+        requires { 1 ≤ length (events_of self.now) }
+        ensures { result.now ≡ get_or (events_of self.now) (length (events_of self.now) - 1) result.now }
+    {
+        &self.events[self.events.len() - 1]
     }
 
     /// Makes room for this many events. The room that it has stays.

@@ -1,7 +1,25 @@
 //! Laws of histories. Each is the contract of a function that does nothing.
+ghost use Rattle.mail_world.specs.Books.{AcceptedAreBooked, BooksAreTheModels};
 ghost use Rattle.mail_world.specs.Headline.{Headline};
+ghost use Rattle.mail_world.specs.Untouched.{EventsLeave};
 
 /// Every prefix of a legal history is safe.
 pub fn headline()
     ensures { Headline }
+{}
+
+/// The books of a world say of each mail what each legal history of its events says.
+pub fn books_are_the_models()
+    ensures { BooksAreTheModels }
+{}
+
+/// A mail is accepted in the books exactly if the headline's books have its accepted injection.
+pub fn accepted_are_booked()
+    ensures { AcceptedAreBooked }
+{}
+
+/// Each event of a legal history leaves what isn't the queue's, what other actors hold open, what was accepted, and all that
+/// concerns a preprocessed number. A machine stop closes each descriptor, and leaves of the files what survives.
+pub fn events_leave()
+    ensures { EventsLeave }
 {}

@@ -1,5 +1,5 @@
 // The world: the disk, the actors, the history.
-ghost use Rattle.std.specs.Prelude.{◌≡◌, ◌≢◌, ◌∷◌, ◌++◌, ◌⊎◌, ◌↔◌, ◌<◌, ◌≤◌, [], List, ℕ, Some, None, true, false, length, IsTrue, IsSomeAnd, IsOk, IfOk, IfErr, OnOk, OnErr};
+ghost use Rattle.std.specs.Prelude.{◌≡◌, ◌≢◌, ◌∷◌, ◌++◌, ◌⊎◌, ◌↔◌, ◌<◌, ◌≤◌, [], List, ℕ, Some, None, true, false, length, reverse, IsTrue, IsSomeAnd, IsOk, IfOk, IfErr, OnOk, OnErr};
 ghost use Rattle.std.specs.List.{slice_get};
 ghost use Rattle.call_fs.specs.Disk.{Disk, IsUnused};
 ghost use Rattle.mail_bytes.specs.Moments.{IsMoment};
@@ -8,18 +8,20 @@ ghost use Rattle.call_fs.specs.Choices.{Halts};
 ghost use Rattle.call_fs.specs.Plan.{with_fault, with_pick};
 ghost use Rattle.mail_world.specs.History.{Opening, Legal, Event as Happening};
 ghost use Rattle.mail_world.specs.Kept.{events_of};
-ghost use Rattle.mail_world.specs.MailNames.{IsMailName};
+ghost use Rattle.actor_names.specs.MailNames.{IsMailName};
 ghost use Rattle.mail_world.specs.World.{Leads, Happened, GoesOn, EachSafe, was_started, EndsAt, started_world, moment_world, IsStep, IsStop, GoesByPlan, IsHalt, GoesOnWith, IsAsBefore};
 ghost use Rattle.mail_world.specs.Acting.{IsNoLiving};
 ghost use Rattle.mail_world.specs.Places.{place_of};
+ghost use Rattle.mail_world.specs.Books.{entries_of, books_of, books_in};
 
 use crate::actor::{Actor, cut_off_all, mail_of};
 use crate::any_machine::AnyMachine;
-use crate::laws::headline;
-use crate::mail_name::is_mail_name;
+use crate::books::Books;
+use crate::laws::{books_are_the_models, headline};
 use crate::mailer::Mailer;
 use crate::places::Places;
 use crate::{ActorName, Event, History, Program, WorldError};
+use actor_names::is_mail_name;
 use call_fs::{CallFs, CrashFs, Survival, Taken};
 use mail_bytes::Memory;
 use std::alloc::Global;
@@ -33,7 +35,7 @@ const FIRST_PID: u32 = 77;
 pub struct Did {
     /// The index of its event in the history, from 0.
     pub at: u64,
-    /// The exit status, where the actor ended.
+    /// The exit status, if the actor ended.
     pub ended: Option<u8>,
     /// Whether an idle turn has just ended.
     pub idle: bool,
@@ -52,13 +54,14 @@ impl Did {
     }
 }
 
-/// A disk, the actors that use it, and the history of what they did. The history has room for the stop of each living
-/// actor.
+/// A disk, the actors that use it, the books on their injections, and the history of what they did. The history has room
+/// for the stop of each living actor.
 #[derive(Drop)]
 pub struct World<D: CallFs> {
     disk: D,
     actors: Vec<Actor>,
     places: Places,
+    books: Books,
     history: History,
     present: u64,
     next_pid: u32,
@@ -72,15 +75,16 @@ impl<D: CallFs> Model for World<D> {
     ghost use Rattle.mail_world.specs.Inside.{IsWorld, known, living};
     ghost use Rattle.mail_world.specs.Kept.{HasRoom};
     ghost use Rattle.mail_world.specs.Places.{place_of};
+    ghost use Rattle.mail_world.specs.Books.{AreBooked, entries_of};
 
     ghost view = { λ w. record { disk = w.disk; events = w.history.events.items; present = w.present } };
 
-    ghost invariant = { λ w. IsWorld (D.disk w.disk) (place_of w.places) w.actors.items (known w.history.events.items) w.history.events.items w.present w.next_pid × HasRoom w.history (living w.actors.items) };
+    ghost invariant = { λ w. IsWorld (D.disk w.disk) (place_of w.places) w.actors.items (known w.history.events.items) w.history.events.items w.present w.next_pid × HasRoom w.history (living w.actors.items) × AreBooked (entries_of w.books) w.actors.items w.history.events.items };
 }
 
 impl<D: CallFs> World<D> {
-    /// A world over this disk, at moment 0, in which nothing has happened. It always succeeds. Where the disk tells and
-    /// is one to begin with, the world's history begins with it.
+    /// A world over this disk, at moment 0, in which nothing has happened. It always succeeds. If the disk tells and
+    /// is an initial one, the world's history begins with it.
     pub fn new(alloc: Global, disk: D) -> Result<World<D>, Memory>
         ensures ok { IsOk result }
         ensures world { IfOk result (λ world. world ≡ record { disk = disk; events = []; present = 0 }) }
@@ -91,6 +95,7 @@ impl<D: CallFs> World<D> {
             disk,
             actors: Vec::new(alloc),
             places: Places::new(alloc),
+            books: Books::new(alloc),
             history: History::new(alloc),
             present: 0,
             next_pid: FIRST_PID,
@@ -105,8 +110,8 @@ impl<D: CallFs> World<D> {
     }
 
     /// The events so far, the oldest first. In each world whose disk tells, they led to it from some disk, and each one
-    /// was allowed when it happened; where that disk was one to begin with, their history is legal, and the queue was
-    /// safe at each prefix of it. So it was in each history that `Happened` since a disk to begin with.
+    /// was allowed when it happened; if that disk was an initial one, their history is legal, and the queue was
+    /// safe at each prefix of it. So it was in each history that `Happened` since an initial disk.
     pub fn history(&self) -> &History
         ensures events { events_of result.now ≡ self.now.events }
         ensures safe { (opening : Disk) (h : List Happening)
@@ -119,7 +124,18 @@ impl<D: CallFs> World<D> {
         &self.history
     }
 
-    /// Starts an injector of this message and envelope for user 1000, at the present moment. `Taken` exactly where the
+    /// The books: what became of each injection, by its events so far. They say what each legal history says that
+    /// `Happened` since an initial disk.
+    pub fn books(&self) -> &Books
+        ensures events { entries_of result.now ≡ books_of (reverse self.now.events) }
+        ensures models { (opening : Disk) (h : List Happening)
+            → Happened D.disk opening self.now h → entries_of result.now ≡ books_in opening h }
+    {
+        books_are_the_models();
+        &self.books
+    }
+
+    /// Starts an injector of this message and envelope for user 1000, at the present moment. `Taken` exactly if the
     /// name was used, or is none that a mail may have. The room for its stop is taken too.
     pub fn start_mail(
         &mut self,
@@ -166,11 +182,13 @@ impl<D: CallFs> World<D> {
         let mailer = Mailer::new(alloc, self.next_pid, self.present, message, envelope)?;
         let arguments = mail_of(alloc, self.next_pid, self.present, message, envelope)?;
         self.actors.reserve(1)?;
+        self.books.make_room()?;
         // for its start, and for the stop of each actor, of this one too
         self.history.reserve(self.actors.len() + 2)?;
         self.places.add(alloc, name.as_slice(), self.actors.len())?;
         let actor = Actor::new(alloc, name.copy(), AnyMachine::Mail(mailer));
         self.actors.push(actor).unwrap();
+        self.books.add(name, &arguments);
         self.history.put(Event::Start {
             actor: name.copy(),
             program: Program::Injector(arguments),
@@ -180,8 +198,8 @@ impl<D: CallFs> World<D> {
     }
 
     /// One step of an actor: its next file call, or its end, in which its descriptors are closed. `Unknown` exactly
-    /// where no actor of this name was started, `Gone` exactly where it has ended or was stopped. `NotWaiting` would
-    /// come where an actor waits, and never does: each is an injector whose whole input the world has.
+    /// if no actor of this name was started, `Gone` exactly if it has ended or was stopped. `NotWaiting` would
+    /// come if an actor waited, and never does: each is an injector whose whole input the world has.
     pub fn step(&mut self, alloc: Global, actor: &ActorName) -> Result<Did, WorldError>
         ensures event { IfOk result (λ did. IsStep actor.now did.ended self.old self.new) }
         ensures present { self.new.present ≡ self.old.present }
@@ -203,12 +221,14 @@ impl<D: CallFs> World<D> {
         // for this event, and for the stop of each actor
         self.history.reserve(self.actors.len() + 1)?;
         let acting = &mut self.actors[place];
-        Ok(acting.act(alloc, &mut self.disk, &mut self.history, self.present)?)
+        let did = acting.act(alloc, &mut self.disk, &mut self.history, self.present)?;
+        self.books.note(place, self.history.newest());
+        Ok(did)
     }
 
     /// Stops an actor from outside: its descriptors are closed, and it makes no step any more. It takes no memory: the
-    /// room for its event was taken when the actor was started. `Unknown` exactly where no actor of this name was
-    /// started, `Gone` exactly where it has ended or was stopped.
+    /// room for its event was taken when the actor was started. `Unknown` exactly if no actor of this name was
+    /// started, `Gone` exactly if it has ended or was stopped.
     pub fn stop(&mut self, actor: &ActorName) -> Result<(), WorldError>
         ensures event { OnOk result (IsStop actor.now self.old self.new) }
         ensures goes_on { OnOk result (GoesOn D.disk self.old self.new) }
@@ -225,10 +245,11 @@ impl<D: CallFs> World<D> {
         let place = living(&self.places, &self.actors, actor)?;
         let stopped = &mut self.actors[place];
         stopped.stop(&mut self.disk, &mut self.history);
+        self.books.note(place, self.history.newest());
         Ok(())
     }
 
-    /// A moment comes, and is the present one from then on. `Past` exactly where it lies before the present one, which
+    /// A moment comes, and is the present one from then on. `Past` exactly if it lies before the present one, which
     /// it tells.
     pub fn moment(&mut self, moment: u64) -> Result<(), WorldError>
         requires { IsMoment moment }
@@ -274,6 +295,7 @@ impl<D: CrashFs> World<D> {
         let at = self.history.len() as u64;
         self.history.put(Event::Halt { how });
         cut_off_all(&mut self.actors, at);
+        self.books.cut_off();
         Ok(())
     }
 
@@ -291,7 +313,7 @@ impl<D: CrashFs> World<D> {
     }
 
     /// The next new file takes this number, in place of one that was chosen and hasn't come. It is no event. `Taken`
-    /// exactly where a name or an open descriptor uses the number; then nothing is chosen anew. The condition: the number
+    /// exactly if a name or an open descriptor uses the number; then nothing is chosen anew. The condition: the number
     /// is from 1.
     pub fn pick(&mut self, number: u64) -> Result<(), Taken>
         requires { 1 ≤ number }

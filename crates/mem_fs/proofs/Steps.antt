@@ -3,7 +3,8 @@ use Rattle.std.proofs.Common.{◌≡◌, ℕ, ◌≤◌, List, Option, Some, Non
 use Rattle.std.specs.Option.{option_map, option_copied, IfSome, IfNone}
 use Rattle.mem_fs.specs.declared.file.Inode.{Inode}
 use Rattle.call_fs.specs.Maps.{put, put_at}
-use Rattle.call_fs.specs.Disk.{File, Open as OpenFile, Mode, Disk}
+use Rattle.call_fs.specs.Disk.{File, Open as OpenFile, Disk}
+use Rattle.call_fs.specs.declared.modes.Mode.{Mode}
 use Rattle.call_fs.specs.declared.calls.Fd.{Fd}
 use Rattle.call_fs.specs.declared.calls.How.{How}
 use Rattle.call_fs.specs.declared.calls.CallData.TheVariants.{CreateExcl, Open, Close, Link, Unlink}

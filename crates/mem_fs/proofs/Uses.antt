@@ -6,7 +6,8 @@ use Rattle.std.proofs.lemmas.Bool.{cases_eq}
 use Rattle.std.proofs.lemmas.List.{get_or_default}
 use Rattle.std.proofs.lemmas.List.Sums.{sum_by-remove, length-filter}
 use Rattle.mem_fs.specs.declared.file.Inode.{Inode}
-use Rattle.call_fs.specs.Disk.{Open, Mode, IsUnused}
+use Rattle.call_fs.specs.Disk.{Open, IsUnused}
+use Rattle.call_fs.specs.declared.modes.Mode.{Mode}
 use Rattle.mem_fs.specs.Tables.{at_name, at_number}
 use Rattle.call_fs.specs.Free.{IsFree, IsLeastFree}
 use Rattle.mem_fs.specs.MemDisk.{Held, disk_of, links_of, holds_of, count_of, names_of, opens_counted, IsSound, IsIdle, IsGreatestFree, NoneFree}

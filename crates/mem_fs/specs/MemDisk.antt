@@ -1,13 +1,17 @@
 -- A disk in memory: the lists that it keeps, and the disk that they stand for.
-use Rattle.std.specs.Prelude.{◌≡◌, ◌⊎◌, ℕ, ◌<◌, ◌≤◌, ◌+◌, ◌-◌, ◌^◌, ◌==◌, ◌++◌, List, [], ◌∷◌, Bool, true, false, IsTrue, Option, Some, None, unwrap_or, count_by, Result, Ok, Err, Contains, ◌↔◌, if◌then◌else◌}
+use Rattle.std.specs.Prelude.{◌≡◌, ◌⊎◌, ℕ, ◌<◌, ◌≤◌, ◌+◌, ◌-◌, ◌^◌, ◌==◌, ◌++◌, List, [], ◌∷◌, Bool, true, false, IsTrue, Option, Some, None, unwrap_or, count_by, Contains, ◌↔◌, if◌then◌else◌}
 use Rattle.std.specs.Option.{option_map}
-use Rattle.call_fs.specs.declared.calls.FsError.{FsError}
+use Rattle.call_fs.specs.declared.calls.CallData.{CallData}
+use Rattle.call_fs.specs.declared.calls.Told.{Told}
+use Rattle.call_fs.specs.declared.calls.Answer.{Answer}
+use Rattle.call_fs.specs.declared.calls.Answer.TheVariants.{Created, Opened, Refused}
 use Rattle.call_fs.specs.declared.calls.FsError.TheVariants.{NotThere, Exists, Fault, Memory}
 use Rattle.mem_fs.specs.declared.file.Inode.{Inode}
 use Rattle.mail_bytes.specs.Told.{raised}
 use Rattle.call_fs.specs.Disk.{File, Open, Disk}
-use Rattle.call_fs.specs.Free.{IsFree, IsLeastFree}
+use Rattle.call_fs.specs.Free.{IsFree, IsLeastFree, IsNextDescriptor}
 use Rattle.call_fs.specs.Plan.{Plan, no_plan}
+use Rattle.call_fs.specs.Went.{Went}
 use Rattle.call_fs.specs.Maps.{put, put_at}
 use Rattle.mem_fs.specs.MemFile.{no_file, settled_file}
 use Rattle.mem_fs.specs.Tables.{at_name, at_number, AreNamesInOrder, AreNumbersInOrder}
@@ -149,20 +153,31 @@ abbrev pub fresh : List ℕ → List ℕ → Planned
 fresh picks plan = record { held = held_nothing; picks = picks; plan = plan; made = 0; faults = 0 }
 
 -- a fault was answered
-abbrev pub is_fault : {T : Type 0} → Result T FsError → Bool
-is_fault (Err Fault) = true
-is_fault (Err NotThere) = false
-is_fault (Err Exists) = false
-is_fault (Err Memory) = false
-is_fault (Ok x) = false
+abbrev pub is_fault : Answer → Bool
+is_fault (Refused Fault) = true
+is_fault (Refused NotThere) = false
+is_fault (Refused Exists) = false
+is_fault (Refused Memory) = false
+is_fault other = false
 
--- A call was counted. It failed with a fault exactly if it was planned, and then left the lists as they were.
-pub record CountsCall {T : Type 0} (old new : Planned) (result : Result T FsError) : Type 0 where
+-- what was made or opened has the least descriptor that is free, and a new file the next number; nothing else uses a
+-- pick up
+abbrev pub TakesNext : Disk → Option ℕ → List ℕ → Answer → List ℕ → Type 0
+TakesNext d pick picks (Created fd n) left = IsNextDescriptor d fd.0 × IsPickedNumber d pick picks n left
+TakesNext d pick picks (Opened fd) left = IsNextDescriptor d fd.0 × (left ≡ picks)
+TakesNext d pick picks answer left = left ≡ picks
+
+-- A call was counted; a number may have been picked for it alone.
+pub record Counts (old new : Planned) (pick : Option ℕ) (answer : Answer) : Type 0 where
+  -- one call more was made, and those that are to fail stay
   pub made : new.made ≡ raised old.made
   pub plan : new.plan ≡ old.plan
-  pub planned : IsTrue (is_fault result) ↔ Contains old.plan (raised old.made)
-  pub faults : new.faults ≡ (if is_fault result then raised old.faults else old.faults)
-  pub nothing_done : is_fault result ≡ true → new.held ≡ old.held
+  -- it failed exactly if it was planned to, which was counted, and then left the lists as they were
+  pub planned : IsTrue (is_fault answer) ↔ Contains old.plan (raised old.made)
+  pub faults : new.faults ≡ (if is_fault answer then raised old.faults else old.faults)
+  pub nothing_done : is_fault answer ≡ true → new.held ≡ old.held
+  -- the number, the descriptor and the picks that are left
+  pub takes : TakesNext (disk_of old.held) pick old.picks answer new.picks
 
 -- only the lists changed
 abbrev pub with_held : Planned → Held → Planned
@@ -173,3 +188,7 @@ abbrev pub empty_plan : List ℕ → List ℕ → Option Plan
 empty_plan [] [] = Some no_plan
 empty_plan [] (fault ∷ faults) = None
 empty_plan (pick ∷ picks) faults = None
+
+-- how a call went, as a disk in memory tells it: it keeps no calls
+abbrev pub MemWent : Planned → Planned → ℕ → CallData → Told → Type 0
+MemWent = Went (λ m. Some (disk_of m.held)) (λ m. None) (λ m. empty_plan m.picks m.plan) (λ m. m.faults)

@@ -1,17 +1,15 @@
 // The disk in memory.
-ghost use Rattle.std.specs.Prelude.{◌≡◌, ◌≤◌, ◌↔◌, IsTrue, IsOk, IfOk, IfSome, IfNone, OnOk, OnErr, Some, None, Ok, [], length, drop};
+ghost use Rattle.std.specs.Prelude.{◌≡◌, ◌≤◌, ◌↔◌, IsTrue, IfOk, IfSome, IfNone, OnOk, OnErr, Some, None, Ok, length, drop};
 ghost use Rattle.std.specs.Option.{option_copied};
 ghost use Rattle.call_fs.specs.declared.calls.CallData.TheVariants as call;
-ghost use Rattle.call_fs.specs.declared.calls.Answer.TheVariants as answer;
 ghost use Rattle.call_fs.specs.Disk.{MayUse, MayAppend, MayWrite, MayCut};
 ghost use Rattle.mail_bytes.specs.Moments.{IsMoment};
-ghost use Rattle.call_fs.specs.Calls.{created, opened, counted, done, stated, next_found};
+ghost use Rattle.call_fs.specs.Calls.{created, opened, counted, done, stated, next_found, told_with, without_bytes};
 ghost use Rattle.call_fs.specs.Apply.{Apply, IsNextName, IsLastName};
-ghost use Rattle.call_fs.specs.Columns.{IsRead};
 ghost use Rattle.call_fs.specs.Choices.{Halts};
 ghost use Rattle.call_fs.specs.Told.{HasCause};
-ghost use Rattle.call_fs.specs.Free.{IsFree, IsNextDescriptor};
-ghost use Rattle.mem_fs.specs.MemDisk.{disk_of, fresh, with_dir, with_held, bytes_at, Places, CountsCall, NoneFree, IsNextNumber, IsPickedNumber, empty_plan};
+ghost use Rattle.call_fs.specs.Free.{IsFree};
+ghost use Rattle.mem_fs.specs.MemDisk.{disk_of, fresh, with_dir, with_held, bytes_at, Places, NoneFree, IsNextNumber, IsPickedNumber, empty_plan, Counts, MemWent};
 
 use crate::picks::Picks;
 use crate::plan::Plan;
@@ -111,10 +109,7 @@ impl MemFs {
         ensures told { Apply (disk_of self.old.held) now (call.CreateExcl name.now) (created result) (disk_of self.new.held) }
         ensures from_one { IfOk result (λ made. 1 ≤ made.1) }
         ensures cause { HasCause self.old.faults self.new.faults result }
-        ensures counts { CountsCall self.old self.new result }
-        ensures number { IfOk result (λ made. IsPickedNumber (disk_of self.old.held) pick self.old.picks made.1 self.new.picks) }
-        ensures descriptor { IfOk result (λ made. IsNextDescriptor (disk_of self.old.held) made.0.0) }
-        ensures picks { OnErr result (self.new.picks ≡ self.old.picks) }
+        ensures counts { Counts self.old self.new pick (created result) }
     {
         self.plan.begin()?;
         if !self.store.has_dir(name) {
@@ -205,25 +200,16 @@ impl CallFs for MemFs {
     /// As the trait says. The new file takes the next number by the picks, and the least free descriptor.
     fn create_excl(&mut self, alloc: Global, now: u64, name: &[u8]) -> Result<(Fd, u64), FsError>
         requires { IsMoment now }
-        ensures told { Apply (disk_of self.old.held) now (call.CreateExcl name.now) (created result) (disk_of self.new.held) }
-        ensures from_one { IfOk result (λ made. 1 ≤ made.1) }
-        ensures cause { HasCause self.old.faults self.new.faults result }
-        ensures counts { CountsCall self.old self.new result }
-        ensures number { IfOk result (λ made. IsNextNumber (disk_of self.old.held) self.old.picks made.1 self.new.picks) }
-        ensures descriptor { IfOk result (λ made. IsNextDescriptor (disk_of self.old.held) made.0.0) }
-        ensures picks { OnErr result (self.new.picks ≡ self.old.picks) }
+        ensures went { MemWent self.old self.new now (call.CreateExcl name.now) (without_bytes (created result)) }
+        ensures counts { Counts self.old self.new None (created result) }
     {
         self.create_picked(alloc, now, name, None)
     }
 
     /// As the trait says. It takes the least free descriptor.
     fn open(&mut self, _alloc: Global, name: &[u8], how: How) -> Result<Fd, FsError>
-        ensures told { Apply (disk_of self.old.held) 0 (call.Open name.now how) (opened result)
-            (disk_of self.new.held) }
-        ensures cause { HasCause self.old.faults self.new.faults result }
-        ensures counts { CountsCall self.old self.new result }
-        ensures descriptor { IfOk result (λ fd. IsNextDescriptor (disk_of self.old.held) fd.0) }
-        ensures picks { self.new.picks ≡ self.old.picks }
+        ensures went { MemWent self.old self.new 0 (call.Open name.now how) (without_bytes (opened result)) }
+        ensures counts { Counts self.old self.new None (opened result) }
     {
         self.plan.begin()?;
         if self.store.number_of(name).is_none() {
@@ -238,12 +224,9 @@ impl CallFs for MemFs {
 
     fn read_at(&mut self, fd: Fd, at: u64, into: &mut [u8]) -> Result<u64, FsError>
         requires { MayUse (disk_of self.old.held) fd.0 }
-        ensures told { Apply (disk_of self.old.held) 0 (call.ReadAt fd at (length into.old)) (counted result)
-            (disk_of self.new.held) }
-        ensures read { IfOk result (λ count. IsRead (disk_of self.old.held) fd.0 at (length into.old) count into.new) }
-        ensures cause { HasCause self.old.faults self.new.faults result }
-        ensures counts { CountsCall self.old self.new result }
-        ensures picks { self.new.picks ≡ self.old.picks }
+        ensures went { MemWent self.old self.new 0 (call.ReadAt fd at (length into.old))
+            (told_with (counted result) into.new) }
+        ensures counts { Counts self.old self.new None (counted result) }
     {
         self.plan.begin()?;
         Ok(self.store.read_at(fd, at, into))
@@ -259,11 +242,8 @@ impl CallFs for MemFs {
     ) -> Result<(), FsError>
         requires moment { IsMoment now }
         requires fits { MayWrite (disk_of self.old.held) fd.0 }
-        ensures told { Apply (disk_of self.old.held) now (call.WriteAt fd at bytes.now) (done result)
-            (disk_of self.new.held) }
-        ensures cause { HasCause self.old.faults self.new.faults result }
-        ensures counts { CountsCall self.old self.new result }
-        ensures picks { self.new.picks ≡ self.old.picks }
+        ensures went { MemWent self.old self.new now (call.WriteAt fd at bytes.now) (without_bytes (done result)) }
+        ensures counts { Counts self.old self.new None (done result) }
     {
         self.plan.begin()?;
         self.store.write_at(now, fd, at, bytes)?;
@@ -273,10 +253,8 @@ impl CallFs for MemFs {
     fn append(&mut self, _alloc: Global, now: u64, fd: Fd, bytes: &[u8]) -> Result<(), FsError>
         requires moment { IsMoment now }
         requires fits { MayAppend (disk_of self.old.held) fd.0 }
-        ensures told { Apply (disk_of self.old.held) now (call.Append fd bytes.now) (done result) (disk_of self.new.held) }
-        ensures cause { HasCause self.old.faults self.new.faults result }
-        ensures counts { CountsCall self.old self.new result }
-        ensures picks { self.new.picks ≡ self.old.picks }
+        ensures went { MemWent self.old self.new now (call.Append fd bytes.now) (without_bytes (done result)) }
+        ensures counts { Counts self.old self.new None (done result) }
     {
         self.plan.begin()?;
         self.store.append(now, fd, bytes)?;
@@ -285,10 +263,8 @@ impl CallFs for MemFs {
 
     fn truncate(&mut self, fd: Fd, len: u64) -> Result<(), FsError>
         requires { MayCut (disk_of self.old.held) fd.0 }
-        ensures told { Apply (disk_of self.old.held) 0 (call.Truncate fd len) (done result) (disk_of self.new.held) }
-        ensures cause { HasCause self.old.faults self.new.faults result }
-        ensures counts { CountsCall self.old self.new result }
-        ensures picks { self.new.picks ≡ self.old.picks }
+        ensures went { MemWent self.old self.new 0 (call.Truncate fd len) (without_bytes (done result)) }
+        ensures counts { Counts self.old self.new None (done result) }
     {
         self.plan.begin()?;
         self.store.truncate(fd, len);
@@ -297,10 +273,8 @@ impl CallFs for MemFs {
 
     fn sync(&mut self, fd: Fd) -> Result<(), FsError>
         requires { MayUse (disk_of self.old.held) fd.0 }
-        ensures told { Apply (disk_of self.old.held) 0 (call.Sync fd) (done result) (disk_of self.new.held) }
-        ensures cause { HasCause self.old.faults self.new.faults result }
-        ensures counts { CountsCall self.old self.new result }
-        ensures picks { self.new.picks ≡ self.old.picks }
+        ensures went { MemWent self.old self.new 0 (call.Sync fd) (without_bytes (done result)) }
+        ensures counts { Counts self.old self.new None (done result) }
     {
         self.plan.begin()?;
         self.store.sync(fd);
@@ -310,8 +284,7 @@ impl CallFs for MemFs {
     /// As the trait says. It isn't counted as a call.
     fn close(&mut self, fd: Fd) -> Result<(), FsError>
         requires { MayUse (disk_of self.old.held) fd.0 }
-        ensures told { Apply (disk_of self.old.held) 0 (call.Close fd) (done result) (disk_of self.new.held) }
-        ensures always { IsOk result }
+        ensures went { MemWent self.old self.new 0 (call.Close fd) (without_bytes (done result)) }
         ensures rest { self.new ≡ with_held self.old self.new.held }
     {
         self.store.close(fd);
@@ -319,10 +292,8 @@ impl CallFs for MemFs {
     }
 
     fn link(&mut self, alloc: Global, old: &[u8], new: &[u8]) -> Result<(), FsError>
-        ensures told { Apply (disk_of self.old.held) 0 (call.Link old.now new.now) (done result) (disk_of self.new.held) }
-        ensures cause { HasCause self.old.faults self.new.faults result }
-        ensures counts { CountsCall self.old self.new result }
-        ensures picks { self.new.picks ≡ self.old.picks }
+        ensures went { MemWent self.old self.new 0 (call.Link old.now new.now) (without_bytes (done result)) }
+        ensures counts { Counts self.old self.new None (done result) }
     {
         self.plan.begin()?;
         if self.store.number_of(old).is_none() || !self.store.has_dir(new) {
@@ -336,10 +307,8 @@ impl CallFs for MemFs {
     }
 
     fn unlink(&mut self, name: &[u8]) -> Result<(), FsError>
-        ensures told { Apply (disk_of self.old.held) 0 (call.Unlink name.now) (done result) (disk_of self.new.held) }
-        ensures cause { HasCause self.old.faults self.new.faults result }
-        ensures counts { CountsCall self.old self.new result }
-        ensures picks { self.new.picks ≡ self.old.picks }
+        ensures went { MemWent self.old self.new 0 (call.Unlink name.now) (without_bytes (done result)) }
+        ensures counts { Counts self.old self.new None (done result) }
     {
         self.plan.begin()?;
         if self.store.number_of(name).is_none() {
@@ -350,11 +319,8 @@ impl CallFs for MemFs {
     }
 
     fn stat(&mut self, name: &[u8]) -> Result<Stat, FsError>
-        ensures told { Apply (disk_of self.old.held) 0 (call.Stat name.now) (stated result) (disk_of self.new.held) }
-        ensures moment { IfOk result (λ stat. IsMoment stat.moment) }
-        ensures cause { HasCause self.old.faults self.new.faults result }
-        ensures counts { CountsCall self.old self.new result }
-        ensures picks { self.new.picks ≡ self.old.picks }
+        ensures went { MemWent self.old self.new 0 (call.Stat name.now) (without_bytes (stated result)) }
+        ensures counts { Counts self.old self.new None (stated result) }
     {
         self.plan.begin()?;
         match self.store.stat(name) {
@@ -364,10 +330,9 @@ impl CallFs for MemFs {
     }
 
     fn next_name(&mut self, dir: &[u8], after: &[u8], into: &mut NameBuf) -> Result<bool, FsError>
-        ensures told { Apply (disk_of self.old.held) 0 (call.NextName dir.now after.now) (next_found result into.new) (disk_of self.new.held) }
-        ensures cause { HasCause self.old.faults self.new.faults result }
-        ensures counts { CountsCall self.old self.new result }
-        ensures picks { self.new.picks ≡ self.old.picks }
+        ensures went { MemWent self.old self.new 0 (call.NextName dir.now after.now)
+            (without_bytes (next_found result into.new)) }
+        ensures counts { Counts self.old self.new None (next_found result into.new) }
     {
         self.plan.begin()?;
         if !self.store.is_dir(dir) {

@@ -1,53 +1,43 @@
 // One open descriptor.
 ghost use Rattle.std.specs.Prelude.{◌≡◌};
-ghost use Rattle.call_fs.specs.Disk.{Mode};
+ghost use Rattle.call_fs.specs.declared.modes.Mode.TheVariants as made;
 
-use call_fs::How;
+use call_fs::{How, Mode};
 use std::marker::Model;
-
-/// How a descriptor came to be.
-#[derive(Clone, Copy)]
-pub enum Origin {
-    /// Its file was created.
-    Created,
-    /// Its file was opened for this.
-    Opened(How),
-}
 
 /// An open descriptor: the number of its file, and how it came to be.
 #[derive(Drop)]
 pub struct OpenFile {
     number: u64,
-    origin: Origin,
+    mode: Mode,
 }
 
 impl Model for OpenFile {
     ghost use Rattle.call_fs.specs.Disk.{Open};
-    ghost use Rattle.mem_fs.specs.MemFile.{mode_of};
 
     ghost Value = { Open };
 
-    ghost view = { λ o. record { number = o.number; mode = mode_of o.origin } };
+    ghost view = { λ o. record { number = o.number; mode = o.mode } };
 }
 
 impl OpenFile {
     /// Of a file that was created.
     pub fn created(number: u64) -> Self
-        ensures { result ≡ record { number = number; mode = Mode.Created } }
+        ensures { result ≡ record { number = number; mode = made.Created } }
     {
         OpenFile {
             number,
-            origin: Origin::Created,
+            mode: Mode::Created,
         }
     }
 
     /// Of a file that was opened for this.
     pub fn opened(number: u64, how: How) -> Self
-        ensures { result ≡ record { number = number; mode = Mode.Opened how } }
+        ensures { result ≡ record { number = number; mode = made.Opened how } }
     {
         OpenFile {
             number,
-            origin: Origin::Opened(how),
+            mode: Mode::Opened(how),
         }
     }
 

@@ -35,7 +35,7 @@ front_is piece given = take_rest piece given
 pub length-front : (piece : List ℕ) (given : ℕ) → length (front_of piece given) ≡ length piece - given
 length-front piece given = ap length (front_is piece given) ∙ length-drop given piece
 
--- as many bytes of one text as there is room for were put at the front of `into`
+-- as many bytes of one text as there is room for were put at the start of `into`
 pub rest_given : (pieces : List (List ℕ)) (at given count room : ℕ) (piece into : List ℕ)
     → at < length pieces → given ≤ length (get_or pieces at []) → piece ≡ get_or pieces at piece
     → count ≡ min (length (front_of piece given)) room → take count into ≡ take count (front_of piece given)

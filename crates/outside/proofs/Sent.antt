@@ -28,7 +28,7 @@ sent_one posts at given w e h read one low =
     ∙ ap (λ t. take 1 t ++ rest_from all at (0 + 1)) is
     ∙ ap (λ n. e ∷ rest_from all at n) on
 
--- as many bytes of a post as there is room for were put at the front of `into`
+-- as many bytes of a post as there is room for were put at the start of `into`
 pub sent_bytes : (posts : List Waiting) (at given count room chan : ℕ) (w : Waiting) (bytes into : List ℕ)
     → at < length posts → w ≡ get_or posts at w → arrivals w ≡ map (Byte chan) bytes
     → given ≤ length (get_or (map arrivals posts) at [])

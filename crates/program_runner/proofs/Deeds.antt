@@ -12,7 +12,7 @@ use Rattle.program_runner.specs.Runs.{Did, taken_in, GivesInAll, HasEvent}
 
 -- Lists that are kept
 
-kept_none : {X : Type 0} (o : Option (List X)) → AreKept o o []
+pub kept_none : {X : Type 0} (o : Option (List X)) → AreKept o o []
 kept_none None = tt
 kept_none (Some l) = sym (append-nil-right l) where
   append-nil-right : {X : Type 0} (l : List X) → l ++ [] ≡ l

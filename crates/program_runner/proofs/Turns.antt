@@ -15,7 +15,8 @@ use Rattle.call_fs.specs.declared.past.Own.{Own}
 use Rattle.call_fs.specs.Apply.{Apply, IsReadBy, MayCall}
 use Rattle.call_fs.specs.Calls.{bytes_read, told_with, entry_with}
 use Rattle.call_fs.specs.Columns.{HasRoomFor, IsAnswerTo}
-use Rattle.call_fs.specs.Disk.{Disk, Mode}
+use Rattle.call_fs.specs.Disk.{Disk}
+use Rattle.call_fs.specs.declared.modes.Mode.{Mode}
 use Rattle.call_fs.specs.Past.{Table, IsRunBy, Backs, Uses, UsesHeld, HoldsOf, IsFault, Makes, kept_as, held}
 use Rattle.call_fs.specs.Program.{MayCome}
 use Rattle.call_fs.specs.Told.{AnswerHasCause}
@@ -80,10 +81,10 @@ module _ {A : Type 0} (next : A → Table) (before looked after : A → List Own
   abbrev event : NeedData → Own
   event due = record { read = now; ready = ready; due = due; came = came }
 
-  due_at : (args : A) (past : List Own) → before args past → next args past now ready ≡ asked
+  pub due_at : (args : A) (past : List Own) → before args past → next args past now ready ≡ asked
   due_at args past b = sym (says args past (looks args past b) ∙ ap (λ (n : ℕ). next args past n found) present_is ∙ ap (λ (r : Ready). next args past now r) found_is)
 
-  stands_at : (args : A) (past : List Own) → before args past → after args (event asked ∷ past)
+  pub stands_at : (args : A) (past : List Own) → before args past → after args (event asked ∷ past)
   stands_at args past b =
       subst (λ (d : NeedData). after args (event d ∷ past)) (sym asked_is)
       (subst (λ (r : Ready). after args (record { read = now; ready = r; due = held; came = came } ∷ past)) found_is
@@ -170,10 +171,10 @@ module _ (old new : Outside) (read : ℕ) (ready : Ready) (moment : IsMoment rea
         makes_call None (Some e) c told made reads = absurd made
 
   -- of any other event nothing happens to the disk
-  abbrev Rests : NeedData → GotData → Type 0
+  abbrev pub Rests : NeedData → GotData → Type 0
   Rests due came = ((d : Disk) → Makes d read due came d) × (kept_as due came ≡ []) × ((c : CallData) → due ≢ needs.File c)
 
-  does_beside : (due : NeedData) (came : GotData) → Rests due came → new.disk ≡ old.disk → new.calls ≡ old.calls → new.disk_faults ≡ old.disk_faults
+  pub does_beside : (due : NeedData) (came : GotData) → Rests due came → new.disk ≡ old.disk → new.calls ≡ old.calls → new.disk_faults ≡ old.disk_faults
       → (event : Own) → event ≡ record { read = read; ready = ready; due = due; came = came }
       → Meets old.left new.left (Takes event) → old.input_faults ≤ new.input_faults → (FailsToTake event → Rose old.input_faults new.input_faults)
       → Meets old.taken new.taken (Puts event) → old.output_faults ≤ new.output_faults → (FailsToGive event → Rose old.output_faults new.output_faults)

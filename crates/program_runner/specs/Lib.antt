@@ -2,3 +2,9 @@
 pub mod Outside
 -- whole runs
 pub mod Runs
+-- the channels of a program
+pub mod Lines
+-- how a need is served
+pub mod Serving
+-- a program with channels
+pub mod Members

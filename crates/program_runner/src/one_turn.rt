@@ -19,7 +19,7 @@ pub const INPUT_READY: Ready = Ready {
 };
 
 /// One turn of a program: it is told the moment and what is ready, and does what is due: a file call, a taking of its
-/// input, a giving to its output. None then; its exit status if it has ended. Fails only for want of memory at what came of
+/// input, a giving to its output. None then; its exit status if it has ended. Fails only when out of memory at what came of
 /// a call that was made. The conditions: it may find this ready; and it stands for a run that asks for no more than
 /// that, and whose descriptors are open.
 pub fn turn<M: Machine, D: CallFs, K: Clock, S: Source, O: Sink>(
@@ -77,7 +77,7 @@ pub fn take<S: Source>(input: &mut S, most: usize, buffer: &mut [u8; PIECE]) -> 
 }
 
 /// The bytes that a read put into this buffer. The condition: they are no more than a piece.
-fn bytes_read<'b>(answer: &Answer, buffer: &'b [u8; PIECE]) -> &'b [u8]
+pub(crate) fn bytes_read<'b>(answer: &Answer, buffer: &'b [u8; PIECE]) -> &'b [u8]
     requires { HasFew answer.now }
     ensures { result.now ≡ bytes_read answer.now buffer.now }
 {

@@ -8,6 +8,7 @@
 mod host_clock;
 mod late_file;
 mod reader_source;
+mod status;
 #[cfg(test)]
 mod tests;
 mod writer_sink;
@@ -21,8 +22,8 @@ use mail_bytes::Memory;
 use mem_fs::MemFs;
 use outside::{MemPosts, MemSpawner, OpenGate, Source};
 use qmail_top::qmail;
-use queue_limits::MEMORY;
 use reader_source::ReaderSource;
+use status::status_of;
 use std::alloc::{AllocError, Global};
 use std::process::ExitCode;
 #[cfg(test)]
@@ -30,16 +31,14 @@ use std::test::Fail;
 use std::{env, io};
 use writer_sink::WriterSink;
 
+/// The program's entry, with the exit status that `program` tells.
 fn main(rt: HostRuntime) -> ExitCode {
     program(&rt)
 }
 
 /// All that the program does, and its exit status.
 fn program(rt: &HostRuntime) -> ExitCode {
-    match run(rt, rt.alloc()) {
-        Ok(status) => ExitCode::from(status),
-        Err(_) => ExitCode::from(MEMORY),
-    }
+    ExitCode::from(status_of(run(rt, rt.alloc())))
 }
 
 /// Calls `qmail` with the words of the command line and standard input.

@@ -2,15 +2,15 @@
 use Rattle.std.proofs.Common.{◌≡◌, ◌≢◌, ◌⊎◌, ℕ, List, [], ◌++◌, length, Option, Some, None, Result, Err, inl, inr, refl, sym, ◌∙◌, ap, subst, ⊎_elim, arith, length-append, ◌<◌}
 use Rattle.std.proofs.lemmas.List.{append-nil}
 use Rattle.mail_bytes.specs.Told.{Rose, Meets, OnTold}
-use Rattle.scenario.specs.Contents.{Content}
+use Rattle.play_lines.specs.Contents.{Content}
 use Rattle.qmail_top.specs.declared.play_command.Failure.{Failure}
 use Rattle.qmail_top.specs.declared.play_command.Failure.TheVariants.{Memory, Output, Input, Malformed}
-use Rattle.scenario.specs.Lines.{IsScript, IsBadLine, IsRefused, most_bytes}
+use Rattle.play_lines.specs.Lines.{IsScript, IsBadLine, IsRefused, most_bytes}
 use Rattle.mem_fs.proofs.InTurn.{told_weaker}
 use Rattle.qmail_top.specs.Command.{Counted, HasReason, status_of, IsReading, IsChecked}
-use Rattle.scenario.specs.Text.{BeginsAtMost, IsFrontAtMost, script_line, IsTakenText, PrintsBadLine}
-use Rattle.scenario.proofs.Scripts.{no_refusal}
-use Rattle.scenario.proofs.WholePlays.{front_at_most}
+use Rattle.scenario.specs.Text.{BeginsAtMost, IsPrefixAtMost, script_line, IsTakenText, PrintsBadLine}
+use Rattle.play_lines.proofs.Scripts.{no_refusal}
+use Rattle.scenario.proofs.WholePlays.{prefix_at_most}
 
 -- a script that was read is all that its source had
 reading-script : (before after bytes : List ℕ) (content : Content) → IsReading before after bytes → IsScript bytes content → ¬ (IsRefused before)
@@ -75,10 +75,10 @@ completes Input (Some script) source sink cause checked = λ content is calm qui
 completes Malformed (Some script) source sink cause checked = λ content is calm quiet. absurd (no_refusal script content is (checked.refused refl))
 completes why None source sink cause checked = tt
 
--- what was taken of a script that wasn't played to its end is a front of its text
+-- what was taken of a script that wasn't played to its end is a prefix of its text
 pub front_taken : (why : Failure) (status : ℕ) (left old new : Option (List ℕ)) → status ≡ status_of why
     → OnTold left (λ script. why ≢ Malformed → Meets old new (λ before after. (text : List ℕ) × BeginsAtMost script text × (after ≡ before ++ text)))
-    → OnTold left (λ script. status ≢ 0 → status ≢ 91 → Meets old new (λ before after. (text : List ℕ) × IsFrontAtMost script text × (after ≡ before ++ text)))
+    → OnTold left (λ script. status ≢ 0 → status ≢ 91 → Meets old new (λ before after. (text : List ℕ) × IsPrefixAtMost script text × (after ≡ before ++ text)))
 front_taken why status None old new is begins = tt
 front_taken why status (Some script) old new is begins = λ done malformed.
-    told_weaker old new (λ before after taken. (taken.0, front_at_most script taken.0 taken.1, taken.2)) (begins (λ same. malformed (is ∙ ap status_of same)))
+    told_weaker old new (λ before after taken. (taken.0, prefix_at_most script taken.0 taken.1, taken.2)) (begins (λ same. malformed (is ∙ ap status_of same)))

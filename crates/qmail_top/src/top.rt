@@ -3,9 +3,9 @@ ghost use Rattle.std.specs.Prelude.{◌≡◌, ◌≢◌, ◌⊎◌, ◌++◌, �
 ghost use Rattle.mail_bytes.specs.Told.{Rose, Meets, OnTold};
 ghost use Rattle.command_words.specs.declared.command.QueueWords.{QueueWords as Wanted};
 ghost use Rattle.command_words.specs.Reads.{IsNoCommand};
-ghost use Rattle.scenario.specs.Contents.{Content};
-ghost use Rattle.scenario.specs.Lines.{IsScript, IsRefused, most_bytes};
-ghost use Rattle.scenario.specs.Text.{Prints, IsFrontAtMost, IsTakenText, PrintsBadLine};
+ghost use Rattle.play_lines.specs.Contents.{Content};
+ghost use Rattle.play_lines.specs.Lines.{IsScript, IsRefused, most_bytes};
+ghost use Rattle.scenario.specs.Text.{Prints, IsPrefixAtMost, IsTakenText, PrintsBadLine};
 ghost use Rattle.audit_command.specs.Audited.{HasAudited};
 ghost use Rattle.qmail_top.specs.Command.{IsPlay, IsPrintedAtEnd, IsQueue, IsAudit, IsClean, HasRunQueue, NoneFailed, WasCleaned, usage_line};
 
@@ -114,7 +114,7 @@ pub fn qmail<
         (λ before after. (text : List ℕ) × Prints script text × (after ≡ before ++ text))) }
     ensures begins { IsPlay words.now → OnTold (M.left message.old) (λ script. result ≢ DONE → result ≢ MALFORMED
         → Meets (O.taken out.old) (O.taken out.new)
-        (λ before after. (text : List ℕ) × IsFrontAtMost script text × (after ≡ before ++ text))) }
+        (λ before after. (text : List ℕ) × IsPrefixAtMost script text × (after ≡ before ++ text))) }
     ensures refuses { IsPlay words.now → OnTold (M.left message.old) (λ script. result ≡ MALFORMED
         → Meets (O.taken out.old) (O.taken out.new)
         (λ before after. (text : List ℕ) × PrintsBadLine script text (Rose (O.faults out.old) (O.faults out.new))

@@ -73,7 +73,7 @@ not_some : (t : Bool) (k : ℕ) → cond t (Some k) None ≡ None → t ≡ fals
 not_some true k e = absurd (cc)
 not_some false k e = refl
 
--- where there is none, no byte is NUL
+-- if there is none, no byte is NUL
 pub plain_all : (bytes : List ℕ) → position is_nul bytes ≡ None → IsPlain bytes
 plain_all bytes e =
     let far = not_some (nat_lt (position_or_len is_nul bytes) (length bytes)) (position_or_len is_nul bytes) e in

@@ -6,7 +6,7 @@ use Rattle.call_fs.specs.declared.program.Ready.{Ready}
 use Rattle.call_fs.specs.declared.past.NeedData.{NeedData}
 use Rattle.call_fs.specs.declared.past.NeedData.TheVariants as needs
 use Rattle.call_fs.specs.declared.past.Own.{Own}
-use Rattle.call_fs.specs.Disk.{Mode}
+use Rattle.call_fs.specs.declared.modes.Mode.{Mode}
 use Rattle.call_fs.specs.Past.{UsesHeld}
 use Rattle.queue_paths.specs.Names.{path}
 use Rattle.queue_clean.specs.declared.row.Row.{Row}

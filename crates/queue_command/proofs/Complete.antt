@@ -32,7 +32,7 @@ use Rattle.queue_inject.specs.declared.injection.Arguments.{Arguments}
 use Rattle.queue_inject.specs.declared.row.Row.{Row}
 use Rattle.queue_inject.specs.declared.row.Row.TheVariants as at
 use Rattle.queue_inject.specs.Texts.{Text, limit, message_end, envelope_text, message_text, intd_text, envelope_of}
-use Rattle.queue_inject.specs.Table.{work_of, piece_size, in_message, in_todo, settled, moved, row_after, after_came, call_of}
+use Rattle.queue_inject.specs.Table.{work_of, piece_size, in_message, in_todo, past_bytes, moved, row_after, after_came, call_of}
 use Rattle.queue_inject.proofs.Pieces.{either, past_by}
 use Rattle.queue_inject.proofs.Asks.{call_at_due}
 use Rattle.queue_inject.proofs.Runs.{timely}
@@ -63,7 +63,7 @@ moves_still : (args : Arguments) (first mid last : Disk) (read : ℕ) (row : Row
     → call_of args row ≡ needs.File call → Still first mid row → Apply mid read call answer last → Still first last (moved args row answer)
 moves_still args first mid last read (at.Create k) call (Refused Exists) due here applied =
     let same : call ≡ CreateExcl (pid_name args k) = cc in
-    either (λ row. Still first last (settled (work_of args) row)) (nat_lt k 9) (at.Create (k + 1)) (at.Failed 63)
+    either (λ row. Still first last (past_bytes (work_of args) row)) (nat_lt k 9) (at.Create (k + 1)) (at.Failed 63)
     (applied.2 ∙ ap (λ c. effect mid read c (Refused Exists) applied.0) same ∙ here) tt
 moves_still args first mid last read (at.LinkMess k n fd) call Done due here applied = tt
 moves_still args first mid last read (at.UnlinkPid k n fd) call Done due here applied = message_still first last (message_text args) n fd.0 0
@@ -116,7 +116,7 @@ module _ (args : Arguments) (first : Disk) (P : CallData → Answer → Type 0) 
         (subst (λ a. Fits mid (CreateExcl (pid_name args t.0)) a applied.0) t.3
         (subst (λ c. Fits mid c h.told.answer applied.0) t.2 applied.1)))
 
--- No try fails where a pid name is free
+-- No try fails if a pid name is free
 
 free_fails_none : (args : Arguments) (old new : Option Disk) (past : List Own) (last status : ℕ)
     → args.pid < 2 ^ 32 → args.start < 2 ^ 64
@@ -133,7 +133,7 @@ free_fails_none args (Some d) (Some e) past last status low soon run led caused 
       e past run led (caused.tried h k try),
 )
 
--- No call fails but for want of memory
+-- No call fails except for lack of memory
 
 fails_none : (args : Arguments) (call : CallData) (answer : Answer) (why : FsError) → answer ≡ Refused why → IsFailure args call answer → answer ≢ Refused Memory
     → ¬ (IsFault call answer) → ¬ (IsOutOfPlace args call answer) → ¬ (IsHomeless args call answer) → ¬ (IsTaken args 9 call answer) → ⊥

@@ -22,11 +22,11 @@ use Rattle.queue_command.specs.Runs.{Outside, Who, IsPossible, HasRun}
 
 -- Which messages are queued
 
--- the creation of this pid name was refused for want of a directory
+-- the creation of this pid name was refused because a directory is missing
 abbrev pub IsHomeless : Arguments → CallData → Answer → Type 0
 IsHomeless args call answer = (k : ℕ) × IsTry k × (call ≡ CreateExcl (pid_name args k)) × (answer ≡ Refused NotThere)
 
--- Of the pid names one is free, and their directory is there; where the disk doesn't tell, its answers say so.
+-- Of the pid names one is free, and their directory is there; if the disk doesn't tell, its answers say so.
 abbrev pub HasPidName : Arguments → Option Disk → List Own → Type 0
 HasPidName args (Some d) past = Contains d.dirs (dir_of (pid_name args 1)) × (k : ℕ) × IsTry k × (d.names (pid_name args k) ≡ None)
 HasPidName args None past = (¬ (HasCall past (IsHomeless args))) × (k : ℕ) × IsTry k × (¬ (HasCall past (IsTaken args k)))

@@ -107,7 +107,7 @@ AreReadNets true place heard before after Failed =
     (mid : List ℕ) × IsNetstring before mid heard.message.bytes × IsReadNet place heard.envelope.end mid after heard.envelope.bytes Failed
 AreReadNets false place heard before after Failed = IsReadNet place heard.message.end before after heard.message.bytes Failed
 
--- A source, before and after: what it has left, where it tells, and how often it failed.
+-- A source, before and after: what it has left, if it tells, and how often it failed.
 pub record Stream : Type 0 where
   pub old : Option (List ℕ)
   pub new : Option (List ℕ)
@@ -117,7 +117,7 @@ pub record Stream : Type 0 where
 abbrev pub HasFailed : Stream → Type 0
 HasFailed stream = Rose stream.faults_old stream.faults_new
 
--- Read of a source of its own, an input isn't malformed, and couldn't be read only where the source failed, also where
+-- Read of a source of its own, an input isn't malformed, and couldn't be read only if the source failed, also if
 -- that doesn't tell what it has left.
 pub record EndsAlone (end : Option InputEnd) (stream : Stream) : Type 0 where
   pub unread : end ≡ Some Unread → HasFailed stream

@@ -185,7 +185,7 @@ kind_of_call (LinksMess k n why in_range given) = record { no_success = refl; no
 kind_of_call (MakesIntd n why given) = record { no_success = refl; no_timeout = refl; of_input = refl; of_call = refl }
 kind_of_call (LinksTodo n why given) = record { no_success = refl; no_timeout = refl; of_input = refl; of_call = refl }
 
--- a failure for want of memory has 51, any other is none for want of memory
+-- a failure that means out of memory has 51, no other has
 pub by_memory : {args : Arguments} {status : ℕ} {call : CallData} {answer : Answer} → FailsWith args status call answer → (status ≡ 51) ⊎ (answer ≢ Refused Memory)
 by_memory (WantsMemory call needed) = inl refl
 by_memory (Appends fd bytes) = inr (λ e. cc)

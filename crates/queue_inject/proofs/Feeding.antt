@@ -116,7 +116,7 @@ taken_on stage read b (Goes next) at e on = sym (sound_as (read ++ b ∷ []) (Op
 taken_on stage read b (Ends sender recipients) at e on = ends_at stage b sender recipients e ∙ at
 taken_on stage read b (Fails fault) at e on = at
 
--- one byte more, where the envelope is open
+-- one byte more, while the envelope is open
 
 pub record OnByte (most : ℕ) (read : List ℕ) (b : ℕ) : Type 0 where
   pub verdict_is : verdict_at most (read ++ b ∷ []) ≡ verdict_after (step_of (read_envelope (read ++ b ∷ []))) (ltb (length read) most)
@@ -151,7 +151,7 @@ on_byte most read b o =
     })
     (cases_lt (length read) most)
 
--- where it is no longer open
+-- if it is no longer open
 
 closed_by : (r : Reading) (b : ℕ) (next : Option ℕ) → verdict_by r None ≢ verdict.Open → (verdict_by (read_more r (b ∷ [])) next ≡ verdict_by r None) × (taken_by (read_more r (b ∷ [])) ≡ taken_by r) × (verdict_by r next ≡ verdict_by r None)
 closed_by (Whole sender recipients) b next far = (refl, refl, refl)
@@ -206,7 +206,7 @@ pub record SameMore (most : ℕ) (read more : List ℕ) : Type 0 where
   pub verdict_is : verdict_at most (read ++ more) ≡ verdict_at most read
   pub taken_is : taken_at most (read ++ more) ≡ taken_at most read
 
--- where it is no longer open, nothing changes
+-- if it is no longer open, nothing changes
 pub closed_more : (most : ℕ) (read more : List ℕ) → verdict_at most read ≢ verdict.Open → SameMore most read more
 closed_more most read [] far = record { verdict_is = ap (verdict_at most) (append-nil read); taken_is = ap (taken_at most) (append-nil read) }
 closed_more most read (b ∷ more) far =

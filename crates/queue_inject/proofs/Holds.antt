@@ -13,7 +13,8 @@ use Rattle.call_fs.specs.declared.past.NeedData.TheVariants as needs
 use Rattle.call_fs.specs.declared.past.GotData.TheVariants.{Answered}
 use Rattle.call_fs.specs.declared.past.Own.{Own}
 use Rattle.call_fs.specs.Columns.{IsAnswerTo}
-use Rattle.call_fs.specs.Disk.{Mode, IsForAppend}
+use Rattle.call_fs.specs.Disk.{IsForAppend}
+use Rattle.call_fs.specs.declared.modes.Mode.{Mode}
 use Rattle.call_fs.specs.Past.{held, held_by, held_after, UsesHeld}
 use Rattle.call_fs.proofs.Maps.{put_same}
 use Rattle.queue_paths.specs.Names.{path}
@@ -23,7 +24,7 @@ use Rattle.queue_inject.specs.declared.injection.Arguments.{Arguments}
 use Rattle.queue_inject.specs.declared.row.Row.{Row}
 use Rattle.queue_inject.specs.declared.row.Row.TheVariants as at
 use Rattle.queue_inject.specs.Texts.{Text, message_text, intd_text}
-use Rattle.queue_inject.specs.Table.{Next, work_of, call_of, moved, settled, in_message, in_todo, row_after, after_came, past_piece, piece_size, in_time, has_input, is_late}
+use Rattle.queue_inject.specs.Table.{Next, work_of, call_of, moved, past_bytes, in_message, in_todo, row_after, after_came, past_piece, piece_size, in_time, has_input, is_late}
 use Rattle.queue_inject.specs.Run.{IsRun}
 use Rattle.queue_inject.specs.Held.{HoldsRow}
 use Rattle.queue_inject.proofs.Asks.{call_at_due}
@@ -53,7 +54,7 @@ module _ (args : Arguments) (h : ℕ → Option Mode) where
   creates : (k : ℕ) (name : List ℕ) → Moves (at.Create k) (call.CreateExcl name)
   creates k name (told.Created fd n) own fit = put_same h fd.0 (Some Mode.Created)
   creates k name (told.Refused Exists) own fit =
-      elim (nat_lt k 9) as (λ t. HoldsRow h (settled (work_of args) (if t then at.Create (k + 1) else at.Failed 63))) [ true ↦ tt | false ↦ tt ]
+      elim (nat_lt k 9) as (λ t. HoldsRow h (past_bytes (work_of args) (if t then at.Create (k + 1) else at.Failed 63))) [ true ↦ tt | false ↦ tt ]
   creates k name (told.Refused NotThere) own fit = tt
   creates k name (told.Refused Fault) own fit = tt
   creates k name (told.Refused Memory) own fit = tt

@@ -173,7 +173,7 @@ todo_fault args = fault_is (read_envelope (take limit args.envelope)) (slice_get
 closed_fault : (v w : Verdict) (end : InputEnd) (fault : Option ℕ) → v ≡ w → fault_after v end ≡ fault → fault_after w end ≡ fault
 closed_fault v w end fault e h = ap (λ x. fault_after x end) (sym e) ∙ h
 
--- where the envelope is no longer open its text is all known
+-- if the envelope is no longer open its text is all known
 todo_closed : (h : Heard) (args : Arguments) (done fed : ℕ) → Reads h done (todo_head args.uid args.pid) (take fed args.envelope) → is_open h.verdict ≡ false
     → (drop done (intd_text args).bytes ≡ h.piece) × ((intd_text args).fault ≡ fault_after h.verdict args.envelope_end)
 todo_closed h args done fed r closed =

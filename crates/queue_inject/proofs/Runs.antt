@@ -24,7 +24,7 @@ use Rattle.queue_inject.specs.declared.injection.Arguments.{Arguments}
 use Rattle.queue_inject.specs.declared.row.Row.{Row}
 use Rattle.queue_inject.specs.declared.row.Row.TheVariants as at
 use Rattle.queue_inject.specs.Texts.{message_text, intd_text}
-use Rattle.queue_inject.specs.Table.{work_of, piece_size, failure, past_piece, in_message, in_todo, settled, moved, row_after, call_of, in_time}
+use Rattle.queue_inject.specs.Table.{work_of, piece_size, failure, past_piece, in_message, in_todo, past_bytes, moved, row_after, call_of, in_time}
 use Rattle.queue_inject.proofs.Pieces.{either}
 use Rattle.queue_inject.proofs.Asks.{call_at_due}
 use Rattle.queue_inject.specs.Run.{IsDue, IsRun}
@@ -136,7 +136,7 @@ module _ (args : Arguments) (before : List Own) (read : ℕ) (ready : Ready) (by
   Keeps row call = (answer : Answer) → IsAt args before row → IsAnswerTo call answer → IsAt args (with_call call answer) (moved args row answer)
 
   taken : (k : ℕ) (t : Bool) → nat_lt k 9 ≡ t → IsAt args before (at.Create k)
-      → IsAt args (with_call (CreateExcl (pid_name args k)) (Refused Exists)) (settled (work_of args) (if t then at.Create (k + 1) else at.Failed 63))
+      → IsAt args (with_call (CreateExcl (pid_name args k)) (Refused Exists)) (past_bytes (work_of args) (if t then at.Create (k + 1) else at.Failed 63))
   taken k true less (clear, in_range, below) =
       let small : k < 9 = ltb-true k 9 less in
       let low = in_range.0 in

@@ -1,6 +1,6 @@
 -- What an injector holds open: the file that it writes.
 use Rattle.std.specs.Prelude.{◌≡◌, ℕ, Option, Some}
-use Rattle.call_fs.specs.Disk.{Mode}
+use Rattle.call_fs.specs.declared.modes.Mode.{Mode}
 use Rattle.queue_inject.specs.declared.row.Row.{Row}
 use Rattle.queue_inject.specs.declared.row.Row.TheVariants as at
 

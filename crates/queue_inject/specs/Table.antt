@@ -85,14 +85,14 @@ goes_to at.Queued answer = at.Queued
 goes_to (at.Failed status) answer = at.Failed status
 
 -- what follows the written bytes of a text, by that text
-abbrev pub settled : Work → Row → Row
-settled work (at.AppendMess n fd done) = in_message work.message n fd.0 done
-settled work (at.AppendTodo n fd done) = in_todo work.todo n fd.0 done
-settled work row = row
+abbrev pub past_bytes : Work → Row → Row
+past_bytes work (at.AppendMess n fd done) = in_message work.message n fd.0 done
+past_bytes work (at.AppendTodo n fd done) = in_todo work.todo n fd.0 done
+past_bytes work row = row
 
 -- the row after an answer
 abbrev pub answered : Work → Row → Answer → Row
-answered work row answer = settled work (goes_to row answer)
+answered work row answer = past_bytes work (goes_to row answer)
 
 abbrev pub moved : Arguments → Row → Answer → Row
 moved args row answer = answered (work_of args) row answer

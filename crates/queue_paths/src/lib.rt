@@ -6,7 +6,9 @@
 #![tactic(auto)]
 
 mod dirs;
+mod laws;
 mod names;
 
 pub use dirs::{FLAT_DIRS, SPLIT_DIRS, SPLITS, queue_dirs, split_dir, splits_are_23};
-pub use names::{Name, names_are_exact, parse, path, split};
+pub use laws::names_are_exact;
+pub use names::{Name, parse, path, split};

@@ -1,7 +1,7 @@
 // The names of the queue's files.
 ghost use Rattle.std.specs.Prelude.{◌≡◌, ◌≢◌, ◌<◌, slice_index, EachIndex, MatchOption, ℕ, ◌+◌, ◌≤◌, ◌++◌, ◌∷◌, List, ◌↔◌, IsTrue, length, option_map};
 ghost use Rattle.mail_bytes.specs.Decimal.{digits};
-ghost use Rattle.queue_paths.specs.Names.{name_of, path, split, split_text, before, after, is_used, is_number, used_name, NamesAreExact};
+ghost use Rattle.queue_paths.specs.Names.{name_of, path, split, split_text, before, after, is_used, is_number, used_name};
 ghost use Rattle.queue_paths.specs.Names.Name.{Pid as PidName};
 
 use crate::dirs::SPLITS;
@@ -131,14 +131,14 @@ pub fn parse(text: &[u8]) -> Option<Name>
 fn flat_number(text: &[u8], dir: &[u8]) -> Option<u64>
     ensures { (n : ℕ) → (result ≡ Some n) ↔ (IsTrue (is_number n) × (text.now ≡ dir.now ++ digits n)) }
 {
-    number(behind(text, dir)?)
+    number(rest_after(text, dir)?)
 }
 
 /// The number of a text that is a directory, a message number's split and that number.
 fn split_number(text: &[u8], dir: &[u8]) -> Option<u64>
     ensures { (n : ℕ) → (result ≡ Some n) ↔ (IsTrue (is_number n) × (text.now ≡ dir.now ++ split_text n)) }
 {
-    let (dir, text) = cut(behind(text, dir)?, b'/')?;
+    let (dir, text) = cut(rest_after(text, dir)?, b'/')?;
     let n = number(text)?;
     if undec(dir) == Some(split(n)) {
         Some(n)
@@ -153,7 +153,7 @@ fn pid_name(text: &[u8]) -> Option<Name>
     ensures all { (pid start seq : ℕ) → IsTrue (is_used (PidName pid start seq)) → text.now ≡ path (PidName pid start seq)
         → result ≡ Some (Name.Pid pid start seq) }
 {
-    let (pid, text) = cut(behind(text, b"pid/")?, b'.')?;
+    let (pid, text) = cut(rest_after(text, b"pid/")?, b'.')?;
     let (start, seq) = cut(text, b'.')?;
     let (pid, start, seq) = (undec(pid)?, undec(start)?, undec(seq)?);
     if pid > u64::from(u32::MAX) || seq == 0 || seq > 9 {
@@ -175,7 +175,7 @@ fn number(text: &[u8]) -> Option<u64>
 }
 
 /// What stands after a directory's name.
-fn behind<'a>(text: &'a [u8], dir: &[u8]) -> Option<&'a [u8]>
+fn rest_after<'a>(text: &'a [u8], dir: &[u8]) -> Option<&'a [u8]>
     ensures { MatchOption result ((rest : List ℕ) → text.now ≢ dir.now ++ rest) (λ rest. text.now ≡ dir.now ++ rest.now) }
 {
     text.strip_prefix(dir)
@@ -198,8 +198,3 @@ fn first(text: &[u8], sep: u8) -> Option<usize>
 {
     text.iter().position(|byte| *byte == sep)
 }
-
-/// Each name has one text, and each text at most one name.
-pub fn names_are_exact()
-    ensures { NamesAreExact }
-{}

@@ -24,7 +24,7 @@ use Rattle.queue_states.proofs.Gathered.{none_found}
 use Rattle.queue_states.proofs.MessageFiles.{lies_in}
 use Rattle.queue_states.proofs.Searches.{told_both, told_each}
 
--- the state of files that are there just where these tests say so
+-- the state of files that are there just if these tests say so
 state_same : (files : Files) (test : Part → Bool) → ((part : Part) → has files part ≡ test part)
     → state_with files ≡ state_by (test Mess) (test Intd) (test Todo) (test Info) (test Local) (test Remote) (test Bounce)
 state_same files test same =

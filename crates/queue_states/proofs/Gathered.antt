@@ -149,7 +149,7 @@ noted_nothing found = record {
 
 -- The names of a directory
 
--- the file of this name of a directory was noted, where it is one
+-- the file of this name of a directory was noted, if it is one
 abbrev pub IsNoted : List ℕ → BTreeMap ℕ Files → List ℕ → Type 0
 IsNoted dir found name = (part : Part) (n : ℕ) → used_name (dir ++ 47 ∷ name) ≡ Some (Of part n) → is_found found part n ≡ true
 

@@ -85,7 +85,7 @@ found_more d dir names last name found next =
           (found.others other stands);
     }
 
--- all, where no other stands after the last one
+-- all, if no other stands after the last one
 pub found_all : (d : Disk) (dir : List ℕ) (names : List (List ℕ)) (last : List ℕ) → Found d dir names last → IsLastName d dir last → AreNamesIn d dir names
 found_all d dir names last found none = record {
   each = λ name. (

@@ -8,12 +8,14 @@ use Rattle.mail_bytes.specs.Told.{Meets, OnTold, Records, Rose}
 use Rattle.call_fs.specs.declared.calls.FsError.{FsError}
 use Rattle.call_fs.specs.declared.calls.FsError.TheVariants as failed
 use Rattle.call_fs.specs.declared.calls.CallData.TheVariants.{NextName}
+use Rattle.call_fs.specs.declared.calls.Answer.{Answer}
 use Rattle.call_fs.specs.declared.calls.Recorded.{Recorded}
 use Rattle.call_fs.specs.Disk.{Disk}
 use Rattle.call_fs.specs.Calls.{entry, next_found}
 use Rattle.call_fs.specs.Apply.{Apply, Fits}
-use Rattle.call_fs.specs.Columns.{IsUnchanged}
-use Rattle.call_fs.specs.Told.{HasCause}
+use Rattle.call_fs.specs.Columns.{IsFound}
+use Rattle.call_fs.specs.Told.{AnswerHasCause}
+use Rattle.call_fs.proofs.Meanings.{means_look}
 use Rattle.queue_states.specs.declared.outcome.AuditError.{AuditError}
 use Rattle.queue_states.specs.declared.outcome.AuditError.TheVariants.{Fault, Missing, Memory}
 use Rattle.queue_states.specs.Searches.{DiskTold, IsSearch, AreSearches, IsSearched, IsWhy, HasSearched, IsWhyOf}
@@ -115,11 +117,29 @@ dir_more old now dirs i dir at same within is read there told =
 
 -- One search
 
-same_disk : (old new : Option Disk) → IsUnchanged old new → new ≡ old
-same_disk None None h = refl
-same_disk None (Some y) h = absurd h
-same_disk (Some x) None h = absurd h
-same_disk (Some x) (Some y) h = ap Some h
+-- it changes nothing
+same_disk : (old new : Option Disk) (dir after : List ℕ) (answer : Answer) → Meets old new (λ before later. Apply before 0 (NextName dir after) answer later) → new ≡ old
+same_disk None None dir after answer h = refl
+same_disk None (Some y) dir after answer h = absurd h
+same_disk (Some x) None dir after answer h = absurd h
+same_disk (Some x) (Some y) dir after answer h = ap Some (means_look x y 0 (NextName dir after) answer h tt)
+
+-- what it found
+found_fits : (d : Disk) (dir after name : List ℕ) (found : Bool) (wrote : ℕ) → Fits d (NextName dir after) (next_found (Ok found) name) wrote → IsFound d dir after found name
+found_fits d dir after name true wrote fits = fits.1
+found_fits d dir after name false wrote fits = fits.1
+
+told_found : (old new : Option Disk) (dir after name : List ℕ) (found : Bool) → Meets old new (λ before later. Apply before 0 (NextName dir after) (next_found (Ok found) name) later)
+    → OnTold old (λ d. IsFound d dir after found name)
+told_found None new dir after name found told = tt
+told_found (Some d) None dir after name found told = absurd told
+told_found (Some d) (Some e) dir after name found told = found_fits d dir after name found told.0 told.1
+
+pub has_found : (old new : Option Disk) (dir after name : List ℕ) (answer : Result Bool FsError) → Meets old new (λ before later. Apply before 0 (NextName dir after) (next_found answer name) later)
+    → (result : Result Bool AuditError) → IfOk result (λ found. answer ≡ Ok found) → IfOk result (λ found. OnTold old (λ d. IsFound d dir after found name))
+has_found old new dir after name answer told (Ok found) is =
+    told_found old new dir after name found (subst (λ (a : Result Bool FsError). Meets old new (λ before later. Apply before 0 (NextName dir after) (next_found a name) later)) is told)
+has_found old new dir after name answer told (Err why) is = tt
 
 -- what an answer says of its directory
 dir_there : (d : Disk) (dir after name : List ℕ) (found : Bool) (wrote : ℕ) → Fits d (NextName dir after) (next_found (Ok found) name) wrote → Contains d.dirs dir
@@ -141,7 +161,7 @@ told_missing (Some d) (Some e) dir after name told = told.1
 one : (x : List ℕ) → Contains (x ∷ []) x
 one x = (0, omega arith, refl)
 
-module _ (dir after name : List ℕ) (old new : DiskTold) (answer : Result Bool FsError) (told : Meets old.disk new.disk (λ before later. Apply before 0 (NextName dir after) (next_found answer name) later)) (cause : HasCause old.faults new.faults answer) where
+module _ (dir after name : List ℕ) (old new : DiskTold) (answer : Result Bool FsError) (told : Meets old.disk new.disk (λ before later. Apply before 0 (NextName dir after) (next_found answer name) later)) (cause : AnswerHasCause old.faults new.faults (next_found answer name)) where
   there_by : (result : Result Bool AuditError) → IfOk result (λ found. answer ≡ Ok found) → IfOk result (λ _. OnTold old.disk (λ d. All (Contains d.dirs) (dir ∷ [])))
   there_by (Ok found) is =
       told_there old.disk new.disk dir after name found
@@ -149,7 +169,7 @@ module _ (dir after name : List ℕ) (old new : DiskTold) (answer : Result Bool 
   there_by (Err why) is = tt
 
   why_by : (why : AuditError) → IsWhyOf dir answer why → IsWhy (dir ∷ []) old new why
-  why_by Fault is = cause.rose is
+  why_by Fault is = cause.rose (ap (λ (a : Result Bool FsError). next_found a name) is)
   why_by (Missing missing) is = (
     subst (Contains (dir ∷ [])) (sym is.1) (one dir),
     subst (λ (t : List ℕ). OnTold old.disk (λ d. ¬ (Contains d.dirs t))) (sym is.1)
@@ -162,11 +182,11 @@ module _ (dir after name : List ℕ) (old new : DiskTold) (answer : Result Bool 
   why_of (Ok found) is = tt
   why_of (Err why) is = why_by why is
 
-  pub has_searched : (result : Result Bool AuditError) → IsUnchanged old.disk new.disk → Records old.calls new.calls (entry (NextName dir after) (next_found answer name))
+  pub has_searched : (result : Result Bool AuditError) → Records old.calls new.calls (entry (NextName dir after) (next_found answer name))
       → IfOk result (λ found. answer ≡ Ok found) → IfErr result (IsWhyOf dir answer) → HasSearched (dir ∷ []) old new result
-  has_searched result same kept ok why = record {
+  has_searched result kept ok why = record {
     only = record {
-      same = same_disk old.disk new.disk same;
+      same = same_disk old.disk new.disk dir after (next_found answer name) told;
       asked = one_search old.calls new.calls _ (dir, after, refl) kept;
       later = cause.later;
     };

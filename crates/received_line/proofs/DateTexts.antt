@@ -1,4 +1,4 @@
--- The parts of a date, written behind one another.
+-- The parts of a date, written one after the other.
 use Rattle.std.proofs.Common.{◌≡◌, ℕ, ◌+◌, ◌-◌, ◌/◌, ◌%◌, ◌<◌, ◌≤◌, List, [], ◌∷◌, ◌++◌, sym, ap, ◌∙◌, arith, ltb, codes}
 use Rattle.std.specs.Prelude.{if◌then◌else◌, Result, Ok, Err, is_ok, OnOk}
 use Rattle.std.proofs.lemmas.Bool.{cond-true, lt-ltb}
@@ -47,7 +47,7 @@ date_written moment old a b year month day hour minute second first of eh em es 
     ∙ ap (λ m. old ++ whole (day_of moment) (moment % 86400 / 3600) m second) em
     ∙ ap (λ s. old ++ whole (day_of moment) (moment % 86400 / 3600) (moment % 3600 / 60) s) es
 
--- what an extend leaves where it is Ok
+-- what an extend leaves if it is Ok
 pub on_ok_items : {T E : Type 0} (r : Result T E) (new old more : List ℕ) → new ≡ (if is_ok r then old ++ more else old) → OnOk r (new ≡ old ++ more)
 on_ok_items (Ok x) new old more h = h
 on_ok_items (Err e) new old more h = tt

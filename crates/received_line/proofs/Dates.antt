@@ -50,7 +50,7 @@ later_year y later h = day_count-later_year (pos y) (pos later) (omega (arith, s
 same_day : (y m n : ℕ) (a b : ℕ) → m ≡ n → a ≡ b → ◌≡◌ {A = Day} (record { year = y; month = m; day = a }) (record { year = y; month = n; day = b })
 same_day y m n a b e f = λ i. record { year = y; month = e i; day = f i }
 
--- Counting from a month on leads to a later month of the year, where the days before both agree.
+-- Counting from a month on leads to a later month of the year, if the days before both agree.
 in_months-at : (most y from days m rest : ℕ) → from ≤ m → m ≤ from + most → m < 12 → before_month y from + days ≡ before_month y m + rest → rest < days_in_month y m → in_months most y from days ≡ record { year = y; month = m; day = rest }
 unfolding in_months
 in_months-at zero y from days m rest low high last e short =

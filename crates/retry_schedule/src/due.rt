@@ -116,6 +116,7 @@ impl Due {
     }
 }
 
+/// Whether a number has an entry.
 fn is_due(entries: &[(u64, u64)], n: u64) -> bool
     ensures { result ≡ is_due n entries.now }
 {
@@ -137,7 +138,7 @@ fn take_out(entries: &mut Vec<(u64, u64)>, n: u64) -> usize
     all - entries.as_slice().len()
 }
 
-// The condition: there is room.
+/// Puts an entry in. The conditions: its number has none, and there is room.
 fn put_back(entries: &mut Vec<(u64, u64)>, entry: (u64, u64))
     requires schedule { IsSchedule entries.old.items }
     requires free { IsFree entry.1 entries.old.items }
@@ -148,7 +149,7 @@ fn put_back(entries: &mut Vec<(u64, u64)>, entry: (u64, u64))
     put(entries, entry).unwrap();
 }
 
-// It needs memory only when the room is full.
+/// Puts an entry in. The condition: its number has none. It needs memory only when the room is full.
 fn put(entries: &mut Vec<(u64, u64)>, entry: (u64, u64)) -> Result<(), AllocError>
     requires schedule { IsSchedule entries.old.items }
     requires free { IsFree entry.1 entries.old.items }
@@ -162,7 +163,7 @@ fn put(entries: &mut Vec<(u64, u64)>, entry: (u64, u64)) -> Result<(), AllocErro
     Ok(())
 }
 
-// How many entries are before this one.
+/// How many entries are before this one.
 fn place(entries: &[(u64, u64)], entry: (u64, u64)) -> usize
     requires order { IsInOrder entries.now }
     requires free { IsFree entry.1 entries.now }
@@ -172,12 +173,14 @@ fn place(entries: &[(u64, u64)], entry: (u64, u64)) -> usize
     entries.partition_point(|other| is_before(*other, entry))
 }
 
+/// Whether the first of two entries is due before the second; of two that are due at once the one with the lesser number is.
 fn is_before(a: (u64, u64), b: (u64, u64)) -> bool
     ensures { result ≡ before a b }
 {
     a.0 < b.0 || (a.0 == b.0 && a.1 < b.1)
 }
 
+/// The first entry, if it is due by now.
 fn first_of(entries: &[(u64, u64)], now: u64) -> Option<(u64, u64)>
     requires { IsInOrder entries.now }
     ensures first { IsFirst now entries.now result }
@@ -187,6 +190,7 @@ fn first_of(entries: &[(u64, u64)], now: u64) -> Option<(u64, u64)>
     if entry.0 <= now { Some(*entry) } else { None }
 }
 
+/// When a number is due; `None` exactly when it has no entry.
 fn due_in(entries: &[(u64, u64)], n: u64) -> Option<u64>
     ensures { IsDueOf n entries.now result }
 {
@@ -197,18 +201,3 @@ fn due_in(entries: &[(u64, u64)], n: u64) -> Option<u64>
     }
     None
 }
-
-/// What adding and removing do to the entries, and that at most one is first.
-pub fn entries_are_exact()
-    ensures added { (e o : ℕ × ℕ) (es : List (ℕ × ℕ)) →
-        Contains (added e es) o ↔ ((o ≡ e) ⊎ Contains es o) }
-    ensures removed { (n : ℕ) (o : ℕ × ℕ) (es : List (ℕ × ℕ)) →
-        Contains (removed n es) o ↔ (Contains es o × (o.1 ≢ n)) }
-    ensures adds { (e : ℕ × ℕ) (es : List (ℕ × ℕ)) →
-        IsSchedule es → IsFree e.1 es → IsSchedule (added e es) }
-    ensures removes { (n : ℕ) (es : List (ℕ × ℕ)) →
-        IsSchedule es → IsSchedule (removed n es) }
-    ensures frees { (n : ℕ) (es : List (ℕ × ℕ)) → IsFree n (removed n es) }
-    ensures first { (now : ℕ) (es : List (ℕ × ℕ)) (a b : Option (ℕ × ℕ)) →
-        IsFirst now es a → IsFirst now es b → a ≡ b }
-{}

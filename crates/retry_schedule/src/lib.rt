@@ -6,7 +6,9 @@
 #![tactic(auto)]
 
 mod due;
+mod laws;
 mod retry;
 
-pub use due::{Due, entries_are_exact};
-pub use retry::{next_retry, root, roots_are_exact};
+pub use due::Due;
+pub use laws::{entries_are_exact, roots_are_exact};
+pub use retry::{next_retry, root};

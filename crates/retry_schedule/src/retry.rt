@@ -24,11 +24,3 @@ pub fn next_retry(birth: u64, now: u64, skip: u64) -> u64
     let step = root(now.saturating_sub(birth)) + skip;
     birth + step * step
 }
-
-/// Each number has one root, and what is the greatest is that one.
-pub fn roots_are_exact()
-    ensures is { (x : ℕ) → IsRoot x (root x) }
-    ensures one { (x r : ℕ) → IsRoot x r → r ≡ root x }
-    // As it is looked for: the square of the next number is too much.
-    ensures next { (x r : ℕ) → r * r ≤ x → x < (r + 1) * (r + 1) → IsRoot x r }
-{}

@@ -20,7 +20,7 @@ IsPlain (call.ReadAt fd at len) = ⊥
 IsPlain (call.Close fd) = ⊥
 IsPlain other = Unit {0}
 
--- it fails where it is the chosen call, and only there
+-- it fails if it is the chosen call, and only then
 abbrev FailsWhereChosen : Plan → Answer → Type 0
 FailsWhereChosen plan answer = (answer ≡ Refused Fault) ↔ (plan.fault ≡ Some 1)
 
@@ -43,7 +43,7 @@ by_call P closes counts (call.Unlink name) = counts (call.Unlink name)
 by_call P closes counts (call.Stat name) = counts (call.Stat name)
 by_call P closes counts (call.NextName dir last) = counts (call.NextName dir last)
 
--- a call that is no close fails where it is the chosen one
+-- a call that is no close fails if it is the chosen one
 pub counted : (c : CallData) → IsPlain c → (plan : Plan) (answer : Answer) → FailsWhereChosen plan answer → FailsBy c plan answer
 counted = by_call
     (λ c fails left keeps. IsPlain c → (plan : Plan) (answer : Answer) → FailsWhereChosen plan answer → fails plan answer)
@@ -63,7 +63,7 @@ fail_both = by_call
     (λ other. inr ((λ e. other (p.0 e)), (λ e. other (q.0 e))))
     (tells_number plan.fault 1))
 
--- what a disk did that keeps its plan, where the call fails so, and leaves this of the plan
+-- what a disk did that keeps its plan, if the call fails so, and leaves this of the plan
 pub record IsDoneBy (plan : Plan) (left : Option Plan) (failing : Type 0) (next : Plan) (d after : Disk) (answer : Answer) : Type 0 where
   pub planned : left ≡ Some next
   pub fails : failing

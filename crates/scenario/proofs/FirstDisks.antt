@@ -1,4 +1,4 @@
--- Entries make a disk, where they are fewer than the numbers: each new file takes the greatest number that none before
+-- Entries make a disk, if they are fewer than the numbers: each new file takes the greatest number that none before
 -- it took.
 use Rattle.std.proofs.Common.{◌≡◌, inl, inr, ⊎_elim, ℕ, ◌+◌, ◌-◌, ◌<◌, ◌≤◌, ◌^◌, List, [], ◌∷◌, ◌++◌, length, Option, Some, None, refl, sym, ap, ◌∙◌, arith}
 use Rattle.std.proofs.lemmas.Bool.{cases_eq}

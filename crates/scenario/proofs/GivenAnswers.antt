@@ -1,4 +1,4 @@
--- Each call that an injector makes has an answer of a disk that fails only where it is chosen.
+-- Each call that an injector makes has an answer of a disk that fails only if it is chosen.
 use Rattle.std.proofs.Common.{◌≡◌, ◌≢◌, inl, inr, ⊎_elim, ℕ, List, Bool, true, false, Option, Some, None, refl, arith}
 use Rattle.call_fs.specs.declared.calls.FsError.TheVariants as why
 use Rattle.call_fs.specs.declared.calls.CallData.{CallData}

@@ -46,7 +46,7 @@ passing P tells (y ∷ xs) =
     (tells y)
 
 module _ {K : Type 0} (R : K → K → Ordering) (total : IsTotalOrder R) (exact : (a b : K) → R a b ≡ Equal → a ≡ b) where
-  -- each item lies below all behind it
+  -- each item lies below all after it
   abbrev Rises : List K → Type 0
   Rises [] = Unit {0}
   Rises (x ∷ xs) = ((y : K) → Among y xs → R x y ≡ Less) × Rises xs

@@ -1,20 +1,8 @@
--- names of actors
-pub mod ActorNames
--- lines that start a mail
-pub mod MailLines
--- how lines begin
-pub mod LineHeads
--- lists cut in two, and what stands beside them
-pub mod Divisions
--- texts that are the entries and lines of a script
-pub mod ContentTexts
--- the texts of a script
-pub mod Scripts
 -- what is printed
 pub mod Printed
 -- the directories of each script's disk
 pub mod Dirs
--- directories that are made where they are missing, and entries
+-- directories that are made if they are missing, and entries
 pub mod MadeDirs
 -- a step of a world, as a step of a script
 pub mod ScriptSteps
@@ -26,12 +14,6 @@ pub mod ScriptLines
 pub mod StopsAndMoments
 -- the events that a line adds
 pub mod Tracings
--- the fates of kept events
-pub mod KeptFates
--- the recipients of an envelope, counted
-pub mod Recipients
--- the fates of kept events are those of the history
-pub mod MailFates
 -- what was printed is what a history shows
 pub mod Showings
 -- lists in one strict order with the same members are one
@@ -42,8 +24,6 @@ pub mod OneAnswer
 pub mod OneStep
 -- what is shown is one text
 pub mod OneShown
--- a text is one line, and bytes are one list of texts
-pub mod OneLine
 -- a script prints one text
 pub mod OneText
 -- lists in order, each item once
@@ -60,7 +40,7 @@ pub mod CountedCalls
 pub mod LastingFiles
 -- the least free number and descriptor
 pub mod LeastFree
--- the answers of a disk that fails only where it is chosen
+-- the answers of a disk that fails only if it is chosen
 pub mod GivenAnswers
 -- the names of a directory and the numbers in use, listed
 pub mod Listings
@@ -72,8 +52,6 @@ pub mod FirstDisks
 pub mod OneFirstDisk
 -- a history may begin with it
 pub mod Openings
--- what bytes say as a script
-pub mod SaidContents
 -- each script has a text
 pub mod WholePlays
 -- what a sink took of a line

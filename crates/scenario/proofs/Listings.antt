@@ -23,7 +23,7 @@ some_of : (o : Option ℕ) → IsSome o → (n : ℕ) × (o ≡ Some n)
 some_of None there = absurd (cc)
 some_of (Some n) there = (n, refl)
 
--- what the texts have behind a directory and a slash
+-- what the texts have after a directory and a slash
 abbrev parts_of : List ℕ → List (List ℕ) → List (List ℕ)
 parts_of dir [] = []
 parts_of dir (text ∷ texts) = drop (suc (length dir)) text ∷ parts_of dir texts

@@ -1,4 +1,4 @@
--- Directories that are made where they are missing, and entries, one after the other.
+-- Directories that are made if they are missing, and entries, one after the other.
 use Rattle.std.proofs.Common.{◌≡◌, ℕ, ◌+◌, ◌<◌, List, [], ◌∷◌, ◌++◌, length, map, take, get_or, Bool, true, false, if◌then◌else◌, ◌==◌, Option, Some, None, refl, sym, ap, ◌∙◌, subst, append_assoc}
 use Rattle.std.proofs.lemmas.List.{append-nil, map-append, take_more}
 use Rattle.std.proofs.lemmas.Bool.Decides.{Decides-eqb}
@@ -18,7 +18,7 @@ made_both a mid b (dir ∷ dirs) more first rest = (first.0, first.1, made_both 
 pub made_more : (a mid b : Disk) (dirs : List (List ℕ)) (dir : List ℕ) → AreMade a dirs mid → HasMade mid dir b → AreMade a (dirs ++ dir ∷ []) b
 made_more a mid b dirs dir first one = made_both a mid b dirs (dir ∷ []) first (b, one, refl)
 
--- the directory that ends before a byte, where that byte is `/`
+-- the directory that ends before a byte, if that byte is `/`
 abbrev ended_by : Bool → List ℕ → List (List ℕ)
 ended_by slash dir = if slash then dir ∷ [] else []
 
@@ -81,7 +81,7 @@ entered_to a mid b entries i entry within is first one =
     subst (λ (l : List Entry). EntersAll a l b) (sym (take_more entries i entry within ∙ ap (λ (e : Entry). take i entries ++ e ∷ []) (sym is)))
     (entered_both a mid b (take i entries) (entry ∷ []) first (b, one, refl))
 
--- a directory is put on a disk behind those above it
+-- a directory is put on a disk after those above it
 pub entered_dir : (a mid b : Disk) (entry : Entry) (path above own : List ℕ) → entry ≡ Dir path → above ≡ path → own ≡ path
     → AreMade a (dirs_above above) mid → HasMade mid own b → Enters a entry b
 entered_dir a mid b entry path above own is over it first one =

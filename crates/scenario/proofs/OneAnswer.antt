@@ -1,4 +1,4 @@
--- A disk that fails only where it is chosen, and has memory, gives a call one answer.
+-- A disk that fails only if it is chosen, and has memory, gives a call one answer.
 use Rattle.std.proofs.Common.{◌≡◌, ◌≢◌, ◌⊎◌, ℕ, ◌≤◌, min, List, length, Option, Some, None, IsSome, Contains, true, false, is_gt, refl, sym, ap, ◌∙◌, inl, inr, ⊎_elim}
 use Rattle.std.specs.Ordering.{nat_cmp, ordering_reverse}
 use Rattle.std.specs.Cmp.Lexicographic.{slice_cmp}

@@ -37,7 +37,7 @@ module _ {X : Type 0} (R : X → X → Type 0) (asymmetric : (x y : X) → R x y
       (split-member x xs y ((each y).1 (first-member y ys))))
       (split-member y ys x ((each x).0 (first-member x xs)))
 
-  -- what is behind the first of one list is behind the first of the other
+  -- what is after the first of one list is after the first of the other
   behind : (x y : X) (xs ys : List X) (z : X) → x ≡ y → AllPairs R (x ∷ xs) → (Contains (x ∷ xs) z → Contains (y ∷ ys) z) → Contains xs z → Contains ys z
   behind x y xs ys z same p other h =
       ⊎_elim

@@ -62,7 +62,7 @@ same_steps d h plan a (x ∷ e) (y ∷ f) p q same =
     let first : x ≡ y = cc in
     ap (λ (b : Event). b ∷ e) first ∙ ap (λ (g : List Event). y ∷ g) rest
 
--- where there are more steps, one more comes behind the fewer
+-- if there are more steps, one more comes after the fewer
 one_more : (d : Disk) (h : List Event) (plan : Plan) (a : List ℕ) (e f : List Event) → AreSteps d h plan a e → AreSteps d h plan a f → length e < length f → (event : Event) × StepsTo (plan_through plan e) (after d (e ++ h)) a (Happens event)
 one_more d h plan a e [] p q fewer = absurd (omega arith)
 one_more d h plan a e (y ∷ f) p q fewer =

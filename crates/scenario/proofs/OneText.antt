@@ -10,18 +10,24 @@ use Rattle.mail_world.specs.History.Event.{Halt}
 use Rattle.mail_world.specs.History.Life.{Alive, Over, Stopped}
 use Rattle.mail_world.specs.World.{mail}
 use Rattle.script_words.specs.declared.entry.Entry.{Entry}
-use Rattle.scenario.specs.declared.line.Line.{Line}
-use Rattle.scenario.specs.declared.line.Line.TheVariants as line
-use Rattle.scenario.specs.Contents.{Content}
+use Rattle.play_lines.specs.declared.line.Line.{Line}
+use Rattle.play_lines.specs.declared.line.Line.TheVariants as line
+use Rattle.play_lines.specs.declared.keyword.Alone.TheVariants as alone
+use Rattle.play_lines.specs.declared.keyword.OfActor.TheVariants as of_actor
+use Rattle.play_lines.specs.declared.keyword.OfCount.TheVariants as of_count
+use Rattle.play_lines.specs.declared.keyword.OfMoment.TheVariants as of_moment
+use Rattle.play_lines.specs.declared.keyword.OfSurvival.TheVariants as of_survival
+use Rattle.play_lines.specs.declared.keyword.OfWord.TheVariants as of_word
+use Rattle.play_lines.specs.Contents.{Content}
 use Rattle.scenario.specs.FirstDisk.{IsFirstDisk}
 use Rattle.scenario.specs.Played.{Outcome, StopsAlive, StopComesTo, MomentComesTo, NumberComesTo, plan_after, outcome_events, printed, next_pid, Plays, PlaysAll}
 use Rattle.scenario.specs.Traced.{traced_after, traced_text}
-use Rattle.scenario.specs.Text.{IsPlayed, Prints, IsBegun, BeginsToPrint, IsFront}
+use Rattle.scenario.specs.Text.{IsPlayed, Prints, IsBegun, BeginsToPrint, IsPrefix}
 use Rattle.scenario.proofs.OneStep.{one_step, one_start, one_run}
 use Rattle.scenario.proofs.OneShown.{one_shown}
 use Rattle.scenario.proofs.OneOrder.{one_order}
 use Rattle.scenario.proofs.OneFirstDisk.{one_disk}
-use Rattle.scenario.proofs.SaidContents.{one_script}
+use Rattle.play_lines.proofs.SaidContents.{one_script}
 
 -- the named numbers are one list
 one_named : (d : Disk) (xs ys : List ℕ) → AreNamed d xs → AreNamed d ys → xs ≡ ys
@@ -59,21 +65,21 @@ one_number_text d n t u (inr p) (inr q) = p.1 ∙ sym q.1
 one_play : (d : Disk) (h : List Event) (plan : Plan) (l : Line) (e f : List Event) (t u : List ℕ) → Plays d h plan l e t → Plays d h plan l f u → (e ≡ f) × (t ≡ u)
 one_play d h plan (line.Mail name message envelope) e f t u p q =
     by_outcome name p.0 q.0 e f t u (one_start (after d h) name (mail (next_pid h) (after d h).now message envelope) p.0 q.0 p.1 q.1) p.2 q.2 p.3 q.3
-one_play d h plan (line.Step actor) e f t u p q = by_outcome actor p.0 q.0 e f t u (one_step plan (after d h) actor p.0 q.0 p.1 q.1) p.2 q.2 p.3 q.3
-one_play d h plan (line.Run actor) e f t u p q = one_run d h plan actor e f t u p q
-one_play d h plan (line.Stop actor) e f t u p q =
+one_play d h plan (line.Actor of_actor.Step actor) e f t u p q = by_outcome actor p.0 q.0 e f t u (one_step plan (after d h) actor p.0 q.0 p.1 q.1) p.2 q.2 p.3 q.3
+one_play d h plan (line.Actor of_actor.Run actor) e f t u p q = one_run d h plan actor e f t u p q
+one_play d h plan (line.Actor of_actor.Stop actor) e f t u p q =
     by_outcome actor p.0 q.0 e f t u (one_stop actor ((after d h).actors actor) p.0 q.0 p.1 q.1) p.2 q.2 p.3 q.3
-one_play d h plan (line.Halt how) e f t u p q =
+one_play d h plan (line.Survival of_survival.Halt how) e f t u p q =
     let now = (after d h).disk in
     let same : p.0 ≡ q.0 = one_named now p.0 q.0 p.1 q.1 in
     (p.2 ∙ ap (λ (named : List ℕ). Halt how (contents_by how now named) ∷ []) same ∙ sym q.2, p.3 ∙ sym q.3)
-one_play d h plan (line.Fault k) e f t u p q = (p.0 ∙ sym q.0, p.1 ∙ sym q.1)
-one_play d h plan (line.Number n) e f t u p q = (p.0 ∙ sym q.0, one_number_text (after d h).disk n t u p.1 q.1)
-one_play d h plan (line.Moment m) e f t u p q =
+one_play d h plan (line.Count of_count.Fault k) e f t u p q = (p.0 ∙ sym q.0, p.1 ∙ sym q.1)
+one_play d h plan (line.Count of_count.Number n) e f t u p q = (p.0 ∙ sym q.0, one_number_text (after d h).disk n t u p.1 q.1)
+one_play d h plan (line.Moment of_moment.Moment m) e f t u p q =
     by_outcome (digits (after d h).now) p.0 q.0 e f t u (one_moment (after d h).now m p.0 q.0 p.1 q.1) p.2 q.2 p.3 q.3
-one_play d h plan line.Trace e f t u p q = (p.0 ∙ sym q.0, p.1 ∙ sym q.1)
-one_play d h plan (line.Cat path) e f t u p q = (p.0 ∙ sym q.0, p.1 ∙ sym q.1)
-one_play d h plan line.Show e f t u p q = (p.0 ∙ sym q.0, one_shown d h t u p.1 q.1)
+one_play d h plan (line.Alone alone.Trace) e f t u p q = (p.0 ∙ sym q.0, p.1 ∙ sym q.1)
+one_play d h plan (line.Word of_word.Cat path) e f t u p q = (p.0 ∙ sym q.0, p.1 ∙ sym q.1)
+one_play d h plan (line.Alone alone.Show) e f t u p q = (p.0 ∙ sym q.0, one_shown d h t u p.1 q.1)
 
 -- what a line prints, of the events that it adds and of itself
 same_print : (traced : Bool) (e f : List Event) (t u : List ℕ) → (e ≡ f) × (t ≡ u) → traced_text traced e ++ t ≡ traced_text traced f ++ u
@@ -86,14 +92,14 @@ same_rest d h plan traced l lines e f t u mid left rest same plays =
     subst (λ (t : List ℕ). PlaysAll d (f ++ h) (plan_after plan l f t) traced lines mid left rest) same.1
     (subst (λ (e : List Event). PlaysAll d (e ++ h) (plan_after plan l e t) traced lines mid left rest) same.0 plays)
 
--- What the first of some lines print is a front of what all of them print.
-play_front : (d : Disk) (h : List Event) (plan : Plan) (traced : Bool) (first later : List Line) (mid end : List Event) (left last : Plan) (text whole : List ℕ)
-    → PlaysAll d h plan traced first mid left text → PlaysAll d h plan traced (first ++ later) end last whole → IsFront text whole
-play_front d h plan traced [] later mid end left last text whole p q = (whole, ap (λ t. t ++ whole) (sym p.2))
-play_front d h plan traced (l ∷ first) later mid end left last text whole p q =
+-- What the first of some lines print is a prefix of what all of them print.
+play_prefix : (d : Disk) (h : List Event) (plan : Plan) (traced : Bool) (first later : List Line) (mid end : List Event) (left last : Plan) (text whole : List ℕ)
+    → PlaysAll d h plan traced first mid left text → PlaysAll d h plan traced (first ++ later) end last whole → IsPrefix text whole
+play_prefix d h plan traced [] later mid end left last text whole p q = (whole, ap (λ t. t ++ whole) (sym p.2))
+play_prefix d h plan traced (l ∷ first) later mid end left last text whole p q =
     let one = one_play d h plan l p.0 q.0 p.1 q.1 p.3 q.3 in
     let own = traced_text traced p.0 ++ p.1 in
-    let rest = play_front d (q.0 ++ h) (plan_after plan l q.0 q.1) (traced_after traced l) first later mid end left last p.2 q.2
+    let rest = play_prefix d (q.0 ++ h) (plan_after plan l q.0 q.1) (traced_after traced l) first later mid end left last p.2 q.2
     (same_rest d h plan (traced_after traced l) l first p.0 q.0 p.1 q.1 mid left p.2 one p.4) q.4 in (
       rest.0,
       q.5
@@ -141,14 +147,14 @@ one_text script a b p q =
     one_played q.content.opening q.content.lines a b
     (subst (λ (c : Content). IsPlayed c.opening c.lines a) (one_script script p.content q.content p.says q.says) p.played) q.played
 
-begun_front : (opening : List Entry) (lines : List Line) (begun whole : List ℕ) → IsBegun opening lines begun → IsPlayed opening lines whole → IsFront begun whole
-begun_front opening lines begun whole p q =
-    let front = play_front q.disk [] no_plan false p.first p.later p.played.history q.history p.played.left q.left p.printed whole
+begun_prefix : (opening : List Entry) (lines : List Line) (begun whole : List ℕ) → IsBegun opening lines begun → IsPlayed opening lines whole → IsPrefix begun whole
+begun_prefix opening lines begun whole p q =
+    let front = play_prefix q.disk [] no_plan false p.first p.later p.played.history q.history p.played.left q.left p.printed whole
     (all_from opening p.played.disk q.disk p.first p.played.history p.played.left p.printed p.played.is_first q.is_first p.played.plays)
     (subst (λ (l : List Line). PlaysAll q.disk [] no_plan false l q.history q.left whole) p.lines_are q.plays) in
     (p.rest ++ front.0, front.1 ∙ ap (λ t. t ++ front.0) p.text_is ∙ append_assoc begun p.rest front.0)
 
-pub begins_front : (script begun whole : List ℕ) → BeginsToPrint script begun → Prints script whole → IsFront begun whole
-begins_front script begun whole p q =
-    begun_front q.content.opening q.content.lines begun whole
+pub begins_prefix : (script begun whole : List ℕ) → BeginsToPrint script begun → Prints script whole → IsPrefix begun whole
+begins_prefix script begun whole p q =
+    begun_prefix q.content.opening q.content.lines begun whole
     (subst (λ (c : Content). IsBegun c.opening c.lines begun) (one_script script p.content q.content p.says q.says) p.played) q.played

@@ -15,13 +15,17 @@ use Rattle.mail_world.specs.declared.event.Program.TheVariants.{Injector}
 use Rattle.mail_world.specs.History.{Event, Legal, after}
 use Rattle.mail_world.specs.History.Event.{Start}
 use Rattle.mail_world.specs.Headline.{Headline}
-use Rattle.mail_world.specs.MailNames.{IsMailName}
+use Rattle.actor_names.specs.MailNames.{IsMailName}
 use Rattle.mail_world.specs.World.{Seen, IsHistory, GoesOn, was_started, started_world, mail, next_pid as kept_pid, pid_after}
 use Rattle.mail_world.proofs.Lives.{started_is, starts_is}
 use Rattle.script_words.specs.declared.entry.Entry.{Entry}
-use Rattle.scenario.specs.declared.line.Line.{Line}
-use Rattle.scenario.specs.declared.line.Line.TheVariants as line
-use Rattle.scenario.specs.Contents.{HaveEntryPaths}
+use Rattle.play_lines.specs.declared.line.Line.{Line}
+use Rattle.play_lines.specs.declared.line.Line.TheVariants as line
+use Rattle.play_lines.specs.declared.keyword.Alone.TheVariants as alone
+use Rattle.play_lines.specs.declared.keyword.OfActor.TheVariants as of_actor
+use Rattle.play_lines.specs.declared.keyword.OfWord.{OfWord}
+use Rattle.play_lines.specs.declared.keyword.OfWord.TheVariants as of_word
+use Rattle.play_lines.specs.Contents.{HaveEntryPaths}
 use Rattle.scenario.specs.FirstDisk.{IsFirstDisk}
 use Rattle.scenario.specs.Played.{plan_after, Refusal, IsRefusalOf, Plays, PlaysAll, cat_line, refusal_line, next_pid}
 use Rattle.scenario.specs.Played.Outcome.{Happens, Is}
@@ -37,7 +41,7 @@ use Rattle.scenario.proofs.ScriptRuns.{refused_with}
 -- `step`
 
 abbrev pub step_played : (d : Disk) (new : Seen Crash) (plan : Plan) (a : List ℕ) (ended : Option ℕ) (text : List ℕ) (h : List Event) → HasStepped d new a ended plan h
-    → HasPlayed d new (line.Step a) text text plan h
+    → HasPlayed d new (line.Actor of_actor.Step a) text text plan h
 step_played d new plan a ended text h step = record {
   events = step.event ∷ [];
   own = [];
@@ -47,7 +51,7 @@ step_played d new plan a ended text h step = record {
 }
 
 abbrev pub step_refused : (d : Disk) (w : Seen Crash) (plan : Plan) (a : List ℕ) (text : List ℕ) (why : WorldError) (r : Refusal) (h : List Event) → IsPlaying d w plan h
-    → IsRefusedAs why d plan a h → IsRefusalOf why r → HasPlayed d w (line.Step a) text (text ++ refusal_line r a) plan h
+    → IsRefusedAs why d plan a h → IsRefusalOf why r → HasPlayed d w (line.Actor of_actor.Step a) text (text ++ refusal_line r a) plan h
 step_refused d w plan a text why r h playing seen is = record {
   events = [];
   own = refusal_line r a;
@@ -59,7 +63,7 @@ step_refused d w plan a text why r h playing seen is = record {
 -- `show`
 
 abbrev pub show_played : (d : Disk) (w : Seen Crash) (plan : Plan) (text own after_text : List ℕ) (h : List Event) → IsPlaying d w plan h → IsShown d h own → after_text ≡ text ++ own
-    → HasPlayed d w line.Show text after_text plan h
+    → HasPlayed d w (line.Alone alone.Show) text after_text plan h
 show_played d w plan text own after_text h playing shown is = record { events = []; own = own; plays = (refl, shown); playing = playing; text = is }
 
 -- `mail`
@@ -116,11 +120,15 @@ mail_started d old new plan name message envelope text h playing good started go
 
 -- `trace` and `cat`
 
-abbrev pub trace_played : (d : Disk) (w : Seen Crash) (plan : Plan) (text : List ℕ) (h : List Event) → IsPlaying d w plan h → HasPlayed d w line.Trace text text plan h
+abbrev pub trace_played : (d : Disk) (w : Seen Crash) (plan : Plan) (text : List ℕ) (h : List Event) → IsPlaying d w plan h → HasPlayed d w (line.Alone alone.Trace) text text plan h
 trace_played d w plan text h playing = record { events = []; own = []; plays = (refl, refl); playing = playing; text = sym (append-nil text) }
 
+-- the only word of its kind
+pub only_cat : (first : OfWord) → first ≡ of_word.Cat
+only_cat of_word.Cat = refl
+
 abbrev pub cat_played : (d : Disk) (w : Seen Crash) (plan : Plan) (path text after_text : List ℕ) (h : List Event) → IsPlaying d w plan h
-    → after_text ≡ text ++ cat_line path (bytes_at (crash_disk w.disk) path) → HasPlayed d w (line.Cat path) text after_text plan h
+    → after_text ≡ text ++ cat_line path (bytes_at (crash_disk w.disk) path) → HasPlayed d w (line.Word of_word.Cat path) text after_text plan h
 cat_played d w plan path text after_text h playing is = record {
   events = [];
   own = cat_line path (bytes_at (crash_disk w.disk) path);
@@ -131,7 +139,7 @@ cat_played d w plan path text after_text h playing is = record {
 
 -- Lines one after the other
 
--- whether events are traced behind these lines
+-- whether events are traced after these lines
 abbrev pub traced_through : Bool → List Line → Bool
 traced_through traced [] = traced
 traced_through traced (first ∷ lines) = traced_through (traced_after traced first) lines

@@ -8,7 +8,8 @@ use Rattle.mail_world.specs.declared.error.WorldError.{WorldError}
 use Rattle.mail_world.specs.declared.error.WorldError.TheVariants as error
 use Rattle.mail_world.specs.History.{Event, IsLiving, after}
 use Rattle.mail_world.specs.World.{Seen}
-use Rattle.scenario.specs.declared.line.Line.TheVariants as line
+use Rattle.play_lines.specs.declared.line.Line.TheVariants as line
+use Rattle.play_lines.specs.declared.keyword.OfActor.TheVariants as of_actor
 use Rattle.scenario.specs.Played.{Refusal, IsRefusalOf, StepsTo, AreSteps, plan_through, most_steps, stop_text, refusal_line}
 use Rattle.scenario.specs.Played.Outcome.{Is}
 use Rattle.scenario.specs.Playing.{IsPlaying, HasStepped, HasPlayed, IsRefusedAs}
@@ -76,7 +77,7 @@ over_text zero a some = absurd (omega arith)
 over_text (suc n) a some = refl
 
 pub run_ends : (d : Disk) (h : List Event) (plan : Plan) (a : List ℕ) (w v : Seen Crash) (n : ℕ) (text : List ℕ) (status : ℕ) (run : HasRun d h plan a w n) → n < most_steps
-    → HasStepped d v a (Some status) (plan_through plan run.events) (run.events ++ h) → HasPlayed d v (line.Run a) text text plan h
+    → HasStepped d v a (Some status) (plan_through plan run.events) (run.events ++ h) → HasPlayed d v (line.Actor of_actor.Run a) text text plan h
 run_ends d h plan a w v n text status run within step = record {
   events = step.event ∷ run.events;
   own = [];
@@ -99,7 +100,7 @@ refusal_text zero Refusal.Steps a none other = refl
 refusal_text (suc n) r a none other = absurd (omega arith)
 
 pub run_refused : (d : Disk) (h : List Event) (plan : Plan) (a : List ℕ) (w : Seen Crash) (n : ℕ) (text : List ℕ) (why : WorldError) (r : Refusal) (run : HasRun d h plan a w n) → n < most_steps
-    → IsRefusedAs why d (plan_through plan run.events) a (run.events ++ h) → IsRefusalOf why r → ((name : List ℕ) → why ≢ error.NotWaiting name) → HasPlayed d w (line.Run a) text (text ++ refusal_line r a) plan h
+    → IsRefusedAs why d (plan_through plan run.events) a (run.events ++ h) → IsRefusalOf why r → ((name : List ℕ) → why ≢ error.NotWaiting name) → HasPlayed d w (line.Actor of_actor.Run a) text (text ++ refusal_line r a) plan h
 run_refused d h plan a w n text why r run within seen is waits =
     let now = plan_through plan run.events in
     let refuses : StepsTo now (after d (run.events ++ h)) a (Is r) = refused_with why r d now a (run.events ++ h) seen is in
@@ -121,7 +122,7 @@ not_gone : Refusal.Gone ≢ Refusal.NotWaiting
 not_gone e = absurd (cc)
 
 pub run_full : (d : Disk) (h : List Event) (plan : Plan) (a : List ℕ) (w : Seen Crash) (n : ℕ) (text : List ℕ) (run : HasRun d h plan a w n) → n ≡ most_steps
-    → HasPlayed d w (line.Run a) text (text ++ refusal_line Refusal.Steps a) plan h
+    → HasPlayed d w (line.Actor of_actor.Run a) text (text ++ refusal_line Refusal.Steps a) plan h
 run_full d h plan a w n text run full = record {
   events = run.events;
   own = refusal_line Refusal.Steps a;

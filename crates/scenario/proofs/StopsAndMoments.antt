@@ -16,7 +16,11 @@ use Rattle.mail_world.specs.History.Event.{Stop, Moment, Halt}
 use Rattle.mail_world.specs.History.Life.{Alive, Over, Stopped}
 use Rattle.mail_world.specs.World.{Seen, IsHistory, GoesOn, GoesOnWith, IsStop, Tells, EndsAt, GoesByPlan, IsHalt, moment_world, was_started}
 use Rattle.mail_world.proofs.Lives.{ended_is}
-use Rattle.scenario.specs.declared.line.Line.TheVariants as line
+use Rattle.play_lines.specs.declared.line.Line.TheVariants as line
+use Rattle.play_lines.specs.declared.keyword.OfActor.TheVariants as of_actor
+use Rattle.play_lines.specs.declared.keyword.OfCount.TheVariants as of_count
+use Rattle.play_lines.specs.declared.keyword.OfMoment.TheVariants as of_moment
+use Rattle.play_lines.specs.declared.keyword.OfSurvival.TheVariants as of_survival
 use Rattle.scenario.specs.Played.{Refusal, IsRefusalOf, StopsAlive, StopComesTo, refusal_line}
 use Rattle.scenario.specs.Played.Outcome.{Happens, Is}
 use Rattle.scenario.specs.Playing.{IsPlaying, HasPlayed}
@@ -69,7 +73,7 @@ is_gone a o x is over = subst (λ (o : Option Actor). StopComesTo a o (Is Refusa
   by_life Stopped over = refl
 
 pub stop_played : (d : Disk) (old new : Seen Crash) (plan : Plan) (a text : List ℕ) (h : List Event) → IsPlaying d old plan h → IsStop a old new → GoesOn tells old new
-    → GoesByPlan crash_plan tells old.disk new.disk old.events new.events → HasPlayed d new (line.Stop a) text text plan h
+    → GoesByPlan crash_plan tells old.disk new.disk old.events new.events → HasPlayed d new (line.Actor of_actor.Stop a) text text plan h
 stop_played d old new plan a text h playing stop goes by =
     let now : IsPlaying d new plan (Stop a ∷ h) = one_more d old new plan (kept.Stop a) (Stop a) old.present h playing goes (by (kept.Stop a) stop.0) stop.0 stop.1 (stop_told a) in
     let living = now.is.legal.1 in
@@ -95,7 +99,7 @@ stop_comes d w plan a why r h playing is unknown gone (inr e) =
 
 pub stop_refused : (d : Disk) (w : Seen Crash) (plan : Plan) (a text : List ℕ) (why : WorldError) (r : Refusal) (h : List Event) → IsPlaying d w plan h → IsRefusalOf why r
     → (why ≡ error.Unknown → was_started w.events a ≡ false) → ((name : List ℕ) (at : ℕ) → why ≡ error.Gone name at → EndsAt w.events a at)
-    → (why ≡ error.Unknown) ⊎ ((name : List ℕ) × (at : ℕ) × (why ≡ error.Gone name at)) → HasPlayed d w (line.Stop a) text (text ++ refusal_line r a) plan h
+    → (why ≡ error.Unknown) ⊎ ((name : List ℕ) × (at : ℕ) × (why ≡ error.Gone name at)) → HasPlayed d w (line.Actor of_actor.Stop a) text (text ++ refusal_line r a) plan h
 stop_refused d w plan a text why r h playing is unknown gone only = record {
   events = [];
   own = refusal_line r a;
@@ -107,7 +111,7 @@ stop_refused d w plan a text why r h playing is unknown gone only = record {
 -- Machine stops
 
 pub halt_played : (d : Disk) (old new : Seen Crash) (plan : Plan) (how : Survival) (text : List ℕ) (h : List Event) → IsPlaying d old plan h → IsHalt how old new → GoesOnWith tells how old new
-    → GoesByPlan crash_plan tells old.disk new.disk old.events new.events → HasPlayed d new (line.Halt how) text text plan h
+    → GoesByPlan crash_plan tells old.disk new.disk old.events new.events → HasPlayed d new (line.Survival of_survival.Halt how) text text plan h
 halt_played d old new plan how text h playing halt goes by =
     let next = goes d h playing.is in
     let named = next.1.named.1 in
@@ -123,7 +127,7 @@ halt_played d old new plan how text h playing halt goes by =
 
 pub fault_played : (d : Disk) (old new : Seen Crash) (plan : Plan) (k : ℕ) (text : List ℕ) (h : List Event) → IsPlaying d old plan h
     → Meets (crash_plan old.disk) (crash_plan new.disk) (λ before after. after ≡ with_fault k before)
-    → tells new.disk ≡ tells old.disk → new.events ≡ old.events → new.present ≡ old.present → HasPlayed d new (line.Fault k) text text plan h
+    → tells new.disk ≡ tells old.disk → new.events ≡ old.events → new.present ≡ old.present → HasPlayed d new (line.Count of_count.Fault k) text text plan h
 fault_played d old new plan k text h playing met disk events present = record {
   events = [];
   own = [];
@@ -134,7 +138,7 @@ fault_played d old new plan k text h playing met disk events present = record {
 
 pub number_played : (d : Disk) (old new : Seen Crash) (plan : Plan) (n : ℕ) (text : List ℕ) (h : List Event) → IsPlaying d old plan h
     → Meets (crash_plan old.disk) (crash_plan new.disk) (λ before after. after ≡ with_pick n before) → IsUnused (crash_disk old.disk) n
-    → tells new.disk ≡ tells old.disk → new.events ≡ old.events → new.present ≡ old.present → HasPlayed d new (line.Number n) text text plan h
+    → tells new.disk ≡ tells old.disk → new.events ≡ old.events → new.present ≡ old.present → HasPlayed d new (line.Count of_count.Number n) text text plan h
 number_played d old new plan n text h playing met unused disk events present = record {
   events = [];
   own = [];
@@ -146,7 +150,7 @@ number_played d old new plan n text h playing met unused disk events present = r
 pub number_refused : (d : Disk) (old new : Seen Crash) (plan : Plan) (n : ℕ) (text : List ℕ) (h : List Event) → IsPlaying d old plan h
     → crash_plan new.disk ≡ crash_plan old.disk → (¬ (IsUnused (crash_disk old.disk) n))
     → tells new.disk ≡ tells old.disk → new.events ≡ old.events → new.present ≡ old.present
-    → HasPlayed d new (line.Number n) text (text ++ refusal_line Refusal.Taken (digits n)) plan h
+    → HasPlayed d new (line.Count of_count.Number n) text (text ++ refusal_line Refusal.Taken (digits n)) plan h
 number_refused d old new plan n text h playing same_plan used disk events present = record {
   events = [];
   own = refusal_line Refusal.Taken (digits n);
@@ -158,7 +162,7 @@ number_refused d old new plan n text h playing same_plan used disk events presen
 -- Moments
 
 pub moment_came : (d : Disk) (old new : Seen Crash) (plan : Plan) (m : ℕ) (text : List ℕ) (h : List Event) → IsPlaying d old plan h → new ≡ moment_world old m → GoesOn tells old new
-    → GoesByPlan crash_plan tells old.disk new.disk old.events new.events → HasPlayed d new (line.Moment m) text text plan h
+    → GoesByPlan crash_plan tells old.disk new.disk old.events new.events → HasPlayed d new (line.Moment of_moment.Moment m) text text plan h
 moment_came d old new plan m text h playing came goes by =
     let now : IsPlaying d new plan (Moment m ∷ h) =
     one_more d old new plan (kept.Moment m) (Moment m) m h playing goes (by (kept.Moment m) (ap (λ (w : Seen Crash). w.events) came)) (ap (λ (w : Seen Crash). w.events) came) (ap (λ (w : Seen Crash). w.present) came) (moment_told m) in
@@ -171,7 +175,7 @@ moment_came d old new plan m text h playing came goes by =
     }
 
 pub moment_refused : (d : Disk) (w : Seen Crash) (plan : Plan) (m : ℕ) (text : List ℕ) (h : List Event) → IsPlaying d w plan h → m < w.present
-    → HasPlayed d w (line.Moment m) text (text ++ refusal_line Refusal.Past (digits w.present)) plan h
+    → HasPlayed d w (line.Moment of_moment.Moment m) text (text ++ refusal_line Refusal.Past (digits w.present)) plan h
 moment_refused d w plan m text h playing earlier =
     let present = playing.is.moment in
     record {

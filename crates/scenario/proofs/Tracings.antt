@@ -13,7 +13,7 @@ use Rattle.mail_world.specs.History.{Event}
 use Rattle.mail_world.specs.History.Event.{Start, Act, Child, Generation, Report, End, Stop, Moment, Halt}
 use Rattle.mail_world.specs.Inside.{event_of}
 use Rattle.mail_world.specs.World.{Seen, Tells}
-use Rattle.scenario.specs.declared.line.Line.{Line}
+use Rattle.play_lines.specs.declared.line.Line.{Line}
 use Rattle.scenario.specs.Playing.{IsPlaying, HasPlayed, HasPrinted}
 use Rattle.scenario.specs.Traced.{event_line}
 
@@ -41,7 +41,7 @@ zip_drop R (x ∷ xs) (u ∷ us) vs a = zip_drop R xs us vs a.1
 told_length : (events : List Kept) (h : List Event) → AllZip Tells (reverse events) h → length events ≡ length h
 told_length events h told = sym (length-reverse events) ∙ sym (AllZip-long Tells (reverse events) h told)
 
--- the kept events behind those from before tell what was added
+-- the kept events after those from before tell what was added
 pub added_told : (old new : List Kept) (h added : List Event) → AllZip Tells (reverse old) h → AllZip Tells (reverse new) (added ++ h)
     → AllZip Tells (drop (length old) new) (reverse added)
 added_told old new h added before now =
@@ -99,7 +99,7 @@ lines_more events i event start old new inside is before one happened told =
     ∙ append_assoc start (flat_map event_line front) (event_line last)
     ∙ ap (λ t. start ++ t) (sym lines)
 
--- what is printed of a line where events are traced
+-- what is printed of a line when events are traced
 abbrev pub traced_lines : (d : Disk) (old new : Seen Crash) (line : Line) (own text : List ℕ) (plan : Plan) (h : List Event) → IsPlaying d old plan h → HasPlayed d new line [] own plan h
     → ((added : List Event) → length old.events ≤ length new.events → AllZip Tells (drop (length old.events) new.events) added → text ≡ flat_map event_line added ++ own)
     → HasPrinted d new true line text plan h

@@ -1,4 +1,4 @@
--- Each line plays, so all lines do: a script has a text, and what was begun of it is a front of its text.
+-- Each line plays, so all lines do: a script has a text, and what was begun of it is a prefix of its text.
 use Rattle.std.proofs.Common.{◌≡◌, ◌⊎◌, inl, inr, ⊎_elim, ℕ, zero, suc, ◌+◌, ◌<◌, List, [], ◌∷◌, ◌++◌, length, Bool, false, Option, Some, None, refl, sym, ap, ◌∙◌, subst, arith, append_assoc}
 use Rattle.std.specs.Prelude.{◌^◌, flat_map, codes}
 use Rattle.std.specs.List.{AllZip}
@@ -13,23 +13,29 @@ use Rattle.mail_world.specs.declared.event.Program.TheVariants.{Injector}
 use Rattle.mail_world.specs.History.{Event, call_act, Actor, Life, State, Legal, next_of, after}
 use Rattle.mail_world.specs.History.Event.{Start, End, Stop, Moment, Halt}
 use Rattle.mail_world.specs.History.Life.{Alive, Over, Stopped}
-use Rattle.mail_world.specs.MailNames.{IsMailName, IsLetter, IsLetterOrDigit, members}
+use Rattle.actor_names.specs.MailNames.{IsMailName, IsLetter, IsLetterOrDigit, members}
 use Rattle.mail_world.specs.World.{input_ready, mail}
 use Rattle.mail_world.proofs.Headline.{headline}
 use Rattle.mail_world.specs.Acting.{MayMake}
 use Rattle.script_words.specs.declared.entry.Entry.{Entry}
-use Rattle.scenario.specs.declared.line.Line.{Line}
-use Rattle.scenario.specs.declared.line.Line.TheVariants as line
-use Rattle.scenario.specs.Contents.{Content, HaveEntryPaths}
-use Rattle.scenario.specs.Lines.{IsScript}
+use Rattle.play_lines.specs.declared.line.Line.{Line}
+use Rattle.play_lines.specs.declared.line.Line.TheVariants as line
+use Rattle.play_lines.specs.declared.keyword.Alone.TheVariants as alone
+use Rattle.play_lines.specs.declared.keyword.OfActor.TheVariants as of_actor
+use Rattle.play_lines.specs.declared.keyword.OfCount.TheVariants as of_count
+use Rattle.play_lines.specs.declared.keyword.OfMoment.TheVariants as of_moment
+use Rattle.play_lines.specs.declared.keyword.OfSurvival.TheVariants as of_survival
+use Rattle.play_lines.specs.declared.keyword.OfWord.TheVariants as of_word
+use Rattle.play_lines.specs.Contents.{Content, HaveEntryPaths}
+use Rattle.play_lines.specs.Lines.{IsScript}
 use Rattle.scenario.specs.FirstDisk.{IsFirstDisk}
-use Rattle.scenario.specs.Lines.{IsLine}
+use Rattle.play_lines.specs.Lines.{IsLine}
 use Rattle.scenario.specs.Played.{Outcome, DoesNext, DoesAlive, DoesStep, StepsTo, MailComesTo, AreSteps, IsRunOf, StopsAlive, StopComesTo, MomentComesTo, NumberComesTo, plan_through, plan_after, Plays, PlaysAll, outcome_events, cat_line, printed, refusal_line, stop_text, most_steps, next_pid}
 use Rattle.scenario.specs.Played.Outcome.{Happens, Is}
 use Rattle.scenario.specs.Played.Refusal.{Unknown, Gone, NotWaiting, Taken, Past, Steps}
 use Rattle.scenario.specs.Shown.{IsShown, pid_line, number_line, all_mail_lines}
 use Rattle.scenario.specs.Traced.{traced_after, traced_text}
-use Rattle.scenario.specs.Text.{IsPlayed, IsBegun, Prints, BeginsToPrint, BeginsAtMost, IsFront, IsFrontAtMost}
+use Rattle.scenario.specs.Text.{IsPlayed, IsBegun, Prints, BeginsToPrint, BeginsAtMost, IsPrefix, IsPrefixAtMost}
 use Rattle.scenario.proofs.Carried.{Carries, Goes, due_may, goes_on, goes_started, goes_stopped, goes_moment, goes_halted}
 use Rattle.scenario.proofs.FiniteDisks.{IsFinite}
 use Rattle.scenario.proofs.FirstDisks.{first_disk}
@@ -40,7 +46,7 @@ use Rattle.call_fs.specs.Choices.{contents_by}
 use Rattle.call_fs.specs.Plan.{Plan, no_plan}
 use Rattle.scenario.proofs.LeastFree.{is_unused}
 use Rattle.scenario.proofs.Openings.{first_opens, is_ready}
-use Rattle.scenario.proofs.SaidContents.{said_paths, said_few}
+use Rattle.play_lines.proofs.SaidContents.{said_paths, said_few}
 use Rattle.scenario.proofs.ScriptSteps.{alive_waits}
 use Rattle.scenario.proofs.Showings.{safe_pending}
 
@@ -210,28 +216,28 @@ plays_line d h plan (line.Mail name message envelope) so =
     let s = after d h in
     let comes = mail_comes s name (mail (next_pid h) s.now message envelope) in
     (outcome_events comes.0, printed name comes.0, (comes.0, comes.1, refl, refl))
-plays_line d h plan (line.Step a) so =
+plays_line d h plan (line.Actor of_actor.Step a) so =
     let comes = step_comes plan (after d h) a so.carries in
     (outcome_events comes.0, printed a comes.0, (comes.0, comes.1, refl, refl))
-plays_line d h plan (line.Run a) so = let r = runs d h plan a so in (r.events, r.text, r.run)
-plays_line d h plan (line.Stop a) so =
+plays_line d h plan (line.Actor of_actor.Run a) so = let r = runs d h plan a so in (r.events, r.text, r.run)
+plays_line d h plan (line.Actor of_actor.Stop a) so =
     let comes = stop_comes a ((after d h).actors a) in
     (outcome_events comes.0, printed a comes.0, (comes.0, comes.1, refl, refl))
-plays_line d h plan (line.Halt how) so =
+plays_line d h plan (line.Survival of_survival.Halt how) so =
     let now = (after d h).disk in
     let named = numbers_named now so.carries.finite in
     (Halt how (contents_by how now named.0) ∷ [], [], (named.0, named.1, refl, refl))
-plays_line d h plan (line.Fault k) so = ([], [], (refl, refl))
-plays_line d h plan (line.Number n) so =
+plays_line d h plan (line.Count of_count.Fault k) so = ([], [], (refl, refl))
+plays_line d h plan (line.Count of_count.Number n) so =
     let comes = number_comes (after d h).disk n so.carries.finite in
     ([], comes.0, (refl, comes.1))
-plays_line d h plan (line.Moment m) so =
+plays_line d h plan (line.Moment of_moment.Moment m) so =
     let now = (after d h).now in
     let comes = moment_comes now m in
     (outcome_events comes.0, printed (digits now) comes.0, (comes.0, comes.1, refl, refl))
-plays_line d h plan line.Trace so = ([], [], (refl, refl))
-plays_line d h plan (line.Cat path) so = ([], cat_line path (bytes_at (after d h).disk path), (refl, refl))
-plays_line d h plan line.Show so = let shown = shows d h so in ([], shown.0, (refl, shown.1))
+plays_line d h plan (line.Alone alone.Trace) so = ([], [], (refl, refl))
+plays_line d h plan (line.Word of_word.Cat path) so = ([], cat_line path (bytes_at (after d h).disk path), (refl, refl))
+plays_line d h plan (line.Alone alone.Show) so = let shown = shows d h so in ([], shown.0, (refl, shown.1))
 
 same_events : (d : Disk) (h events new : List Event) → events ≡ new → Goes d (new ++ h) → Goes d (events ++ h)
 same_events d h events new is so = subst (λ (l : List Event). Goes d (l ++ h)) (sym is) so
@@ -277,16 +283,12 @@ moment_kept d h m outcome so moment comes = ⊎_elim
 -- the number of a line that sets the moment is one
 abbrev HasMoment : Line → Type 0
 HasMoment (line.Mail name message envelope) = Unit {0}
-HasMoment (line.Step a) = Unit {0}
-HasMoment (line.Run a) = Unit {0}
-HasMoment (line.Stop a) = Unit {0}
-HasMoment (line.Halt how) = Unit {0}
-HasMoment (line.Fault k) = Unit {0}
-HasMoment (line.Number n) = Unit {0}
-HasMoment (line.Moment m) = IsMoment m
-HasMoment line.Trace = Unit {0}
-HasMoment (line.Cat path) = Unit {0}
-HasMoment line.Show = Unit {0}
+HasMoment (line.Alone first) = Unit {0}
+HasMoment (line.Actor first a) = Unit {0}
+HasMoment (line.Count first n) = Unit {0}
+HasMoment (line.Moment first m) = IsMoment m
+HasMoment (line.Survival first how) = Unit {0}
+HasMoment (line.Word first read) = Unit {0}
 
 abbrev HaveMoments : List Line → Type 0
 HaveMoments [] = Unit {0}
@@ -294,16 +296,12 @@ HaveMoments (one ∷ lines) = HasMoment one × HaveMoments lines
 
 has_moment : (text : List ℕ) (one : Line) → IsLine text one → HasMoment one
 has_moment text (line.Mail name message envelope) is = tt
-has_moment text (line.Step a) is = tt
-has_moment text (line.Run a) is = tt
-has_moment text (line.Stop a) is = tt
-has_moment text (line.Halt how) is = tt
-has_moment text (line.Fault k) is = tt
-has_moment text (line.Number n) is = tt
-has_moment text (line.Moment m) is = is.1
-has_moment text line.Trace is = tt
-has_moment text (line.Cat path) is = tt
-has_moment text line.Show is = tt
+has_moment text (line.Alone first) is = tt
+has_moment text (line.Actor first a) is = tt
+has_moment text (line.Count first n) is = tt
+has_moment text (line.Moment first m) is = is.1
+has_moment text (line.Survival first how) is = tt
+has_moment text (line.Word first read) is = tt
 
 have_moments : (texts : List (List ℕ)) (lines : List Line) → AllZip IsLine texts lines → HaveMoments lines
 have_moments [] [] are = tt
@@ -319,20 +317,20 @@ line_kept : (d : Disk) (h : List Event) (plan : Plan) (one : Line) (events : Lis
     → Plays d h plan one events text → Goes d (events ++ h)
 line_kept d h plan (line.Mail name message envelope) events text so fits plays =
     same_events d h events (outcome_events plays.0) plays.2 (start_kept d h name message envelope plays.0 so plays.1)
-line_kept d h plan (line.Step a) events text so fits plays =
+line_kept d h plan (line.Actor of_actor.Step a) events text so fits plays =
     same_events d h events (outcome_events plays.0) plays.2 (outcome_kept d h plan a plays.0 so plays.1)
-line_kept d h plan (line.Run a) events text so fits plays = steps_kept d h plan a events so plays.are_steps
-line_kept d h plan (line.Stop a) events text so fits plays =
+line_kept d h plan (line.Actor of_actor.Run a) events text so fits plays = steps_kept d h plan a events so plays.are_steps
+line_kept d h plan (line.Actor of_actor.Stop a) events text so fits plays =
     same_events d h events (outcome_events plays.0) plays.2 (stop_kept d h a ((after d h).actors a) plays.0 so refl plays.1)
-line_kept d h plan (line.Halt how) events text so fits plays =
+line_kept d h plan (line.Survival of_survival.Halt how) events text so fits plays =
     same_events d h events (Halt how (contents_by how (after d h).disk plays.0) ∷ []) plays.2 (goes_halted d h how plays.0 so)
-line_kept d h plan (line.Fault k) events text so fits plays = same_events d h events [] plays.0 so
-line_kept d h plan (line.Number n) events text so fits plays = same_events d h events [] plays.0 so
-line_kept d h plan (line.Moment m) events text so fits plays =
+line_kept d h plan (line.Count of_count.Fault k) events text so fits plays = same_events d h events [] plays.0 so
+line_kept d h plan (line.Count of_count.Number n) events text so fits plays = same_events d h events [] plays.0 so
+line_kept d h plan (line.Moment of_moment.Moment m) events text so fits plays =
     same_events d h events (outcome_events plays.0) plays.2 (moment_kept d h m plays.0 so fits plays.1)
-line_kept d h plan line.Trace events text so fits plays = same_events d h events [] plays.0 so
-line_kept d h plan (line.Cat path) events text so fits plays = same_events d h events [] plays.0 so
-line_kept d h plan line.Show events text so fits plays = same_events d h events [] plays.0 so
+line_kept d h plan (line.Alone alone.Trace) events text so fits plays = same_events d h events [] plays.0 so
+line_kept d h plan (line.Word of_word.Cat path) events text so fits plays = same_events d h events [] plays.0 so
+line_kept d h plan (line.Alone alone.Show) events text so fits plays = same_events d h events [] plays.0 so
 
 -- All lines
 
@@ -362,7 +360,7 @@ all_kept d h plan traced (first ∷ lines) end left text so fit plays =
     all_kept d (plays.0 ++ h) (plan_after plan first plays.0 plays.1) (traced_after traced first) lines end left plays.2
     (line_kept d h plan first plays.0 plays.1 so fit.0 plays.3) fit.1 plays.4
 
--- whether events are traced behind lines
+-- whether events are traced after lines
 abbrev traced_behind : Bool → List Line → Bool
 traced_behind traced [] = traced
 traced_behind traced (first ∷ lines) = traced_behind (traced_after traced first) lines
@@ -411,7 +409,7 @@ is_played opening d lines end left text first plays so = record {
   safe = λ later before is. headline d later before (subst (λ (h : List Event). Legal d h) (sym is) so.legal);
 }
 
--- entries and lines have a text, where they are fewer entries than numbers
+-- entries and lines have a text, if they are fewer entries than numbers
 has_played : (opening : List Entry) (lines : List Line) → HaveEntryPaths opening → length opening < 2 ^ 64 → HaveMoments lines → (text : List ℕ) × IsPlayed opening lines text
 has_played opening lines paths few fit =
     let d = first_disk opening few in
@@ -420,9 +418,9 @@ has_played opening lines paths few fit =
     let end = all_kept d.0 [] no_plan false lines all.end all.left all.text so fit all.plays in
     (all.text, is_played opening d.0 lines all.end all.left all.text d.1 all.plays end)
 
--- what was begun is a front of the text
+-- what was begun is a prefix of the text
 has_whole_play : (opening : List Entry) (lines : List Line) (begun : List ℕ) → HaveEntryPaths opening → HaveMoments lines → IsBegun opening lines begun
-    → (whole : List ℕ) × IsPlayed opening lines whole × IsFront begun whole
+    → (whole : List ℕ) × IsPlayed opening lines whole × IsPrefix begun whole
 has_whole_play opening lines begun paths have cut =
     let some = cut.played in
     let fit = moments_in cut.first cut.later (subst HaveMoments cut.lines_are have) in
@@ -448,12 +446,12 @@ has_text script content says =
     let all = has_played content.opening content.lines (said_paths script content says) (said_few script content says) (said_moments script content says) in
     (all.0, record { content = content; says = says; played = all.1 })
 
--- what was begun is a front of it
+-- what was begun is a prefix of it
 pub has_whole : (script begun : List ℕ) → BeginsToPrint script begun
-    → (whole : List ℕ) × Prints script whole × IsFront begun whole
+    → (whole : List ℕ) × Prints script whole × IsPrefix begun whole
 has_whole script begun prints =
     let all = has_whole_play prints.content.opening prints.content.lines begun (said_paths script prints.content prints.says) (said_moments script prints.content prints.says) prints.played in
     (all.0, record { content = prints.content; says = prints.says; played = all.1 }, all.2)
 
-pub front_at_most : (script text : List ℕ) → BeginsAtMost script text → IsFrontAtMost script text
-front_at_most script text begins = ⊎_elim (λ none. inl none) (λ some. inr (has_whole script text some)) begins
+pub prefix_at_most : (script text : List ℕ) → BeginsAtMost script text → IsPrefixAtMost script text
+prefix_at_most script text begins = ⊎_elim (λ none. inl none) (λ some. inr (has_whole script text some)) begins

@@ -1,4 +1,4 @@
--- The history that a script plays, and what each of its lines prints. A call fails where the script says so, and only there.
+-- The history that a script plays, and what each of its lines prints. A call fails if the script says so, and only then.
 use Rattle.std.specs.Prelude.{◌≡◌, ◌≢◌, ◌⊎◌, ◌↔◌, ℕ, zero, suc, ◌<◌, ◌≤◌, List, [], ◌∷◌, ◌++◌, length, Bool, Option, Some, None, IsSome, codes}
 use Rattle.mail_bytes.specs.Decimal.{digits}
 use Rattle.mail_bytes.specs.Escape.{escaped}
@@ -25,10 +25,16 @@ use Rattle.mail_world.specs.declared.event.Program.TheVariants.{Injector}
 use Rattle.mail_world.specs.History.{Event, Life, State, Actor, call_act, next_of, after, started_by}
 use Rattle.mail_world.specs.History.Event.{Start, Act, Child, Generation, Report, End, Stop, Moment, Halt}
 use Rattle.mail_world.specs.History.Life.{Alive, Over, Stopped}
-use Rattle.mail_world.specs.MailNames.{IsMailName}
+use Rattle.actor_names.specs.MailNames.{IsMailName}
 use Rattle.mail_world.specs.World.{input_ready, mail, pid_after}
-use Rattle.scenario.specs.declared.line.Line.{Line}
-use Rattle.scenario.specs.declared.line.Line.TheVariants as line
+use Rattle.play_lines.specs.declared.line.Line.{Line}
+use Rattle.play_lines.specs.declared.line.Line.TheVariants as line
+use Rattle.play_lines.specs.declared.keyword.Alone.TheVariants as alone
+use Rattle.play_lines.specs.declared.keyword.OfActor.TheVariants as of_actor
+use Rattle.play_lines.specs.declared.keyword.OfCount.TheVariants as of_count
+use Rattle.play_lines.specs.declared.keyword.OfMoment.TheVariants as of_moment
+use Rattle.play_lines.specs.declared.keyword.OfSurvival.TheVariants as of_survival
+use Rattle.play_lines.specs.declared.keyword.OfWord.TheVariants as of_word
 use Rattle.scenario.specs.Shown.{line_of, IsShown}
 use Rattle.scenario.specs.Traced.{traced_after, traced_text}
 
@@ -200,28 +206,28 @@ abbrev pub Plays : Disk → List Event → Plan → Line → List Event → List
 Plays d h plan (line.Mail name message envelope) events text =
     (outcome : Outcome) × MailComesTo (after d h) name (mail (next_pid h) (after d h).now message envelope) outcome
     × (events ≡ outcome_events outcome) × (text ≡ printed name outcome)
-Plays d h plan (line.Step actor) events text =
+Plays d h plan (line.Actor of_actor.Step actor) events text =
     (outcome : Outcome) × StepsTo plan (after d h) actor outcome × (events ≡ outcome_events outcome) × (text ≡ printed actor outcome)
-Plays d h plan (line.Run actor) events text = IsRunOf d h plan actor events text
-Plays d h plan (line.Stop actor) events text =
+Plays d h plan (line.Actor of_actor.Run actor) events text = IsRunOf d h plan actor events text
+Plays d h plan (line.Actor of_actor.Stop actor) events text =
     (outcome : Outcome) × StopComesTo actor ((after d h).actors actor) outcome × (events ≡ outcome_events outcome) × (text ≡ printed actor outcome)
-Plays d h plan (line.Halt how) events text =
+Plays d h plan (line.Survival of_survival.Halt how) events text =
     let now = (after d h).disk in
     (named : List ℕ) × AreNamed now named × (events ≡ Halt how (contents_by how now named) ∷ []) × (text ≡ [])
-Plays d h plan (line.Fault k) events text = (events ≡ []) × (text ≡ [])
-Plays d h plan (line.Number n) events text = (events ≡ []) × NumberComesTo (after d h).disk n text
-Plays d h plan (line.Moment m) events text =
+Plays d h plan (line.Count of_count.Fault k) events text = (events ≡ []) × (text ≡ [])
+Plays d h plan (line.Count of_count.Number n) events text = (events ≡ []) × NumberComesTo (after d h).disk n text
+Plays d h plan (line.Moment of_moment.Moment m) events text =
     (outcome : Outcome) × MomentComesTo (after d h).now m outcome × (events ≡ outcome_events outcome) × (text ≡ printed (digits (after d h).now) outcome)
-Plays d h plan line.Trace events text = (events ≡ []) × (text ≡ [])
-Plays d h plan (line.Cat path) events text = (events ≡ []) × (text ≡ cat_line path (bytes_at (after d h).disk path))
-Plays d h plan line.Show events text = (events ≡ []) × IsShown d h text
+Plays d h plan (line.Alone alone.Trace) events text = (events ≡ []) × (text ≡ [])
+Plays d h plan (line.Word of_word.Cat path) events text = (events ≡ []) × (text ≡ cat_line path (bytes_at (after d h).disk path))
+Plays d h plan (line.Alone alone.Show) events text = (events ≡ []) × IsShown d h text
 
 -- What is chosen of the disk after a line that added these events and printed this: another call that is to fail, another
 -- number, if it wasn't refused, or what the events left.
 abbrev pub plan_after : Plan → Line → List Event → List ℕ → Plan
-plan_after plan (line.Fault k) events text = with_fault k plan
-plan_after plan (line.Number n) events [] = with_pick n plan
-plan_after plan (line.Number n) events (b ∷ text) = plan
+plan_after plan (line.Count of_count.Fault k) events text = with_fault k plan
+plan_after plan (line.Count of_count.Number n) events [] = with_pick n plan
+plan_after plan (line.Count of_count.Number n) events (b ∷ text) = plan
 plan_after plan other events text = plan_through plan events
 
 -- The history after these lines, from that one on, what is chosen of the disk then, and what they print; if events are

@@ -14,7 +14,7 @@ use Rattle.mail_world.specs.declared.event.Event.{Event as Kept}
 use Rattle.mail_world.specs.declared.event.Event.TheVariants as kept
 use Rattle.mail_world.specs.History.{Event, IsLiving, after}
 use Rattle.mail_world.specs.World.{Seen, IsHistory}
-use Rattle.scenario.specs.declared.line.Line.{Line}
+use Rattle.play_lines.specs.declared.line.Line.{Line}
 use Rattle.scenario.specs.Played.{Refusal, IsRefusalOf, StepsTo, Plays, plan_by, plan_after}
 use Rattle.scenario.specs.Played.Outcome.{Happens, Is}
 use Rattle.scenario.specs.Played.Refusal.{Gone}

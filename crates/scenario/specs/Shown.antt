@@ -1,30 +1,22 @@
 -- What `show` prints: how many names `pid/` has, the state of each number that isn't in S1, and how each mail fares.
 use Rattle.std.specs.Prelude.{◌≡◌, ◌≢◌, ◌↔◌, ℕ, zero, suc, ◌+◌, ◌^◌, ◌<◌, ◌≤◌, List, [], ◌∷◌, ◌++◌, length, Bool, true, false, ◌||◌, ◌&&◌, Option, Some, None, All, Contains, codes, flat_map, bytes_eq, if◌then◌else◌}
-use Rattle.call_fs.specs.declared.calls.CallData.{CallData}
-use Rattle.call_fs.specs.declared.calls.CallData.TheVariants.{Link}
-use Rattle.call_fs.specs.declared.calls.Answer.{Answer}
-use Rattle.call_fs.specs.declared.past.NeedData.{NeedData}
-use Rattle.call_fs.specs.declared.past.NeedData.TheVariants.{File}
-use Rattle.call_fs.specs.declared.past.GotData.{GotData}
-use Rattle.call_fs.specs.declared.past.GotData.TheVariants.{Answered}
-use Rattle.call_fs.specs.declared.calls.Answer.TheVariants.{Done}
 use Rattle.mail_bytes.specs.Decimal.{digits}
 use Rattle.call_fs.specs.Disk.{Disk}
 use Rattle.queue_inject.specs.declared.injection.Arguments.{Arguments}
-use Rattle.queue_paths.specs.Names.{Name, path, parse}
-use Rattle.queue_paths.specs.Names.Name.{Of}
-use Rattle.queue_paths.specs.Names.Part.{Intd, Todo}
+use Rattle.queue_paths.specs.Names.Part.{Todo}
 use Rattle.queue_inject.specs.Texts.{recipients_of}
-use Rattle.mail_world.specs.ByKind.{injection_of}
 use Rattle.queue_states.specs.declared.state.State.TheVariants.{S1}
 use Rattle.queue_states.specs.States.{state_of, is_there}
 pub use Rattle.queue_states.specs.Listing.{AreNamesIn}
 pub use Rattle.disk_numbers.specs.Numbers.{AreNumbersIn}
 pub use Rattle.queue_states.specs.Lines.{line_of, count_line, state_line}
 use Rattle.mail_world.specs.History.{Event, Life, State, Actor, Injection, after}
-use Rattle.mail_world.specs.History.Event.{Start, Act, Child, Generation, Report, End, Stop, Moment, Halt}
 use Rattle.mail_world.specs.History.Life.{Alive, Over, Stopped}
 use Rattle.mail_world.specs.Headline.{IsInjected}
+use Rattle.mail_world.specs.Books.{is_accepted, mails_of}
+use Rattle.mail_world.specs.declared.books.Entry.{Entry}
+use Rattle.mail_world.specs.declared.books.Life.{Life as ToldLife}
+use Rattle.mail_world.specs.declared.books.Life.TheVariants as told
 
 -- `pid COUNT`
 abbrev pub pid_line : List (List ℕ) → List ℕ
@@ -40,32 +32,6 @@ life_word Alive = codes "alive"
 life_word (Over status) = digits status
 life_word Stopped = codes "stopped"
 
--- a link of intd to todo, answered Ok, accepts a mail
-abbrev pub is_to_todo : List ℕ → Option Name → Bool
-is_to_todo old (Some (Of Todo n)) = bytes_eq old (path (Of Intd n))
-is_to_todo old name = false
-
-abbrev pub is_accepting : CallData → Answer → Bool
-is_accepting (Link old new) Done = is_to_todo old (parse new)
-is_accepting call answer = false
-
-abbrev pub is_accepting_by : NeedData → GotData → Bool
-is_accepting_by (File call) (Answered told) = is_accepting call told.answer
-is_accepting_by due came = false
-
--- that injector made such a link
-abbrev pub is_accepted : List ℕ → List Event → Bool
-is_accepted name [] = false
-is_accepted name ((Act a own wrote) ∷ before) = (bytes_eq a name && is_accepting_by own.due own.came) || is_accepted name before
-is_accepted name ((Start a program) ∷ before) = is_accepted name before
-is_accepted name ((Child parent own a program) ∷ before) = is_accepted name before
-is_accepted name ((Generation sender clean lspawn rspawn) ∷ before) = is_accepted name before
-is_accepted name ((Report slot letter text) ∷ before) = is_accepted name before
-is_accepted name ((End a read ready status) ∷ before) = is_accepted name before
-is_accepted name ((Stop a) ∷ before) = is_accepted name before
-is_accepted name ((Moment m) ∷ before) = is_accepted name before
-is_accepted name ((Halt how contents) ∷ before) = is_accepted name before
-
 -- `NAME.k pending` for so many recipients, counted from k
 abbrev pub recipient_lines : List ℕ → ℕ → ℕ → List ℕ
 recipient_lines name k zero = []
@@ -77,23 +43,15 @@ mail_lines s h name args None = []
 mail_lines s h name args (Some x) =
     line_of name (life_word x.life) ++ (if is_accepted name h then recipient_lines name 1 (length (recipients_of args)) else [])
 
--- an actor with what it was started with, if it is a mail
-abbrev pub mail_by : List ℕ → Option Arguments → List (List ℕ × Arguments)
-mail_by a None = []
-mail_by a (Some args) = (a, args) ∷ []
+-- the life that the books of a world tell, as that of an actor
+abbrev pub life_of : ToldLife → Life
+life_of told.Alive = Alive
+life_of (told.Ended status) = Over status
+life_of told.Stopped = Stopped
 
--- the mails that were started, in order
-abbrev pub mails_of : List Event → List (List ℕ × Arguments)
-mails_of [] = []
-mails_of ((Start a program) ∷ before) = mails_of before ++ mail_by a (injection_of program)
-mails_of ((Act a own wrote) ∷ before) = mails_of before
-mails_of ((Child parent own a program) ∷ before) = mails_of before ++ mail_by a (injection_of program)
-mails_of ((Generation sender clean lspawn rspawn) ∷ before) = mails_of before
-mails_of ((Report slot letter text) ∷ before) = mails_of before
-mails_of ((End a read ready status) ∷ before) = mails_of before
-mails_of ((Stop a) ∷ before) = mails_of before
-mails_of ((Moment m) ∷ before) = mails_of before
-mails_of ((Halt how contents) ∷ before) = mails_of before
+-- the lines of a mail, by its entry in the books
+abbrev pub entry_lines : Entry → List ℕ
+entry_lines e = line_of e.actor (life_word (life_of e.life)) ++ (if e.accepted then recipient_lines e.actor 1 e.recipients else [])
 
 abbrev pub all_mail_lines : State → List Event → List ℕ
 all_mail_lines s h = flat_map (λ mail. mail_lines s h mail.0 mail.1 (s.actors mail.0)) (mails_of h)

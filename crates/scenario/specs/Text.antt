@@ -6,10 +6,10 @@ use Rattle.call_fs.specs.Plan.{Plan, no_plan}
 use Rattle.mail_world.specs.History.{Event, Legal}
 use Rattle.mail_world.specs.World.{EachSafe}
 use Rattle.script_words.specs.declared.entry.Entry.{Entry}
-use Rattle.scenario.specs.declared.line.Line.{Line}
-use Rattle.scenario.specs.Contents.{Content}
+use Rattle.play_lines.specs.declared.line.Line.{Line}
+use Rattle.play_lines.specs.Contents.{Content}
 use Rattle.scenario.specs.FirstDisk.{IsFirstDisk}
-use Rattle.scenario.specs.Lines.{IsScript, IsBadLine}
+use Rattle.play_lines.specs.Lines.{IsScript, IsBadLine}
 use Rattle.scenario.specs.Played.{PlaysAll}
 use Rattle.scenario.specs.Shown.{line_of}
 
@@ -31,8 +31,8 @@ pub record Prints (script text : List ℕ) : Type 0 where
   pub played : IsPlayed content.opening content.lines text
 
 -- a text begins with this prefix
-abbrev pub IsFront : List ℕ → List ℕ → Type 0
-IsFront front text = (rest : List ℕ) × (text ≡ front ++ rest)
+abbrev pub IsPrefix : List ℕ → List ℕ → Type 0
+IsPrefix prefix text = (rest : List ℕ) × (text ≡ prefix ++ rest)
 
 -- Lines are played from the disk with these entries as far as they go: this is a prefix of what the first of them print.
 pub record IsBegun (opening : List Entry) (lines : List Line) (text : List ℕ) : Type 0 where
@@ -55,8 +55,8 @@ abbrev pub BeginsAtMost : List ℕ → List ℕ → Type 0
 BeginsAtMost script text = (text ≡ []) ⊎ BeginsToPrint script text
 
 -- nothing, or a prefix of the text of the script with these bytes
-abbrev pub IsFrontAtMost : List ℕ → List ℕ → Type 0
-IsFrontAtMost script text = (text ≡ []) ⊎ ((whole : List ℕ) × Prints script whole × IsFront text whole)
+abbrev pub IsPrefixAtMost : List ℕ → List ℕ → Type 0
+IsPrefixAtMost script text = (text ≡ []) ⊎ ((whole : List ℕ) × Prints script whole × IsPrefix text whole)
 
 -- `script K` and a newline
 abbrev pub script_line : ℕ → List ℕ

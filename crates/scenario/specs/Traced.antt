@@ -20,11 +20,12 @@ use Rattle.call_fs.specs.declared.program.Port.{Port}
 use Rattle.call_fs.specs.declared.program.Port.TheVariants as port
 use Rattle.call_fs.specs.declared.crash_file_system.Survival.{Survival}
 use Rattle.call_fs.specs.declared.crash_file_system.Survival.TheVariants.{Keep, Lose, Junk}
-use Rattle.mail_world.specs.MailNames.{members}
+use Rattle.actor_names.specs.MailNames.{members}
 use Rattle.mail_world.specs.History.{Event}
 use Rattle.mail_world.specs.History.Event.{Start, Act, Child, Generation, Report, End, Stop, Moment, Halt}
-use Rattle.scenario.specs.declared.line.Line.{Line}
-use Rattle.scenario.specs.declared.line.Line.TheVariants as line
+use Rattle.play_lines.specs.declared.line.Line.{Line}
+use Rattle.play_lines.specs.declared.line.Line.TheVariants as line
+use Rattle.play_lines.specs.declared.keyword.Alone.TheVariants as alone
 use Rattle.scenario.specs.Shown.{line_of}
 
 -- `WORD PATH`
@@ -165,13 +166,10 @@ traced_text false events = []
 -- whether events are traced after a line
 abbrev pub traced_after : Bool → Line → Bool
 traced_after traced (line.Mail name message envelope) = traced
-traced_after traced (line.Step actor) = traced
-traced_after traced (line.Run actor) = traced
-traced_after traced (line.Stop actor) = traced
-traced_after traced (line.Halt how) = traced
-traced_after traced (line.Fault k) = traced
-traced_after traced (line.Number n) = traced
-traced_after traced (line.Moment m) = traced
-traced_after traced line.Trace = true
-traced_after traced (line.Cat path) = traced
-traced_after traced line.Show = traced
+traced_after traced (line.Alone alone.Trace) = true
+traced_after traced (line.Alone alone.Show) = traced
+traced_after traced (line.Actor first actor) = traced
+traced_after traced (line.Count first n) = traced
+traced_after traced (line.Moment first m) = traced
+traced_after traced (line.Survival first how) = traced
+traced_after traced (line.Word first read) = traced

@@ -1,18 +1,7 @@
-// Why a script can't be read or played.
+// Why a script can't be played.
 
 use std::alloc::AllocError;
 use thiserror::Error;
-
-/// Why bytes are no script.
-#[derive(Debug, Drop, Error)]
-pub enum ScriptError {
-    /// The line with this number isn't in the grammar, counted from 1; 0 if the script is too long.
-    #[error("line {0}: not in the grammar of scripts")]
-    Line(u64),
-    /// Out of memory.
-    #[error("out of memory")]
-    Memory,
-}
 
 /// Why a script wasn't played to its end.
 #[derive(Clone, Copy, Debug, Error)]

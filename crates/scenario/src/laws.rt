@@ -2,11 +2,11 @@
 ghost use Rattle.std.specs.Prelude.{◌≡◌, ◌<◌, ◌^◌, List, ℕ, length};
 ghost use Rattle.call_fs.specs.Disk.{Disk};
 ghost use Rattle.script_words.specs.declared.entry.Entry.{Entry};
-ghost use Rattle.scenario.specs.declared.line.Line.{Line};
-ghost use Rattle.scenario.specs.Contents.{Content};
-ghost use Rattle.scenario.specs.Lines.{IsScript};
+ghost use Rattle.play_lines.specs.declared.line.Line.{Line};
+ghost use Rattle.play_lines.specs.Contents.{Content};
+ghost use Rattle.play_lines.specs.Lines.{IsScript};
 ghost use Rattle.scenario.specs.FirstDisk.{IsFirstDisk};
-ghost use Rattle.scenario.specs.Text.{IsPlayed, Prints, BeginsToPrint, IsFront};
+ghost use Rattle.scenario.specs.Text.{IsPlayed, Prints, BeginsToPrint, IsPrefix};
 
 /// Entries make one disk, if they are fewer than the numbers of files.
 pub fn one_disk()
@@ -19,7 +19,7 @@ pub fn has_text()
     ensures text { (script : List ℕ) (content : Content) → IsScript script content
         → (text : List ℕ) × Prints script text }
     ensures whole { (script begun : List ℕ) → BeginsToPrint script begun
-        → (whole : List ℕ) × Prints script whole × IsFront begun whole }
+        → (whole : List ℕ) × Prints script whole × IsPrefix begun whole }
 {}
 
 /// Lines that are played from the disk with some entries make one history, and a script prints one text; what it begins
@@ -28,6 +28,6 @@ pub fn one_text()
     ensures history { (opening : List Entry) (lines : List Line) (t u : List ℕ)
         (p : IsPlayed opening lines t) (q : IsPlayed opening lines u) → p.history ≡ q.history }
     ensures one { (script a b : List ℕ) → Prints script a → Prints script b → a ≡ b }
-    ensures front { (script begun whole : List ℕ) → BeginsToPrint script begun → Prints script whole
-        → IsFront begun whole }
+    ensures prefix { (script begun whole : List ℕ) → BeginsToPrint script begun → Prints script whole
+        → IsPrefix begun whole }
 {}

@@ -7,7 +7,11 @@ ghost use Rattle.mail_bytes.specs.Told.{Rose, Meets};
 ghost use Rattle.mail_world.specs.declared.event.Event.{Event as Kept};
 ghost use Rattle.mail_world.specs.History.{Event as Happening};
 ghost use Rattle.mail_world.specs.Kept.{events_of};
-ghost use Rattle.scenario.specs.declared.line.Line.TheVariants as LineOf;
+ghost use Rattle.play_lines.specs.declared.line.Line.TheVariants as LineOf;
+ghost use Rattle.play_lines.specs.declared.keyword.OfActor.TheVariants as OfActorOf;
+ghost use Rattle.play_lines.specs.declared.keyword.OfCount.TheVariants as OfCountOf;
+ghost use Rattle.play_lines.specs.declared.keyword.OfMoment.TheVariants as OfMomentOf;
+ghost use Rattle.play_lines.specs.declared.keyword.OfSurvival.TheVariants as OfSurvivalOf;
 ghost use Rattle.scenario.specs.Played.{Refusal, IsRefusalOf, refusal_line};
 ghost use Rattle.scenario.specs.Playing.{IsPlaying, HasStepped, HasPlayed, HasPrinted, IsRefusedAs, is_memory_of, lacked_memory};
 ghost use Rattle.scenario.specs.Text.{IsPlayed, IsBegun};
@@ -16,14 +20,15 @@ ghost use Rattle.scenario.specs.Shown.{line_of};
 use crate::opening_disk::first_disk;
 use crate::printing::{put_line, put_number};
 use crate::showing::{cat, show};
-use crate::tracing::{put_events_behind, traced_after};
-use crate::{Line, PlayError, Script};
+use crate::tracing::{put_events_after, traced_after};
+use crate::{PlayError, Script};
 use call_fs::{Answer, FsError, GotData, Survival, Taken};
 use crash_fs::CrashDisk;
 use mail_bytes::{ByteText, Memory};
 use mail_world::laws::headline;
 use mail_world::{ActorName, Event, History, World, WorldError};
 use outside::{Gave, Sink};
+use play_lines::{Alone, Line, OfActor, OfCount, OfMoment, OfSurvival, OfWord};
 use script_words::{Count, Moment};
 use std::alloc::{AllocError, Global};
 
@@ -86,7 +91,7 @@ fn printed(
         return Ok(own);
     }
     let mut text = Vec::new(alloc);
-    put_events_behind(alloc, &mut text, world.history().events(), before)?;
+    put_events_after(alloc, &mut text, world.history().events(), before)?;
     text.extend_from_slice(&own)?;
     Ok(text)
 }
@@ -107,19 +112,34 @@ fn play_line(
             message,
             envelope,
         } => start(alloc, world, name, message, envelope, text),
-        Line::Step(actor) => step_once(alloc, world, actor, text),
-        Line::Run(actor) => run(alloc, world, actor, text),
-        Line::Stop(actor) => stop(world, actor, text),
-        Line::Halt(how) => halt(alloc, world, *how),
-        Line::Fault(k) => {
+        Line::Alone(word) => play_alone(alloc, world, *word, text),
+        Line::Actor(OfActor::Step, actor) => step_once(alloc, world, actor, text),
+        Line::Actor(OfActor::Run, actor) => run(alloc, world, actor, text),
+        Line::Actor(OfActor::Stop, actor) => stop(world, actor, text),
+        Line::Count(OfCount::Fault, k) => {
             fail_in(world, *k);
             Ok(())
         }
-        Line::Number(number) => pick(world, *number, text),
-        Line::Moment(moment) => set_moment(world, *moment, text),
-        Line::Trace => Ok(()),
-        Line::Cat(path) => cat(alloc, world.disk(), path.as_slice(), text),
-        Line::Show => show(alloc, world, text),
+        Line::Count(OfCount::Number, number) => pick(world, *number, text),
+        Line::Moment(OfMoment::Moment, moment) => set_moment(world, *moment, text),
+        Line::Survival(OfSurvival::Halt, how) => halt(alloc, world, *how),
+        Line::Word(OfWord::Cat, path) => cat(alloc, world.disk(), path.as_slice(), text),
+    }
+}
+
+/// Plays a line of one word, and puts what it prints at the end of a text.
+fn play_alone(
+    alloc: Global,
+    world: &World<CrashDisk>,
+    word: Alone,
+    text: &mut Vec<u8>,
+) -> Result<(), Memory>
+    ensures { OnOk result ((d : Disk) (plan : Plan) (h : List Happening) → IsPlaying d world.now plan h
+        → HasPlayed d world.now (LineOf.Alone word) text.old.items text.new.items plan h) }
+{
+    match word {
+        Alone::Trace => Ok(()),
+        Alone::Show => show(alloc, world, text),
     }
 }
 
@@ -149,7 +169,7 @@ fn step_once(
     text: &mut Vec<u8>,
 ) -> Result<(), Memory>
     ensures { OnOk result ((d : Disk) (plan : Plan) (h : List Happening) → IsPlaying d world.old plan h
-        → HasPlayed d world.new (LineOf.Step actor.now) text.old.items text.new.items plan h) }
+        → HasPlayed d world.new (LineOf.Actor OfActorOf.Step actor.now) text.old.items text.new.items plan h) }
 {
     match step(alloc, world, actor) {
         Ok(_) => Ok(()),
@@ -160,7 +180,7 @@ fn step_once(
 /// Stops an actor, or puts the line of its refusal at the end of a text.
 fn stop(world: &mut World<CrashDisk>, actor: &ActorName, text: &mut Vec<u8>) -> Result<(), Memory>
     ensures { OnOk result ((d : Disk) (plan : Plan) (h : List Happening) → IsPlaying d world.old plan h
-        → HasPlayed d world.new (LineOf.Stop actor.now) text.old.items text.new.items plan h) }
+        → HasPlayed d world.new (LineOf.Actor OfActorOf.Stop actor.now) text.old.items text.new.items plan h) }
 {
     match world.stop(actor) {
         Ok(()) => Ok(()),
@@ -231,7 +251,7 @@ fn run(
     text: &mut Vec<u8>,
 ) -> Result<(), Memory>
     ensures { OnOk result ((d : Disk) (plan : Plan) (h : List Happening) → IsPlaying d world.old plan h
-        → HasPlayed d world.new (LineOf.Run actor.now) text.old.items text.new.items plan h) }
+        → HasPlayed d world.new (LineOf.Actor OfActorOf.Run actor.now) text.old.items text.new.items plan h) }
 {
     for _ in 0..MOST_STEPS {
         match step(alloc, world, actor) {
@@ -247,7 +267,7 @@ fn run(
 /// The machine stops. Nothing is printed.
 fn halt(alloc: Global, world: &mut World<CrashDisk>, how: Survival) -> Result<(), Memory>
     ensures { OnOk result ((d : Disk) (plan : Plan) (h : List Happening) (text : List ℕ) → IsPlaying d world.old plan h
-        → HasPlayed d world.new (LineOf.Halt how) text text plan h) }
+        → HasPlayed d world.new (LineOf.Survival OfSurvivalOf.Halt how) text text plan h) }
 {
     world.halt(alloc, how)?;
     Ok(())
@@ -256,7 +276,7 @@ fn halt(alloc: Global, world: &mut World<CrashDisk>, how: Survival) -> Result<()
 /// The call of this place from now on fails. Nothing is printed.
 fn fail_in(world: &mut World<CrashDisk>, k: Count)
     ensures { (d : Disk) (plan : Plan) (h : List Happening) (text : List ℕ) → IsPlaying d world.old plan h
-        → HasPlayed d world.new (LineOf.Fault k) text text plan h }
+        → HasPlayed d world.new (LineOf.Count OfCountOf.Fault k) text text plan h }
 {
     world.fault_in(k.number());
 }
@@ -264,7 +284,7 @@ fn fail_in(world: &mut World<CrashDisk>, k: Count)
 /// Picks the number of the next new file, or puts the line of its refusal at the end of a text.
 fn pick(world: &mut World<CrashDisk>, number: Count, text: &mut Vec<u8>) -> Result<(), Memory>
     ensures { OnOk result ((d : Disk) (plan : Plan) (h : List Happening) → IsPlaying d world.old plan h
-        → HasPlayed d world.new (LineOf.Number number) text.old.items text.new.items plan h) }
+        → HasPlayed d world.new (LineOf.Count OfCountOf.Number number) text.old.items text.new.items plan h) }
 {
     match world.pick(number.number()) {
         Ok(()) => Ok(()),
@@ -289,7 +309,7 @@ fn set_moment(
     text: &mut Vec<u8>,
 ) -> Result<(), Memory>
     ensures { OnOk result ((d : Disk) (plan : Plan) (h : List Happening) → IsPlaying d world.old plan h
-        → HasPlayed d world.new (LineOf.Moment moment) text.old.items text.new.items plan h) }
+        → HasPlayed d world.new (LineOf.Moment OfMomentOf.Moment moment) text.old.items text.new.items plan h) }
 {
     match world.moment(moment.seconds()) {
         Ok(()) => Ok(()),

@@ -1,29 +1,22 @@
 // What `show` and `cat` print.
-ghost use Rattle.std.specs.Prelude.{◌≡◌, ◌++◌, ◌∷◌, List, ℕ, length, OnOk, codes, flat_map, option_map};
+ghost use Rattle.std.specs.Prelude.{◌≡◌, ◌++◌, ◌∷◌, List, ℕ, OnOk, codes, flat_map};
 ghost use Rattle.mail_bytes.specs.Decimal.{digits};
 ghost use Rattle.call_fs.specs.Disk.{Disk};
 ghost use Rattle.mem_fs.specs.MemDisk.{bytes_at};
 ghost use Rattle.crash_fs.specs.Crash.{crash_disk};
-ghost use Rattle.queue_inject.specs.Texts.{recipients_of};
 ghost use Rattle.mail_world.specs.History.{Event as Happening};
 ghost use Rattle.mail_world.specs.World.{Happened};
-ghost use Rattle.scenario.specs.Shown.{IsShown, line_of, life_word, recipient_lines, number_line};
+ghost use Rattle.scenario.specs.Shown.{IsShown, line_of, life_word, life_of, entry_lines, recipient_lines, number_line};
 ghost use Rattle.scenario.specs.Played.{cat_line};
-ghost use Rattle.scenario.specs.Fates.{fate_of, life_of, fate_lines, mail_fate, start_lines};
 
-use crate::fates::{Fate, Fates, Life};
 use crate::printing::{put_escaped, put_line, put_number};
 use crash_fs::CrashDisk;
 use disk_numbers::{names_of, numbers_of, state_on};
-use envelope_records::{EnvStep, EnvelopeReader};
 use mail_bytes::Memory;
-use mail_world::{ActorName, Event, World};
-use queue_inject::Arguments;
+use mail_world::laws::headline;
+use mail_world::{Entry, Life, World};
 use queue_states::{put_count_line, put_state_line};
 use std::alloc::Global;
-
-/// The most bytes of an envelope that an injector reads.
-const ENVELOPE_LIMIT: usize = 1_073_741_824;
 
 /// Puts at the end of a text how many names `pid/` has, the state of each number that isn't in S1, and how each mail
 /// fares. A recipient of an accepted mail is pending: nothing takes a mail out of todo yet.
@@ -35,9 +28,8 @@ pub fn show(alloc: Global, world: &World<CrashDisk>, text: &mut Vec<u8>) -> Resu
     put_count_line(text, pids.len() as u64)?;
     let numbers = numbers_of(alloc, world.disk())?;
     put_states(text, world.disk(), &numbers)?;
-    let events = world.history().events();
-    let fates = Fates::of(alloc, events)?;
-    put_mails(text, &fates, events)
+    headline();
+    put_mails(text, world.books().entries())
 }
 
 /// Puts the bytes of the file of a name, or that there is none, at the end of a text.
@@ -65,76 +57,26 @@ fn put_states(text: &mut Vec<u8>, disk: &CrashDisk, numbers: &[u64]) -> Result<(
     Ok(())
 }
 
-/// Puts the lines of each mail that these events start at the end of a text.
-fn put_mails(text: &mut Vec<u8>, fates: &Fates, events: &[Event]) -> Result<(), Memory>
-    ensures { OnOk result (text.new.items ≡ text.old.items ++ flat_map (start_lines (fate_of fates.now)) events.now) }
+/// Puts the lines of each of these mails at the end of a text.
+fn put_mails(text: &mut Vec<u8>, entries: &[Entry]) -> Result<(), Memory>
+    ensures { OnOk result (text.new.items ≡ text.old.items ++ flat_map entry_lines entries.now) }
 {
-    for event in events {
-        put_mail(text, fates, event)?;
+    for entry in entries {
+        put_mail(text, entry)?;
     }
     Ok(())
 }
 
-/// Puts the lines of the mail that this event starts, if it does, at the end of a text.
-fn put_mail(text: &mut Vec<u8>, fates: &Fates, event: &Event) -> Result<(), Memory>
-    ensures { OnOk result (text.new.items ≡ text.old.items ++ start_lines (fate_of fates.now) event.now) }
+/// Puts the lines of a mail at the end of a text.
+fn put_mail(text: &mut Vec<u8>, entry: &Entry) -> Result<(), Memory>
+    ensures { OnOk result (text.new.items ≡ text.old.items ++ entry_lines entry.now) }
 {
-    match event {
-        Event::Start { actor, program } => put_started(text, fates, actor, program.injection()),
-        Event::Act { .. } | Event::End { .. } => Ok(()),
-        Event::Stop { .. } | Event::Moment { .. } | Event::Halt { .. } => Ok(()),
-    }
-}
-
-/// Puts the lines of an actor at the end of a text, if it is a mail, which was started with this.
-fn put_started(
-    text: &mut Vec<u8>,
-    fates: &Fates,
-    actor: &ActorName,
-    injection: Option<&Arguments>,
-) -> Result<(), Memory>
-    ensures { OnOk result (text.new.items ≡ text.old.items
-        ++ mail_fate (fate_of fates.now) actor.now (option_map (λ args. args.now) injection.entry)) }
-{
-    let Some(arguments) = injection else {
-        return Ok(());
-    };
-    let name = actor.as_slice();
-    put_fate(text, name, fates.find(name), arguments)
-}
-
-/// Puts the lines of a mail that fares so at the end of a text.
-fn put_fate(
-    text: &mut Vec<u8>,
-    name: &[u8],
-    fate: Fate,
-    arguments: &Arguments,
-) -> Result<(), Memory>
-    ensures { OnOk result (text.new.items ≡ text.old.items ++ fate_lines name.now fate arguments.now) }
-{
-    put_life(text, name, fate.life)?;
-    if fate.accepted {
-        put_recipients(text, name, recipients(arguments))?;
+    let name = entry.actor.as_slice();
+    put_life(text, name, entry.life)?;
+    if entry.accepted {
+        put_recipients(text, name, entry.recipients)?;
     }
     Ok(())
-}
-
-/// How many recipients a mail has: none if no envelope ends within the limit.
-fn recipients(arguments: &Arguments) -> u64
-    ensures { result ≡ length (recipients_of arguments.now) }
-{
-    let envelope = arguments.envelope.as_slice();
-    let read = &envelope[..ENVELOPE_LIMIT.min(envelope.len())];
-    let mut reader = EnvelopeReader::new();
-    let mut count: u64 = 0;
-    for byte in read {
-        match reader.feed(*byte) {
-            EnvStep::Recipient => count += 1,
-            EnvStep::End => return count,
-            EnvStep::More | EnvStep::Sender | EnvStep::Fault(_) => {}
-        }
-    }
-    0
 }
 
 /// Puts the line of an injector at the end of a text: its exit status, or whether it lives or was stopped.

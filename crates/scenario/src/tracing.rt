@@ -9,12 +9,12 @@ ghost use Rattle.scenario.specs.Shown.{line_of};
 ghost use Rattle.scenario.specs.Traced.{with_path, with_descriptor, with_count, call_text, answer_text, refusal_text, count_told, survival_word, start_line, act_line, event_line, traced_after};
 ghost use Rattle.call_fs.specs.declared.past.NeedData.TheVariants.{File};
 
-use crate::Line;
 use crate::passing::{put_command, put_given, put_started, put_taken};
 use crate::printing::{put_escaped, put_line, put_number};
 use call_fs::{Answer, CallData, Fd, FsError, GotData, NeedData, Own, Survival};
 use mail_bytes::Memory;
 use mail_world::{ActorName, Event};
+use play_lines::{Alone, Line};
 use std::alloc::Global;
 
 /// Whether events are traced after a line, if before it they are, or aren't.
@@ -22,16 +22,15 @@ pub fn traced_after(traced: bool, line: &Line) -> bool
     ensures { result ≡ traced_after traced line.now }
 {
     match line {
-        Line::Trace => true,
-        Line::Mail { .. } => traced,
-        Line::Step(_) | Line::Run(_) | Line::Stop(_) => traced,
-        Line::Halt(_) | Line::Fault(_) | Line::Number(_) => traced,
-        Line::Moment(_) | Line::Cat(_) | Line::Show => traced,
+        Line::Alone(Alone::Trace) => true,
+        Line::Alone(Alone::Show) | Line::Mail { .. } => traced,
+        Line::Actor(_, _) | Line::Count(_, _) | Line::Moment(_, _) => traced,
+        Line::Survival(_, _) | Line::Word(_, _) => traced,
     }
 }
 
 /// Puts the lines of the events after the first so many at the end of a text, the oldest event first.
-pub fn put_events_behind(
+pub fn put_events_after(
     alloc: Global,
     text: &mut Vec<u8>,
     events: &[Event],

@@ -1,4 +1,5 @@
 mod dues;
+mod remote_reports;
 mod reports;
 mod requests;
 mod retries;

@@ -21,7 +21,7 @@ contains-cut a b s = Contains-append_right a (s ∷ b) s (contains-head s b s re
 pub not-cut : (a b w : List ℕ) (s : ℕ) → ¬ (Contains w s) → a ++ s ∷ b ≡ w → ⊥
 not-cut a b w s without e = without (let P : List ℕ → Type 0 = λ t. Contains t s in subst P e (contains-cut a b s))
 
--- what stands before and behind the first such byte is one pair
+-- what stands before and after the first such byte is one pair
 pub same-cut : (a b w r : List ℕ) (s : ℕ) → ¬ (Contains a s) → ¬ (Contains w s) → a ++ s ∷ b ≡ w ++ s ∷ r → (a ≡ w) × (b ≡ r)
 same-cut [] b [] r s p q e = (refl, cc)
 same-cut [] b (y ∷ w) r s p q e = absurd (q (contains-head y w s (cc)))

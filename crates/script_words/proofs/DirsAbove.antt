@@ -10,7 +10,7 @@ use Rattle.std.proofs.Math.Seq.{take-append_seam, drop-append_seam}
 use Rattle.call_fs.proofs.Maps.{bytes_eq-decides}
 use Rattle.script_words.specs.Entries.{dirs_above, IsAbove}
 
--- what stands behind a prefix
+-- what stands after a prefix
 pub behind_prefix : (dir path rest : List ℕ) → bytes_eq (take (length dir) path) dir ≡ true → rest ≡ drop (length dir) path → path ≡ dir ++ rest
 behind_prefix dir path rest front is =
     sym (take-append-drop (length dir) path)

@@ -29,7 +29,7 @@ file_line words word more path body bytes cut stands is_path ends is = by ends.t
     }
     by (v ∷ to) rest e stand end = absurd stand
 
--- what is behind the word `file`
+-- what is after the word `file`
 file_words : (words path bytes : List ℕ) (h : IsFileLine (codes "file" ++ 32 ∷ words) path bytes) → words ≡ h.word ++ 32 ∷ (codes ":" ++ h.rest)
 file_words words path bytes h =
     append_cancel_left (codes "file ") words ((h.word ++ 32 ∷ codes ":") ++ h.rest) h.words ∙ append_assoc h.word (32 ∷ codes ":") h.rest
@@ -56,7 +56,7 @@ file_parts words word more path bytes cut h =
 pub file_has_space : (words path bytes : List ℕ) → IsFileLine (codes "file" ++ 32 ∷ words) path bytes → Contains words 32
 file_has_space words path bytes h = subst (λ (t : List ℕ). Contains t 32) (sym (file_words words path bytes h)) (contains-cut h.word (codes ":" ++ h.rest) 32)
 
--- the path behind the word `dir`
+-- the path after the word `dir`
 pub dir_word : (words path : List ℕ) (h : IsDirLine (codes "dir" ++ 32 ∷ words) path) → h.word ≡ words
 dir_word words path h = sym (append_cancel_left (codes "dir ") words h.word h.words)
 

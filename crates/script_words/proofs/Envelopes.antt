@@ -1,4 +1,4 @@
--- What an envelope is made of, and the body behind it.
+-- What an envelope is made of, and the body after it.
 use Rattle.std.proofs.Common.{◌≡◌, ℕ, List, [], ◌∷◌, ◌++◌, Contains, Some, Ok, refl, sym, ◌∙◌, ap, subst, inl, inr, ⊎_elim, append_assoc}
 use Rattle.std.specs.Prelude.{codes, flat_map}
 use Rattle.std.specs.List.{AllZip}
@@ -17,7 +17,7 @@ pub text_lacks : (word sender : List ℕ) → StandsForText word sender → ¬ (
 text_lacks word sender (inl empty) = subst (λ (w : List ℕ). ¬ (Contains w 32)) (sym empty.0) (lacks (codes "-") 32 refl)
 text_lacks word sender (inr named) = named.1.is_word.whole
 
--- the body behind the `:`
+-- the body after the `:`
 pub has-body : (rest body message : List ℕ) → Ends rest body → unescaped body ≡ Ok message → HasBody rest message
 has-body rest body message (inl end) is =
     let e : unescaped [] ≡ Ok message = ap unescaped (sym end.1) ∙ is in
@@ -30,7 +30,7 @@ pub body-ends : (rest message : List ℕ) → HasBody rest message → (body : L
 body-ends [] message h = ([], inl (refl, refl), ap Ok (sym h))
 body-ends (first ∷ text) message h = (text, inr (ap (λ b. b ∷ text) h.0), h.1)
 
--- the words behind a sender have one body
+-- the words after a sender have one body
 same-body : (to recipients : List (List ℕ)) (tail tail' body body' : List ℕ) → AllZip StandsFor to recipients → Ends tail body → Ends tail' body' → codes ":" ++ tail ≡ front to ++ (codes ":" ++ tail') → body ≡ body'
 same-body [] recipients tail tail' body body' q ends ends' e =
     let same : tail ≡ tail' = append_cancel_left (codes ":") tail tail' e in
@@ -58,7 +58,7 @@ one_body words body body' recipients recipients' h h' =
     let r = still words (codes ":" ++ h.rest) [] (flat_map record_of recipients) body' recipients' (passed-all words body recipients h) h' in
     same-body r.to r.recipients h.rest h'.rest body body' r.stand h.ends h'.ends r.text
 
--- a sender and what follows are those before and behind the first space
+-- a sender and what follows are those before and after the first space
 pub behind_sender : (words word rest envelope body : List ℕ) → IsCut words 32 word (Some rest) → (h : BeginsWithEnvelope words envelope body) → (h.from ≡ word) × (h.more ≡ rest)
 behind_sender words word rest envelope body cut h =
     same-cut h.from h.more word rest 32 (text_lacks h.from h.sender h.stands) cut.without (sym h.words ∙ cut.parts)
@@ -82,7 +82,7 @@ pub written_text : (word text : List ℕ) → StandsForText word text → IsWrit
 written_text word text (inl empty) = inl empty
 written_text word text (inr named) = inr (named.0, named.1.no_end, record { some = named.1.is_word.some; bytes = named.1.bytes })
 
--- and the other way round, where the word has no space
+-- and the other way round, if the word has no space
 pub text_of : (word text : List ℕ) → ¬ (Contains word 32) → IsWrittenText word text → StandsForText word text
 text_of word text whole (inl empty) = inl empty
 text_of word text whole (inr named) = inr (named.0, record { is_word = record { some = named.2.some; whole = whole }; no_end = named.1; bytes = named.2.bytes })

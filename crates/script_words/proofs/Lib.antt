@@ -2,7 +2,7 @@
 pub mod Cuts
 -- words, and the recipients of a mail's line
 pub mod WordLists
--- what an envelope is made of, and the body behind it
+-- what an envelope is made of, and the body after it
 pub mod Envelopes
 -- parts of a path
 pub mod PathParts

@@ -10,7 +10,7 @@ use Rattle.script_words.specs.Words.{joined, StandsFor}
 use Rattle.script_words.specs.Reading.{IsCut, IsWritten, HasRecipients}
 use Rattle.script_words.proofs.Cuts.{not-cut, same-cut, lacks}
 
--- words with a space behind each
+-- words with a space after each
 abbrev pub front : List (List ℕ) → List ℕ
 front [] = []
 front (word ∷ words) = word ++ 32 ∷ front words
@@ -83,7 +83,7 @@ pub record Remain (rest tail : List ℕ) : Type 0 where
 pub colon-lacks : ¬ (Contains (codes ":") 32)
 colon-lacks = lacks (codes ":") 32 refl
 
--- `:` alone, or with a space behind it, doesn't begin with another word
+-- `:` alone, or with a space after it, doesn't begin with another word
 pub colon-alone : (word behind tail body : List ℕ) → word ≢ codes ":" → ¬ (Contains word 32) → Ends tail body → word ++ 32 ∷ behind ≡ codes ":" ++ tail → ⊥
 colon-alone word behind tail body other whole (inl end) e = not-cut word behind (codes ":") 32 colon-lacks (e ∙ ap (λ t. codes ":" ++ t) end.0)
 colon-alone word behind tail body other whole (inr end) e =
@@ -101,13 +101,13 @@ remain (w ∷ done) (x ∷ dones) (v ∷ to) (y ∷ recipients) rest tail body p
     ((same-cut w (front done ++ rest) v (front to ++ (codes ":" ++ tail)) 32 p.0.is_word.whole q.0.is_word.whole
     (sym (append_assoc w (32 ∷ front done) rest) ∙ e ∙ append_assoc v (32 ∷ front to) (codes ":" ++ tail))).1)
 
--- where the words have recipients and `:`, so have the words that are left
+-- if the words have recipients and `:`, so have the words that are left
 pub still : (words rest old new body : List ℕ) (recipients : List (List ℕ)) → Passed words rest old new → (h : HasRecipients words recipients body) → Remain rest h.rest
 still words rest old new body recipients p h =
     remain p.done p.recipients h.to recipients rest h.rest body p.stand h.stand h.ends
     (sym p.text ∙ h.words ∙ ap (λ t. t ++ h.rest) (joined-front h.to (codes ":")) ∙ append_assoc (front h.to) (codes ":") h.rest)
 
--- The first word of these is `:`, or it is an address with something behind it.
+-- The first word of these is `:`, or it is an address with something after it.
 abbrev pub IsFirst : List ℕ → Option (List ℕ) → Type 0
 IsFirst word None = word ≡ codes ":"
 IsFirst word (Some behind) = (word ≡ codes ":") ⊎ ((address : List ℕ) × IsWritten word address)
@@ -136,7 +136,7 @@ first_word words rest old new body word recipients after p h cut =
     let r = still words rest old new body recipients p h in
     first-of r.to r.recipients rest h.rest body word after r.stand h.ends r.text cut
 
--- where there are no recipients it is `:`
+-- if there are no recipients it is `:`
 only-end : (to : List (List ℕ)) (rest tail body word : List ℕ) (after : Option (List ℕ)) → AllZip StandsFor to [] → Ends tail body → rest ≡ front to ++ (codes ":" ++ tail) → IsCut rest 32 word after → word ≡ codes ":"
 only-end [] rest tail body word after q ends e cut = end-of rest tail body word after ends e cut
 only-end (v ∷ to) rest tail body word after q ends e cut = absurd q

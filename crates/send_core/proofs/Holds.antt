@@ -14,7 +14,8 @@ use Rattle.call_fs.specs.declared.past.GotData.{GotData}
 use Rattle.call_fs.specs.declared.past.Own.{Own}
 use Rattle.call_fs.specs.declared.program.Ready.{Ready}
 use Rattle.call_fs.specs.Columns.{IsAnswerTo}
-use Rattle.call_fs.specs.Disk.{Mode, IsForWrite}
+use Rattle.call_fs.specs.Disk.{IsForWrite}
+use Rattle.call_fs.specs.declared.modes.Mode.{Mode}
 use Rattle.call_fs.specs.Maps.{put}
 use Rattle.call_fs.specs.Past.{IsRunBy, held, held_by, held_after, UsesHeld}
 use Rattle.call_fs.specs.Program.{MayCome}
@@ -30,7 +31,7 @@ use Rattle.send_jobs.specs.declared.attempts.Mark.{Mark}
 use Rattle.send_jobs.specs.declared.channels.Channel.{Channel}
 use Rattle.send_jobs.specs.declared.channels.Channel.TheVariants.{Local, Remote}
 use Rattle.send_jobs.specs.declared.jobs.Job.{Job}
-use Rattle.send_jobs.specs.Lanes.{next, job_over, left_unmarked, settled}
+use Rattle.send_jobs.specs.Lanes.{next, job_over, left_unmarked, mark_settled}
 use Rattle.send_jobs.specs.Sending.{lane, at_lane, sent_on}
 use Rattle.send_jobs.specs.Slots.{lowest}
 use Rattle.send_known.specs.Messages.{learned}
@@ -256,10 +257,10 @@ module _ (h : ℕ → Option Mode) where
 
   mark_holds : (b : Bool) (m : Marked) (d : Desk) → Holds h (mark_over b m d)
   mark_holds true m d =
-      let after = record d { slots = at_lane m.channel settled d.slots } in
+      let after = record d { slots = at_lane m.channel mark_settled d.slots } in
       closed_holds (job_over m.n (lane m.channel after.slots)) m.channel m.n point.Reports after
   mark_holds false m d =
-      let after = record d { slots = at_lane m.channel (left_unmarked m.n) (at_lane m.channel settled d.slots) } in
+      let after = record d { slots = at_lane m.channel (left_unmarked m.n) (at_lane m.channel mark_settled d.slots) } in
       closed_holds (job_over m.n (lane m.channel after.slots)) m.channel m.n point.Reports after
 
   unlinked_holds : (w : Way) (c : Channel) (n : ℕ) (p : Point) (now : ℕ) (d : Desk) → Holds h (unlinked w c n p now d)
@@ -659,7 +660,6 @@ module _ (h : ℕ → Option Mode) (pass : PassRow) where
   point_from point.Reports d now ready = reports_from d now
   point_from (point.Pass Local may) d now ready = local_from may d now
   point_from (point.Pass Remote may) d now ready = remote_from may d now
-  point_from point.Todo d now ready = tt
   point_from point.Finish d now ready = or_holds (finishing d now) (from_sweep d now ready) (finishing_holds (next_idle now d)) (sweep_from d now ready)
   point_from point.Sweep d now ready = sweep_from d now ready
 

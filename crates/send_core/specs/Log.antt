@@ -6,7 +6,7 @@ use Rattle.send_jobs.specs.declared.attempts.Attempt.{Attempt}
 use Rattle.send_jobs.specs.declared.channels.Channel.{Channel}
 use Rattle.send_jobs.specs.declared.slots.Slots.{Slots}
 use Rattle.send_jobs.specs.Lanes.{next, reported}
-use Rattle.send_jobs.specs.Lines.{settled_lines, starting_if, status_of}
+use Rattle.send_jobs.specs.Lines.{settled_lines, starting_if, status_line}
 use Rattle.send_jobs.specs.Sending.{lane, at_lane, sent_on}
 use Rattle.send_jobs.specs.Slots.{attempt_in}
 use Rattle.send_log.specs.declared.lines.TheConstants.{LINE_ROOM}
@@ -31,7 +31,7 @@ use Rattle.send_core.specs.Table.{desk_after, row_now}
 
 -- a request was given: the line of its attempt, if there is one, and what is in flight then
 abbrev pub status_if : Bool → Slots → List ℕ
-status_if true s = status_of s
+status_if true s = status_line s
 status_if false s = []
 
 abbrev pub request_lines : Option Attempt → Channel → Slots → List ℕ

@@ -129,7 +129,6 @@ from_point point.TakeRemote d now ready = from_take d now ready
 from_point point.Reports d now ready = from_reports d now
 from_point (point.Pass Local may) d now ready = from_local may d now
 from_point (point.Pass Remote may) d now ready = from_remote may d now
-from_point point.Todo d now ready = at.FindTodo search.AfterLeft
 from_point point.Finish d now ready = or_else (finishing d now) (from_sweep d now ready)
 from_point point.Sweep d now ready = from_sweep d now ready
 

@@ -6,7 +6,7 @@ use Rattle.envelope_records.specs.declared.channel.Record.{Record}
 use Rattle.mail_bytes.specs.Decimal.{digits}
 use Rattle.send_jobs.specs.declared.channels.Channel.{Channel}
 use Rattle.send_jobs.specs.declared.channels.Channel.TheVariants.{Local, Remote}
-use Rattle.send_jobs.specs.Lanes.{settled, left_unmarked}
+use Rattle.send_jobs.specs.Lanes.{mark_settled, left_unmarked}
 use Rattle.send_jobs.specs.Sending.{lane, at_lane}
 use Rattle.send_known.specs.declared.known.Known.{Known}
 use Rattle.send_known.specs.Messages.{learned}
@@ -59,8 +59,8 @@ is_fine way.Fine = true
 is_fine w = false
 
 abbrev pub mark_over : Bool → Marked → Desk → Desk
-mark_over true m d = closed m.channel m.n point.Reports (record d { slots = at_lane m.channel settled d.slots })
-mark_over false m d = closed m.channel m.n point.Reports (record d { slots = at_lane m.channel (left_unmarked m.n) (at_lane m.channel settled d.slots) })
+mark_over true m d = closed m.channel m.n point.Reports (record d { slots = at_lane m.channel mark_settled d.slots })
+mark_over false m d = closed m.channel m.n point.Reports (record d { slots = at_lane m.channel (left_unmarked m.n) (at_lane m.channel mark_settled d.slots) })
 
 abbrev pub mark_opened : Way → Marked → Fd → Desk → Desk
 mark_opened way.Fine m fd d = goes d (at.Mark (mark.Write fd) m)

@@ -22,6 +22,7 @@ pub fn row_now(desk: &Desk, now: u64, ready: &Ready) -> Row
     }
 }
 
+/// The row of a turn that goes on at this point.
 fn from_point(point: Point, desk: &Desk, now: u64, ready: &Ready) -> Row
     ensures { result ≡ from_point point desk.now now ready.now }
 {
@@ -31,30 +32,33 @@ fn from_point(point: Point, desk: &Desk, now: u64, ready: &Ready) -> Row
         Point::Reports => from_reports(desk, now),
         Point::Pass(Channel::Local, may) => from_local(may, desk, now),
         Point::Pass(Channel::Remote, may) => from_remote(may, desk, now),
-        Point::Todo => Row::FindTodo(Search::AfterLeft),
         Point::Finish => or_else(finishing(desk, now), from_sweep(desk, now, ready)),
         Point::Sweep => from_sweep(desk, now, ready),
     }
 }
 
+/// The row from the point of the sweep on.
 fn from_sweep(desk: &Desk, now: u64, ready: &Ready) -> Row
     ensures { result ≡ from_sweep desk.now now ready.now }
 {
     or_else(sweeping(desk, now), from_begin(desk, now, ready))
 }
 
+/// The row from the begin of a turn on, the taking from the local link.
 fn from_begin(desk: &Desk, now: u64, ready: &Ready) -> Row
     ensures { result ≡ from_begin desk.now now ready.now }
 {
     or_else(taking(Channel::Local, ready), from_take(desk, now, ready))
 }
 
+/// The row from the taking from the remote link on.
 fn from_take(desk: &Desk, now: u64, ready: &Ready) -> Row
     ensures { result ≡ from_take desk.now now ready.now }
 {
     or_else(taking(Channel::Remote, ready), from_reports(desk, now))
 }
 
+/// The row from the marks of reports on.
 fn from_reports(desk: &Desk, now: u64) -> Row
     ensures { result ≡ from_reports desk.now now }
 {
@@ -62,6 +66,7 @@ fn from_reports(desk: &Desk, now: u64) -> Row
     or_else(marking(Channel::Local, desk), row)
 }
 
+/// The row from the pass of the local channel on; `may` is whether a pass may begin there.
 fn from_local(may: bool, desk: &Desk, now: u64) -> Row
     ensures { result ≡ from_local may desk.now now }
 {
@@ -71,6 +76,7 @@ fn from_local(may: bool, desk: &Desk, now: u64) -> Row
     )
 }
 
+/// The row from the pass of the remote channel on; `may` is whether a pass may begin there.
 fn from_remote(may: bool, desk: &Desk, now: u64) -> Row
     ensures { result ≡ from_remote may desk.now now }
 {
@@ -80,6 +86,7 @@ fn from_remote(may: bool, desk: &Desk, now: u64) -> Row
     )
 }
 
+/// The first row if there is one, else the other.
 fn or_else(first: Option<Row>, row: Row) -> Row
     ensures { result ≡ or_else first row }
 {
@@ -111,6 +118,7 @@ fn marking(channel: Channel, desk: &Desk) -> Option<Row>
     marking_by(channel, desk.slots.first_mark(channel))
 }
 
+/// The row of this mark, if there is one.
 fn marking_by(channel: Channel, first: Option<&Mark>) -> Option<Row>
     ensures { result ≡ marking_by channel (option_copied first.entry) }
 {
@@ -145,6 +153,7 @@ fn first_due(channel: Channel, desk: &Desk, now: u64) -> Option<(u64, u64)>
     }
 }
 
+/// The request of the next attempt, if a slot is free.
 fn going_on(channel: Channel, slot: Option<u8>) -> Option<Row>
     ensures { result ≡ going_on channel slot }
 {
@@ -154,6 +163,7 @@ fn going_on(channel: Channel, slot: Option<u8>) -> Option<Row>
     }
 }
 
+/// The begin of the pass over the message that is due, if there is one and a pass may begin.
 fn beginning(channel: Channel, may: bool, entry: Option<(u64, u64)>) -> Option<Row>
     ensures { result ≡ beginning channel may entry }
 {
@@ -189,6 +199,7 @@ fn sweeping(desk: &Desk, now: u64) -> Option<Row>
     }
 }
 
+/// The row of a sweep, after the judgement of a file if one is due.
 fn from_sweep_row(row: SweepRow, now: u64) -> SweepRow
     ensures { result ≡ from_sweep_row row now }
 {

@@ -123,6 +123,7 @@ impl Desk {
         self.close_by(over, channel, n, point);
     }
 
+    /// The same, by the job that is over, if one is: tried again if a place of it stayed `T`, else its file goes.
     fn close_by(&mut self, over: Option<Job>, channel: Channel, n: u64, point: Point)
         ensures { self.new ≡ closed_by over channel n point self.old }
     {

@@ -15,8 +15,6 @@ pub enum Point {
     Reports,
     /// The pass of this channel comes first; whether the turn may still begin one there.
     Pass(Channel, bool),
-    /// The search of `todo` comes first.
-    Todo,
     /// A message to finish comes first.
     Finish,
     /// The sweep comes first.

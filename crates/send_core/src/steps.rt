@@ -10,6 +10,7 @@ use send_steps::{
     Dir, Search, StartRow, Step, SweepRow, finish_step, reading_step, start_step, sweep_step,
 };
 
+/// The port of the spawner of a channel.
 fn port_of(channel: Channel) -> Port
     ensures { result ≡ port_of channel }
 {
@@ -19,6 +20,7 @@ fn port_of(channel: Channel) -> Port
     }
 }
 
+/// The channel file of a message.
 fn file_of(channel: Channel, n: u64) -> Name
     ensures { result ≡ file_of channel n }
 {
@@ -52,6 +54,7 @@ pub fn step_of(row: Row, read: u64) -> Step
     }
 }
 
+/// What is done at a row of a mark.
 fn mark_step(row: MarkRow, marked: Marked) -> Step
     ensures { result ≡ mark_step row marked }
 {
@@ -75,6 +78,7 @@ pub fn words_of(row: Row, desk: &Desk) -> &[u8]
     }
 }
 
+/// The bytes beside a step of the start.
 fn start_words(row: StartRow, desk: &Desk) -> &[u8]
     ensures { result.now ≡ start_words row desk.now }
 {
@@ -84,6 +88,7 @@ fn start_words(row: StartRow, desk: &Desk) -> &[u8]
     }
 }
 
+/// After which name a search of `todo` goes on.
 fn search_words(search: Search, desk: &Desk) -> &[u8]
     ensures { result.now ≡ search_words search desk.now }
 {
@@ -94,6 +99,7 @@ fn search_words(search: Search, desk: &Desk) -> &[u8]
     }
 }
 
+/// The bytes beside a step of the sweep.
 fn sweep_words(row: SweepRow, desk: &Desk) -> &[u8]
     ensures { result.now ≡ sweep_words row desk.now }
 {

@@ -8,7 +8,7 @@ use Rattle.send_jobs.specs.declared.attempts.Attempt.{Attempt}
 use Rattle.send_jobs.specs.declared.attempts.Mark.{Mark}
 use Rattle.send_jobs.specs.declared.lane.Lane.{Lane}
 use Rattle.send_jobs.specs.Sending.{lane}
-use Rattle.send_jobs.specs.Lanes.{next, sent, sent_in, reported, owes, settled, IsRoomy}
+use Rattle.send_jobs.specs.Lanes.{next, sent, sent_in, reported, owes, mark_settled, IsRoomy}
 use Rattle.send_jobs.specs.Slots.{attempt_in, lowest}
 
 -- how many attempts are in flight in slots
@@ -50,5 +50,5 @@ marked_roomy lane slot a mark h is =
     let more = length-append lane.marks (mark ∷ []) in
     omega (arith, one)
 
-pub settled_roomy : (lane : Lane) → IsRoomy lane → IsRoomy (settled lane)
+pub settled_roomy : (lane : Lane) → IsRoomy lane → IsRoomy (mark_settled lane)
 settled_roomy lane h = let le = length-drop 1 lane.marks in omega arith

@@ -386,7 +386,7 @@ first_of : (left : List Attempt) (b : Attempt) → Contains left b → (a : Atte
 first_of [] b w = absurd (not_in_none b w)
 first_of (a ∷ rest) b w = (a, refl, at_head a rest)
 
--- each place was reported where none is open or in flight
+-- each place was reported if none is open or in flight
 reported_where : (limit : ℕ) (acts : List Act) → IsRun limit acts → (n : ℕ) → finished n (after limit acts) ≡ true
     → (p : Attempt) → Contains (pass_of n acts) p → Contains (reported_of limit n acts) p.place
 reported_where limit acts run n over p w =

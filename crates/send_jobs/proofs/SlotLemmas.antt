@@ -35,7 +35,7 @@ some_none (Some a) h e = cc
 least_below : (slots : List (Option Attempt)) (a b : ℕ) → IsLeastFree slots (Some a) → IsLeastFree slots (Some b) → b ≤ a
 least_below slots a b h k = ⊎_elim (λ lt. absurd (some_none (attempt_in slots a) (k.2 a lt) h.1)) (λ le. le) (cases_lt a b)
 
--- where each slot is taken none is free
+-- if each slot is taken none is free
 all_taken : (slots : List (Option Attempt)) (b : ℕ) → IsLeastFree slots None → IsLeastFree slots (Some b) → ⊥
 all_taken slots b h k = some_none (attempt_in slots b) (h b None k.0) k.1
 

@@ -59,8 +59,8 @@ abbrev pub owes : Mark → Lane → Lane
 owes mark lane = record lane { marks = lane.marks ++ mark ∷ [] }
 
 -- the first mark was made, or given up
-abbrev pub settled : Lane → Lane
-settled lane = record lane { marks = drop 1 lane.marks }
+abbrev pub mark_settled : Lane → Lane
+mark_settled lane = record lane { marks = drop 1 lane.marks }
 
 abbrev pub is_mark_on : ℕ → Mark → Bool
 is_mark_on n mark = is_on n (Some mark.attempt)

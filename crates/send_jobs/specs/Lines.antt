@@ -10,8 +10,8 @@ use Rattle.send_jobs.specs.Lanes.{in_flight}
 use Rattle.send_jobs.specs.Sending.{next_delivery}
 
 -- what is in flight, and how many deliveries may be
-abbrev pub status_of : Slots → List ℕ
-status_of s = status (in_flight s.local) (length s.local.slots) (in_flight s.remote) (length s.remote.slots)
+abbrev pub status_line : Slots → List ℕ
+status_line s = status (in_flight s.local) (length s.local.slots) (in_flight s.remote) (length s.remote.slots)
 
 abbrev pub channel_word : Channel → List ℕ
 channel_word Local = codes "local"
@@ -27,7 +27,7 @@ starting_if (Some a) c s = starting_line a c s
 
 -- an attempt was reported on with this letter and text, and the slots are so then
 abbrev pub settled_lines : Attempt → ℕ → List ℕ → Slots → List ℕ
-settled_lines a letter text after = delivered a.delivery (outcome_of letter a.dying) text ++ status_of after
+settled_lines a letter text after = delivered a.delivery (outcome_of letter a.dying) text ++ status_line after
 
 -- how much room these take at most
 abbrev pub settled_room : List ℕ → ℕ

@@ -5,7 +5,7 @@ use Rattle.envelope_records.specs.Records.{AreRecords}
 use Rattle.send_jobs.specs.declared.attempts.Attempt.{Attempt}
 use Rattle.send_jobs.specs.declared.attempts.Mark.{Mark}
 use Rattle.send_jobs.specs.declared.lane.Lane.{Lane}
-use Rattle.send_jobs.specs.Lanes.{empty, next, begun_by, numbered, sent, reported, is_in_flight, finished, owes, settled, left_unmarked, ended}
+use Rattle.send_jobs.specs.Lanes.{empty, next, begun_by, numbered, sent, reported, is_in_flight, finished, owes, mark_settled, left_unmarked, ended}
 use Rattle.send_jobs.specs.Passes.{attempts_of}
 use Rattle.send_jobs.specs.Slots.{attempt_in}
 
@@ -25,7 +25,7 @@ acted (Begin n records begun dying) lane = begun_by n records begun dying lane
 acted (Send delivery) lane = sent delivery lane
 acted (Report slot) lane = reported slot lane
 acted (AddMark mark) lane = owes mark lane
-acted SettleMark lane = settled lane
+acted SettleMark lane = mark_settled lane
 acted (LeaveUnmarked n) lane = left_unmarked n lane
 acted (EndJob n) lane = ended n lane
 

@@ -1,4 +1,4 @@
--- What is in flight in the slots of a channel. Where attempts are in flight in the first and the third of four slots, the
+-- What is in flight in the slots of a channel. When attempts are in flight in the first and the third of four slots, the
 -- lowest free one is 1.
 use Rattle.std.specs.Prelude.{◌≡◌, ℕ, ◌<◌, List, length, Bool, true, false, Option, Some, None, IsSome, MatchOption, All, ◌==◌, position, slice_index_or}
 use Rattle.send_jobs.specs.declared.attempts.Attempt.{Attempt}

@@ -7,7 +7,7 @@ ghost use Rattle.send_jobs.specs.declared.attempts.Mark.{Mark};
 ghost use Rattle.send_jobs.specs.declared.jobs.Job.{Job};
 ghost use Rattle.send_jobs.specs.declared.lane.Lane.{Lane};
 ghost use Rattle.send_jobs.specs.Jobs.{job_of, put, unmark, unmarked_if, without};
-ghost use Rattle.send_jobs.specs.Lanes.{begun_by, sent, reported, owes, settled, IsRoomy};
+ghost use Rattle.send_jobs.specs.Lanes.{begun_by, sent, reported, owes, mark_settled, IsRoomy};
 ghost use Rattle.send_jobs.specs.Runs.{Act, IsRun, IsSound};
 ghost use Rattle.send_jobs.specs.Slots.{attempt_in, lowest, IsLeastFree};
 
@@ -29,7 +29,7 @@ pub fn marks_have_room()
     ensures reported { (lane : Lane) (slot : ℕ) → IsRoomy lane → IsRoomy (reported slot lane) }
     ensures marked { (lane : Lane) (slot : ℕ) (a : Attempt) (mark : Mark) →
         IsRoomy lane → attempt_in lane.slots slot ≡ Some a → IsRoomy (owes mark (reported slot lane)) }
-    ensures settled { (lane : Lane) → IsRoomy lane → IsRoomy (settled lane) }
+    ensures settled { (lane : Lane) → IsRoomy lane → IsRoomy (mark_settled lane) }
 {}
 
 /// Jobs are a map from the numbers of messages.

@@ -1,7 +1,7 @@
 // The lines of the log that speak of deliveries.
 ghost use Rattle.std.specs.Prelude.{◌≡◌, ◌≤◌, ◌+◌, ◌++◌, length, is_some, IfOk, OnOk, OnErr};
 ghost use Rattle.send_jobs.specs.Lanes.{in_flight, next};
-ghost use Rattle.send_jobs.specs.Lines.{channel_word, settled_lines, settled_room, starting_if, status_of};
+ghost use Rattle.send_jobs.specs.Lines.{channel_word, settled_lines, settled_room, starting_if, status_line};
 ghost use Rattle.send_jobs.specs.Sending.{lane};
 ghost use Rattle.send_log.specs.Lines.{address_of, channel_of};
 
@@ -12,7 +12,7 @@ use send_log::{LINE_ROOM, Line, Load, Log, Outcome, Target};
 /// Puts the line of what is in flight. The condition: there is room for it.
 pub fn put_status(log: &mut Log, slots: &Slots)
     requires { LINE_ROOM ≤ log.old.room }
-    ensures text { log.new.text ≡ log.old.text ++ status_of slots.now }
+    ensures text { log.new.text ≡ log.old.text ++ status_line slots.now }
     ensures room { log.old.room ≤ log.new.room + LINE_ROOM }
 {
     log.put(&Line::Status {

@@ -31,7 +31,7 @@ impl Slots {
     ghost use Rattle.send_jobs.specs.declared.slots.Slots.{Slots};
     ghost use Rattle.send_jobs.specs.Slots.{attempt_in, lowest, IsLeastFree};
     ghost use Rattle.send_jobs.specs.Jobs.{job_of};
-    ghost use Rattle.send_jobs.specs.Lanes.{begun_by, next, sent, reported, in_flight, is_in_flight, finished, owes, settled, left_unmarked, job_over, ended, IsRoomy};
+    ghost use Rattle.send_jobs.specs.Lanes.{begun_by, next, sent, reported, in_flight, is_in_flight, finished, owes, mark_settled, left_unmarked, job_over, ended, IsRoomy};
     ghost use Rattle.send_jobs.specs.Sending.{lane, at_lane, none_out, next_delivery, sent_on};
 
     /// Nothing is out. `limits` says how many local and how many remote slots there are; more than `MAX_SLOTS` count as
@@ -222,7 +222,7 @@ impl Slots {
 
     /// The first mark was made, or was given up.
     pub fn settle_mark(&mut self, channel: Channel)
-        ensures { self.new ≡ at_lane channel settled self.old }
+        ensures { self.new ≡ at_lane channel mark_settled self.old }
     {
         match channel {
             Channel::Local => self.local.marks.drop_first(),

@@ -62,6 +62,7 @@ impl KnownList {
         self.birth_at(self.place_of(n))
     }
 
+    /// When the message at this place was born; 0 if there is none.
     fn birth_at(&self, at: Option<usize>) -> u64
         ensures { result ≡ birth_in (known_at at self.now) }
     {
@@ -81,6 +82,7 @@ impl KnownList {
         self.sender_at(self.place_of(n))
     }
 
+    /// The sender of the message at this place; empty if there is none.
     fn sender_at(&self, at: Option<usize>) -> &[u8]
         ensures { result.now ≡ sender_in (known_at at self.now) }
     {
@@ -102,6 +104,7 @@ impl KnownList {
         self.learn_at(at, known)
     }
 
+    /// Puts a message at this place, in place of an older entry of its number; without a place, at the end.
     fn learn_at(&mut self, at: Option<usize>, known: Known) -> Result<(), Memory>
         requires { IfSome at (λ i. i < length self.old) }
         ensures ok { OnOk result (self.new ≡ learned_at at known self.old) }
@@ -129,6 +132,7 @@ impl KnownList {
         self.put_off_at(self.place_of(n), moment);
     }
 
+    /// The message at this place, if there is one, is finished no earlier than then.
     fn put_off_at(&mut self, at: Option<usize>, moment: u64)
         requires { IfSome at (λ i. i < length self.old) }
         ensures { self.new ≡ put_off_at at moment self.old }
@@ -145,6 +149,7 @@ impl KnownList {
         self.local_gone_at(self.place_of(n));
     }
 
+    /// The file of the local channel of the message at this place, if there is one, is gone.
     fn local_gone_at(&mut self, at: Option<usize>)
         requires { IfSome at (λ i. i < length self.old) }
         ensures { self.new ≡ local_gone_at at self.old }
@@ -161,6 +166,7 @@ impl KnownList {
         self.remote_gone_at(self.place_of(n));
     }
 
+    /// The file of the remote channel of the message at this place, if there is one, is gone.
     fn remote_gone_at(&mut self, at: Option<usize>)
         requires { IfSome at (λ i. i < length self.old) }
         ensures { self.new ≡ remote_gone_at at self.old }
@@ -180,6 +186,7 @@ impl KnownList {
             .map(|known| known.n)
     }
 
+    /// The place of the message of this number, if it is known.
     fn place_of(&self, n: u64) -> Option<usize>
         ensures place { result ≡ position (is_of n) self.now }
         ensures inside { IfSome result (λ i. i < length self.now) }
@@ -187,6 +194,7 @@ impl KnownList {
         self.known.iter().position(|known| known.n == n)
     }
 
+    /// The place of the first message of this number or a greater one, if there is one.
     fn place_from(&self, n: u64) -> Option<usize>
         ensures place { result ≡ position (is_from n) self.now }
         ensures inside { IfSome result (λ i. i < length self.now) }

@@ -44,7 +44,7 @@ due_by (step.Remove n) bytes = needs.Give port.Clean (remove_text n)
 due_by step.Wait bytes = needs.Wait
 due_by (step.Ended status) bytes = needs.Ended status
 
--- the text that it has of its own, empty where it has none
+-- the text that it has of its own, empty if it has none
 abbrev pub text_of : Step → List ℕ
 text_of (step.OpenControl file) = control_text file
 text_of (step.Open name how) = path (name_of name)

@@ -6,8 +6,10 @@
 //! qmail-lspawn(8) and qmail-rspawn(8); the letters of reports are this project's own.
 #![tactic(auto)]
 
+mod laws;
 mod report;
 mod request;
 
-pub use report::{Heard, Report, ReportReader, report_text, reports_are_exact};
-pub use request::{CodecError, Request, RequestReader, request_text, requests_are_exact};
+pub use laws::{reports_are_exact, requests_are_exact};
+pub use report::{Heard, Report, ReportReader, report_text};
+pub use request::{CodecError, Request, RequestReader, request_text};

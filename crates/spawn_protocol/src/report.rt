@@ -126,7 +126,7 @@ impl ReportReader {
         Ok(Heard { reports, reader })
     }
 
-    // Each place with the bytes that lead on from it.
+    /// Each place with the bytes that lead on from it.
     fn advance(&mut self, alloc: Global, byte: u8) -> Result<Option<Report>, Memory>
         ensures { Takes self.old byte result self.new }
     {
@@ -166,7 +166,7 @@ impl ReportReader {
     }
 }
 
-// Takes a byte, and puts the report that it ended at the end.
+/// Takes a byte, and puts the report that it ended at the end.
 fn hear_byte(
     reader: &mut ReportReader,
     reports: &mut Vec<Report>,
@@ -182,7 +182,7 @@ fn hear_byte(
     Ok(())
 }
 
-// A byte of text, kept while there is room.
+/// A byte of text, kept while there is room.
 fn put_byte(text: &mut ByteText, byte: u8) -> Result<(), Memory>
     ensures ok { OnOk result (text.new ≡ more_text text.old byte) }
     ensures err { OnErr result (text.new ≡ text.old) }
@@ -206,23 +206,3 @@ pub fn report_text(alloc: Global, report: &Report) -> Result<Vec<u8>, Memory>
     text.push(0)?;
     Ok(text)
 }
-
-/// Bytes are reports in one way alone.
-pub fn reports_are_exact()
-    // What a reader tells that takes one byte after the other is just that.
-    ensures read { (bytes : List ℕ) (reports : List Report) (reader : Reader) →
-        HasRead bytes reports reader → read_on AtBegin bytes ≡ (reports, reader) }
-    // Any bytes are whole reports and the start of one more.
-    ensures some { (bytes : List ℕ) → (reports : List Report) × (reader : Reader) × HasRead bytes reports reader }
-    ensures one { (bytes : List ℕ) (reports others : List Report) (reader other : Reader) →
-        HasRead bytes reports reader → HasRead bytes others other → (reports ≡ others) × (reader ≡ other) }
-    // The text of a report that a reader can give is read back, whatever follows it.
-    ensures back { (r : Report) (more : List ℕ) (reports : List Report) (reader : Reader) →
-        IsKept r → HasRead more reports reader → HasRead (report_text r ++ more) (r ∷ reports) reader }
-    // Of a longer one what is kept is read.
-    ensures cut { (r : Report) (more : List ℕ) (reports : List Report) (reader : Reader) →
-        IsReport r → HasRead more reports reader → HasRead (report_text r ++ more) (kept r ∷ reports) reader }
-    // What was read is what a reader can give.
-    ensures kept { (bytes : List ℕ) (reports : List Report) (reader : Reader) →
-        HasRead bytes reports reader → All IsKept reports }
-{}

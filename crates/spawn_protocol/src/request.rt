@@ -105,7 +105,7 @@ impl RequestReader {
         self.advance(alloc, byte)
     }
 
-    // Each place with the bytes that lead on from it.
+    /// Each place with the bytes that lead on from it.
     fn advance(&mut self, alloc: Global, byte: u8) -> Result<Option<Request>, CodecError>
         ensures { Takes self.old byte result self.new }
     {
@@ -130,6 +130,7 @@ impl RequestReader {
         }
     }
 
+    /// The first byte of a request: its delivery number.
     fn begin(&mut self, alloc: Global, slot: u8)
         ensures { self.new ≡ Reading (InMess slot []) }
     {
@@ -138,7 +139,7 @@ impl RequestReader {
         self.place = Place::InMess;
     }
 
-    // A byte of a field.
+    /// A byte of a field. The conditions: it isn't NUL, the delivery number has come, and no field was too long.
     fn go_on(&mut self, byte: u8) -> Result<Option<Request>, CodecError>
         requires plain { byte ≢ 0 }
         requires begun { self.old ≢ Reading NoByte }
@@ -153,6 +154,7 @@ impl RequestReader {
         Ok(None)
     }
 
+    /// The request whose last NUL has come; the next byte begins another.
     fn finish(&mut self, alloc: Global) -> Request
         ensures { (slot : ℕ) (mess sender begun : List ℕ) → self.old ≡ Reading (InRecipient slot mess sender begun)
             → (result ≡ record { slot = slot; mess = mess; sender = sender; recipient = begun }) × (self.new ≡ Reading NoByte) }
@@ -179,7 +181,7 @@ pub fn request_text(alloc: Global, request: &Request) -> Result<Vec<u8>, Memory>
     Ok(text)
 }
 
-// The bytes, NUL.
+/// Puts the bytes and NUL at the end.
 fn put_field(text: &mut Vec<u8>, field: &[u8]) -> Result<(), Memory>
     ensures { OnOk result (text.new.items ≡ text.old.items ++ field_text field.now) }
 {
@@ -187,19 +189,3 @@ fn put_field(text: &mut Vec<u8>, field: &[u8]) -> Result<(), Memory>
     text.push(0)?;
     Ok(())
 }
-
-/// Bytes are requests in one way alone, and a field that was too long is so whatever follows.
-pub fn requests_are_exact()
-    // Any bytes are whole requests and the start of one more, or have a field that is too long.
-    ensures some { (bytes : List ℕ) → (requests : List Request) × (reader : Reader) × HasRead bytes requests reader }
-    ensures one { (bytes : List ℕ) (requests others : List Request) (reader other : Reader) →
-        HasRead bytes requests reader → HasRead bytes others other → (requests ≡ others) × (reader ≡ other) }
-    ensures refused { (bytes more : List ℕ) (requests others : List Request) (start : Start) →
-        IsTooLong bytes requests → ¬ (IsText (bytes ++ more) others start) }
-    // What was read is what a reader can give.
-    ensures given { (bytes : List ℕ) (requests : List Request) (reader : Reader) →
-        HasRead bytes requests reader → All IsRequest requests }
-    // The text of a request that a reader can give is read back, whatever follows it.
-    ensures back { (r : Request) (more : List ℕ) (requests : List Request) (reader : Reader) →
-        IsRequest r → HasRead more requests reader → HasRead (request_text r ++ more) (r ∷ requests) reader }
-{}

@@ -3,7 +3,8 @@ use Rattle.std.proofs.Common.{◌≡◌, ◌≢◌, ℕ, ◌+◌, ◌≤◌, ◌
 use Rattle.std.proofs.lemmas.List.{length-take-le}
 use Rattle.call_fs.specs.declared.calls.Fd.{Fd}
 use Rattle.call_fs.specs.Apply.{changed, grown, synced, with_new, with_name, without_open, with_open}
-use Rattle.call_fs.specs.Disk.{File, Open as OpenFile, Mode, Disk, IsSynced}
+use Rattle.call_fs.specs.Disk.{File, Open as OpenFile, Disk, IsSynced}
+use Rattle.call_fs.specs.declared.modes.Mode.{Mode}
 use Rattle.call_fs.proofs.Maps.{put_same, put_other, put_at_same, put_at_other}
 use Rattle.queue_paths.specs.Names.{Name}
 use Rattle.queue_paths.specs.Names.Name.{Pid, Of}

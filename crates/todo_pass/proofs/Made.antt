@@ -15,7 +15,8 @@ use Rattle.call_fs.specs.declared.past.GotData.TheVariants as came
 use Rattle.call_fs.specs.declared.past.NeedData.TheVariants as needs
 use Rattle.call_fs.specs.declared.past.Own.{Own}
 use Rattle.call_fs.specs.Apply.{Apply, IsReadBy, from_place, changed, grown, synced, with_new, with_name, with_open}
-use Rattle.call_fs.specs.Disk.{File, Open as OpenFile, Mode, Disk}
+use Rattle.call_fs.specs.Disk.{File, Open as OpenFile, Disk}
+use Rattle.call_fs.specs.declared.modes.Mode.{Mode}
 use Rattle.call_fs.specs.Past.{Makes}
 use Rattle.call_fs.specs.Program.{MayCome}
 use Rattle.call_fs.proofs.Maps.{put_same, put_at_same}

@@ -197,7 +197,7 @@ digit_at : (ds : List ℕ) (b : ℕ) (more : List ℕ) → AllByRecursion IsDigi
 digit_at [] b more h = h.0
 digit_at (d ∷ ds) b more h = digit_at ds b more h.1
 
--- it would end the number where none may end
+-- it would end the number though none may end
 not_ended : (w : Option ℕ) (ds : List ℕ) (b m : ℕ) → Seen w ds → digit_step w b ≡ Bad → digits m ≡ ds → b ≡ 0 → IsNumber (digits m) → ⊥
 not_ended None ds b m seen bad same zero h = let some = subst (λ t. 0 < length t) (same ∙ seen) h.some in absurd (omega arith)
 not_ended (Some n) ds b m seen bad same zero h = let e = subst (λ c. digit_step (Some n) c ≡ Bad) zero bad in absurd (ended_bad n e)

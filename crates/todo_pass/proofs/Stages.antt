@@ -4,7 +4,8 @@ use Rattle.std.specs.Prelude.{Ok}
 use Rattle.address_rules.specs.declared.controls.Controls.{Controls}
 use Rattle.call_fs.specs.declared.calls.Fd.{Fd}
 use Rattle.call_fs.specs.declared.calls.How.TheVariants as how
-use Rattle.call_fs.specs.Disk.{File, Mode, Disk, IsSynced}
+use Rattle.call_fs.specs.Disk.{File, Disk, IsSynced}
+use Rattle.call_fs.specs.declared.modes.Mode.{Mode}
 use Rattle.todo_pass.specs.declared.part.Part.{Part}
 use Rattle.todo_pass.specs.declared.part.Part.TheVariants as part
 use Rattle.todo_pass.specs.declared.part.Target.{Target}

@@ -57,7 +57,7 @@ todo_is uid pid sender recipients =
 
 -- A field that isn't read
 
--- Some field begins with the front; none has the next byte there, and the front is no field's text with something after it.
+-- Some field begins with the prefix; none has the next byte there, and the prefix is no field's text with something after it.
 record Blocked (letter : ℕ) (front rest : List ℕ) : Type 0 where
   pub number : ℕ
   pub fill : List ℕ

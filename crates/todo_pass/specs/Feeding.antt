@@ -22,7 +22,7 @@ IsFaultOf outcome Memory = Unit {0}
 abbrev pub todo_with : Head → List ℕ → List (List ℕ) → Todo
 todo_with head sender recipients = record { uid = head.uid; pid = head.pid; sender = sender; recipients = recipients }
 
--- what is sorted where the records have come so far
+-- what is sorted when the records have come so far
 abbrev pub sorted_at : Controls → Head → Stage → Sorted
 sorted_at controls head Begin = none_sorted head.uid head.pid
 sorted_at controls head (InSender begun) = none_sorted head.uid head.pid

@@ -48,7 +48,7 @@ begun n = record { n = n; row = at.Clear target.Info; size = 0; todo = []; sorte
 abbrev pub piece_size : ℕ
 piece_size = PIECE
 
--- Where an answer leads. Where no row names an answer, it leads where a failure does.
+-- Where an answer leads. If no row names an answer, it leads where a failure does.
 
 abbrev pub goes : Pass → Row → Pass
 goes p row = record p { row = row }

@@ -35,7 +35,7 @@ pub fn channels_are_records()
     ensures { ChannelsAreRecords }
 {}
 
-/// How a pass ends, and why. It ends done only when the cleaner answered `+` and nothing else. It is left, only where:
+/// How a pass ends, and why. It ends done only when the cleaner answered `+` and nothing else. It is left, only if:
 ///
 /// | Reason | Cause in its past |
 /// |---|---|

@@ -8,7 +8,7 @@ use crate::{Part, Row};
 use mail_bytes::{NameBuf, dec};
 use queue_paths::path;
 
-/// Replaces `into` by what the row lends; empty where it lends nothing.
+/// Replaces `into` by what the row lends; empty if it lends nothing.
 pub fn put_lent(row: Row, n: u64, into: &mut NameBuf)
     ensures { into.new ≡ lent_at row n }
 {

@@ -6,7 +6,7 @@ use call_fs::Fd;
 /// Why a pass left its number as it was.
 #[derive(Clone, Copy, Debug, PartialEq, Eq)]
 pub enum Why {
-    /// A call at this file failed, or was told that a name is missing or taken, where that is no answer of its row.
+    /// A call at this file failed, or was told that a name is missing or taken, when that is no answer of its row.
     Fault(Part),
     /// The message file is missing.
     NoMess,

@@ -34,7 +34,7 @@ impl From<AllocError> for TodoError {
     }
 }
 
-/// What the bytes of a todo file say, sorted by channel. `BadRecord` exactly where they are no todo text.
+/// What the bytes of a todo file say, sorted by channel. `BadRecord` exactly if they are no todo text.
 #[tactic(auto, unfolding(crate::specs::Todo::read_todo, crate::specs::Sorting::sort_todo))]
 pub fn sort_todo(alloc: Global, controls: &Controls, bytes: &[u8]) -> Result<Sorted, TodoError>
     ensures ok { IfOk result (λ sorted. sort_todo controls.now bytes.now ≡ Ok sorted) }

@@ -12,7 +12,8 @@ use Rattle.call_fs.specs.declared.past.Own.{Own}
 use Rattle.call_fs.specs.declared.program.Port.{Port}
 use Rattle.call_fs.specs.declared.program.Ready.{Ready}
 use Rattle.call_fs.specs.Apply.{Apply, MayCall}
-use Rattle.call_fs.specs.Disk.{Disk, Mode}
+use Rattle.call_fs.specs.Disk.{Disk}
+use Rattle.call_fs.specs.declared.modes.Mode.{Mode}
 use Rattle.call_fs.specs.Past.{Backs, Uses, UsesHeld, held, held_by, held_after}
 use Rattle.call_fs.specs.Program.{MayCome}
 use Rattle.call_fs.proofs.Held.{backs_call, may_call}

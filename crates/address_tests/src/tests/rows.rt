@@ -1,4 +1,4 @@
-// The assertions of these tests, so that nothing else branches where a test holds what it looks at.
+// The assertions of these tests, so that nothing else branches while a test holds what it looks at.
 use std::process::Abort;
 
 /// It holds, of this row.

@@ -7,6 +7,7 @@ use std::test::Fail;
 /// The names of a disk, and what its audit tells.
 struct Row(&'static [&'static str], &'static str);
 
+/// Queues and what is printed of them.
 const ROWS: &[Row] = &[
     Row(&[], "pid 0\n"),
     Row(&["pid/77.0.1", "mess/1/1"], "pid 1\n1 S2\n"),

@@ -7,6 +7,7 @@ use std::test::Fail;
 /// A search for each of these and one more for each of the 96 directories are 100 calls.
 const NAMES: [&str; 4] = ["pid/77.0.1", "mess/1/1", "intd/1", "todo/1"];
 
+/// More calls than an audit of these names makes.
 const CALLS: u64 = 100;
 
 /// The first call whose failure doesn't end an audit.

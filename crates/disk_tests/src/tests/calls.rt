@@ -35,6 +35,7 @@ fn open_kind(how: How) -> &'static str {
     }
 }
 
+/// Each call with its row.
 const CALLS: &[(Call<'static>, CallRow<'static>)] = &[
     (
         Call::CreateExcl(b"pid/a"),

@@ -94,6 +94,7 @@ pub fn mem_disk(rt: &impl Abort, alloc: Global, faults: &[u64]) -> Result<MemFs,
     Ok(disk)
 }
 
+/// A file with two names, until one is unlinked.
 const TWO_NAMES: &[(Step<'static>, Seen<'static>)] = &[
     (Link(b"pid/a", b"mess/1/24"), Refused(FsError::Exists)),
     (Link(b"pid/c", b"mess/1/25"), Refused(FsError::NotThere)),

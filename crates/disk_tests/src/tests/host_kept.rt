@@ -17,6 +17,7 @@ const FACTS: Facts = Facts {
     changed_nanos: 8,
 };
 
+/// The system tells `FACTS`.
 const TOLD: Reply<'static> = Reply::Told(FACTS);
 
 /// Two seconds after that change.
@@ -25,6 +26,7 @@ const AT_REST: Reply<'static> = Reply::Clock(102_000_000_008);
 /// A nanosecond less.
 const EARLY: Reply<'static> = Reply::Clock(102_000_000_007);
 
+/// A listing has ended.
 const NO_MORE: Reply<'static> = Reply::Bytes(b"");
 
 /// A directory at rest is listed once, however often it is searched. What its entries are is asked at each search.
@@ -89,21 +91,25 @@ const MODIFIED_NANOS: Facts = Facts {
     ..FACTS
 };
 
+/// With another nanosecond of the last change.
 const CHANGED_NANOS: Facts = Facts {
     changed_nanos: 5,
     ..MODIFIED_NANOS
 };
 
+/// With another second of the last modification too.
 const MODIFIED: Facts = Facts {
     modified: 99,
     ..CHANGED_NANOS
 };
 
+/// With another second of the last change too.
 const CHANGED: Facts = Facts {
     changed: 99,
     ..MODIFIED
 };
 
+/// With another number too.
 const NUMBER: Facts = Facts {
     number: 3,
     ..CHANGED
@@ -226,12 +232,14 @@ const RIGHTS: Facts = Facts {
     ..FACTS
 };
 
+/// Modified after the clock's second.
 const NAMES: Facts = Facts {
     modified: 101,
     changed: 1,
     ..FACTS
 };
 
+/// Modified before 1970.
 const OLD: Facts = Facts {
     modified: -1,
     ..FACTS

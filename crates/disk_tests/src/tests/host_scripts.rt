@@ -18,14 +18,19 @@ pub const SEVEN: Reply<'static> = Reply::File(7, 11, 99);
 /// A name of 256 bytes, which is one too many.
 pub const LONG: [u8; 256] = [b'a'; 256];
 
+/// A name is missing.
 pub const MISSING: Reply<'static> = Reply::Fails(ErrorKind::NotFound);
 
+/// A part of the path is no directory.
 const NO_DIRECTORY: Reply<'static> = Reply::Fails(ErrorKind::NotADirectory);
 
+/// A name is taken.
 const THERE: Reply<'static> = Reply::Fails(ErrorKind::AlreadyExists);
 
+/// The system forbids it.
 pub const FORBIDDEN: Reply<'static> = Reply::Fails(ErrorKind::PermissionDenied);
 
+/// A signal came.
 const INTERRUPTED: Reply<'static> = Reply::Fails(ErrorKind::Interrupted);
 
 /// A nanosecond less than two seconds after `Reply::Directory` was changed.
@@ -50,6 +55,7 @@ const OPENED: &[Row<'static>] = &[
     ),
 ];
 
+/// Files are made.
 const CREATED: &[Row<'static>] = &[
     Row(
         Call::CreateExcl(b"todo/1"),
@@ -90,6 +96,7 @@ const CREATED: &[Row<'static>] = &[
     Row(Call::CreateExcl(b""), &[], "Fault 6"),
 ];
 
+/// Files are opened and asked about by name.
 const NAMED: &[Row<'static>] = &[
     Row(
         Call::Open(b"a", How::Append),
@@ -152,6 +159,7 @@ const NAMED: &[Row<'static>] = &[
     Row(Call::Stat(b"a"), &[FORBIDDEN], "stat r/a; Fault 7"),
 ];
 
+/// Bytes are read and written.
 const MOVED: &[Row<'static>] = &[
     Row(
         Call::ReadAt(Fd(2), 5, 4),
@@ -260,6 +268,7 @@ const MOVED: &[Row<'static>] = &[
     Row(Call::Sync(Fd(1)), &[Reply::Done], "sync 3; done"),
 ];
 
+/// Names are linked, unlinked and listed.
 const LINKED: &[Row<'static>] = &[
     Row(
         Call::Link(b"intd/7", b"todo/7"),

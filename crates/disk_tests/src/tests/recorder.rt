@@ -12,6 +12,7 @@ use std::test::Fail;
 /// A call that was kept, its answer, and the bytes of a read.
 type Row = (CallRow<'static>, Seen<'static>, &'static [u8]);
 
+/// A file that gets a second name, and is read.
 const TWICE_AND_READ: &[Row] = &[
     (CallRow("create", [0; 3], b"pid/a", b""), Made(1, 1), b""),
     (CallRow("append", [1, 0, 0], b"one", b""), Done, b""),

@@ -39,6 +39,7 @@ enum Deed<'a> {
 use Deed::{BytesOf, Call, Dir, Faults, NameAfter, Pick, Place, Stop};
 use Seen::{Bytes, Done, File, Made, Nothing, Number, Refused, Taken};
 
+/// A deed and what is seen of it.
 type Row = (Deed<'static>, Seen<'static>);
 
 /// The directories of all scripts.
@@ -48,6 +49,7 @@ const DIRS: &[Row] = &[
     (Dir(b"mess/1"), Done),
 ];
 
+/// New files take the least numbers.
 const LEAST_NUMBERS: &[Row] = &[
     (Call(Create(b"pid/a")), Made(1, 1)),
     (Call(Create(b"pid/b")), Made(2, 2)),
@@ -55,6 +57,7 @@ const LEAST_NUMBERS: &[Row] = &[
     (Call(Create(b"info/a")), Refused(FsError::NotThere)),
 ];
 
+/// Names come in byte order.
 const BYTE_ORDER: &[Row] = &[
     (Call(Create(b"pid/b")), Made(1, 1)),
     (Call(Create(b"pid/a")), Made(2, 2)),
@@ -82,6 +85,7 @@ const PICKS_AND_FAULTS: &[Row] = &[
     (Call(Create(b"pid/e")), Made(5, 3)),
 ];
 
+/// What isn't synced is kept or lost.
 const KEPT_OR_LOST: &[Row] = &[
     (Place(b"pid/placed", b"old"), Done),
     (Call(Make(b"pid/a", b"one")), Made(1, 1)),
@@ -117,6 +121,7 @@ const DRAWN: &[Row] = &[
     (BytesOf(b"pid/d"), Bytes(b"qq")),
 ];
 
+/// The chosen call fails, and the chosen number is taken.
 const CHOSEN: &[Row] = &[
     (Call(Make(b"pid/a", b"")), Made(1, 1)),
     (Pick(1), Taken),

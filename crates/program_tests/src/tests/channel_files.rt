@@ -23,6 +23,7 @@ enum Why {
     Other,
 }
 
+/// Files with a fault, and the first one.
 const FAULTS: [(&[u8], Why); 5] = [
     (b"X", Why::Letter(0)),
     (b"Ta\0\0", Why::Letter(3)),

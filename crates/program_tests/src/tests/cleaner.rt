@@ -9,6 +9,7 @@ use queue_clean::Cleaner;
 use std::alloc::Global;
 use std::test::Fail;
 
+/// Nothing is ready, and no child has ended.
 const READY: Ready = Ready {
     links: [false; 4],
     child: None,
@@ -162,6 +163,7 @@ fn run(alloc: Global, disk: &mut CrashDisk, outside: &mut Outside<'_>) -> Option
     None
 }
 
+/// The directories of the queue that these tests use.
 const DIRS: [&[u8]; 12] = [
     b"pid", b"intd", b"todo", b"mess/1", b"mess/2", b"mess/3", b"mess/4", b"mess/5", b"mess/6",
     b"mess/7", b"mess/8", b"mess/9",
@@ -274,7 +276,7 @@ fn each_text_has_its_answers(rt: HostRuntime) {
     }
 }
 
-/// Call 1 is the search of `pid`, where no name is.
+/// Call 1 is the search of `pid`, which has no name.
 const UNLINKS: [Case; 9] = [
     Case {
         files: &[b"intd/1", b"mess/1/1", b"todo/1", b"mess/1/24"],

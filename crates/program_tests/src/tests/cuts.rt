@@ -18,6 +18,7 @@ struct Row {
     enough: usize,
 }
 
+/// Inputs, how they are given, and the bytes after which nothing is missing.
 const ROWS: [Row; 2] = [
     // the comma after the envelope isn't needed
     Row {

@@ -2,12 +2,14 @@
 
 use mail_bytes::{dec, undec};
 
+/// Numbers and their texts.
 const NUMBERS: [(u64, &[u8]); 3] = [
     (0, b"0"),
     (7, b"7"),
     (18_446_744_073_709_551_615, b"18446744073709551615"),
 ];
 
+/// Texts of no number.
 const OTHERS: [&[u8]; 4] = [b"18446744073709551616", b"01", b"", b"1a"];
 
 /// Whether the number is written so, and read back.

@@ -7,6 +7,7 @@ use envelope_records::{EnvFault, EnvStep, EnvelopeReader};
 /// whether what was fed is an envelope, after each of them.
 type Row = (&'static [u8], EnvStep, &'static [u8], usize, bool);
 
+/// An envelope in pieces, and bytes after its end.
 const ENVELOPE: [Row; 7] = [
     (b"", EnvStep::More, b"", 3, false),
     (b"Fa@x", EnvStep::More, b"", 2, false),
@@ -17,12 +18,14 @@ const ENVELOPE: [Row; 7] = [
     (b"F", EnvStep::End, b"", 0, true),
 ];
 
+/// An address with one byte too many.
 const LONG_ADDRESS: [Row; 3] = [
     (b"F", EnvStep::More, b"", 2, false),
     (&[b'a'; 1002], EnvStep::More, b"", 2, false),
     (b"a\0", EnvStep::Fault(EnvFault::TooLong), b"", 0, false),
 ];
 
+/// Bytes that begin no envelope.
 const OTHER_BYTES: [Row; 1] = [(b"X", EnvStep::Fault(EnvFault::Format), b"", 0, false)];
 
 /// Whether the reader does with these bytes what the row says.

@@ -4,7 +4,7 @@ use mail_bytes::LAST_MOMENT;
 use received_line::{Invoked, date, received};
 use std::alloc::Global;
 
-// What `date -u` prints.
+/// What `date -u` prints.
 const DATES: [(u64, &str); 6] = [
     (0, "1 Jan 1970 00:00:00 -0000"),
     (68_169_599, "28 Feb 1972 23:59:59 -0000"),

@@ -2,6 +2,7 @@
 
 use mail_bytes::same_fold;
 
+/// Two texts, and whether they differ at most in case.
 const ROWS: [(&[u8], &[u8], bool); 9] = [
     (b"Heaven.AF.Mil", b"heaven.af.mil", true),
     (b"AZ", b"az", true),

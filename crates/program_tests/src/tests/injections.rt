@@ -12,6 +12,7 @@ use std::test::Fail;
 /// What a message file holds, and what its envelope's todo file.
 const MESSAGE: &[u8] = b"Received: (qmail 77 invoked by uid 1000); 1 Jan 1970 00:00:00 -0000\nhi";
 
+/// The bytes of todo.
 const ENTRY: &[u8] = b"u1000\0p77\0Fa@x\0Tb@y\0";
 
 /// How a message and its envelope are given, and the status.
@@ -22,6 +23,7 @@ struct Row {
     status: u8,
 }
 
+/// An injection of each form.
 const ROWS: [Row; 3] = [
     Row {
         form: Form::Beside,

@@ -156,6 +156,7 @@ fn supply(injector: &mut Injector, message: &[u8], envelope: &[u8]) {
     }
 }
 
+/// An envelope of one recipient.
 const ENVELOPE: &[u8] = b"Fa@x\0Tb@y\0\0";
 
 /// The calls of an injection that nothing goes wrong with, each with its answer.
@@ -193,8 +194,10 @@ fn each_call_is_its_row(rt: HostRuntime) -> Result<(), Fail> {
 /// The message; the envelope; the answers to its calls; the moment; and what it needs then.
 type Case = (&'static [u8], &'static [u8], &'static [u8], u64, Due);
 
+/// A message.
 const HI: &[u8] = b"hi";
 
+/// Which call is due after failures of calls.
 const FAILURES: [Case; 15] = [
     (HI, ENVELOPE, b"eeeeeeeee", 0, Due::End(63)),
     (HI, ENVELOPE, b"cf", 0, Due::End(64)),
@@ -214,7 +217,7 @@ const FAILURES: [Case; 15] = [
     (HI, b"Fa@x\0Tb@y\0\0X", b"cddddcddd", 0, Due::End(0)),
 ];
 
-// The first line has 68 bytes.
+/// Which write is due of a message in pieces; its first line has 68 bytes.
 const PIECES: [Case; 8] = [
     (&[b'x'; 20_000], ENVELOPE, b"cdd", 0, Due::Append(1, 8192)),
     (&[b'x'; 20_000], ENVELOPE, b"cddd", 0, Due::Append(1, 8192)),
@@ -259,6 +262,7 @@ fn a_text_is_written_in_pieces(rt: HostRuntime) {
     }
 }
 
+/// The input fails within the message.
 const UNREAD: [Step; 5] = [
     Step::Feed(HI),
     Step::Fail(false),
@@ -274,6 +278,7 @@ fn an_input_that_cannot_be_read_ends_it(rt: HostRuntime) -> Result<(), Fail> {
     Ok(())
 }
 
+/// The input is malformed within the message.
 const MALFORMED: [Step; 5] = [
     Step::Feed(HI),
     Step::Fail(true),
@@ -289,6 +294,7 @@ fn a_malformed_netstring_ends_it(rt: HostRuntime) -> Result<(), Fail> {
     Ok(())
 }
 
+/// The message fails after its first piece, before the envelope has come.
 const MESSAGE_FAILS: [Step; 9] = [
     Step::Feed(&[b'x'; 8124]),
     Step::Makes(Due::Create(b"pid/77.0.1"), b'c'),
@@ -308,6 +314,7 @@ fn a_message_that_fails_needs_no_envelope(rt: HostRuntime) -> Result<(), Fail> {
     Ok(())
 }
 
+/// A message that ends with a full piece.
 const FULL_PIECE: [Step; 17] = [
     Step::Feed(&[b'x'; 8124]),
     Step::Makes(Due::Create(b"pid/77.0.1"), b'c'),
@@ -335,6 +342,7 @@ fn a_full_piece_goes_out_before_the_next_byte(rt: HostRuntime) -> Result<(), Fai
     Ok(())
 }
 
+/// Nothing is fed, at the start and more than a day after it.
 const FED_NOTHING: [Step; 4] = [
     Step::Look(0),
     Step::Needs(Due::Wait),

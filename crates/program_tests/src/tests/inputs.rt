@@ -22,6 +22,7 @@ struct Row {
     left: (&'static [u8], &'static [u8]),
 }
 
+/// Inputs, which of their readings fail, and what came of them.
 const ROWS: [Row; 10] = [
     Row {
         form: Form::Beside,

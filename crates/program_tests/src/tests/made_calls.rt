@@ -30,6 +30,7 @@ pub enum Calls {
     Queued(usize, usize),
 }
 
+/// The calls of an injection whose message is refused.
 const MESSAGE_REFUSED: [Made; 4] = [
     Made::Create(b"pid/77.0.1"),
     Made::Link(b"pid/77.0.1", b"mess/1/1"),
@@ -37,6 +38,7 @@ const MESSAGE_REFUSED: [Made; 4] = [
     Made::Unlink(b"mess/1/1"),
 ];
 
+/// The calls of an injection whose envelope is refused after a message file of so many bytes.
 fn envelope_refused(bytes: usize) -> [Made; 8] {
     [
         Made::Create(b"pid/77.0.1"),
@@ -50,6 +52,7 @@ fn envelope_refused(bytes: usize) -> [Made; 8] {
     ]
 }
 
+/// The calls of an injection that queues a message file and an entry of so many bytes.
 fn queued(message: usize, todo: usize) -> [Made; 9] {
     [
         Made::Create(b"pid/77.0.1"),

@@ -18,6 +18,7 @@ struct Row {
     left: &'static [u8],
 }
 
+/// Inputs as netstrings, the status, and the calls.
 const ROWS: [Row; 11] = [
     // whole, after which `x` is no head
     Row {

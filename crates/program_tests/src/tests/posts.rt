@@ -9,6 +9,7 @@ use std::test::Fail;
 /// What an asking gives, the bytes that stand in a buffer of two then, and the count of failures.
 type Row = (Post, &'static [u8], u64);
 
+/// Each post with the buffer and the failures after it.
 const ROWS: [Row; 5] = [
     (Post::Bytes { chan: 1, len: 2 }, b"ab", 0),
     (Post::Bytes { chan: 1, len: 1 }, b"cb", 0),

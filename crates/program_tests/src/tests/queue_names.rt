@@ -3,6 +3,7 @@
 use mail_bytes::NameBuf;
 use queue_paths::{Name, parse, path, split};
 
+/// Names and their texts.
 const NAMES: [(Name, &str); 8] = [
     (
         Name::Pid {
@@ -24,6 +25,7 @@ const NAMES: [(Name, &str); 8] = [
     ),
 ];
 
+/// Texts that the queue uses for no name.
 const OTHERS: [&str; 10] = [
     "",
     "mess/1/457",

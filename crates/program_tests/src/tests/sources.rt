@@ -9,7 +9,7 @@ use std::test::Fail;
 /// What a taking gives, the bytes that stand in a buffer of two then, and the count of failures.
 type Row = (Took, &'static [u8], u64);
 
-/// Of the pieces `abc`, none and `d`, where the second taking fails.
+/// Of the pieces `abc`, none and `d`, of which the second taking fails.
 const ROWS: [Row; 5] = [
     (Took::Got(2), b"ab", 0),
     (Took::Failed, b"ab", 1),

@@ -21,7 +21,7 @@ const EXIT: &[&[u8]] = &[b"sh", b"-c", b"exit 99"];
 /// The words of another one, of which one is empty and one has a NUL.
 const REMOTE: &[&[u8]] = &[b"remote", b"", b"a\0b"];
 
-/// Of one child, where the first, the third and the sixth call are planned to fail.
+/// Of one child; the first, the third and the sixth call are planned to fail.
 const ROWS: [Row; 10] = [
     (Step::Start(EXIT, Started::Failed), [None, None], 1),
     (
@@ -40,7 +40,7 @@ const ROWS: [Row; 10] = [
     (Step::Ask(2, Status::Failed), [Some(b"hi"), None], 6),
 ];
 
-/// Of two children that are fed in turn, where no call is planned to fail. The second has room for four bytes.
+/// Of two children that are fed in turn; no call is planned to fail. The second has room for four bytes.
 const TWO: [Row; 13] = [
     (
         Step::Start(EXIT, Started::Chan { chan: 1, pid: 82 }),

@@ -8,7 +8,7 @@ use std::test::Fail;
 /// How many bytes are asked for, which come, and why no more.
 type Row = (usize, &'static [u8], Stopped);
 
-/// Of the pieces `ab`, `cde` and `f`, where the fourth taking fails.
+/// Of the pieces `ab`, `cde` and `f`, of which the fourth taking fails.
 const ROWS: [Row; 3] = [
     (4, b"abcd", Stopped::Full),
     (4, b"e", Stopped::Failed),

@@ -14,6 +14,7 @@ struct Row {
     text: &'static [u8],
 }
 
+/// Todo texts and what they are made of.
 const ROWS: [Row; 3] = [
     Row {
         uid: 1000,
@@ -39,6 +40,7 @@ const ROWS: [Row; 3] = [
     },
 ];
 
+/// The todo text of a row.
 fn made_of(alloc: Global, row: &Row) -> Result<Vec<u8>, Memory> {
     let mut recipients = Vec::new(alloc);
     for recipient in row.recipients {

@@ -8,6 +8,7 @@ use std::test::Fail;
 /// A line of words; the file of the envelope, `-` for none; the directory; the user; whether it is a bounce.
 type Row = (&'static str, &'static str, &'static str, u32, bool);
 
+/// Words of `queue`.
 const QUEUE: [Row; 8] = [
     ("queue - DIR", "-", "DIR", 0, false),
     ("queue ENV DIR", "ENV", "DIR", 0, false),
@@ -25,6 +26,7 @@ const QUEUE: [Row; 8] = [
     ("queue --bounce -- - --uid", "-", "--uid", 0, true),
 ];
 
+/// Words that are no command.
 const NO_COMMANDS: [&str; 36] = [
     "",
     "nosuch",

@@ -9,7 +9,7 @@ use std::process::{Command, ExitCode};
 use std::test::Fail;
 use std::{env, io};
 
-/// What a shell runs, where `$0` is the program; the program's exit status; and what standard output and standard error
+/// What a shell runs, in which `$0` is the program; the program's exit status; and what standard output and standard error
 /// got.
 pub struct Row(&'static str, u8, &'static str, &'static str);
 

@@ -17,8 +17,10 @@ enum Step {
     Of(u64, Option<u64>),
 }
 
+/// The last moment of all.
 const LAST: u64 = u64::MAX;
 
+/// Steps from a schedule without entries.
 const STEPS: [Step; 27] = [
     Step::First(LAST, None),
     Step::Add(8, 3),
@@ -51,15 +53,17 @@ const STEPS: [Step; 27] = [
     Step::Add(LAST, 0),
 ];
 
-/// Puts an entry in, where its number has none.
+/// Puts an entry in, if its number has none.
 fn add(due: &mut Due, moment: u64, n: u64) -> bool {
     due.due_of(n).is_none() && due.add(moment, n).is_ok()
 }
 
+/// Gives a number that has an entry another moment; whether that was done.
 fn change(due: &mut Due, n: u64, moment: u64) -> bool {
     due.due_of(n).is_some() && due.change(n, moment).is_ok()
 }
 
+/// Removes the entry of a number that has one; whether it had.
 fn remove(due: &mut Due, n: u64) -> bool {
     if due.due_of(n).is_none() {
         return false;

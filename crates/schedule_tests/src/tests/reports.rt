@@ -40,6 +40,7 @@ fn is_row(report: &Report, row: &Row) -> bool {
         && report.text.is(row.3)
 }
 
+/// Whether these are the reports of the rows.
 fn are_rows(found: &[Report], rows: &[Row]) -> bool {
     found.len() == rows.len()
         && found

@@ -53,6 +53,7 @@ fn is_fed(
     true
 }
 
+/// Whether these are the requests of the rows.
 fn are_rows(found: &[Request], rows: &[Row]) -> bool {
     found.len() == rows.len()
         && found

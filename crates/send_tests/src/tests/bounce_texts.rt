@@ -6,6 +6,7 @@ use std::alloc::Global;
 /// The notes and the message of each row.
 const NOTES: &[u8] = b"<b@y>:\nno\n\n";
 
+/// The message that bounces.
 const MESSAGE: &[u8] = b"Subject: hi\n\nhello\n";
 
 /// A sender and the moment of the date; and the sender, recipient and text of the bounce.
@@ -15,6 +16,7 @@ type Row = (
     Option<(&'static [u8], &'static [u8], &'static [u8])>,
 );
 
+/// Bounces of the message, or none.
 const ROWS: [Row; 6] = [
     (
         b"ann@x",
@@ -128,6 +130,7 @@ Subject: hi\n\nhello\n",
     ),
 ];
 
+/// Whether the bounce is that of the row, or neither has one.
 fn is_bounce(found: Option<&Bounce>, row: Option<(&[u8], &[u8], &[u8])>) -> bool {
     match (found, row) {
         (None, None) => true,

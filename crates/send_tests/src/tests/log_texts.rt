@@ -7,8 +7,10 @@ use std::alloc::Global;
 /// The last u64, and how a line tells it.
 const LAST: u64 = u64::MAX;
 
+/// Nothing is in flight.
 const IDLE: Load = Load { busy: 0, limit: 10 };
 
+/// Each of 120 slots is taken.
 const FULL: Load = Load {
     busy: 120,
     limit: 120,

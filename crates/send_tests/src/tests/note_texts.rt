@@ -66,6 +66,7 @@ fn names(alloc: Global, bytes: &[u8], addresses: &[&[u8]]) -> bool {
     }
 }
 
+/// Whether these are the addresses, in order.
 fn are_all(found: &[ByteText], addresses: &[&[u8]]) -> bool {
     found.len() == addresses.len()
         && found

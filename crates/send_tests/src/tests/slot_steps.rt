@@ -85,6 +85,7 @@ fn is_attempt(attempt: &Attempt, row: Sent) -> bool {
         && attempt.address.is(row.4)
 }
 
+/// Whether the attempt is that of the row, or neither has one.
 fn is_sent(found: Option<&Attempt>, row: Option<Sent>) -> bool {
     match (found, row) {
         (None, None) => true,
@@ -93,6 +94,7 @@ fn is_sent(found: Option<&Attempt>, row: Option<Sent>) -> bool {
     }
 }
 
+/// Whether the next attempt is that of the row, or neither has one.
 fn is_ahead(found: Option<&Attempt>, row: Option<(u64, &[u8])>) -> bool {
     match (found, row) {
         (None, None) => true,
@@ -101,6 +103,7 @@ fn is_ahead(found: Option<&Attempt>, row: Option<(u64, &[u8])>) -> bool {
     }
 }
 
+/// Whether a report of this slot ends the attempt of the row, or is refused if it has none.
 fn reports(slots: &mut Slots, channel: Channel, slot: u8, row: Option<Sent>) -> bool {
     match (slots.report(channel, slot), row) {
         (Err(out), None) => out.0 == slot,
@@ -127,6 +130,7 @@ fn owes(alloc: Global, slots: &mut Slots, channel: Channel, slot: u8, note: Opti
     true
 }
 
+/// Whether the note is that of the row, or neither has one.
 fn is_note(found: &Option<ByteText>, row: Option<&[u8]>) -> bool {
     match (found, row) {
         (None, None) => true,
@@ -135,6 +139,7 @@ fn is_note(found: &Option<ByteText>, row: Option<&[u8]>) -> bool {
     }
 }
 
+/// Whether the mark is that of the row, or neither has one.
 fn is_mark(found: Option<&Mark>, row: Option<(u64, u64, Option<&[u8]>)>) -> bool {
     match (found, row) {
         (None, None) => true,
@@ -145,6 +150,7 @@ fn is_mark(found: Option<&Mark>, row: Option<(u64, u64, Option<&[u8]>)>) -> bool
     }
 }
 
+/// Whether the job on message n is that of the row, or neither has one.
 fn is_job(found: Option<Job>, n: u64, row: Option<(u64, bool)>) -> bool {
     let job = row.map(|(begun, unmarked)| Job { n, begun, unmarked });
     found == job

@@ -141,6 +141,7 @@ fn has_all(alloc: Global, disk: &mut CrashDisk, files: &[Held]) -> bool {
     are_right
 }
 
+/// The files that a pass makes, and todo.
 const MADE: [Held; 4] = [
     (b"info/1/24", Some(b"Fs@y\0")),
     (b"local/1/24", Some(b"Ta@x\0Tc@x\0")),
@@ -148,6 +149,7 @@ const MADE: [Held; 4] = [
     (b"todo/24", Some(b"u0\0p0\0Fs@y\0Ta@x\0Tb@y\0Tc\0")),
 ];
 
+/// How that pass ends.
 const DONE: End = End::Done {
     n: 24,
     has_local: true,
@@ -168,6 +170,7 @@ fn the_files_survive_a_halt_when_the_command_is_given(rt: HostRuntime) -> Result
     Ok(())
 }
 
+/// The todo file of that pass.
 const TODO_TEXT: Held = (b"todo/24", Some(b"u0\0p0\0Fs@y\0Ta@x\0Tb@y\0Tc\0"));
 
 #[test]

@@ -158,6 +158,7 @@ fn controls(alloc: Global) -> Result<Controls, ControlError> {
     Controls::read(alloc, &files)
 }
 
+/// A todo file with local and remote recipients.
 const TODO_TEXT: &[u8] = b"u1000\0p77\0Fs@y\0Ta@x\0Tb@y\0Tc\0Td@z\0";
 
 /// A pass of message 24 with local and remote recipients, and what comes of each step.
@@ -236,12 +237,16 @@ fn ends_at(alloc: Global, controls: &Controls, at: usize, failing: Came<'_>) -> 
     if is_handed { pass.end() } else { None }
 }
 
+/// A call failed.
 const FAULT: Came<'static> = Came::Refused(FsError::Fault);
 
+/// A name was taken.
 const EXISTS: Came<'static> = Came::Refused(FsError::Exists);
 
+/// A name was missing.
 const NOT_THERE: Came<'static> = Came::Refused(FsError::NotThere);
 
+/// There was no memory.
 const MEMORY: Came<'static> = Came::Refused(FsError::Memory);
 
 /// The step that fails, by its place in `STEPS`; how; and why the number is left.

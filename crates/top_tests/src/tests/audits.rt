@@ -36,12 +36,14 @@ const PLAIN: Row = Row {
     log: "",
 };
 
+/// An audit that a failed call ends.
 const UNREAD: Row = Row {
     status: 54,
     out: "",
     ..PLAIN
 };
 
+/// Words that are no command.
 const USAGE: Row = Row {
     status: 100,
     out: "",
@@ -49,6 +51,7 @@ const USAGE: Row = Row {
     ..PLAIN
 };
 
+/// Audits and what they print.
 const ROWS: [Row; 13] = [
     PLAIN,
     Row {

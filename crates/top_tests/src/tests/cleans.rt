@@ -38,6 +38,7 @@ const PLAIN: Row = Row {
     left: &[],
 };
 
+/// Commands and what is left after them.
 const ROWS: [Row; 12] = [
     PLAIN,
     // neither file is there

@@ -7,7 +7,7 @@ use mail_bytes::NameBuf;
 use mem_fs::MemFs;
 use std::alloc::Global;
 
-/// A disk in memory that answers `Memory` to one of its calls, where that call may; counted from 1 over every call but
+/// A disk in memory that answers `Memory` to one of its calls, if that call may; counted from 1 over every call but
 /// `close`.
 #[derive(Drop)]
 pub struct CrowdedDisk {

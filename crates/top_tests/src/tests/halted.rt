@@ -3,6 +3,7 @@ use super::playing::plays;
 use mail_bytes::Memory;
 use std::test::Fail;
 
+/// Machine stops, as lines of scripts.
 const HALTS: [&str; 10] = [
     "halt keep",
     "halt lose",

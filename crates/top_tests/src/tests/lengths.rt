@@ -13,6 +13,7 @@ struct Stretched {
     out: &'static str,
 }
 
+/// Scripts with a text of the greatest length that is taken, or of one more.
 const SCRIPTS: [Stretched; 12] = [
     // an injector takes addresses of 1002 bytes
     Stretched {

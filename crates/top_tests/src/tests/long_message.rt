@@ -13,6 +13,7 @@ const MOST_TAKEN: usize = 1_073_741_825;
 /// How a message is given, what stands before its bytes, and the status.
 type Row = (Given, &'static [u8], u8);
 
+/// Messages that are too long, and the status.
 const ROWS: [Row; 3] = [
     // by itself
     (PLAIN, b"", 31),

@@ -3,8 +3,10 @@ use super::playing::{Expected, Given, MOST_PRINTED, ends};
 use mail_bytes::Memory;
 use std::test::Fail;
 
+/// A script in two pieces.
 const SCRIPT: &[&[u8]] = &[b"show\nsh", b"ow\n"];
 
+/// That script is played, and nothing fails.
 const PLAY: Given = Given {
     words: &["play"],
     script: SCRIPT,
@@ -13,18 +15,21 @@ const PLAY: Given = Given {
     out_room: MOST_PRINTED,
 };
 
+/// The input can't be read.
 const UNREAD: Expected = Expected {
     status: 54,
     out: "",
     log: "",
 };
 
+/// Words that are no command.
 const USAGE: Expected = Expected {
     status: 100,
     out: "",
     log: "usage\n",
 };
 
+/// What fails or is given, and what comes of it.
 const ROWS: [(&str, Given, Expected); 12] = [
     (
         "nothing fails",

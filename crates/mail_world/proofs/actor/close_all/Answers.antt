@@ -14,11 +14,11 @@ pub loop-fd-preserved : goal.loop-fd-preserved
 loop-fd-preserved g c =
     let l = c.loop-fd in
     let rest = c.pop.new.self.items in
-    let told = close_told (g.D.CallFs.disk l.disk) (g.D.CallFs.disk c.close.new.self) c.in-Some.fd c.close.result c.close.ensures.always c.close.ensures.told in
+    let told = close_told (g.D.CallFs.disk l.disk) (g.D.CallFs.disk c.close.new.self) c.in-Some.fd c.close.result c.close.ensures.went.kind c.close.ensures.went.told in
     record {
       rest = rest_stays (g.D.CallFs.disk l.disk) (g.D.CallFs.disk c.close.new.self) l.descriptors.items rest c.in-Some.fd c.in-Some.ensures.items l.invariant.rest told;
       closed = closed_more (g.D.CallFs.disk c.args.disk.now) (g.D.CallFs.disk l.disk) (g.D.CallFs.disk c.close.new.self) c.args.descriptors.now.items l.descriptors.items rest c.in-Some.fd c.in-Some.ensures.items l.invariant.closed told;
-      plan = c.close.ensures.plan ∙ l.invariant.plan;
+      plan = c.close.ensures.went.plan ∙ l.invariant.plan;
     }
 
 pub returns-clause-closed : goal.returns-clause-closed

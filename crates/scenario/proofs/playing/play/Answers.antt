@@ -6,8 +6,8 @@ use Rattle.call_fs.specs.Plan.{no_plan}
 use Rattle.mem_fs.proofs.InTurn.{told_weaker}
 use Rattle.mail_world.specs.World.{Seen}
 use Rattle.script_words.specs.declared.entry.Entry.{Entry}
-use Rattle.scenario.specs.declared.line.Line.{Line}
-use Rattle.scenario.specs.Contents.{HaveEntryPaths}
+use Rattle.play_lines.specs.declared.line.Line.{Line}
+use Rattle.play_lines.specs.Contents.{HaveEntryPaths}
 use Rattle.scenario.specs.FirstDisk.{IsFirstDisk}
 use Rattle.scenario.specs.Text.{IsPlayed}
 use Rattle.scenario.specs.Traced.{traced_after}

@@ -11,10 +11,10 @@ returns c = λ d plan h playing.
     let played = subst (λ t. HasPlayed d c.play_line.new.world c.args.line.now t own plan h) c.new-own.ensures.items (c.in_ok-play_line.ensures d plan h playing) in
     let before : c.len-before.result ≡ length c.args.world.now.events = c.len-before.ensures ∙ ap length c.history.ensures.events in
     let kept : c.events.result.now ≡ c.play_line.new.world.events = c.events.ensures ∙ c.history-2.ensures.events in
-    let lines = rw (before, kept) at c.in_ok-put_events_behind.ensures in
+    let lines = rw (before, kept) at c.in_ok-put_events_after.ensures in
     rw c.if-not-traced.false
     (traced_lines d c.args.world.now c.play_line.new.world c.args.line.now own c.extend_from_slice.new.self.items plan h playing played
     (λ added inside told.
     c.in_ok-extend_from_slice.ensures.items
-    ∙ ap (λ t. c.put_events_behind.new.text.items ++ t) c.deref.ensures.value
+    ∙ ap (λ t. c.put_events_after.new.text.items ++ t) c.deref.ensures.value
     ∙ ap (λ t. t ++ own) (lines added inside told ∙ ap (λ t. t ++ flat_map event_line added) c.new-text.ensures.items)))

@@ -1,13 +1,12 @@
-use Rattle.std.proofs.Common.{◌≡◌, List, ℕ, ◌++◌, map, reverse, length, arith, Bor, ap, ◌∙◌, subst}
+use Rattle.std.proofs.Common.{◌≡◌, List, ℕ, [], ◌++◌, map, length, arith, Bor, ap, ◌∙◌, subst}
 use Rattle.std.specs.Prelude.{flat_map, codes}
 use Rattle.std.proofs.lemmas.List.{length-map}
 use Rattle.std.proofs.lemmas.Result.{on_ok_weaker}
 use Rattle.mail_bytes.specs.Decimal.{digits}
 use Rattle.call_fs.specs.Disk.{Disk}
 use Rattle.crash_fs.specs.Crash.{crash_disk}
-use Rattle.mail_world.specs.declared.event.Event.{Event as Kept}
-use Rattle.scenario.specs.Fates.{fate_of, fate_in, start_lines}
-use Rattle.scenario.specs.Shown.{AreNamesIn, AreNumbersIn, line_of, pid_line, number_line}
+use Rattle.mail_world.specs.declared.books.Entry.{Entry}
+use Rattle.scenario.specs.Shown.{AreNamesIn, AreNumbersIn, line_of, entry_lines, pid_line, number_line}
 use Rattle.scenario.proofs.Showings.{joined, is_shown}
 use Rattle.scenario.proofs.showing.show.Goals as goal
 
@@ -19,8 +18,7 @@ returns c =
     let bytes : Bor (List ℕ) → List ℕ = λ b. b.now in
     let pids : List (List ℕ) = map bytes c.in_ok-pids.pids.items in
     let numbers : List ℕ = c.in_ok-numbers.numbers.items in
-    let fates = fate_of c.in_ok-fates.fates in
-    let kept : c.events-events.result.now ≡ w.events = c.events-events.ensures ∙ c.history.ensures.events in
+    let entries : List Entry = c.entries.result.now in
     let all : length pids ≡ length c.in_ok-pids.pids.items = length-map c.in_ok-pids.pids.items bytes in
     let count : c.len.result ≡ length pids = omega (arith, c.len.ensures, all, c.in_ok-pids.pids.ok.0) in
     let first : c.put_count_line.new.text.items ≡ text ++ pid_line pids =
@@ -33,10 +31,10 @@ returns c =
     let are_numbers : AreNumbersIn now numbers = subst (λ m. AreNumbersIn (crash_disk m) numbers) c.disk-2.ensures c.in_ok-numbers.ensures in
     on_ok_weaker c.put_mails.result
     (λ third. (
-      pid_line pids ++ (flat_map (number_line now) numbers ++ flat_map (start_lines fates) w.events),
-      joined text c.put_count_line.new.text.items c.put_states.new.text.items c.put_mails.new.text.items (pid_line pids) (flat_map (number_line now) numbers) (flat_map (start_lines fates) w.events)
-          first second (third ∙ ap (λ (events : List Kept). c.put_states.new.text.items ++ flat_map (start_lines fates) events) kept),
-      λ d h history. is_shown d h now w.present w.events pids numbers fates history (c.history.ensures.safe d h history) are_pids are_numbers
-          (λ a. c.in_ok-fates.ensures a ∙ ap (λ (events : List Kept). fate_in (reverse events) a) kept),
+      pid_line pids ++ (flat_map (number_line now) numbers ++ flat_map entry_lines entries),
+      joined text c.put_count_line.new.text.items c.put_states.new.text.items c.put_mails.new.text.items (pid_line pids) (flat_map (number_line now) numbers) (flat_map entry_lines entries)
+          first second third,
+      λ d h history. is_shown d h now w.present w.events pids numbers entries history (c.headline.ensures d [] h history.legal) are_pids are_numbers
+          (c.entries.ensures ∙ c.books.ensures.models d h history),
     ))
     c.put_mails.ensures

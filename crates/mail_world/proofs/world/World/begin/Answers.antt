@@ -5,12 +5,16 @@ use Rattle.mail_world.specs.declared.any_machine.AnyMachine.{AnyMachine}
 use Rattle.mail_world.specs.declared.event.Event.{Event as Kept}
 use Rattle.mail_world.specs.declared.event.Event.TheVariants as kept
 use Rattle.mail_world.specs.declared.event.Program.TheVariants.{Injector}
+use Rattle.mail_world.specs.Books.{new_entry}
 use Rattle.mail_world.specs.Places.{place_of}
+use Rattle.mail_world.specs.declared.books.Entry.{Entry}
+use Rattle.queue_inject.specs.declared.injection.Arguments.{Arguments}
 use Rattle.mail_world.specs.ByKind.{Follows}
 use Rattle.mail_world.specs.World.{mail, Seen, was_started}
 use Rattle.mail_world.specs.Inside.{IsWorld, known, living}
 use Rattle.mail_world.proofs.Histories.{goes_on}
 use Rattle.mail_world.proofs.Living.{living_push, room_less}
+use Rattle.mail_world.proofs.Booked.{start_booked}
 use Rattle.mail_world.proofs.Worlds.{start_keeps, start_leads_on}
 use Rattle.mail_world.proofs.world.World.begin.Goals as goal
 use Rattle.mail_world.proofs.world.World.begin.Goals.{After-saturating_add-self-inside}
@@ -38,7 +42,11 @@ started g c =
 pub invariant_of-self-in_err-reserve-2 : goal.invariant_of-self-in_err-reserve-2
 invariant_of-self-in_err-reserve-2 g c =
     let items = c.in_ok-reserve.ensures.items in
-    (rw (items, c.in_err-reserve-2.ensures.same) c.self.invariant.0, rw (items) (c.in_err-reserve-2.ensures.stays (living c.self.inside.actors.items) c.self.invariant.1))
+    let same = c.in_ok-make_room.ensures.same in (
+      rw (items, c.in_err-reserve-2.ensures.same) c.self.invariant.0,
+      rw (items) (c.in_err-reserve-2.ensures.stays (living c.self.inside.actors.items) c.self.invariant.1),
+      rw (items, c.in_err-reserve-2.ensures.same, same) c.self.invariant.2,
+    )
 
 pub invariant_of-self-in_err-add : goal.invariant_of-self-in_err-add
 invariant_of-self-in_err-add g c =
@@ -47,6 +55,7 @@ invariant_of-self-in_err-add g c =
     let places : ◌≡◌ {A = List ℕ → Option ℕ} (place_of i.places) (place_of c.add.new.self) = fun_ext (λ q. sym (c.in_err-add.ensures.err q)) in (
       rw (items, c.in_ok-reserve-2.ensures.same) (subst (λ (f : List ℕ → Option ℕ). IsWorld (g.D.CallFs.disk i.disk) f i.actors.items (known i.history.events.items) i.history.events.items i.present i.next_pid) places c.self.invariant.0),
       rw (items) (c.in_ok-reserve-2.ensures.stays (living i.actors.items) c.self.invariant.1),
+      rw (items, c.in_ok-reserve-2.ensures.same, c.in_ok-make_room.ensures.same) c.self.invariant.2,
     )
 
 pub invariant_of-self-2 : goal.invariant_of-self-2
@@ -66,11 +75,15 @@ invariant_of-self-2 g c =
     λ b. c.in_ok-add.ensures.ok b ∙ ap (λ (n : List ℕ). put_at (place_of i.places) n (Some c.len-2.result) b) c.as_slice.ensures ∙ ap (λ (n : ℕ). put_at (place_of i.places) a (Some n) b) many in
     let len : c.len.result ≡ length i.actors.items = c.len.ensures ∙ c.reserve.new.self.ok.0 ∙ ap length held in
     let bound = living_push i.actors.items c.new-actor.result in
+    let entry : c.add-2.new.self.entries.items ≡ i.books.entries.items ++ new_entry a args ∷ [] =
+    c.add-2.ensures ∙ ap (λ (l : List Entry). l ++ new_entry a c.in_ok-arguments.arguments ∷ []) c.in_ok-make_room.ensures.same
+    ∙ ap (λ (w : Arguments). i.books.entries.items ++ new_entry a w ∷ []) c.in_ok-arguments.ensures in
     let machine = subst (λ (m : AnyMachine). Follows m (Injector args) []) (sym c.new-actor.ensures.machine) c.in_ok-mailer.ensures in (
       rw (actors, event) (start_keeps (g.D.CallFs.disk i.disk) (place_of i.places) (place_of c.add.new.self) i.actors.items i.history.events.items i.present i.next_pid c.saturating_add-self-inside.result
           c.new-actor.result a (Injector args) tt c.self.invariant.0 new put name c.new-actor.ensures.ended c.new-actor.ensures.descriptors machine refl c.saturating_add-self-inside.ensures),
       rw (actors) (c.put.ensures.room (living (i.actors.items ++ c.new-actor.result ∷ [])) (room_less c.reserve-2.new.self (c.len.result + 2) (living (i.actors.items ++ c.new-actor.result ∷ []) + 1)
           (omega (arith, len, bound)) c.in_ok-reserve-2.ensures.room)),
+      rw (actors, event, entry) (start_booked i.actors.items i.history.events.items c.new-actor.result a args i.books.entries.items c.self.invariant.2 name),
     )
 
 pub returns-clause-goes_on : goal.returns-clause-goes_on

@@ -10,13 +10,17 @@ use Rattle.mail_world.specs.Acting.{AreCutOff}
 use Rattle.mail_world.proofs.Histories.{halt_goes_with}
 use Rattle.mail_world.proofs.Lists.{written_back}
 use Rattle.mail_world.proofs.Living.{living_within, room_less}
+use Rattle.mail_world.proofs.Booked.{halt_booked}
 use Rattle.mail_world.proofs.Worlds.{halt_keeps, all_over}
 use Rattle.mail_world.proofs.world.World.halt.Goals as goal
 use Rattle.mail_world.proofs.world.World.halt.Goals.{After-cut_off_all}
 
 pub invariant_of-self : goal.invariant_of-self
-invariant_of-self g c =
-    (rw (c.in_err-reserve.ensures.same) c.self.invariant.0, c.in_err-reserve.ensures.stays (living c.self.inside.actors.items) c.self.invariant.1)
+invariant_of-self g c = (
+  rw (c.in_err-reserve.ensures.same) c.self.invariant.0,
+  c.in_err-reserve.ensures.stays (living c.self.inside.actors.items) c.self.invariant.1,
+  rw (c.in_err-reserve.ensures.same) c.self.invariant.2,
+)
 
 -- the event that was put
 halted : (g : _) (c : After-cut_off_all g) → c.put.new.self.events.items ≡ c.self.inside.history.events.items ++ kept.Halt c.args.how ∷ []
@@ -46,6 +50,7 @@ invariant_of-self-2 g c =
           c.self.invariant.0 over (stopped g at)),
       rw (items) (c.put.ensures.room (living c.cut_off_all.new.actors) (room_less c.reserve.new.self (c.len.result + 1) (living c.cut_off_all.new.actors + 1)
           (omega (arith, len, bound, many)) c.in_ok-reserve.ensures.room)),
+      rw (items, halted g at, c.cut_off.ensures) (halt_booked (length i.history.events.items) i.actors.items c.cut_off_all.new.actors i.history.events.items c.args.how i.books.entries.items c.self.invariant.2 over),
     )
 
 pub returns-clause-goes_on : goal.returns-clause-goes_on

@@ -5,13 +5,17 @@ use Rattle.mail_world.specs.Places.{place_of}
 use Rattle.mail_world.specs.Inside.{living}
 use Rattle.mail_world.proofs.Histories.{moment_told, goes_on}
 use Rattle.mail_world.proofs.Living.{living_within, room_less}
+use Rattle.mail_world.proofs.Booked.{moment_booked}
 use Rattle.mail_world.proofs.Worlds.{moment_keeps}
 use Rattle.mail_world.proofs.world.World.moment.Goals as goal
 use Rattle.mail_world.proofs.world.World.moment.Goals.{After-put}
 
 pub invariant_of-self : goal.invariant_of-self
-invariant_of-self g c =
-    (rw (c.in_err-reserve.ensures.same) c.self.invariant.0, c.in_err-reserve.ensures.stays (living c.self.inside.actors.items) c.self.invariant.1)
+invariant_of-self g c = (
+  rw (c.in_err-reserve.ensures.same) c.self.invariant.0,
+  c.in_err-reserve.ensures.stays (living c.self.inside.actors.items) c.self.invariant.1,
+  rw (c.in_err-reserve.ensures.same) c.self.invariant.2,
+)
 
 -- the event that was put
 came : (g : _) (c : After-put g) → c.put.new.self.events.items ≡ c.self.inside.history.events.items ++ kept.Moment c.args.moment ∷ []
@@ -29,6 +33,7 @@ invariant_of-self-2 g c =
     let bound = living_within i.actors.items in (
       rw (came g at) (moment_keeps (g.D.CallFs.disk i.disk) (place_of i.places) i.actors.items i.history.events.items i.present c.args.moment i.next_pid c.requires (later g at) c.self.invariant.0),
       c.put.ensures.room (living i.actors.items) (room_less c.reserve.new.self (c.len.result + 1) (living i.actors.items + 1) (omega (arith, len, bound)) c.in_ok-reserve.ensures.room),
+      rw (came g at) (moment_booked i.actors.items i.history.events.items c.args.moment i.books.entries.items c.self.invariant.2),
     )
 
 pub returns-clause-goes_on : goal.returns-clause-goes_on

@@ -8,6 +8,7 @@ use Rattle.mail_world.specs.Inside.{known, living}
 use Rattle.mail_world.specs.Acting.{IsNoLiving}
 use Rattle.mail_world.proofs.Histories.{goes_on}
 use Rattle.mail_world.proofs.Living.{living_less, living_some, room_less}
+use Rattle.mail_world.proofs.Booked.{entry_within, stop_booked}
 use Rattle.mail_world.proofs.Worlds.{StandsAt, stopped_keeps, stopped_leads_on, stands_at, in_range, may_end}
 use Rattle.mail_world.proofs.Refusals.{no_end, not_gone, gone_exactly, ok_other}
 use Rattle.mail_world.proofs.world.World.stop.Goals as goal
@@ -69,7 +70,15 @@ invariant_of-self g c =
       stopped_keeps (g.D.CallFs.disk i.disk) (g.D.CallFs.disk c.stop.new.disk) (place_of i.places) i.actors.items i.history.events.items c.stop.new.history.events.items i.present i.next_pid
           place x c.stop.new.self c.self.invariant.0 at.0 over,
       c.stop.ensures.room (living (set i.actors.items place c.stop.new.self)) (omega (arith, fewer, room)),
+      stop_booked (g.D.CallFs.disk i.disk) (g.D.CallFs.disk c.stop.new.disk) (place_of i.places) i.actors.items (known i.history.events.items) i.history.events.items c.stop.new.history.events.items i.present place
+          x c.stop.new.self i.books.entries.items c.note.new.self.entries.items c.newest.result.now c.self.invariant.0.kept c.self.invariant.2 at.0.is over c.newest.ensures c.note.ensures,
     )
+
+pub note-requires : goal.note-requires
+note-requires g c =
+    let i = c.self.inside in
+    entry_within i.books.entries.items i.actors.items i.history.events.items c.in_ok-place.place c.self.invariant.2
+    (in_range (g.D.CallFs.disk i.disk) (place_of i.places) i.actors.items (known i.history.events.items) i.history.events.items i.present i.next_pid c.args.actor.now c.self.invariant.0 c.in_ok-place.place c.in_ok-place.ensures.ok.0)
 
 pub returns-clause-event : goal.returns-clause-event
 returns-clause-event g c =

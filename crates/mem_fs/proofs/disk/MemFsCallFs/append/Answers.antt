@@ -1,4 +1,4 @@
-use Rattle.std.proofs.Common.{sym, ap, ◌∙◌, arith}
+use Rattle.std.proofs.Common.{refl, sym, ap, ◌∙◌, arith, rules}
 use Rattle.std.proofs.lemmas.Result.{err_from_is_err_and}
 use Rattle.mem_fs.specs.Tables.{at_number}
 use Rattle.mem_fs.specs.MemDisk.{Planned, disk_of}
@@ -6,9 +6,18 @@ use Rattle.mem_fs.proofs.Steps.{changed-nothing}
 use Rattle.mem_fs.proofs.disk.MemFsCallFs.append.Goals as goal
 
 -- a planned fault has written nothing
-pub returns-in_err-begin-clause-told : goal.returns-in_err-begin-clause-told
-returns-in_err-begin-clause-told c =
+pub returns-in_err-begin-clause-went : goal.returns-in_err-begin-clause-went
+returns-in_err-begin-clause-went c =
     let p = err_from_is_err_and c.from_residual.result c.from_residual.ensures.1 in
     let why = c.in_err-begin.ensures.fault in
-    rw (p.1, p.2, why)
-    (0, (c.requires.fits, omega arith), ap (λ (m : Planned). disk_of m.held) c.self.view_is ∙ sym (changed-nothing (disk_of c.args.self.now.held) (at_number c.args.self.now.held.opens c.args.fd.0)))
+    rw (p.1, p.2, why) (record {
+      told =
+          (0, (c.requires.fits, omega arith), ap (λ (m : Planned). disk_of m.held) c.self.view_is ∙ sym (changed-nothing (disk_of c.args.self.now.held) (at_number c.args.self.now.held.opens c.args.fd.0)));
+      read = refl;
+      recorded = tt;
+      kind = tt;
+      number = tt;
+      moment = tt;
+      plan = search rules;
+      cause = search rules;
+    })

@@ -1,0 +1,2 @@
+-- the names of mails, and those of the queue's own programs
+pub mod MailNames

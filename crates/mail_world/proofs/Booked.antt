@@ -1,0 +1,228 @@
+-- The books of a world, as one event more comes.
+use Rattle.std.proofs.Common.{◌≡◌, ◌≢◌, ℕ, ◌-◌, ◌<◌, zero, suc, List, [], ◌∷◌, ◌++◌, length, set, map, get_or, reverse, Bool, true, false, Option, Some, None, refl, sym, ap, ◌∙◌, subst, arith, append-nil, bytes_eq}
+use Rattle.std.specs.Prelude.{if◌then◌else◌}
+use Rattle.std.specs.List.{slice_get}
+use Rattle.std.specs.Option.{option_map}
+use Rattle.std.proofs.lemmas.List.{reverse-append, map-append, length-append, length-map}
+use Rattle.std.proofs.lemmas.Option.{slice_get-map, get_or_from_slice_get}
+use Rattle.call_fs.specs.Disk.{Disk}
+use Rattle.call_fs.specs.declared.crash_file_system.Survival.{Survival}
+use Rattle.queue_inject.specs.declared.injection.Arguments.{Arguments}
+use Rattle.mail_world.specs.declared.event.Event.{Event as Kept}
+use Rattle.mail_world.specs.declared.event.Event.TheVariants as kept
+use Rattle.mail_world.specs.declared.event.Program.TheVariants.{Injector}
+use Rattle.mail_world.specs.declared.actor.Actor.{Actor as Held}
+use Rattle.mail_world.specs.declared.books.Entry.{Entry}
+use Rattle.mail_world.specs.declared.books.Life.TheVariants as told
+use Rattle.mail_world.specs.History.{State}
+use Rattle.mail_world.specs.Inside.{AreActors}
+use Rattle.mail_world.specs.Acting.{AreCutOff, HasActed, IsFinished}
+use Rattle.mail_world.specs.Books.{new_entry, entered_by, acted_on, left_as, cut_off, noted, books_of, AreBooked}
+use Rattle.mail_world.proofs.Tests.{other_text}
+use Rattle.mail_world.proofs.Lists.{some_last, some_at}
+use Rattle.mail_world.proofs.Crew.{apart_by}
+
+-- one event more
+pub books_push : (events : List Kept) (k : Kept) → books_of (reverse (events ++ k ∷ [])) ≡ map (noted k) (books_of (reverse events)) ++ entered_by k
+books_push events k = ap books_of (reverse-append events (k ∷ []))
+
+-- lists, item by item
+
+map_still : {X : Type 0} (f : X → X) (xs : List X) → ((i : ℕ) (x : X) → slice_get xs i ≡ Some x → f x ≡ x) → map f xs ≡ xs
+map_still f [] still = refl
+map_still f (x ∷ xs) still = ap (λ y. y ∷ map f xs) (still 0 x refl) ∙ ap (λ ys. x ∷ ys) (map_still f xs (λ i z h. still (suc i) z h))
+
+-- a change of one item is a change of each, if it leaves the others
+set_is_map : {X : Type 0} (f : X → X) (xs : List X) (i : ℕ) (x : X) → slice_get xs i ≡ Some x → ((j : ℕ) (z : X) → j ≢ i → slice_get xs j ≡ Some z → f z ≡ z)
+    → set xs i (f x) ≡ map f xs
+set_is_map f [] i x is others = absurd cc
+set_is_map f (z ∷ zs) zero x is others =
+    let same : z ≡ x = cc in
+    ap (λ y. f y ∷ zs) (sym same) ∙ ap (λ ys. f z ∷ ys) (sym (map_still f zs (λ j y h. others (suc j) y (λ e. absurd (omega arith)) h)))
+set_is_map f (z ∷ zs) (suc i) x is others =
+    ap (λ y. y ∷ set zs i (f x)) (sym (others 0 z (λ e. absurd (omega arith)) refl))
+    ∙ ap (λ ys. f z ∷ ys) (set_is_map f zs i x is (λ j y apart h. others (suc j) y (λ e. apart (omega arith)) h))
+
+map_set_same : {X Y : Type 0} (f : X → Y) (xs : List X) (i : ℕ) (x y : X) → slice_get xs i ≡ Some x → f y ≡ f x → map f (set xs i y) ≡ map f xs
+map_set_same f [] i x y is same = absurd cc
+map_set_same f (z ∷ zs) zero x y is same = let here : z ≡ x = cc in ap (λ v. v ∷ map f zs) (same ∙ ap f (sym here))
+map_set_same f (z ∷ zs) (suc i) x y is same = ap (λ vs. f z ∷ vs) (map_set_same f zs i x y is same)
+
+map_after : {X Y : Type 0} (f : X → X) (g : X → Y) (xs : List X) → ((x : X) → g (f x) ≡ g x) → map g (map f xs) ≡ map g xs
+map_after f g [] keeps = refl
+map_after f g (x ∷ xs) keeps = ap (λ y. y ∷ map g (map f xs)) (keeps x) ∙ ap (λ ys. g x ∷ ys) (map_after f g xs keeps)
+
+map_alike : {X Y : Type 0} (f : X → Y) (xs ys : List X) → length ys ≡ length xs → ((i : ℕ) (x y : X) → slice_get xs i ≡ Some x → slice_get ys i ≡ Some y → f y ≡ f x)
+    → map f ys ≡ map f xs
+map_alike f [] [] many each = refl
+map_alike f [] (y ∷ ys) many each = absurd (omega arith)
+map_alike f (x ∷ xs) [] many each = absurd (omega arith)
+map_alike f (x ∷ xs) (y ∷ ys) many each =
+    ap (λ v. v ∷ map f ys) (each 0 x y refl refl) ∙ ap (λ vs. f x ∷ vs) (map_alike f xs ys (omega arith) (λ i z w h g. each (suc i) z w h g))
+
+-- two lists with the same names: what stands at a place of the one, and of the other
+from_map : {X Z : Type 0} (g : X → Z) (o : Option X) (z : Z) → option_map g o ≡ Some z → (x : X) × (o ≡ Some x) × (z ≡ g x)
+from_map g None z h = absurd cc
+from_map g (Some x) z h = (x, refl, cc)
+
+paired : {X Y Z : Type 0} (f : X → Z) (g : Y → Z) (xs : List X) (ys : List Y) (i : ℕ) (x : X) → map f xs ≡ map g ys → slice_get xs i ≡ Some x
+    → (y : Y) × (slice_get ys i ≡ Some y) × (f x ≡ g y)
+paired {X} {Y} {Z} f g xs ys i x same is =
+    from_map g (slice_get ys i) (f x)
+    (sym (slice_get-map g ys i) ∙ ap (λ (l : List Z). slice_get l i) (sym same) ∙ slice_get-map f xs i ∙ ap (option_map f) is)
+
+-- what an event leaves of an entry
+
+if_named : (t : Bool) (e f : Entry) → f.actor ≡ e.actor → (if t then f else e).actor ≡ e.actor
+if_named true e f h = h
+if_named false e f h = refl
+
+noted_actor : (k : Kept) (e : Entry) → (noted k e).actor ≡ e.actor
+noted_actor (kept.Start a program) e = refl
+noted_actor (kept.Act a own) e = if_named (bytes_eq a e.actor) e (acted_on own.due own.came e) refl
+noted_actor (kept.End a read ready status) e = if_named (bytes_eq a e.actor) e (left_as (told.Ended status) e) refl
+noted_actor (kept.Stop a) e = if_named (bytes_eq a e.actor) e (left_as told.Stopped e) refl
+noted_actor (kept.Moment m) e = refl
+noted_actor (kept.Halt how) e = refl
+
+-- an event of that actor, after its start
+abbrev pub IsOwnOf : List ℕ → Kept → Type 0
+IsOwnOf a (kept.Start b program) = ⊥
+IsOwnOf a (kept.Act b own) = b ≡ a
+IsOwnOf a (kept.End b read ready status) = b ≡ a
+IsOwnOf a (kept.Stop b) = b ≡ a
+IsOwnOf a (kept.Moment m) = ⊥
+IsOwnOf a (kept.Halt how) = ⊥
+
+noted_other : (k : Kept) (a : List ℕ) (e : Entry) → IsOwnOf a k → e.actor ≢ a → noted k e ≡ e
+noted_other (kept.Start b program) a e mine apart = absurd mine
+noted_other (kept.Act b own) a e mine apart =
+    ap (λ t. if t then acted_on own.due own.came e else e) (other_text b e.actor (λ same. apart (sym same ∙ mine)))
+noted_other (kept.End b read ready status) a e mine apart =
+    ap (λ t. if t then left_as (told.Ended status) e else e) (other_text b e.actor (λ same. apart (sym same ∙ mine)))
+noted_other (kept.Stop b) a e mine apart =
+    ap (λ t. if t then left_as told.Stopped e else e) (other_text b e.actor (λ same. apart (sym same ∙ mine)))
+noted_other (kept.Moment m) a e mine apart = absurd mine
+noted_other (kept.Halt how) a e mine apart = absurd mine
+
+begins_none : (k : Kept) (a : List ℕ) → IsOwnOf a k → entered_by k ≡ []
+begins_none (kept.Start b program) a mine = absurd mine
+begins_none (kept.Act b own) a mine = refl
+begins_none (kept.End b read ready status) a mine = refl
+begins_none (kept.Stop b) a mine = refl
+begins_none (kept.Moment m) a mine = refl
+begins_none (kept.Halt how) a mine = refl
+
+-- the books after an event that begins no entry
+pub books_more : (entries : List Entry) (events : List Kept) (k : Kept) → entries ≡ books_of (reverse events) → entered_by k ≡ []
+    → map (noted k) entries ≡ books_of (reverse (events ++ k ∷ []))
+books_more entries events k are none =
+    ap (map (noted k)) are ∙ sym (append-nil (map (noted k) (books_of (reverse events))))
+    ∙ ap (λ l. map (noted k) (books_of (reverse events)) ++ l) (sym none) ∙ sym (books_push events k)
+
+-- one actor acts, ends or is stopped
+note_keeps : (places : List ℕ → Option ℕ) (actors : List Held) (s : State) (events : List Kept) (p i : ℕ) (x y : Held) (entries : List Entry) (e : Entry) (k : Kept)
+    → AreActors places actors s events p → AreBooked entries actors events → slice_get actors i ≡ Some x → y.name ≡ x.name → IsOwnOf x.name k → slice_get entries i ≡ Some e
+    → AreBooked (set entries i (noted k e)) (set actors i y) (events ++ k ∷ [])
+note_keeps places actors s events p i x y entries e k crew booked is name mine at =
+    let actor : Entry → List ℕ = λ e. e.actor in
+    let named : Held → List ℕ = λ x. x.name in
+    let others = λ (j : ℕ) (z : Entry) (apart : j ≢ i) (there : slice_get entries j ≡ Some z).
+    let w = paired actor named entries actors j z booked.names there in
+    let other : w.0.name ≢ x.name = apart_by places x.name w.0.name i j (crew.placed i x is) (crew.placed j w.0 w.1) apart in
+    noted_other k x.name z mine (λ same. other (sym w.2 ∙ same)) in
+    record {
+      are = set_is_map (noted k) entries i e at others ∙ books_more entries events k booked.are (begins_none k x.name mine);
+      names = map_set_same actor entries i e (noted k e) at (noted_actor k e) ∙ booked.names ∙ sym (map_set_same named actors i x y is name);
+    }
+
+-- the newest of some events
+pub newest_is : (events before : List Kept) (k r : Kept) → events ≡ before ++ k ∷ [] → r ≡ get_or events (length events - 1) r → r ≡ k
+newest_is events before k r is read =
+    let last = some_at (λ (z : Kept). z ≡ k) (slice_get (before ++ k ∷ []) (length before)) (some_last (λ (z : Kept). z ≡ k) before k refl) in
+    let many = length-append before (k ∷ []) in
+    let at : length (before ++ k ∷ []) - 1 ≡ length before = omega (arith, many) in
+    read ∙ ap (λ (l : List Kept). get_or l (length l - 1) r) is ∙ ap (λ (n : ℕ). get_or (before ++ k ∷ []) n r) at
+    ∙ get_or_from_slice_get (before ++ k ∷ []) (length before) last.0 r last.1 ∙ last.2
+
+-- there is an entry at each actor's place
+pub entry_within : (entries : List Entry) (actors : List Held) (events : List Kept) (i : ℕ) → AreBooked entries actors events → i < length actors → i < length entries
+entry_within entries actors events i booked within =
+    let many : length entries ≡ length actors =
+    sym (length-map entries (λ (e : Entry). e.actor)) ∙ ap (λ (l : List (List ℕ)). length l) booked.names ∙ length-map actors (λ (x : Held). x.name) in
+    omega arith
+
+-- the books took the newest event into account, which is that actor's
+own_keeps : (places : List ℕ → Option ℕ) (actors : List Held) (s : State) (events later : List Kept) (p i : ℕ) (x y : Held) (entries now : List Entry) (k r : Kept)
+    → AreActors places actors s events p → AreBooked entries actors events → slice_get actors i ≡ Some x → y.name ≡ x.name → IsOwnOf x.name k → later ≡ events ++ k ∷ []
+    → r ≡ get_or later (length later - 1) r → ((e : Entry) → slice_get entries i ≡ Some e → now ≡ set entries i (noted r e)) → AreBooked now (set actors i y) later
+own_keeps places actors s events later p i x y entries now k r crew booked is name mine event read noted_it =
+    let at = paired (λ (x : Held). x.name) (λ (e : Entry). e.actor) actors entries i x (sym booked.names) is in
+    let newest : r ≡ k = newest_is later events k r event read in
+    let here : now ≡ set entries i (noted k at.0) = noted_it at.0 at.1 ∙ ap (λ (k : Kept). set entries i (noted k at.0)) newest in
+    subst (λ (l : List Kept). AreBooked now (set actors i y) l) (sym event)
+    (subst (λ (l : List Entry). AreBooked l (set actors i y) (events ++ k ∷ [])) (sym here)
+    (note_keeps places actors s events p i x y entries at.0 k crew booked is name mine at.1))
+
+-- a step of an actor
+pub step_booked : (did : Option ℕ) (old new : Option Disk) (places : List ℕ → Option ℕ) (actors : List Held) (s : State) (events later : List Kept) (p i : ℕ) (x y : Held)
+    (entries now : List Entry) (r : Kept)
+    → AreActors places actors s events p → AreBooked entries actors events → slice_get actors i ≡ Some x → HasActed did old new x y events later p
+    → r ≡ get_or later (length later - 1) r → ((e : Entry) → slice_get entries i ≡ Some e → now ≡ set entries i (noted r e)) → AreBooked now (set actors i y) later
+step_booked None old new places actors s events later p i x y entries now r crew booked is acted read noted_it =
+    own_keeps places actors s events later p i x y entries now _ r crew booked is acted.name refl acted.event read noted_it
+step_booked (Some status) old new places actors s events later p i x y entries now r crew booked is acted read noted_it =
+    own_keeps places actors s events later p i x y entries now _ r crew booked is acted.over.name refl acted.over.event read noted_it
+
+-- a stop of an actor
+pub stop_booked : (old new : Option Disk) (places : List ℕ → Option ℕ) (actors : List Held) (s : State) (events later : List Kept) (p i : ℕ) (x y : Held)
+    (entries now : List Entry) (r : Kept)
+    → AreActors places actors s events p → AreBooked entries actors events → slice_get actors i ≡ Some x → IsFinished (kept.Stop x.name) old new x y events later
+    → r ≡ get_or later (length later - 1) r → ((e : Entry) → slice_get entries i ≡ Some e → now ≡ set entries i (noted r e)) → AreBooked now (set actors i y) later
+stop_booked old new places actors s events later p i x y entries now r crew booked is over read noted_it =
+    own_keeps places actors s events later p i x y entries now (kept.Stop x.name) r crew booked is over.name refl over.event read noted_it
+
+-- an actor's machine looked
+pub look_booked : (actors : List Held) (events : List Kept) (i : ℕ) (x y : Held) (entries : List Entry)
+    → AreBooked entries actors events → slice_get actors i ≡ Some x → y.name ≡ x.name → AreBooked entries (set actors i y) events
+look_booked actors events i x y entries booked is name = record {
+  are = booked.are;
+  names = booked.names ∙ sym (map_set_same (λ (x : Held). x.name) actors i x y is name);
+}
+
+-- a moment came
+pub moment_booked : (actors : List Held) (events : List Kept) (m : ℕ) (entries : List Entry)
+    → AreBooked entries actors events → AreBooked entries actors (events ++ kept.Moment m ∷ [])
+moment_booked actors events m entries booked = record {
+  are = sym (map_still (noted (kept.Moment m)) entries (λ i e h. refl)) ∙ books_more entries events (kept.Moment m) booked.are refl;
+  names = booked.names;
+}
+
+-- the machine stopped
+pub halt_booked : (at : ℕ) (actors stood : List Held) (events : List Kept) (how : Survival) (entries : List Entry)
+    → AreBooked entries actors events → AreCutOff at actors stood
+    → AreBooked (map (λ e. left_as (cut_off e.life) e) entries) stood (events ++ kept.Halt how ∷ [])
+halt_booked at actors stood events how entries booked cut = record {
+  are = books_more entries events (kept.Halt how) booked.are refl;
+  names = map_after (λ (e : Entry). left_as (cut_off e.life) e) (λ (e : Entry). e.actor) entries (λ e. refl) ∙ booked.names
+      ∙ sym (map_alike (λ (x : Held). x.name) actors stood cut.many (λ i x y here there. (cut.each i x y here there).name));
+}
+
+-- an actor started
+pub start_booked : (actors : List Held) (events : List Kept) (y : Held) (a : List ℕ) (args : Arguments) (entries : List Entry)
+    → AreBooked entries actors events → y.name ≡ a
+    → AreBooked (entries ++ new_entry a args ∷ []) (actors ++ y ∷ []) (events ++ kept.Start a (Injector args) ∷ [])
+start_booked actors events y a args entries booked name =
+    let k : Kept = kept.Start a (Injector args) in
+    let actor : Entry → List ℕ = λ e. e.actor in
+    let named : Held → List ℕ = λ x. x.name in
+    record {
+      are = ap (λ (l : List Entry). l ++ new_entry a args ∷ []) (sym (map_still (noted k) entries (λ i e h. refl)) ∙ ap (map (noted k)) booked.are)
+          ∙ sym (books_push events k);
+      names = map-append actor entries (new_entry a args ∷ []) ∙ ap (λ (l : List (List ℕ)). l ++ a ∷ []) booked.names
+          ∙ ap (λ (n : List ℕ). map named actors ++ n ∷ []) (sym name) ∙ sym (map-append named actors (y ∷ []));
+    }
+
+-- no actor yet
+pub none_booked : AreBooked [] [] []
+none_booked = record { are = refl; names = refl }

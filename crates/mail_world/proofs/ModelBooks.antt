@@ -1,0 +1,367 @@
+-- The books of a world are those of each legal history that its events tell.
+use Rattle.std.proofs.Common.{◌≡◌, ◌⊎◌, inl, inr, ℕ, List, [], ◌∷◌, ◌++◌, length, map, reverse, Bool, true, false, ◌&&◌, ◌||◌, is_some, Option, Some, None, refl, sym, ap, ◌∙◌, subst, ⊎_elim, bytes_eq, append-nil}
+use Rattle.std.specs.Prelude.{if◌then◌else◌, IsSome}
+use Rattle.std.specs.List.{AllZip}
+use Rattle.std.specs.Option.{option_map}
+use Rattle.std.proofs.lemmas.List.{map-append}
+use Rattle.call_fs.specs.declared.calls.CallData.{CallData}
+use Rattle.call_fs.specs.declared.calls.CallData.TheVariants.{Link}
+use Rattle.call_fs.specs.declared.calls.Answer.{Answer}
+use Rattle.call_fs.specs.declared.calls.Answer.TheVariants.{Created, Opened, Count, Done, Stat as Stated, Name as Named, NoName, Refused}
+use Rattle.call_fs.specs.declared.calls.Told.{Told}
+use Rattle.call_fs.specs.declared.program.Ready.{Ready}
+use Rattle.call_fs.specs.Disk.{Disk}
+use Rattle.call_fs.specs.Maps.{put_at}
+use Rattle.call_fs.specs.declared.past.NeedData.{NeedData}
+use Rattle.call_fs.specs.declared.past.NeedData.TheVariants as needs
+use Rattle.call_fs.specs.declared.past.GotData.{GotData}
+use Rattle.call_fs.specs.declared.past.Own.{Own}
+use Rattle.queue_inject.specs.declared.injection.Arguments.{Arguments}
+use Rattle.queue_inject.specs.declared.row.Row.{Row}
+use Rattle.queue_inject.specs.declared.row.Row.TheVariants as at
+use Rattle.queue_inject.specs.Table.{call_of, in_time}
+use Rattle.queue_inject.specs.Texts.{recipients_of}
+use Rattle.queue_paths.specs.Names.{path, parse}
+use Rattle.queue_paths.specs.Names.Name.{Pid, Of}
+use Rattle.queue_paths.specs.Names.Part.{Mess, Intd, Todo}
+use Rattle.queue_paths.proofs.Paths.{exact}
+use Rattle.call_fs.proofs.Maps.{put_at_cases, put_at_same, put_at_other}
+use Rattle.mail_world.specs.declared.event.Event.{Event as Kept}
+use Rattle.mail_world.specs.declared.event.Event.TheVariants as kept
+use Rattle.mail_world.specs.declared.event.Program.{Program}
+use Rattle.mail_world.specs.declared.event.Program.TheVariants.{Injector, Cleaner}
+use Rattle.mail_world.specs.declared.books.Entry.{Entry}
+use Rattle.mail_world.specs.declared.books.Life.{Life as ToldLife}
+use Rattle.mail_world.specs.declared.books.Life.TheVariants as left
+use Rattle.mail_world.specs.History.{Event, Actor, Life, State, MayRun, next_of, stopped, cut_off as ends_as, acted, finished, happens, after, Legal}
+use Rattle.mail_world.specs.History.Event.{Start, Act, Child, Generation, Report, End, Stop, Moment, Halt}
+use Rattle.mail_world.specs.History.Life.{Alive, Over, Stopped}
+use Rattle.mail_world.specs.World.{Tells}
+use Rattle.mail_world.specs.ByKind.{injection_of}
+use Rattle.mail_world.specs.Books.{entry_by, entered_by, queues, queues_by, number_by, newer, acted_on, cut_off, noted, books_of, is_to_todo, is_accepting, is_accepting_by, is_accepted, number_of, mail_by, mails_of, told_life, life_in, entry_in, books_in, BooksAreTheModels}
+use Rattle.mail_world.proofs.Kept.{runs_always}
+use Rattle.mail_world.proofs.Owns.{MayCall, IsPass, by_act, may_read}
+use Rattle.mail_world.proofs.Tests.{text_cases, same_text, other_text}
+
+-- Which calls accept a mail: an injector's link to todo is one of its intd.
+
+abbrev Agrees : CallData → Type 0
+Agrees call = (answer : Answer) → is_accepting call answer ≡ queues call answer
+
+link_agrees : (old new : List ℕ) → is_to_todo old (parse new) ≡ queues (Link old new) Done → Agrees (Link old new)
+link_agrees old new h Done = h
+link_agrees old new h (Created fd n) = refl
+link_agrees old new h (Opened fd) = refl
+link_agrees old new h (Count n) = refl
+link_agrees old new h (Stated stat) = refl
+link_agrees old new h (Named name) = refl
+link_agrees old new h NoName = refl
+link_agrees old new h (Refused why) = refl
+
+to_mess : (old : List ℕ) (n : ℕ) → is_to_todo old (parse (path (Of Mess n))) ≡ queues (Link old (path (Of Mess n))) Done
+unfolding path
+to_mess old n = ap (is_to_todo old) (exact.parse_path (Of Mess n))
+
+begins_todo : (n : ℕ) → queues (Link (path (Of Intd n)) (path (Of Todo n))) Done ≡ true
+unfolding path
+begins_todo n = refl
+
+to_todo : (n : ℕ) → is_to_todo (path (Of Intd n)) (parse (path (Of Todo n))) ≡ queues (Link (path (Of Intd n)) (path (Of Todo n))) Done
+to_todo n = ap (is_to_todo (path (Of Intd n))) (exact.parse_path (Of Todo n)) ∙ same_text (path (Of Intd n)) ∙ sym (begins_todo n)
+
+due_agrees : (own call : CallData) → ◌≡◌ {A = NeedData} (needs.File own) (needs.File call) → Agrees own → Agrees call
+due_agrees own call due h = let same : own ≡ call = cc in subst Agrees same h
+
+row_agrees : (args : Arguments) (row : Row) (call : CallData) → call_of args row ≡ needs.File call → Agrees call
+row_agrees args (at.Create seq) call due = due_agrees _ call due (λ answer. refl)
+row_agrees args (at.LinkMess seq n fd) call due = due_agrees _ call due (link_agrees (path (Pid args.pid args.start seq)) (path (Of Mess n)) (to_mess (path (Pid args.pid args.start seq)) n))
+row_agrees args (at.UnlinkPid seq n fd) call due = due_agrees _ call due (λ answer. refl)
+row_agrees args (at.AppendMess n fd done) call due = due_agrees _ call due (λ answer. refl)
+row_agrees args (at.SyncMess n fd) call due = due_agrees _ call due (λ answer. refl)
+row_agrees args (at.CreateIntd n) call due = due_agrees _ call due (λ answer. refl)
+row_agrees args (at.AppendTodo n fd done) call due = due_agrees _ call due (λ answer. refl)
+row_agrees args (at.SyncTodo n fd) call due = due_agrees _ call due (λ answer. refl)
+row_agrees args (at.LinkTodo n) call due = due_agrees _ call due (link_agrees (path (Of Intd n)) (path (Of Todo n)) (to_todo n))
+row_agrees args (at.CleanIntd n cause) call due = due_agrees _ call due (λ answer. refl)
+row_agrees args (at.CleanMess n cause) call due = due_agrees _ call due (λ answer. refl)
+row_agrees args at.Queued call due = absurd (cc)
+row_agrees args (at.Failed cause) call due = absurd (cc)
+
+timely : (input late : Bool) (due : NeedData) (call : CallData) → in_time input late due ≡ needs.File call → due ≡ needs.File call
+timely true true (needs.File own) call h = absurd (cc)
+timely true false (needs.File own) call h = h
+timely false late (needs.File own) call h = absurd (cc)
+timely input late due call h = absurd (cc)
+
+next_agrees : (program : Program) (past : List Own) (read : ℕ) (ready : Ready) (call : CallData) → MayRun program → next_of program past read ready ≡ needs.File call → Agrees call
+next_agrees (Cleaner start) past read ready call runs due = absurd runs
+next_agrees (Injector args) past read ready call runs due = row_agrees args _ call (timely _ _ _ call due)
+
+call_agrees : (s : State) (a : List ℕ) (read : ℕ) (ready : Ready) (call : CallData) (got : Told) (wrote : ℕ)
+    → ((x : Actor) → s.actors a ≡ Some x → MayRun x.program) → MayCall s a read ready call got wrote → is_accepting call got.answer ≡ queues call got.answer
+call_agrees s a read ready call got wrote runs may =
+    next_agrees may.actor.program may.actor.past read ready call (runs may.actor may.reads.is) may.due got.answer
+
+-- and what passes between programs accepts none
+pass_agrees : (due : NeedData) (came : GotData) → IsPass due → is_accepting_by due came ≡ queues_by due came
+pass_agrees (needs.Take port) came pass = refl
+pass_agrees (needs.Give port bytes) came pass = refl
+pass_agrees (needs.Start asked) came pass = refl
+pass_agrees (needs.Command bytes) came pass = refl
+pass_agrees (needs.File call) came pass = absurd pass
+pass_agrees needs.Wait came pass = refl
+pass_agrees (needs.Ended status) came pass = refl
+
+-- Who was started is there.
+
+some_put : (actors : List ℕ → Option Actor) (b : List ℕ) (x : Actor) (a : List ℕ) → (b ≡ a) ⊎ IsSome (actors a) → IsSome (put_at actors b (Some x) a)
+some_put actors b x a h = ⊎_elim
+    (λ w. ap is_some w.1)
+    (λ w. ap is_some w.1 ∙ ⊎_elim (λ e. absurd (w.0 (sym e))) (λ s. s) h)
+    (put_at_cases actors b (Some x) a)
+
+some_acted : (s : State) (b : List ℕ) (own : Own) (wrote : ℕ) (o : Option Actor) (a : List ℕ) → IsSome (s.actors a) → IsSome ((acted s b own wrote o).actors a)
+some_acted s b own wrote None a h = h
+some_acted s b own wrote (Some x) a h = some_put s.actors b _ a (inr h)
+
+some_finished : (s : State) (b : List ℕ) (life : Life) (o : Option Actor) (a : List ℕ) → IsSome (s.actors a) → IsSome ((finished s b life o).actors a)
+some_finished s b life None a h = h
+some_finished s b life (Some x) a h = some_put s.actors b _ a (inr h)
+
+some_stopped : (o : Option Actor) → IsSome o → IsSome (option_map stopped o)
+some_stopped None h = h
+some_stopped (Some x) h = refl
+
+-- the actor of a mail is there
+abbrev pub IsThere : State → List ℕ × Arguments → Type 0
+IsThere s mail = IsSome (s.actors mail.0)
+
+-- those of some mails are
+abbrev pub AreThere : State → List (List ℕ × Arguments) → Type 0
+AreThere s [] = Unit {0}
+AreThere s (mail ∷ mails) = IsThere s mail × AreThere s mails
+
+both_there : (s : State) (first second : List (List ℕ × Arguments)) → AreThere s first → AreThere s second → AreThere s (first ++ second)
+both_there s [] second h g = g
+both_there s (mail ∷ mails) second h g = (h.0, both_there s mails second h.1 g)
+
+all_there : (s t : State) (mails : List (List ℕ × Arguments)) → ((a : List ℕ) → IsSome (s.actors a) → IsSome (t.actors a)) → AreThere s mails → AreThere t mails
+all_there s t [] keeps h = tt
+all_there s t (mail ∷ mails) keeps h = (keeps mail.0 h.0, all_there s t mails keeps h.1)
+
+new_there : (t : State) (a : List ℕ) (o : Option Arguments) → IsSome (t.actors a) → AreThere t (mail_by a o)
+new_there t a None h = tt
+new_there t a (Some args) h = (h, tt)
+
+pub mails_there : (d : Disk) (events : List Kept) (h : List Event) → AllZip Tells events h → AreThere (after d h) (mails_of h)
+mails_there d [] [] told = tt
+mails_there d [] (e ∷ h) told = absurd told
+mails_there d (k ∷ events) [] told = absurd told
+mails_there d (k ∷ events) ((Start b program) ∷ h) told =
+    let s = after d h in
+    let t = happens s (Start b program) in
+    both_there t (mails_of h) (mail_by b (injection_of program))
+    (all_there s t (mails_of h) (λ a there. some_put s.actors b _ a (inr there)) (mails_there d events h told.1))
+    (new_there t b (injection_of program) (some_put s.actors b _ b (inl refl)))
+mails_there d (k ∷ events) ((Act b own wrote) ∷ h) told =
+    let s = after d h in
+    all_there s (happens s (Act b own wrote)) (mails_of h) (λ a there. some_acted s b own wrote (s.actors b) a there) (mails_there d events h told.1)
+mails_there d (k ∷ events) ((Child parent own b program) ∷ h) told = absurd told.0
+mails_there d (k ∷ events) ((Generation sender clean lspawn rspawn) ∷ h) told = absurd told.0
+mails_there d (k ∷ events) ((Report slot letter text) ∷ h) told = absurd told.0
+mails_there d (k ∷ events) ((End b read ready status) ∷ h) told =
+    let s = after d h in
+    all_there s (happens s (End b read ready status)) (mails_of h) (λ a there. some_finished s b (Over status) (s.actors b) a there) (mails_there d events h told.1)
+mails_there d (k ∷ events) ((Stop b) ∷ h) told =
+    let s = after d h in
+    all_there s (happens s (Stop b)) (mails_of h) (λ a there. some_finished s b Stopped (s.actors b) a there) (mails_there d events h told.1)
+mails_there d (k ∷ events) ((Moment m) ∷ h) told = all_there (after d h) (happens (after d h) (Moment m)) (mails_of h) (λ a there. there) (mails_there d events h told.1)
+mails_there d (k ∷ events) ((Halt how contents) ∷ h) told =
+    let s = after d h in
+    all_there s (happens s (Halt how contents)) (mails_of h) (λ a there. some_stopped (s.actors a) there) (mails_there d events h told.1)
+
+-- Who isn't there has linked nothing.
+
+none_before : (o p : Option Actor) → (IsSome o → IsSome p) → p ≡ None → o ≡ None
+none_before None p keeps none = refl
+none_before (Some x) p keeps none = let some : is_some p ≡ true = keeps refl in let both : false ≡ true = sym (ap is_some none) ∙ some in absurd (cc)
+
+quiet : (d : Disk) (events : List Kept) (h : List Event) → Legal d h → AllZip Tells events h → (a : List ℕ) → (after d h).actors a ≡ None
+    → (false ≡ is_accepted a h) × ◌≡◌ {A = Option ℕ} None (number_of a h)
+quiet d [] [] legal told a none = (refl, refl)
+quiet d [] (e ∷ h) legal told a none = absurd told
+quiet d (k ∷ events) [] legal told a none = absurd told
+quiet d (k ∷ events) ((Start b program) ∷ h) legal told a none =
+    let s = after d h in
+    quiet d events h legal.0 told.1 a (none_before (s.actors a) ((happens s (Start b program)).actors a) (λ there. some_put s.actors b _ a (inr there)) none)
+quiet d (k ∷ events) ((Act b own wrote) ∷ h) legal told a none =
+    let s = after d h in
+    let reads = may_read s b wrote own legal.1 in
+    let nobody = none_before (s.actors a) ((happens s (Act b own wrote)).actors a) (λ there. some_acted s b own wrote (s.actors b) a there) none in
+    let before = quiet d events h legal.0 told.1 a nobody in
+    let apart : bytes_eq b a ≡ false =
+    other_text b a (λ same. let both : ◌≡◌ {A = Option Actor} None (Some reads.0) = sym nobody ∙ ap s.actors (sym same) ∙ reads.1.is in absurd (cc)) in (
+      before.0 ∙ ap (λ c. (c && is_accepting_by own.due own.came) || is_accepted a h) (sym apart),
+      before.1 ∙ ap (λ c. newer (if c then number_by own.due own.came else None) (number_of a h)) (sym apart),
+    )
+quiet d (k ∷ events) ((Child parent own b program) ∷ h) legal told a none = absurd told.0
+quiet d (k ∷ events) ((Generation sender clean lspawn rspawn) ∷ h) legal told a none = absurd told.0
+quiet d (k ∷ events) ((Report slot letter text) ∷ h) legal told a none = absurd told.0
+quiet d (k ∷ events) ((End b read ready status) ∷ h) legal told a none =
+    let s = after d h in
+    quiet d events h legal.0 told.1 a
+    (none_before (s.actors a) ((happens s (End b read ready status)).actors a) (λ there. some_finished s b (Over status) (s.actors b) a there) none)
+quiet d (k ∷ events) ((Stop b) ∷ h) legal told a none =
+    let s = after d h in
+    quiet d events h legal.0 told.1 a (none_before (s.actors a) ((happens s (Stop b)).actors a) (λ there. some_finished s b Stopped (s.actors b) a there) none)
+quiet d (k ∷ events) ((Moment m) ∷ h) legal told a none = quiet d events h legal.0 told.1 a none
+quiet d (k ∷ events) ((Halt how contents) ∷ h) legal told a none =
+    let s = after d h in
+    quiet d events h legal.0 told.1 a (none_before (s.actors a) ((happens s (Halt how contents)).actors a) (λ there. some_stopped (s.actors a) there) none)
+
+-- The entry of a mail, by its number, by whether it was accepted and by its actor's life.
+
+abbrev made : List ℕ × Arguments → Option ℕ → Bool → ToldLife → Entry
+made mail n t life = record { actor = mail.0; pid = mail.1.pid; number = n; recipients = length (recipients_of mail.1); accepted = t; life = life }
+
+act_or : (mail : List ℕ × Arguments) (n : Option ℕ) (t before : Bool) (life : ToldLife) (due : NeedData) (came : GotData)
+    → (if t then acted_on due came (made mail n before life) else made mail n before life)
+    ≡ made mail (newer (if t then number_by due came else None) n) ((t && queues_by due came) || before) life
+act_or mail n true before life due came = refl
+act_or mail n false before life due came = refl
+
+left_or : (mail : List ℕ × Arguments) (n : Option ℕ) (t before : Bool) (life last : ToldLife)
+    → (if t then made mail n before last else made mail n before life) ≡ made mail n before (if t then last else life)
+left_or mail n true before life last = refl
+left_or mail n false before life last = refl
+
+-- the life of an actor after each event
+
+start_life : (actors : List ℕ → Option Actor) (b : List ℕ) (x : Actor) (a : List ℕ) → actors b ≡ None → IsSome (actors a) → life_in (actors a) ≡ life_in (put_at actors b (Some x) a)
+start_life actors b x a new there = ⊎_elim
+    (λ w. let both : false ≡ true = sym (ap is_some (ap actors w.0 ∙ new)) ∙ there in absurd (cc))
+    (λ w. ap life_in (sym w.1))
+    (put_at_cases actors b (Some x) a)
+
+act_life : (s : State) (b : List ℕ) (own : Own) (wrote : ℕ) (o : Option Actor) (a : List ℕ) → s.actors b ≡ o → life_in (s.actors a) ≡ life_in ((acted s b own wrote o).actors a)
+act_life s b own wrote None a is = refl
+act_life s b own wrote (Some x) a is = ⊎_elim
+    (λ w. ap life_in (ap s.actors w.0 ∙ is) ∙ ap life_in (sym w.1))
+    (λ w. ap life_in (sym w.1))
+    (put_at_cases s.actors b (Some (record { program = x.program; past = own ∷ x.past; life = x.life })) a)
+
+over_life : (s : State) (b : List ℕ) (life : Life) (o : Option Actor) (a : List ℕ) → IsSome o
+    → (if bytes_eq b a then told_life life else life_in (s.actors a)) ≡ life_in ((finished s b life o).actors a)
+over_life s b life None a there = absurd cc
+over_life s b life (Some x) a there =
+    let last : Actor = record { program = x.program; past = x.past; life = life } in
+    ⊎_elim
+    (λ w. ap (λ c. if c then told_life life else life_in (s.actors a)) w.1
+    ∙ sym (ap life_in (ap (put_at s.actors b (Some last)) (sym w.0) ∙ put_at_same s.actors b (Some last))))
+    (λ w. ap (λ c. if c then told_life life else life_in (s.actors a)) w.1
+    ∙ sym (ap life_in (put_at_other s.actors b (Some last) a (λ e. w.0 (sym e)))))
+    (text_cases b a)
+
+halt_life : (o : Option Actor) → IsSome o → cut_off (life_in o) ≡ life_in (option_map stopped o)
+halt_life None there = absurd cc
+halt_life (Some x) there = by_life x.life where
+  by_life : (life : Life) → cut_off (told_life life) ≡ told_life (ends_as life)
+  by_life Alive = refl
+  by_life (Over status) = refl
+  by_life Stopped = refl
+
+-- one event more
+
+turned : (f : Entry → Entry) (g u : List ℕ × Arguments → Entry) (s : State) (mails : List (List ℕ × Arguments)) → AreThere s mails
+    → ((mail : List ℕ × Arguments) → IsThere s mail → f (g mail) ≡ u mail) → map f (map g mails) ≡ map u mails
+turned f g u s [] there each = refl
+turned f g u s (mail ∷ mails) there each =
+    ap (λ e. e ∷ map f (map g mails)) (each mail there.0) ∙ ap (λ l. u mail ∷ l) (turned f g u s mails there.1 each)
+
+-- the entries after an event that begins none
+more_books : (k own : Kept) (books : List Entry) (g u : List ℕ × Arguments → Entry) (s : State) (mails : List (List ℕ × Arguments)) → k ≡ own → entered_by own ≡ []
+    → books ≡ map g mails → AreThere s mails → ((mail : List ℕ × Arguments) → IsThere s mail → noted own (g mail) ≡ u mail)
+    → map (noted k) books ++ entered_by k ≡ map u mails
+more_books k own books g u s mails is none before there each =
+    ap (λ (k : Kept). map (noted k) books ++ entered_by k) is
+    ∙ ap (λ (l : List Entry). map (noted own) books ++ l) none ∙ append-nil (map (noted own) books)
+    ∙ ap (map (noted own)) before ∙ turned (noted own) g u s mails there each
+
+-- the entry of the mail that started
+begun_entry : (t : State) (h : List Event) (a : List ℕ) (o : Option Arguments) → (false ≡ is_accepted a h) × ◌≡◌ {A = Option ℕ} None (number_of a h) → left.Alive ≡ life_in (t.actors a)
+    → entry_by a o ≡ map (entry_in t h) (mail_by a o)
+begun_entry t h a None quiet_so alive = refl
+begun_entry t h a (Some args) quiet_so alive =
+    ap (λ (e : Entry). e ∷ [])
+    (ap (λ n. made (a, args) n false left.Alive) quiet_so.1 ∙ ap (λ c. made (a, args) (number_of a h) c left.Alive) quiet_so.0
+    ∙ ap (λ life. made (a, args) (number_of a h) (is_accepted a h) life) alive)
+
+start_books : (k : Kept) (b : List ℕ) (program : Program) (books : List Entry) (s : State) (h : List Event) → k ≡ kept.Start b program → s.actors b ≡ None → (false ≡ is_accepted b h) × ◌≡◌ {A = Option ℕ} None (number_of b h)
+    → books ≡ map (entry_in s h) (mails_of h) → AreThere s (mails_of h)
+    → map (noted k) books ++ entered_by k ≡ map (entry_in (happens s (Start b program)) (Start b program ∷ h)) (mails_of h ++ mail_by b (injection_of program))
+start_books k b program books s h is new accepts before there =
+    let own : Kept = kept.Start b program in
+    let t = happens s (Start b program) in
+    let now : List Event = Start b program ∷ h in
+    let u = entry_in t now in
+    let old : map (noted own) books ≡ map u (mails_of h) =
+    ap (map (noted own)) before
+    ∙ turned (noted own) (entry_in s h) u s (mails_of h) there
+    (λ mail here. ap (λ life. made mail (number_of mail.0 h) (is_accepted mail.0 h) life) (start_life s.actors b _ mail.0 new here)) in
+    ap (λ (k : Kept). map (noted k) books ++ entered_by k) is
+    ∙ ap (λ (l : List Entry). l ++ entry_by b (injection_of program)) old
+    ∙ ap (λ (l : List Entry). map u (mails_of h) ++ l)
+    (begun_entry t now b (injection_of program) accepts (ap life_in (sym (put_at_same s.actors b _))))
+    ∙ sym (map-append u (mails_of h) (mail_by b (injection_of program)))
+
+told_so : (d : Disk) (events : List Kept) (h : List Event) → Legal d h → AllZip Tells events h → books_of events ≡ books_in d h
+told_so d [] [] legal told = refl
+told_so d [] (e ∷ h) legal told = absurd told
+told_so d (k ∷ events) [] legal told = absurd told
+told_so d (k ∷ events) ((Start b program) ∷ h) legal told =
+    let s = after d h in
+    start_books k b program (books_of events) s h told.0 legal.1.new
+    (quiet d events h legal.0 told.1 b legal.1.new)
+    (told_so d events h legal.0 told.1) (mails_there d events h told.1)
+told_so d (k ∷ events) ((Act b own wrote) ∷ h) legal told =
+    let s = after d h in
+    let agrees : is_accepting_by own.due own.came ≡ queues_by own.due own.came =
+    by_act s b wrote (λ own. is_accepting_by own.due own.came ≡ queues_by own.due own.came)
+    (λ read ready call got may. call_agrees s b read ready call got wrote (runs_always d h legal.0 b) may)
+    (λ x read ready due came reads next pass. pass_agrees due came pass) own legal.1 in
+    more_books k (kept.Act b own) (books_of events) (entry_in s h) (entry_in (happens s (Act b own wrote)) (Act b own wrote ∷ h)) s (mails_of h)
+    told.0 refl (told_so d events h legal.0 told.1) (mails_there d events h told.1)
+    (λ mail there.
+    let number : Option ℕ = newer (if bytes_eq b mail.0 then number_by own.due own.came else None) (number_of mail.0 h) in
+    act_or mail (number_of mail.0 h) (bytes_eq b mail.0) (is_accepted mail.0 h) (life_in (s.actors mail.0)) own.due own.came
+    ∙ ap (λ t. made mail number ((bytes_eq b mail.0 && t) || is_accepted mail.0 h) (life_in (s.actors mail.0))) (sym agrees)
+    ∙ ap (λ life. made mail number ((bytes_eq b mail.0 && is_accepting_by own.due own.came) || is_accepted mail.0 h) life) (act_life s b own wrote (s.actors b) mail.0 refl))
+told_so d (k ∷ events) ((Child parent own b program) ∷ h) legal told = absurd told.0
+told_so d (k ∷ events) ((Generation sender clean lspawn rspawn) ∷ h) legal told = absurd told.0
+told_so d (k ∷ events) ((Report slot letter text) ∷ h) legal told = absurd told.0
+told_so d (k ∷ events) ((End b read ready status) ∷ h) legal told =
+    let s = after d h in
+    more_books k (kept.End b read ready status) (books_of events) (entry_in s h) (entry_in (happens s (End b read ready status)) (End b read ready status ∷ h)) s (mails_of h)
+    told.0 refl (told_so d events h legal.0 told.1) (mails_there d events h told.1)
+    (λ mail there.
+    left_or mail (number_of mail.0 h) (bytes_eq b mail.0) (is_accepted mail.0 h) (life_in (s.actors mail.0)) (left.Ended status)
+    ∙ ap (λ life. made mail (number_of mail.0 h) (is_accepted mail.0 h) life) (over_life s b (Over status) (s.actors b) mail.0 (ap is_some legal.1.reads.is)))
+told_so d (k ∷ events) ((Stop b) ∷ h) legal told =
+    let s = after d h in
+    more_books k (kept.Stop b) (books_of events) (entry_in s h) (entry_in (happens s (Stop b)) (Stop b ∷ h)) s (mails_of h)
+    told.0 refl (told_so d events h legal.0 told.1) (mails_there d events h told.1)
+    (λ mail there.
+    left_or mail (number_of mail.0 h) (bytes_eq b mail.0) (is_accepted mail.0 h) (life_in (s.actors mail.0)) left.Stopped
+    ∙ ap (λ life. made mail (number_of mail.0 h) (is_accepted mail.0 h) life) (over_life s b Stopped (s.actors b) mail.0 (ap is_some legal.1.is)))
+told_so d (k ∷ events) ((Moment m) ∷ h) legal told =
+    let s = after d h in
+    more_books k (kept.Moment m) (books_of events) (entry_in s h) (entry_in (happens s (Moment m)) (Moment m ∷ h)) s (mails_of h)
+    told.0 refl (told_so d events h legal.0 told.1) (mails_there d events h told.1) (λ mail there. refl)
+told_so d (k ∷ events) ((Halt how contents) ∷ h) legal told =
+    let s = after d h in
+    more_books k (kept.Halt how) (books_of events) (entry_in s h) (entry_in (happens s (Halt how contents)) (Halt how contents ∷ h)) s (mails_of h)
+    told.0 refl (told_so d events h legal.0 told.1) (mails_there d events h told.1)
+    (λ mail there. ap (λ life. made mail (number_of mail.0 h) (is_accepted mail.0 h) life) (halt_life (s.actors mail.0) there))
+
+pub books_told : BooksAreTheModels
+books_told d events h legal told = told_so d (reverse events) h legal told

@@ -1,0 +1,8 @@
+-- the words that lines begin with
+pub mod Keywords
+-- what a script says: the entries of its disk, and its lines
+pub mod Contents
+-- which bytes are a script
+pub mod Lines
+-- the parts of a line, as they are read
+pub mod Reading

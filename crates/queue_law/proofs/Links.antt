@@ -1,0 +1,216 @@
+-- The rows of an injector's table at which a name comes or goes.
+use Rattle.std.proofs.Common.{◌≡◌, ◌≢◌, ◌⊎◌, inl, inr, ℕ, List, ◌++◌, true, false, Option, Some, None, option_to_list, refl, sym, ap, ◌∙◌, subst, ⊎_elim}
+use Rattle.call_fs.specs.Maps.{put}
+use Rattle.call_fs.specs.Disk.{Among}
+use Rattle.queue_inject.specs.declared.injection.Arguments.{Arguments}
+use Rattle.queue_inject.specs.declared.row.Row.{Row}
+use Rattle.queue_inject.specs.declared.row.Row.TheVariants as at
+use Rattle.queue_paths.specs.Names.{Name, path}
+use Rattle.queue_paths.specs.Names.Name.{Pid, Of}
+use Rattle.queue_paths.specs.Names.Part.{Mess, Intd, Todo}
+use Rattle.queue_inject.specs.Texts.{message_text}
+use Rattle.queue_inject.specs.Table.{in_message}
+use Rattle.queue_law.specs.Books.{Injection, Books, begun, accept, IsInjected, IsValid}
+use Rattle.call_fs.proofs.Maps.{put_cases, put_same, put_other}
+use Rattle.queue_law.specs.Ledgers.{no_ledger}
+use Rattle.queue_law.specs.Injectors.{IsFailure, IsBegun, IsBare, Holds, AtLink, AtUnlink, AtLinkTodo, Basis}
+use Rattle.queue_law.proofs.Tests.{off, same_text}
+use Rattle.queue_law.specs.Numbers.{Entry, entry, Queue, IsRight, NameSuits, About, about, is_later_name, IsUnsorted, IsFree, Phase, Sound}
+use Rattle.queue_law.proofs.Looks.{find_put, find_gone, find_none, found}
+use Rattle.queue_law.specs.Numbers.Role.{AsMessage}
+use Rattle.queue_law.specs.Numbers.Phase.{Free, Queued, Sorted}
+use Rattle.queue_law.specs.Steps.{Concerns}
+use Rattle.queue_law.proofs.Deeds.{named, begun_phase, later_far, named_other, Leads, named_outcome}
+use Rattle.queue_law.proofs.Rows.{message_next}
+
+-- a number without a message is free
+free_of : (w : About) → Phase w → w.parts Mess ≡ None → IsFree w
+free_of w (Free h) none = h
+free_of w (Queued h) none = let t = h.mess_there in absurd (cc)
+free_of w (Sorted some h) none = let t = h.mess_there in absurd (cc)
+
+-- the books when an injection begins: the life of the one before is over
+abbrev pub beginning : Books → List ℕ → Arguments → ℕ → Books
+beginning b a args n = record { living = put b.living n (Some (begun a args n)); over = option_to_list (b.living n) ++ b.over }
+
+among_old : {A : Type 0} (o : Option A) (rest : List A) (x : A) → (o ≡ Some x) ⊎ Among x rest → Among x (option_to_list o ++ rest)
+among_old None rest x h = ⊎_elim (λ e. absurd (cc)) (λ w. w) h
+among_old (Some y) rest x h = ⊎_elim (λ (e : Some y ≡ Some x). inl (cc)) (λ (w : Among x rest). inr w) h
+
+old_among : {A : Type 0} (o : Option A) (rest : List A) (x : A) → Among x (option_to_list o ++ rest) → (o ≡ Some x) ⊎ Among x rest
+old_among None rest x h = inr h
+old_among (Some y) rest x h = ⊎_elim (λ (e : x ≡ y). inl (ap Some (sym e))) (λ (w : Among x rest). inr w) h
+
+still_injected : (b : Books) (a : List ℕ) (args : Arguments) (n : ℕ) (i : Injection) → IsInjected b i → IsInjected (beginning b a args n) i
+still_injected b a args n i h =
+    let new = Some (begun a args n) in
+    ⊎_elim
+    (λ (lives : b.living i.number ≡ Some i). ⊎_elim
+    (λ (c : (i.number ≡ n) × (put b.living n new i.number ≡ new)). inr (among_old (b.living n) b.over i (inl (ap b.living (sym c.0) ∙ lives))))
+    (λ (c : (i.number ≢ n) × (put b.living n new i.number ≡ b.living i.number)). inl (c.1 ∙ lives))
+    (put_cases b.living n new i.number))
+    (λ (over : Among i b.over). inr (among_old (b.living n) b.over i (inr over)))
+    h
+
+-- the books when an injection is accepted
+abbrev pub taken : List ℕ → Arguments → ℕ → Injection
+taken a args n = record { number = n; actor = a; args = args; accepted = true; ledger = no_ledger }
+
+abbrev pub accepting : Books → List ℕ → ℕ → Books
+accepting b a n = record { living = put b.living n (accept a (b.living n)); over = b.over }
+
+accept_own : (a : List ℕ) (args : Arguments) (n : ℕ) → accept a (Some (begun a args n)) ≡ Some (taken a args n)
+accept_own a args n = rw (same_text a)
+
+still_accepted : (b : Books) (a : List ℕ) (args : Arguments) (n : ℕ) → b.living n ≡ Some (begun a args n)
+    → (i : Injection) → IsInjected b i → i.accepted ≡ true → IsInjected (accepting b a n) i
+still_accepted b a args n own i h t = ⊎_elim
+    (λ (lives : b.living i.number ≡ Some i). inl (put_other b.living n _ i.number (λ same.
+    let w : b.living i.number ≡ b.living n = ap b.living same in
+    let v : i.accepted ≡ false = cc in
+    off (sym v ∙ t)) ∙ lives))
+    (λ (over : Among i b.over). inr over)
+    h
+
+module _ (now : ℕ) (q : Queue) (a : List ℕ) (args : Arguments) (G : Sound q) where
+  abbrev To : Queue → Row → Type 0
+  To = Leads now q a args G
+
+  -- where a name now leads
+  put_right : (x : Name) (i : ℕ) (c : Books) (y : Entry) → IsRight x y (q.role y.number) → y ≡ entry q.disk.files i
+      → NameSuits (named q x (Some i) c) x
+  put_right x i c y right is z h =
+      let w = find_put q.disk.names q.disk.files x i in
+      let same : y ≡ z = cc in
+      subst (λ (v : Entry). IsRight x v (q.role v.number)) same right
+
+  -- the link to mess/n, which begins an injection
+  pub link_row : (seq n fd : ℕ) → AtLink q a args seq n fd → q.disk.names (path (Of Mess n)) ≡ None
+      → To (named q (Of Mess n) (Some n) (beginning q.books a args n)) (at.UnlinkPid seq n (record { 0 = fd }))
+  link_row seq n fd h free =
+      let x = Of Mess n in
+      let c = beginning q.books a args n in
+      let r = named q x (Some n) c in
+      let none = find_none q.disk.names q.disk.files x free in
+      let F = free_of (about q n) (G.fine n) none in
+      let pid = Pid args.pid args.start seq in
+      let y : Entry = record { number = n; file = h.file } in
+      let is = (found q.disk.names q.disk.files pid y h.pid).1 in
+      let other = named_other q x (Some n) c in
+      let begins : IsBegun (about r n) a args n = record {
+        file = h.file;
+        mess = find_put q.disk.names q.disk.files x n ∙ ap Some (sym is);
+        unsorted = λ part later. other (Of part n) (later_far x part n refl later) ∙ F.unsorted part later;
+        no_todo = other (Of Todo n) (λ s. cc) ∙ F.no_todo;
+        lives = put_same q.books.living n _;
+      } in
+      named_outcome now q a args G x (Some n) c n (at.UnlinkPid seq n (record { 0 = fd })) refl F.unsorted h.mine
+      (λ k is. (pid, (found q.disk.names q.disk.files pid y h.pid).0 ∙ is))
+      refl
+      (put_right x n c y ((refl, (a, args, h.mine)), (G.suits pid y h.pid).1) is)
+      (λ k far. put_other q.books.living n _ k far)
+      (λ i w t. still_injected q.books a args n i w)
+      (λ i w t. ⊎_elim (λ lives. F.not_accepted i lives t) (λ over. G.over i over t) (old_among (q.books.living n) q.books.over i w))
+      (begun_phase r a args n begins) (
+        record {
+          mess = record {
+            holds = record {
+              mine = h.mine;
+              rest = record { bare = record { begins = begins; no_intd = other (Of Intd n) (λ s. cc) ∙ F.intd_below none }; holds = h.empty };
+            };
+            opened = h.opened;
+          };
+          file = h.file;
+          pid = other pid (λ s. cc) ∙ h.pid;
+        },
+        tt,
+      )
+
+  -- a name of this injector's goes
+  gone_row : (x : Name) (n : ℕ) (row : Row) → is_later_name x ≡ false → IsUnsorted (about q n) → q.role n ≡ AsMessage a args → Concerns q x (Some n)
+      → Phase (about (named q x None q.books) n) → Basis (named q x None q.books) a args row → To (named q x None q.books) row
+  gone_row x n row early unsorted mine concerns fine next =
+      named_outcome now q a args G x None q.books n row early unsorted mine (λ k is. absurd (cc)) concerns
+      (λ z h. let w = find_gone q.disk.names q.disk.files x in absurd (cc)) (λ _ _. refl) (λ _ w _. w) G.over fine next
+
+  -- another name went, and the injection goes on
+  abbrev begun_still : (x : Name) (n : ℕ) → is_later_name x ≡ false → Of Mess n ≢ x → Of Todo n ≢ x → IsBegun (about q n) a args n
+      → IsBegun (about (named q x None q.books) n) a args n
+  begun_still x n early mess todo b =
+      let other = named_other q x None q.books in
+      record {
+        file = b.file;
+        mess = other (Of Mess n) mess ∙ b.mess;
+        unsorted = λ part later. other (Of part n) (later_far x part n early later) ∙ b.unsorted part later;
+        no_todo = other (Of Todo n) todo ∙ b.no_todo;
+        lives = b.lives;
+      }
+
+  pub unlink_row : (seq n fd : ℕ) → AtUnlink q a args seq n fd
+      → To (named q (Pid args.pid args.start seq) None q.books) (in_message (message_text args) n fd 0)
+  unlink_row seq n fd h =
+      let x = Pid args.pid args.start seq in
+      let r = named q x None q.books in
+      let d = h.mess.holds.rest in
+      let begins = begun_still x n refl (λ s. cc) (λ s. cc) d.bare.begins in
+      let no_intd = named_other q x None q.books (Of Intd n) (λ s. cc) ∙ d.bare.no_intd in
+      gone_row x n _ refl d.bare.begins.unsorted h.mess.holds.mine (λ y e. let w = h.pid in cc) (begun_phase r a args n begins)
+      (message_next r a args n fd 0 (record {
+        holds = record { mine = h.mess.holds.mine; rest = record { bare = record { begins = begins; no_intd = no_intd }; holds = d.holds } };
+        opened = h.mess.opened;
+      }))
+
+  pub clean_intd_row : (n : ℕ) (cause : ℕ) → Holds q a args n (λ w. IsBegun w a args n) → IsFailure cause
+      → To (named q (Of Intd n) None q.books) (at.CleanMess n cause)
+  clean_intd_row n cause h bad =
+      let x = Of Intd n in
+      let r = named q x None q.books in
+      let begins = begun_still x n refl (λ s. cc) (λ s. cc) h.rest in
+      gone_row x n _ refl h.rest.unsorted h.mine refl (begun_phase r a args n begins)
+      (record { mine = h.mine; rest = record { begins = begins; no_intd = find_gone q.disk.names q.disk.files x } }, bad)
+
+  pub clean_mess_row : (n : ℕ) (cause : ℕ) → Holds q a args n (λ w. IsBare w a args n) → IsFailure cause
+      → To (named q (Of Mess n) None q.books) (at.Failed cause)
+  clean_mess_row n cause h bad =
+      let x = Of Mess n in
+      let other = named_other q x None q.books in
+      let b = h.rest.begins in
+      gone_row x n _ refl b.unsorted h.mine refl
+      (Free (record {
+        not_accepted = λ i lives t. let w = b.lives in let v : i.accepted ≡ false = cc in off (sym v ∙ t);
+        unsorted = λ part later. other (Of part n) (later_far x part n refl later) ∙ b.unsorted part later;
+        no_todo = other (Of Todo n) (λ s. cc) ∙ b.no_todo;
+        intd_below = λ _. other (Of Intd n) (λ s. cc) ∙ h.rest.no_intd;
+      }))
+      (tt, bad)
+
+  -- the link of intd to todo, by which the injection is accepted
+  pub link_todo_row : (n : ℕ) → IsValid args → (h : AtLinkTodo q a args n) → To (named q (Of Todo n) (Some h.number) (accepting q.books a n)) at.Queued
+  link_todo_row n valid h =
+      let x = Of Todo n in
+      let c = accepting q.books a n in
+      let w = h.holds.rest in
+      let y : Entry = record { number = h.number; file = w.file } in
+      let is = (found q.disk.names q.disk.files (Of Intd n) y w.intd).1 in
+      let lives : c.living n ≡ Some (taken a args n) = put_same q.books.living n _ ∙ ap (accept a) w.begins.lives ∙ accept_own a args n in
+      named_outcome now q a args G x (Some h.number) c n at.Queued refl w.begins.unsorted h.holds.mine
+      (λ k is. (Of Intd n, (found q.disk.names q.disk.files (Of Intd n) y w.intd).0 ∙ is))
+      refl
+      (put_right x h.number c y (G.suits (Of Intd n) y w.intd) is)
+      (λ k far. put_other q.books.living n _ k far)
+      (λ i. still_accepted q.books a args n w.begins.lives i)
+      G.over
+      (Queued (record {
+        unsorted = λ part later. named_other q x (Some h.number) c (Of part n) (later_far x part n refl later) ∙ w.begins.unsorted part later;
+        injection = taken a args n;
+        lives = lives;
+        accepted = refl;
+        mess = record { number = n; file = w.begins.file };
+        mess_there = named_other q x (Some h.number) c (Of Mess n) (λ s. cc) ∙ w.begins.mess;
+        message = w.message;
+        todo = y;
+        todo_there = find_put q.disk.names q.disk.files x h.number ∙ ap Some (sym is);
+        text = w.fulfils;
+        valid = valid;
+      }))
+      (tt, (taken a args n, inl lives, refl, refl, refl))
