@@ -3,7 +3,7 @@
 # make build     leaves the proved program at ./qmail
 # make examples  plays each example with ./qmail and compares what it prints
 # make streams   checks what ./qmail writes to its two streams, and its exit status
-# make test      runs the gate: every proof from nothing, the must-fail edits, the tests and the stored runs
+# make test      runs the gate: every proof, the must-fail edits, the tests and the stored runs
 
 .PHONY: try play build examples streams test
 

@@ -34,11 +34,11 @@ fn trimmed(line: &[u8]) -> &[u8]
     ensures { result.now ≡ trimmed line.now }
 {
     let mut rest = line;
-    while let Some((last, front)) = rest.split_last() {
+    while let Some((last, before)) = rest.split_last() {
         if !is_blank(*last) {
             return rest;
         }
-        rest = front;
+        rest = before;
     }
     rest
 }

@@ -91,7 +91,7 @@ fn owner_of(sender: &[u8]) -> Option<(&[u8], &[u8])>
         (λ parts. owner_of sender.now ≡ Some (parts.0.now, parts.1.now)) }
 {
     match front_before(sender, b"-@[]") {
-        Some(front) => cut_last(front, b'@'),
+        Some(before) => cut_last(before, b'@'),
         None => None,
     }
 }

@@ -83,8 +83,8 @@ fn hack_places(hacks: &[ByteText], address: &[u8]) -> Option<(usize, usize)>
         × (hacked hacks.now address.now ≡ Some (slice_set (take places.1 address.now) places.0 64))) }
 {
     match cut_last(address, b'@') {
-        Some((front, domain)) if is_listed(hacks, domain) => match cut_last(front, b'%') {
-            Some((user, _)) => Some((user.len(), front.len())),
+        Some((before, domain)) if is_listed(hacks, domain) => match cut_last(before, b'%') {
+            Some((user, _)) => Some((user.len(), before.len())),
             None => None,
         },
         _ => None,

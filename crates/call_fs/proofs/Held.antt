@@ -1,11 +1,11 @@
 -- What a past holds open is open on the disk to which it led, so its calls may be made.
-use Rattle.std.proofs.Common.{◌≡◌, ◌≢◌, ◌⊎◌, inl, inr, ℕ, List, [], ◌∷◌, Option, Some, None, IsSome, refl, sym, ap, ◌∙◌, subst, ⊎_elim}
+use Rattle.std.proofs.Common.{◌≡◌, ◌≢◌, ℕ, List, [], ◌∷◌, Option, Some, None, IsSome, refl, sym, ap, ◌∙◌, subst, ⊎_elim}
 use Rattle.std.specs.Prelude.{IsSomeAnd, option_map}
 use Rattle.call_fs.specs.declared.calls.CallData.{CallData}
 use Rattle.call_fs.specs.declared.calls.CallData.TheVariants as call
 use Rattle.call_fs.specs.declared.calls.Answer.{Answer}
 use Rattle.call_fs.specs.declared.calls.Answer.TheVariants as told
-use Rattle.call_fs.specs.declared.calls.FsError.TheVariants.{NotThere, Exists, Fault, Memory}
+use Rattle.call_fs.specs.declared.calls.FsError.TheVariants.{NotThere, Fault, Memory}
 use Rattle.call_fs.specs.declared.past.NeedData.{NeedData}
 use Rattle.call_fs.specs.declared.past.NeedData.TheVariants as needs
 use Rattle.call_fs.specs.declared.past.GotData.{GotData}
@@ -17,7 +17,7 @@ use Rattle.call_fs.specs.declared.modes.Mode.{Mode}
 use Rattle.call_fs.specs.declared.calls.How.{How}
 use Rattle.call_fs.specs.Apply.{effect, changed, with_new, with_open, without_open, Fits, MayCall, Apply}
 use Rattle.call_fs.specs.Columns.{HasRoomFor}
-use Rattle.call_fs.specs.Past.{LeadsTo, Makes, held, held_by, held_after, Uses, UsesHeld, Backs}
+use Rattle.call_fs.specs.Past.{LeadsTo, Makes, held, held_by, held_after, Uses, Backs}
 use Rattle.call_fs.proofs.Maps.{put_cases}
 
 -- A disk on which no descriptor is open but those of `d`

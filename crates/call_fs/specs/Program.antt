@@ -1,8 +1,8 @@
 -- The shape of a program, as owned data: what it needs next, what came of it, and its past.
-use Rattle.std.specs.Prelude.{ℕ, ◌<◌, ◌≤◌, length, map, Option, Some, None}
-use Rattle.call_fs.specs.declared.calls.CallData.{CallData}
+use Rattle.std.specs.Prelude.{ℕ, ◌<◌, ◌≤◌, length, Option, Some, None}
 use Rattle.call_fs.specs.declared.program.Child.{Child}
 use Rattle.call_fs.specs.declared.program.Child.TheVariants as child
+use Rattle.call_fs.specs.declared.program.DeliveryWords.{DeliveryWords}
 use Rattle.call_fs.specs.declared.program.Got.{Got}
 use Rattle.call_fs.specs.declared.program.Got.TheVariants as got
 use Rattle.call_fs.specs.declared.program.Need.{Need}
@@ -11,6 +11,7 @@ use Rattle.call_fs.specs.declared.program.Port.{Port}
 use Rattle.call_fs.specs.declared.program.Port.TheVariants as port
 use Rattle.call_fs.specs.declared.past.ChildData.{ChildData}
 use Rattle.call_fs.specs.declared.past.ChildData.TheVariants.{Bounce, Forward, Local, Remote}
+use Rattle.call_fs.specs.declared.past.DeliveryWordsData.{DeliveryWordsData}
 use Rattle.call_fs.specs.declared.past.NeedData.{NeedData}
 use Rattle.call_fs.specs.declared.past.NeedData.TheVariants.{File, Take, Give, Start, Command, Wait, Ended}
 use Rattle.call_fs.specs.declared.past.GotData.{GotData}
@@ -18,11 +19,24 @@ use Rattle.call_fs.specs.declared.past.GotData.TheVariants as came
 use Rattle.call_fs.specs.Calls.{data_of}
 use Rattle.call_fs.specs.Columns.{IsAnswerTo, IsMomentIn}
 
+-- the words of a local delivery, with their bytes
+abbrev pub words_data : DeliveryWords → DeliveryWordsData
+words_data words = record {
+  user = words.user.now;
+  home = words.home.now;
+  local = words.local.now;
+  dash = words.dash.now;
+  ext = words.ext.now;
+  domain = words.domain.now;
+  sender = words.sender.now;
+  line = words.line.now;
+}
+
 -- a program that is started, with its bytes
 abbrev pub child_data : Child → ChildData
 child_data (child.Bounce room) = Bounce room
 child_data (child.Forward uid room) = Forward uid room
-child_data (child.Local slot words uid) = Local slot (map (λ word. word.now) words) uid
+child_data (child.Local slot words uid) = Local slot (words_data words) uid
 child_data (child.Remote slot domain sender recipient) = Remote slot domain.now sender.now recipient.now
 
 -- what a machine asks for, with its bytes

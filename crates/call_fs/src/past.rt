@@ -3,6 +3,27 @@
 use crate::{CallData, Port, Ready, Told};
 use mail_bytes::ByteText;
 
+/// The words of a local delivery, with bytes of their own.
+#[derive(Drop)]
+pub struct DeliveryWordsData {
+    /// The user to whom the message is delivered.
+    pub user: ByteText,
+    /// The user's home directory, by its absolute name.
+    pub home: ByteText,
+    /// The recipient's address up to its last `@`.
+    pub local: ByteText,
+    /// What the name of a .qmail file has before the extension: `-` or nothing.
+    pub dash: ByteText,
+    /// The extension, which picks the .qmail file.
+    pub ext: ByteText,
+    /// The recipient's address after that `@`.
+    pub domain: ByteText,
+    /// The envelope sender.
+    pub sender: ByteText,
+    /// The delivery instructions that are followed if the user has no .qmail file.
+    pub line: ByteText,
+}
+
 /// A program that another one starts, with bytes of its own.
 #[derive(Drop)]
 pub enum ChildData {
@@ -22,8 +43,8 @@ pub enum ChildData {
     Local {
         /// The delivery.
         slot: u8,
-        /// User, home, local, dash, ext, domain, sender, line.
-        words: [ByteText; 8],
+        /// The words of its command line.
+        words: DeliveryWordsData,
         /// The user's number, for forwards.
         uid: u32,
     },

@@ -8,7 +8,7 @@ use Rattle.call_fs.specs.declared.past.GotData.{GotData}
 use Rattle.call_fs.specs.declared.past.Own.{Own}
 use Rattle.program_runner.specs.Outside.{Outside, TakesEnd, FailsToTake, FailsToGive}
 use Rattle.mail_bytes.specs.Told.{OnTold, Rose}
-use Rattle.program_runner.specs.declared.one_turn.TheConstants.{INPUT_READY}
+use Rattle.call_fs.specs.declared.program.TheConstants.{INPUT_READY}
 use Rattle.program_runner.specs.Runs.{HasEvent, HasRun, IsRunning, most_turns}
 use Rattle.queue_clean.specs.Table.{Next}
 use Rattle.clean_command.specs.Cleaned.{HasCleaned, StillRuns, AreAnswered}

@@ -6,7 +6,7 @@ use Rattle.call_fs.specs.declared.program.Port.{Port}
 use Rattle.call_fs.specs.declared.past.Own.{Own}
 use Rattle.call_fs.specs.Past.{IsRunBy}
 use Rattle.mail_bytes.specs.Told.{OnTold, Rose}
-use Rattle.program_runner.specs.declared.one_turn.TheConstants.{INPUT_READY}
+use Rattle.call_fs.specs.declared.program.TheConstants.{INPUT_READY}
 use Rattle.program_runner.specs.Outside.{Outside, TakesEnd}
 use Rattle.program_runner.specs.Runs.{Did, HasRun, HasEvent, most_turns}
 use Rattle.queue_clean.specs.Table.{Next}

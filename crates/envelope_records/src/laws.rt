@@ -23,8 +23,8 @@ pub fn envelopes_are_exact()
         IsEnvelope a sender recipients → IsEnvelope b other others → a ++ x ≡ b ++ y →
         (a ≡ b) × ((sender ≡ other) × (recipients ≡ others)) }
     // However the bytes are cut; what has ended or failed stays so.
-    ensures pieces { (front more : List ℕ) →
-        read_envelope (front ++ more) ≡ read_more (read_envelope front) more }
+    ensures pieces { (prefix more : List ℕ) →
+        read_envelope (prefix ++ more) ≡ read_more (read_envelope prefix) more }
 {}
 
 /// A todo text whose addresses have no NUL has one uid, one process number, one sender and one list of recipients.

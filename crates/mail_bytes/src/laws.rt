@@ -1,7 +1,13 @@
-// Laws of decimal texts and of escapes: contracts of functions that do nothing.
+// Laws of moments, of decimal texts and of escapes: contracts of functions that do nothing.
 ghost use Rattle.std.specs.Prelude.{◌≡◌, ◌<◌, ◌^◌, ℕ, List, All};
 ghost use Rattle.mail_bytes.specs.Decimal.{digits, value, number_of, IsDigit};
 ghost use Rattle.mail_bytes.specs.Escape.{escaped, unescaped, IsBad};
+ghost use Rattle.mail_bytes.specs.declared.moments.TheConstants.{LAST_MOMENT};
+
+/// The figure of the last moment.
+pub fn last_moment_is_this()
+    ensures { LAST_MOMENT ≡ 250000000000 }
+{}
 
 /// A number and its text determine each other; also past u64's last value, in contracts.
 pub fn decimals_are_exact()

@@ -6,14 +6,15 @@ use Rattle.std.specs.Option.{option_map}
 use Rattle.std.proofs.lemmas.List.{reverse-append, map-append, length-append, length-map}
 use Rattle.std.proofs.lemmas.Option.{slice_get-map, get_or_from_slice_get}
 use Rattle.call_fs.specs.Disk.{Disk}
+use Rattle.call_fs.specs.declared.program.Ready.{Ready}
 use Rattle.call_fs.specs.declared.crash_file_system.Survival.{Survival}
 use Rattle.queue_inject.specs.declared.injection.Arguments.{Arguments}
-use Rattle.mail_world.specs.declared.event.Event.{Event as Kept}
-use Rattle.mail_world.specs.declared.event.Event.TheVariants as kept
-use Rattle.mail_world.specs.declared.event.Program.TheVariants.{Injector}
+use Rattle.world_events.specs.declared.event.Event.{Event as Kept}
+use Rattle.world_events.specs.declared.event.Event.TheVariants as kept
+use Rattle.world_events.specs.declared.event.Program.TheVariants.{Injector}
 use Rattle.mail_world.specs.declared.actor.Actor.{Actor as Held}
-use Rattle.mail_world.specs.declared.books.Entry.{Entry}
-use Rattle.mail_world.specs.declared.books.Life.TheVariants as told
+use Rattle.world_events.specs.declared.books.Entry.{Entry}
+use Rattle.world_events.specs.declared.books.Life.TheVariants as told
 use Rattle.mail_world.specs.History.{State}
 use Rattle.mail_world.specs.Inside.{AreActors}
 use Rattle.mail_world.specs.Acting.{AreCutOff, HasActed, IsFinished}
@@ -166,12 +167,12 @@ own_keeps places actors s events later p i x y entries now k r crew booked is na
 
 -- a step of an actor
 pub step_booked : (did : Option ℕ) (old new : Option Disk) (places : List ℕ → Option ℕ) (actors : List Held) (s : State) (events later : List Kept) (p i : ℕ) (x y : Held)
-    (entries now : List Entry) (r : Kept)
-    → AreActors places actors s events p → AreBooked entries actors events → slice_get actors i ≡ Some x → HasActed did old new x y events later p
+    (ready : Ready) (entries now : List Entry) (r : Kept)
+    → AreActors places actors s events p → AreBooked entries actors events → slice_get actors i ≡ Some x → HasActed did old new x y events later p ready
     → r ≡ get_or later (length later - 1) r → ((e : Entry) → slice_get entries i ≡ Some e → now ≡ set entries i (noted r e)) → AreBooked now (set actors i y) later
-step_booked None old new places actors s events later p i x y entries now r crew booked is acted read noted_it =
+step_booked None old new places actors s events later p i x y ready entries now r crew booked is acted read noted_it =
     own_keeps places actors s events later p i x y entries now _ r crew booked is acted.name refl acted.event read noted_it
-step_booked (Some status) old new places actors s events later p i x y entries now r crew booked is acted read noted_it =
+step_booked (Some status) old new places actors s events later p i x y ready entries now r crew booked is acted read noted_it =
     own_keeps places actors s events later p i x y entries now _ r crew booked is acted.over.name refl acted.over.event read noted_it
 
 -- a stop of an actor

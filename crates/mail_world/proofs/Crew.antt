@@ -7,8 +7,8 @@ use Rattle.std.specs.List.{slice_get}
 use Rattle.std.specs.Option.{option_map}
 use Rattle.call_fs.specs.Maps.{put_at}
 use Rattle.mail_world.specs.declared.actor.Actor.{Actor as Held}
-use Rattle.mail_world.specs.declared.event.Event.{Event as Kept}
-use Rattle.mail_world.specs.declared.event.Event.TheVariants as kept
+use Rattle.world_events.specs.declared.event.Event.{Event as Kept}
+use Rattle.world_events.specs.declared.event.Event.TheVariants as kept
 use Rattle.call_fs.specs.declared.crash_file_system.Survival.{Survival}
 use Rattle.mail_world.specs.declared.any_machine.AnyMachine.{AnyMachine}
 use Rattle.mail_world.specs.History.{State, Actor, stopped}

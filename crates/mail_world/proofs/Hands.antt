@@ -14,9 +14,9 @@ use Rattle.call_fs.specs.Maps.{put}
 use Rattle.call_fs.specs.declared.past.NeedData.TheVariants as needs
 use Rattle.call_fs.specs.declared.past.GotData.TheVariants.{Answered}
 use Rattle.call_fs.specs.Past.{Uses, held}
-use Rattle.mail_world.specs.declared.event.Program.{Program}
+use Rattle.world_events.specs.declared.event.Program.{Program}
 use Rattle.mail_world.specs.declared.actor.Actor.{Actor as Held}
-use Rattle.mail_world.specs.declared.event.Event.{Event as Kept}
+use Rattle.world_events.specs.declared.event.Event.{Event as Kept}
 use Rattle.mail_world.specs.History.{State, Actor, Life, stopped, called, finished, happens, held_by, unless_by, shut_by}
 use Rattle.mail_world.specs.History.Event.{Start, Moment}
 use Rattle.mail_world.specs.History.Life.{Alive}

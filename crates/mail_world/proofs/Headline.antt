@@ -1,5 +1,7 @@
 -- The invariant says that each state is safe.
 use Rattle.std.proofs.Common.{◌≡◌, ◌≢◌, ℕ, List, [], ◌∷◌, ◌++◌, Bool, true, false, Option, Some, None, is_some, refl, ap, subst, subst₂, ⊎_elim}
+use Rattle.address_rules.specs.Files.{controls_of}
+use Rattle.address_rules.specs.declared.controls.Controls.{Controls}
 use Rattle.call_fs.specs.Disk.{Disk, Among, IsSynced}
 use Rattle.queue_inject.specs.declared.injection.Arguments.{Arguments}
 use Rattle.queue_paths.specs.Names.{Part, path}
@@ -15,7 +17,7 @@ use Rattle.mail_world.specs.Headline.Accounted.{Pending}
 use Rattle.queue_law.specs.Numbers.{Entry, About, about, is_later, IsQueued, Phase}
 use Rattle.queue_law.proofs.Looks.{find_some, find_none, not_found, found}
 use Rattle.mail_world.specs.Untouched.{queue}
-use Rattle.queue_law.specs.Numbers.Phase.{Free, Queued, Sorted}
+use Rattle.queue_law.specs.Numbers.Phase.{Free, Queued, Sorted, Finished}
 use Rattle.mail_world.proofs.Programs.{fares_booked, fares_well}
 use Rattle.mail_world.proofs.Kept.{Inv, always}
 
@@ -44,10 +46,11 @@ unfolding todo_of
 todo_is args = refl
 
 -- a number without a message has neither envelope
-bare_below : (w : About) → Phase w → w.parts Mess ≡ None → (w.parts Intd ≡ None) × (w.parts Todo ≡ None)
-bare_below w (Free h) none = (h.intd_below none, h.no_todo)
-bare_below w (Queued h) none = let t = h.mess_there in absurd (cc)
-bare_below w (Sorted some h) none = let t = h.mess_there in absurd (cc)
+bare_below : (controls : Controls) (w : About) → Phase controls w → w.parts Mess ≡ None → (w.parts Intd ≡ None) × (w.parts Todo ≡ None)
+bare_below controls w (Free h) none = (h.intd_below none, h.no_todo)
+bare_below controls w (Queued h) none = let t = h.taken.mess_there in absurd (cc)
+bare_below controls w (Sorted h) none = let t = h.taken.mess_there in absurd (cc)
+bare_below controls w (Finished h) none = (h.no_intd, h.no_todo)
 
 -- an accepted injection whose life lasts is queued
 record IsKept (d : Disk) (i : Injection) : Type 0 where
@@ -55,13 +58,13 @@ record IsKept (d : Disk) (i : Injection) : Type 0 where
   pending : IsPending d i
   valid : IsValid i.args
 
-module _ (s : State) (I : Inv s) where
+module _ (controls : Controls) (s : State) (I : Inv controls s) where
   states : (n : ℕ) → state_of s.disk n ≢ Other
   states n =
       let d = s.disk in
-      let none = I.early n in
+      let none = I.early.unsorted n in
       let later = λ (part : Part) (is : is_later part ≡ true). ap is_some (not_found d.names d.files (Of part n) (none part is)) in
-      let below = λ (h : is_there d Mess n ≡ false). bare_below _ (I.sound.fine n) (find_none d.names d.files (Of Mess n) (is_none _ h)) in
+      let below = λ (h : is_there d Mess n ≡ false). bare_below controls _ (I.sound.fine n) (find_none d.names d.files (Of Mess n) (is_none _ h)) in
       let known = known_state (is_there d Mess n) (is_there d Intd n) (is_there d Todo n)
       (λ h. ap is_some (not_found d.names d.files (Of Intd n) (below h).0))
       (λ h. ap is_some (not_found d.names d.files (Of Todo n) (below h).1)) in
@@ -72,17 +75,17 @@ module _ (s : State) (I : Inv s) where
       rw (info, local, remote, bounce) known
 
   -- the message and the envelope of a queued number
-  kept_queued : (i : Injection) → IsQueued (about (queue s I.role) i.number) → s.books.living i.number ≡ Some i → IsKept s.disk i
+  kept_queued : (i : Injection) → IsQueued controls (about (queue s I.role) i.number) → s.books.living i.number ≡ Some i → IsKept s.disk i
   kept_queued i h lives =
       let d = s.disk in
-      let same : h.injection ≡ i = (let w = h.lives in cc) in
-      let mess = found d.names d.files (Of Mess i.number) h.mess h.mess_there in
+      let same : h.taken.injection ≡ i = (let w = h.taken.lives in cc) in
+      let mess = found d.names d.files (Of Mess i.number) h.taken.mess h.taken.mess_there in
       let todo = found d.names d.files (Of Todo i.number) h.todo h.todo_there in
       record {
-        valid = subst (λ (z : Injection). IsValid z.args) same h.valid;
+        valid = subst (λ (z : Injection). IsValid z.args) same h.taken.valid;
         message = λ n e.
-            let number : h.mess.number ≡ n = (let w = mess.0 in cc) in
-            let message = subst₂ (λ (y : Entry) (z : Injection). IsSynced y.file (message_text z.args).bytes) mess.1 same h.message in
+            let number : h.taken.mess.number ≡ n = (let w = mess.0 in cc) in
+            let message = subst₂ (λ (y : Entry) (z : Injection). IsSynced y.file (message_text z.args).bytes) mess.1 same h.taken.message in
             subst₂ (λ (k : ℕ) (text : List ℕ). IsSynced (d.files k) text) number (entered_is i.args) message;
         pending = record {
           file = h.todo.number;
@@ -96,13 +99,14 @@ module _ (s : State) (I : Inv s) where
   is_kept : (i : Injection) → s.books.living i.number ≡ Some i → i.accepted ≡ true → IsKept s.disk i
   is_kept i lives accepted = by_phase (I.sound.fine i.number)
     where
-      by_phase : Phase (about (queue s I.role) i.number) → IsKept s.disk i
+      by_phase : Phase controls (about (queue s I.role) i.number) → IsKept s.disk i
       by_phase (Free h) = absurd (h.not_accepted i lives accepted)
       by_phase (Queued h) = kept_queued i h lives
-      by_phase (Sorted some h) = absurd (some.2 (I.early i.number some.0 some.1))
+      by_phase (Sorted h) = absurd (I.early.waits i.number i lives accepted h.no_todo)
+      by_phase (Finished h) = absurd (I.early.waits i.number i lives accepted h.no_todo)
 
   lives_on : (i : Injection) → IsInjected s.books i → i.accepted ≡ true → s.books.living i.number ≡ Some i
-  lives_on i h accepted = ⊎_elim (λ (l : s.books.living i.number ≡ Some i). l) (λ (o : Among i s.books.over). absurd (I.sound.over i o accepted)) h
+  lives_on i h accepted = ⊎_elim (λ (l : s.books.living i.number ≡ Some i). l) (λ (o : Among i s.books.over). absurd (I.early.none_over i o accepted)) h
 
   pub safe : Safe s
   safe = record {
@@ -120,4 +124,4 @@ legal_before d [] before l = l
 legal_before d (e ∷ later) before l = legal_before d later before l.0
 
 pub headline : Headline
-headline d later before l = safe (after d before) (always d before (legal_before d later before l))
+headline d later before l = safe (controls_of []) (after d before) (always (controls_of []) d before (legal_before d later before l))

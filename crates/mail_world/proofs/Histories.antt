@@ -13,9 +13,9 @@ use Rattle.mail_bytes.specs.Moments.{IsMoment}
 use Rattle.call_fs.specs.Apply.{effect, Fits, Apply, IsReadBy}
 use Rattle.call_fs.specs.declared.past.NeedData.TheVariants as needs
 use Rattle.mail_bytes.specs.Told.{OnTold, Meets}
-use Rattle.mail_world.specs.declared.event.Program.{Program}
-use Rattle.mail_world.specs.declared.event.Event.{Event as Kept}
-use Rattle.mail_world.specs.declared.event.Event.TheVariants as kept
+use Rattle.world_events.specs.declared.event.Program.{Program}
+use Rattle.world_events.specs.declared.event.Event.{Event as Kept}
+use Rattle.world_events.specs.declared.event.Event.TheVariants as kept
 use Rattle.mail_world.specs.History.{Event, call_act, Actor, Life, State, next_of, FindsInputAlone, Allowed, MayRead, happens, called, finished, shut_by, after, latest, Opening, EachAllowed, Legal}
 use Rattle.mail_world.specs.History.Event.{Start, End, Stop, Moment, Halt}
 use Rattle.mail_world.specs.History.Life.{Alive}

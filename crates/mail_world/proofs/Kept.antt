@@ -1,5 +1,7 @@
 -- The invariant, and that each legal event keeps it.
 use Rattle.std.proofs.Common.{◌≡◌, ◌≢◌, ℕ, ◌≤◌, List, [], ◌∷◌, true, Option, Some, None, refl, sym, ap, ◌∙◌, subst, ⊎_elim, codes}
+use Rattle.address_rules.specs.Files.{controls_of}
+use Rattle.address_rules.specs.declared.controls.Controls.{Controls}
 use Rattle.call_fs.specs.Disk.{Disk, Open}
 use Rattle.call_fs.specs.Maps.{put_at}
 use Rattle.call_fs.specs.Survival.{AllSurvive}
@@ -14,7 +16,7 @@ use Rattle.call_fs.specs.declared.program.Ready.{Ready as Found}
 use Rattle.call_fs.specs.Apply.{Fits}
 use Rattle.queue_paths.specs.Names.Part.{Intd, Todo}
 use Rattle.queue_paths.specs.Names.Name.{Pid, Of}
-use Rattle.mail_world.specs.declared.event.Program.{Program}
+use Rattle.world_events.specs.declared.event.Program.{Program}
 use Rattle.mail_world.specs.History.{Event, Life, Injection, Books, Actor, State, newborn, begins, report_text, next_of, own_call, acted, called, unless_by, shut_by, finished, stopped, happens, MayRun, MayRead, MayEnd, IsLiving, Allowed, Opening, opening, after, Legal}
 use Rattle.mail_world.specs.History.Event.{Start, Act, Child, Generation, Report, End, Stop, Moment, Halt}
 use Rattle.mail_world.specs.History.Life.{Alive, Over, Stopped}
@@ -24,15 +26,15 @@ use Rattle.mail_world.specs.Pipework.{Pipework, pipework_after, without_writer, 
 use Rattle.queue_law.specs.Books.{IsInjected}
 use Rattle.queue_law.proofs.Tests.{unless_same}
 use Rattle.queue_law.proofs.Looks.{find_none, found, mapped_some}
-use Rattle.queue_law.specs.Numbers.{Role, Queue, NamesSuit, about, find, IsSorted, IsUnsorted, Sound}
+use Rattle.queue_law.specs.Numbers.{Role, Queue, NamesSuit, find, IsSorted, Sound, IsEarly}
 use Rattle.queue_law.specs.Injectors.{IsHeld}
 use Rattle.mail_world.specs.Untouched.{queue, about_in, LeavesBy, program_of, doer, LeavesRest, EventsLeave}
 use Rattle.queue_law.specs.Numbers.Role.{AsOld}
 use Rattle.queue_law.specs.Numbers.Phase.{Free}
 use Rattle.queue_law.specs.Steps.{Elsewhere, Outside, after_halt}
-use Rattle.queue_law.proofs.Frame.{outside_same}
+use Rattle.queue_law.proofs.Frame.{still_there, outside_same}
 use Rattle.queue_law.proofs.Step.{nothing_elsewhere}
-use Rattle.queue_law.proofs.Halts.{still_absent, sound_after}
+use Rattle.queue_law.proofs.Halts.{sound_after, early_after}
 use Rattle.mail_world.proofs.Programs.{program_starts_none, FaresBy, IsDone, fares_passes, fares_runs, fares_start, fares_frame, fares_halt, fares_later, fares_over, fares_done, queue_by, fares_calls, leaves_same}
 
 -- what holds of an actor
@@ -40,17 +42,17 @@ abbrev pub Fares : ℕ → Queue → List ℕ → Actor → Type 0
 Fares now q a x = FaresBy now q a x.program x.past x.life
 
 -- the invariant
-pub record Inv (s : State) : Type 0 where
+pub record Inv (controls : Controls) (s : State) : Type 0 where
   pub role : ℕ → Role
-  pub sound : Sound (queue s role)
-  -- no program that moves so far preprocesses a number
-  pub early : (n : ℕ) → IsUnsorted (about_in s n)
+  pub sound : Sound controls (queue s role)
+  -- no program that moves so far preprocesses a number, so the control files make no difference
+  pub early : IsEarly (queue s role)
   pub actors : (a : List ℕ) (x : Actor) → s.actors a ≡ Some x → Fares s.now (queue s role) a x
 
 -- What an event of one actor keeps: the invariant, what isn't the queue's, what others hold open, what was accepted, and each
 -- preprocessed number.
-record KeptBy (s : State) (a : List ℕ) (p : Option Program) (t : State) : Type 0 where
-  inv : Inv t
+record KeptBy (controls : Controls) (s : State) (a : List ℕ) (p : Option Program) (t : State) : Type 0 where
+  inv : Inv controls t
   outside : LeavesBy p s.disk t.disk
   opens : (o : List ℕ) (fd : ℕ) (how : Open) → o ≢ a → IsHeld s.disk.opens s.holder o fd how → IsHeld t.disk.opens t.holder o fd how
   accepted : (i : Injection) → IsInjected s.books i → i.accepted ≡ true → IsInjected t.books i
@@ -64,10 +66,10 @@ with_own x own = record { program = x.program; past = own ∷ x.past; life = x.l
 abbrev with_actor : State → Queue → Pipework → List ℕ → Actor → State
 with_actor s r l a y = record { disk = r.disk; holder = r.holder; now = s.now; actors = put_at s.actors a (Some y); books = r.books; pipework = l }
 
-module _ (s : State) (I : Inv s) where
+module _ (controls : Controls) (s : State) (I : Inv controls s) where
   -- what stands after a step of one actor, and how the actor fares
-  kept_by : (a : List ℕ) (m : Option ℕ) (r : Queue) (l : Pipework) (y : Actor) → Elsewhere s.now a m (queue s I.role) r → Sound r → ((n : ℕ) → IsUnsorted (about r n)) → Fares s.now r a y
-      → Inv (with_actor s r l a y)
+  kept_by : (a : List ℕ) (m : Option ℕ) (r : Queue) (l : Pipework) (y : Actor) → Elsewhere s.now a m (queue s I.role) r → Sound controls r → IsEarly r → Fares s.now r a y
+      → Inv controls (with_actor s r l a y)
   kept_by a m r l y E G early F = record {
     role = r.role;
     sound = G;
@@ -81,12 +83,12 @@ module _ (s : State) (I : Inv s) where
         (put_at_cases s.actors a (Some y) o);
   }
 
-  kept_start : (a : List ℕ) (program : Program) → MayRun program → (l : Pipework) → Inv (begins s a program l)
+  kept_start : (a : List ℕ) (program : Program) → MayRun program → (l : Pipework) → Inv controls (begins s a program l)
   kept_start a program runs l =
       kept_by a None (queue s I.role) l (newborn program) (nothing_elsewhere s.now (queue s I.role) a) I.sound I.early (fares_start s.now (queue s I.role) a program runs)
 
   -- the queue is as before, and one actor as told
-  still : (a : List ℕ) (y : Actor) (l : Pipework) → Fares s.now (queue s I.role) a y → KeptBy s a (Some y.program) (with_actor s (queue s I.role) l a y)
+  still : (a : List ℕ) (y : Actor) (l : Pipework) → Fares s.now (queue s I.role) a y → KeptBy controls s a (Some y.program) (with_actor s (queue s I.role) l a y)
   still a y l F = record {
     inv = kept_by a None (queue s I.role) l y (nothing_elsewhere s.now (queue s I.role) a) I.sound I.early F;
     outside = leaves_same y.program s.disk s.disk.opens;
@@ -97,7 +99,7 @@ module _ (s : State) (I : Inv s) where
 
   -- what holds after an event of one actor
   abbrev KeepsBy : List ℕ → (Option Actor → State) → Option Actor → Type 0
-  KeepsBy a change o = KeptBy s a (program_of o) (change o)
+  KeepsBy a change o = KeptBy controls s a (program_of o) (change o)
 
   -- a call, by the program that makes it
   called_by : (a : List ℕ) (read : ℕ) (ready : Found) (call : CallData) (told : Told) (wrote : ℕ) (x : Actor)
@@ -105,14 +107,14 @@ module _ (s : State) (I : Inv s) where
       → Fits s.disk call told.answer wrote → KeepsBy a (called s a read ready call told wrote) (Some x)
   called_by a read ready call told wrote x reads next fits =
       let q = queue s I.role in
-      let w = fares_calls s.now q a x.program x.past x.life read ready call told wrote I.sound (I.actors a x reads.is) reads.alive reads.no_earlier reads.no_stall next fits in
+      let w = fares_calls controls s.now q a x.program x.past x.life read ready call told wrote I.sound (I.actors a x reads.is) reads.alive reads.no_earlier reads.no_stall next fits in
       record {
         inv = kept_by a w.number (queue_by q a x.program read call told.answer wrote w.role) s.pipework
             (with_own x (own_call read ready call told))
-            w.elsewhere w.sound (λ n. w.unsorted n (I.early n)) w.fares;
+            w.elsewhere w.sound (w.early I.early) w.fares;
         outside = w.outside;
         opens = w.elsewhere.opens;
-        accepted = w.elsewhere.accepted;
+        accepted = w.accepted;
         sorted = w.sorted;
       }
 
@@ -167,11 +169,11 @@ module _ (s : State) (I : Inv s) where
           living = λ _ _. refl;
           opens = still_open a;
           roles = λ _ _ _. refl;
-          apart = λ _ _ _ _ _ _ _ _ h. absurd (cc);
-          accepted = λ _ h _. h;
+          apart = λ _ _ _ _ _ _ _ _ _ h. absurd (cc);
+          accepted = λ i h _. still_there s.books i h;
         })
         (record { suits = I.sound.suits; fine = I.sound.fine; over = I.sound.over })
-        I.early
+        (record { unsorted = I.early.unsorted; waits = I.early.waits; none_over = I.early.none_over })
         (fares_over s.now (queue s I.role) (shut_queue a) refl a x.program x.past x.life life F dead ends);
     outside = leaves_same x.program s.disk (shut_by a s.holder s.disk).opens;
     opens = still_open a;
@@ -193,7 +195,7 @@ module _ (s : State) (I : Inv s) where
   kept_stop : (a : List ℕ) → IsLiving s a → KeepsBy a (finished s a Stopped) (s.actors a)
   kept_stop a m = kept_finish a Stopped m.actor m.is (λ h. cc) (λ h. absurd (cc))
 
-  kept_moment : (m : ℕ) → s.now ≤ m → Inv (record { disk = s.disk; holder = s.holder; now = m; actors = s.actors; books = s.books; pipework = s.pipework })
+  kept_moment : (m : ℕ) → s.now ≤ m → Inv controls (record { disk = s.disk; holder = s.holder; now = m; actors = s.actors; books = s.books; pipework = s.pipework })
   kept_moment m later = record {
     role = I.role;
     sound = I.sound;
@@ -202,11 +204,11 @@ module _ (s : State) (I : Inv s) where
   }
 
   -- no actor lives on after a machine stop, and what ended stays ended
-  kept_halt : (how : Survival) (contents : ℕ → List ℕ) → AllSurvive s.disk contents → Inv (happens s (Halt how contents))
+  kept_halt : (how : Survival) (contents : ℕ → List ℕ) → AllSurvive s.disk contents → Inv controls (happens s (Halt how contents))
   kept_halt how contents survives = record {
     role = I.role;
-    sound = sound_after (queue s I.role) contents survives I.sound;
-    early = λ n part later. still_absent (queue s I.role) contents survives (Of part n) (I.early n part later);
+    sound = sound_after (queue s I.role) contents survives controls I.sound;
+    early = early_after (queue s I.role) contents I.early;
     actors = λ a y h.
         let w = mapped_some stopped (s.actors a) y h in
         let q = queue s I.role in
@@ -218,25 +220,25 @@ module _ (s : State) (I : Inv s) where
   runs a x is = fares_runs s.now (queue s I.role) a x.program x.past x.life (I.actors a x is)
 
 -- four actors more
-kept_four : (s : State) (a b c d : List ℕ) (p q r t : Program) (l : Pipework) → MayRun p × MayRun q × MayRun r × MayRun t → Inv s → Inv (begins (begins (begins (begins s a p l) b q l) c r l) d t l)
-kept_four s a b c d p q r t l runs I =
+kept_four : (controls : Controls) (s : State) (a b c d : List ℕ) (p q r t : Program) (l : Pipework) → MayRun p × MayRun q × MayRun r × MayRun t → Inv controls s → Inv controls (begins (begins (begins (begins s a p l) b q l) c r l) d t l)
+kept_four controls s a b c d p q r t l runs I =
     let one = begins s a p l in
     let two = begins one b q l in
     let three = begins two c r l in
-    kept_start three (kept_start two (kept_start one (kept_start s I a p runs.0 l) b q runs.1 l) c r runs.2 l) d t runs.3 l
+    kept_start controls three (kept_start controls two (kept_start controls one (kept_start controls s I a p runs.0 l) b q runs.1 l) c r runs.2 l) d t runs.3 l
 
 -- the pipework concerns nothing of the queue
-kept_pipework : (s : State) (l : Pipework) → Inv s → Inv (record { disk = s.disk; holder = s.holder; now = s.now; actors = s.actors; books = s.books; pipework = l })
-kept_pipework s l I = record { role = I.role; sound = I.sound; early = I.early; actors = I.actors }
+kept_pipework : (controls : Controls) (s : State) (l : Pipework) → Inv controls s → Inv controls (record { disk = s.disk; holder = s.holder; now = s.now; actors = s.actors; books = s.books; pipework = l })
+kept_pipework controls s l I = record { role = I.role; sound = I.sound; early = I.early; actors = I.actors }
 
 -- what a legal event keeps: the invariant, and all that it leaves
-record Keeps (s : State) (e : Event) : Type 0 where
-  inv : Inv (happens s e)
+record Keeps (controls : Controls) (s : State) (e : Event) : Type 0 where
+  inv : Inv controls (happens s e)
   rest : LeavesRest s e
 
 -- an event of no actor, after which disk, descriptors and books are the same
-keeps : (s : State) (e : Event) → Inv (happens s e) → (happens s e).disk ≡ s.disk → (happens s e).holder ≡ s.holder → (happens s e).books ≡ s.books → doer s e ≡ None → Keeps s e
-keeps s e after disk holder books none = record {
+keeps : (controls : Controls) (s : State) (e : Event) → Inv controls (happens s e) → (happens s e).disk ≡ s.disk → (happens s e).holder ≡ s.holder → (happens s e).books ≡ s.books → doer s e ≡ None → Keeps controls s e
+keeps controls s e after disk holder books none = record {
   inv = after;
   rest = record {
     outside = λ _. subst (λ (p : Option Program). LeavesBy p s.disk (happens s e).disk) (sym none) (subst (Outside s.disk) (sym disk) (outside_same s.disk s.disk.opens));
@@ -246,28 +248,28 @@ keeps s e after disk holder books none = record {
   };
 }
 
-kept : (s : State) (e : Event) → Inv s → Allowed s e → Keeps s e
-kept s (Start a program) I h = keeps s (Start a program) (kept_start s I a program h.runs s.pipework) refl refl refl refl
-kept s (Act a own wrote) I h =
-    let w = by_act s a wrote (λ own. KeptBy s a (program_of (s.actors a)) (acted s a own wrote (s.actors a)))
-    (λ read ready call told may. kept_call s I a read ready call told wrote may) (kept_pass s I a wrote) own h in
+kept : (controls : Controls) (s : State) (e : Event) → Inv controls s → Allowed s e → Keeps controls s e
+kept controls s (Start a program) I h = keeps controls s (Start a program) (kept_start controls s I a program h.runs s.pipework) refl refl refl refl
+kept controls s (Act a own wrote) I h =
+    let w = by_act s a wrote (λ own. KeptBy controls s a (program_of (s.actors a)) (acted s a own wrote (s.actors a)))
+    (λ read ready call told may. kept_call controls s I a read ready call told wrote may) (kept_pass controls s I a wrote) own h in
     record { inv = w.inv; rest = record { outside = λ _. w.outside; opens = w.opens; accepted = w.accepted; sorted = λ _. w.sorted } }
-kept s (Child parent own a program) I h = absurd (program_starts_none h.actor.program h.actor.past own.read own.ready h.asked (h.due ∙ h.starts))
-kept s (Generation sender clean lspawn rspawn) I h =
-    keeps s (Generation sender clean lspawn rspawn)
-    (kept_four s (codes "sender") (codes "clean") (codes "lspawn") (codes "rspawn") sender clean lspawn rspawn (with_generation s.pipework) h.runs I)
+kept controls s (Child parent own a program) I h = absurd (program_starts_none h.actor.program h.actor.past own.read own.ready h.asked (h.due ∙ h.starts))
+kept controls s (Generation sender clean lspawn rspawn) I h =
+    keeps controls s (Generation sender clean lspawn rspawn)
+    (kept_four controls s (codes "sender") (codes "clean") (codes "lspawn") (codes "rspawn") sender clean lspawn rspawn (with_generation s.pipework) h.runs I)
     refl refl refl refl
-kept s (Report slot letter text) I h =
-    keeps s (Report slot letter text) (kept_pipework s (with_report s.pipework slot (report_text letter text)) I) refl refl refl refl
-kept s (End a read ready status) I h =
-    let w = kept_end s I a read ready status h in
+kept controls s (Report slot letter text) I h =
+    keeps controls s (Report slot letter text) (kept_pipework controls s (with_report s.pipework slot (report_text letter text)) I) refl refl refl refl
+kept controls s (End a read ready status) I h =
+    let w = kept_end controls s I a read ready status h in
     record { inv = w.inv; rest = record { outside = λ _. w.outside; opens = w.opens; accepted = w.accepted; sorted = λ _. w.sorted } }
-kept s (Stop a) I h =
-    let w = kept_stop s I a h in
+kept controls s (Stop a) I h =
+    let w = kept_stop controls s I a h in
     record { inv = w.inv; rest = record { outside = λ _. w.outside; opens = w.opens; accepted = w.accepted; sorted = λ _. w.sorted } }
-kept s (Moment m) I h = keeps s (Moment m) (kept_moment s I m h.no_earlier) refl refl refl refl
-kept s (Halt how contents) I h = record {
-  inv = kept_halt s I how contents h;
+kept controls s (Moment m) I h = keeps controls s (Moment m) (kept_moment controls s I m h.no_earlier) refl refl refl refl
+kept controls s (Halt how contents) I h = record {
+  inv = kept_halt controls s I how contents h;
   rest = record {
     outside = λ e. absurd (cc);
     opens = λ o fd opened other w. absurd other;
@@ -276,8 +278,8 @@ kept s (Halt how contents) I h = record {
   };
 }
 
-kept_opening : (d : Disk) → Opening d → Inv (opening d)
-kept_opening d o = record {
+kept_opening : (controls : Controls) (d : Disk) → Opening d → Inv controls (opening d)
+kept_opening controls d o = record {
   role = λ _. AsOld;
   sound = record {
     suits = opening_suits;
@@ -287,9 +289,9 @@ kept_opening d o = record {
       no_todo = find_none d.names d.files (Of Todo n) (o.empty Todo n);
       intd_below = λ _. find_none d.names d.files (Of Intd n) (o.empty Intd n);
     });
-    over = λ i h t. h;
+    over = λ i h t. absurd h;
   };
-  early = λ n part later. find_none d.names d.files (Of part n) (o.empty part n);
+  early = record { unsorted = λ n part later. find_none d.names d.files (Of part n) (o.empty part n); waits = λ n i h. absurd (cc); none_over = λ i h t. h };
   actors = λ a x h. absurd (cc);
 }
   where
@@ -297,14 +299,14 @@ kept_opening d o = record {
     opening_suits (Pid p t k) y h = (tt, tt)
     opening_suits (Of part n) y h = let w = (found d.names d.files (Of part n) y h).0 in let v = o.empty part n in absurd (cc)
 
-pub always : (d : Disk) (h : List Event) → Legal d h → Inv (after d h)
-always d [] o = kept_opening d o
-always d (e ∷ before) l = (kept (after d before) e (always d before l.0) l.1).inv
+pub always : (controls : Controls) (d : Disk) (h : List Event) → Legal d h → Inv controls (after d h)
+always controls d [] o = kept_opening controls d o
+always controls d (e ∷ before) l = (kept controls (after d before) e (always controls d before l.0) l.1).inv
 
 -- so it is after each legal history
 pub runs_always : (d : Disk) (h : List Event) → Legal d h → (a : List ℕ) (x : Actor) → (after d h).actors a ≡ Some x → MayRun x.program
-runs_always d h l = runs (after d h) (always d h l)
+runs_always d h l = runs (controls_of []) (after d h) (always (controls_of []) d h l)
 
 -- and each event of one leaves the rest
 pub events_leave : EventsLeave
-events_leave d e before l = (kept (after d before) e (always d before l.0) l.1).rest
+events_leave d e before l = (kept (controls_of []) (after d before) e (always (controls_of []) d before l.0) l.1).rest

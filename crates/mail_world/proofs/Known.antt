@@ -6,7 +6,7 @@ use Rattle.std.specs.Option.{option_map}
 use Rattle.call_fs.specs.declared.past.Own.{Own}
 use Rattle.call_fs.specs.Disk.{Disk}
 use Rattle.call_fs.specs.Maps.{put_at}
-use Rattle.mail_world.specs.declared.event.Event.{Event as Kept}
+use Rattle.world_events.specs.declared.event.Event.{Event as Kept}
 use Rattle.mail_world.specs.History.{Event, Actor, Life, State, stopped, happens, acted, finished, after, holder_after, unless_by}
 use Rattle.mail_world.specs.History.Event.{Start, Act, Child, Generation, Report, End, Stop, Moment, Halt}
 use Rattle.mail_world.specs.World.{Tells}

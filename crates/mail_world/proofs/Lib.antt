@@ -13,6 +13,8 @@ pub mod Kept
 pub mod Headline
 -- what kept events tell, whatever the disk is
 pub mod Known
+-- what an actor finds ready
+pub mod Readies
 -- a history goes on with one event more
 pub mod Histories
 -- lists of open descriptors
@@ -43,11 +45,11 @@ pub mod Refusals
 pub mod Lives
 -- calls that left nothing half written
 pub mod Unwritten
--- the recipients of an envelope, counted
-pub mod Recipients
 -- the books of a world, one event after the other
 pub mod Booked
 -- the books of a world are those of the history
 pub mod ModelBooks
+-- of which mail each injection is, and its number
+pub mod BookedNumbers
 -- who is accepted in them
 pub mod QueuedBooks

@@ -6,7 +6,7 @@ use Rattle.std.proofs.lemmas.List.Sums.{sum_by-set, count_by-le-length}
 use Rattle.std.specs.Prelude.{if◌then◌else◌, is_none}
 use Rattle.std.specs.List.{slice_get}
 use Rattle.mail_world.specs.declared.actor.Actor.{Actor as Held}
-use Rattle.mail_world.specs.declared.event.History.{History}
+use Rattle.world_events.specs.declared.event.History.{History}
 use Rattle.mail_world.specs.Inside.{lives, living}
 use Rattle.mail_world.specs.Kept.{HasRoom}
 

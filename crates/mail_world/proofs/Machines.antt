@@ -1,5 +1,6 @@
 -- What an injector stands for that is fed its input as it goes, and what it needs.
-use Rattle.std.proofs.Common.{◌≡◌, ℕ, ◌+◌, ◌-◌, ◌≤◌, min, List, ◌∷◌, length, take, drop, Bool, true, false, Option, Some, None, refl, sym, ap, ◌∙◌, subst, arith, length-drop, drop_of_length-le}
+use Rattle.std.proofs.Common.{◌≡◌, ℕ, ◌+◌, ◌-◌, ◌≤◌, min, List, ◌∷◌, length, take, drop, Bool, true, false, Option, Some, None, Result, Ok, Err, refl, sym, ap, ◌∙◌, subst, arith, length-drop, drop_of_length-le}
+use Rattle.std.specs.Prelude.{IsOk, OnOk}
 use Rattle.std.proofs.lemmas.List.{take_all, take-append-drop}
 use Rattle.call_fs.specs.declared.calls.Call.{Call}
 use Rattle.call_fs.specs.declared.program.Need.{Need}
@@ -27,23 +28,24 @@ use Rattle.queue_inject.specs.Machine.{Machine, asks_by, asks}
 use Rattle.queue_inject.specs.Rows.{is_open, part_in}
 use Rattle.queue_inject.specs.Stands.{GoesOn, Stands, ContinuesBy, Continues, EndsBy, Ends}
 use Rattle.queue_inject.proofs.Kept.{asked_by, fed_inside}
-use Rattle.mail_world.specs.declared.event.Program.{Program}
-use Rattle.mail_world.specs.declared.event.Program.TheVariants.{Injector, Cleaner}
+use Rattle.world_events.specs.declared.event.Program.{Program}
+use Rattle.world_events.specs.declared.event.Program.TheVariants.{Injector, Cleaner}
 use Rattle.mail_world.specs.declared.mailer.Mailer.{Mailer}
 use Rattle.mail_world.specs.History.{next_of}
-use Rattle.mail_world.specs.World.{input_ready}
 use Rattle.queue_clean.specs.Machine.{Machine as Cleaning}
 use Rattle.queue_clean.specs.Stands.{Stands as Cleaned}
 use Rattle.queue_clean.specs.Table.{Next as CleansNext}
-use Rattle.mail_world.specs.ByKind.{IsMail, IsInput, AreInputs, Mails, Cleans}
-use Rattle.mail_world.specs.Acting.{most_read, HasFew}
-use Rattle.queue_inject.proofs.Acts.{IsAct}
-use Rattle.mail_world.proofs.Programs.{program_acts}
+use Rattle.mail_world.specs.declared.any_machine.AnyMachine.{AnyMachine}
+use Rattle.mail_world.specs.ByKind.{IsInput, AreInputs, Mails, Cleans, present_of, found_of, need_of, with_own}
+use Rattle.call_fs.specs.declared.past.NeedData.TheVariants.{File, Take, Give, Start, Command, Wait, Ended}
+use Rattle.call_fs.specs.declared.past.GotData.{GotData}
+use Rattle.call_fs.specs.declared.past.GotData.TheVariants as got
+use Rattle.call_fs.specs.Program.{IsKind, IsWithin}
+use Rattle.mail_world.specs.Acting.{IsAct, IsCarried, most_read, HasFew}
 
--- an injector that finds its input ready neither waits nor needs anything but a call
-pub calls_or_ends : (n : Need) (program : Program) → IsMail program → (past : List Own) (now : ℕ) → due_of n ≡ next_of program past now input_ready
-    → ((c : Call) → n ≡ need.File c → ⊥) → ((status : ℕ) → n ≡ need.Ended status → ⊥) → ⊥
-calls_or_ends n program mail past now is no_call no_status = by_need n (subst IsAct (sym is) (program_acts program mail past now)) no_call no_status where
+-- a need that is a call or an end is no other one
+pub calls_or_ends : (n : Need) (due : NeedData) → IsAct due → due_of n ≡ due → ((c : Call) → n ≡ need.File c → ⊥) → ((status : ℕ) → n ≡ need.Ended status → ⊥) → ⊥
+calls_or_ends n due acts is no_call no_status = by_need n (subst IsAct (sym is) acts) no_call no_status where
   by_need : (n : Need) → IsAct (due_of n) → ((c : Call) → n ≡ need.File c → ⊥) → ((status : ℕ) → n ≡ need.Ended status → ⊥) → ⊥
   by_need (need.File c) act no_file no_end = no_file c refl
   by_need (need.Take port) act no_file no_end = act
@@ -182,3 +184,52 @@ read_made None (Some e) now c answer into bytes is made read = absurd made
 read_made (Some d) None now c answer into bytes is made read = absurd made
 read_made (Some d) (Some e) now c answer into bytes is made read =
     (made, subst (λ (bytes : List ℕ). IsReadBy d c (record { answer = answer; bytes = bytes })) (sym is) read)
+
+-- What a world carries out
+
+-- what its machine was told and what came of its need are its event
+pub own_is : (m : AnyMachine) (own : Own) (past : List Own) → present_of m ≡ own.read → found_of m ≡ own.ready → need_of m ≡ own.due → with_own m own.came past ≡ own ∷ past
+own_is m own past read ready due =
+    ap (λ (read : ℕ). (record { read = read; ready = found_of m; due = need_of m; came = own.came }) ∷ past) read
+    ∙ ap (λ (ready : Ready). (record { read = own.read; ready = ready; due = need_of m; came = own.came }) ∷ past) ready
+    ∙ ap (λ (due : NeedData). (record { read = own.read; ready = own.ready; due = due; came = own.came }) ∷ past) due
+
+pub on_is_ok : {T E P : Type 0} (r : Result T E) → IsOk r → OnOk r P → P
+on_is_ok (Ok x) ok p = p
+on_is_ok (Err e) ok p = let h = ok in absurd (cc)
+
+-- what came is of the kind of what was due
+pub carried_kind : (due : NeedData) (came : GotData) → IsCarried due came → IsKind due came
+carried_kind (File c) (got.Answered told) carried = carried.1
+carried_kind (File c) (got.Took bytes) carried = absurd carried
+carried_kind (File c) got.End carried = absurd carried
+carried_kind (File c) (got.Ended status) carried = absurd carried
+carried_kind (File c) got.Crashed carried = absurd carried
+carried_kind (File c) got.Gave carried = absurd carried
+carried_kind (File c) (got.Started pid) carried = absurd carried
+carried_kind (File c) got.Failed carried = absurd carried
+carried_kind (File c) got.Memory carried = absurd carried
+carried_kind (Take port) came carried = absurd carried
+carried_kind (Give port bytes) came carried = absurd carried
+carried_kind (Start child) came carried = absurd carried
+carried_kind (Command bytes) came carried = absurd carried
+carried_kind Wait came carried = absurd carried
+carried_kind (Ended status) came carried = absurd carried
+
+-- and no taking of too much
+pub carried_within : (most : ℕ) (due : NeedData) (came : GotData) → IsCarried due came → IsWithin most came
+carried_within most (File c) (got.Answered told) carried = tt
+carried_within most (File c) (got.Took bytes) carried = absurd carried
+carried_within most (File c) got.End carried = absurd carried
+carried_within most (File c) (got.Ended status) carried = absurd carried
+carried_within most (File c) got.Crashed carried = absurd carried
+carried_within most (File c) got.Gave carried = absurd carried
+carried_within most (File c) (got.Started pid) carried = absurd carried
+carried_within most (File c) got.Failed carried = absurd carried
+carried_within most (File c) got.Memory carried = absurd carried
+carried_within most (Take port) came carried = absurd carried
+carried_within most (Give port bytes) came carried = absurd carried
+carried_within most (Start child) came carried = absurd carried
+carried_within most (Command bytes) came carried = absurd carried
+carried_within most Wait came carried = absurd carried
+carried_within most (Ended status) came carried = absurd carried

@@ -26,13 +26,13 @@ use Rattle.queue_paths.specs.Names.Name.{Pid, Of}
 use Rattle.queue_paths.specs.Names.Part.{Mess, Intd, Todo}
 use Rattle.queue_paths.proofs.Paths.{exact}
 use Rattle.call_fs.proofs.Maps.{put_at_cases, put_at_same, put_at_other}
-use Rattle.mail_world.specs.declared.event.Event.{Event as Kept}
-use Rattle.mail_world.specs.declared.event.Event.TheVariants as kept
-use Rattle.mail_world.specs.declared.event.Program.{Program}
-use Rattle.mail_world.specs.declared.event.Program.TheVariants.{Injector, Cleaner}
-use Rattle.mail_world.specs.declared.books.Entry.{Entry}
-use Rattle.mail_world.specs.declared.books.Life.{Life as ToldLife}
-use Rattle.mail_world.specs.declared.books.Life.TheVariants as left
+use Rattle.world_events.specs.declared.event.Event.{Event as Kept}
+use Rattle.world_events.specs.declared.event.Event.TheVariants as kept
+use Rattle.world_events.specs.declared.event.Program.{Program}
+use Rattle.world_events.specs.declared.event.Program.TheVariants.{Injector, Cleaner}
+use Rattle.world_events.specs.declared.books.Entry.{Entry}
+use Rattle.world_events.specs.declared.books.Life.{Life as ToldLife}
+use Rattle.world_events.specs.declared.books.Life.TheVariants as left
 use Rattle.mail_world.specs.History.{Event, Actor, Life, State, MayRun, next_of, stopped, cut_off as ends_as, acted, finished, happens, after, Legal}
 use Rattle.mail_world.specs.History.Event.{Start, Act, Child, Generation, Report, End, Stop, Moment, Halt}
 use Rattle.mail_world.specs.History.Life.{Alive, Over, Stopped}

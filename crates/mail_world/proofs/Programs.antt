@@ -1,5 +1,6 @@
 -- What each program of the world keeps to. A new program is one case of each of these.
-use Rattle.std.proofs.Common.{◌≡◌, ◌≢◌, ℕ, ◌+◌, ◌≤◌, List, [], ◌∷◌, true, false, Option, None, refl, sym, ap, subst}
+use Rattle.std.proofs.Common.{◌≡◌, ◌≢◌, ℕ, ◌+◌, ◌≤◌, List, [], ◌∷◌, true, false, Option, Some, None, refl, sym, ap, subst}
+use Rattle.address_rules.specs.declared.controls.Controls.{Controls}
 use Rattle.call_fs.specs.declared.calls.CallData.{CallData}
 use Rattle.call_fs.specs.declared.calls.Answer.{Answer}
 use Rattle.call_fs.specs.declared.calls.Told.{Told}
@@ -14,21 +15,26 @@ use Rattle.call_fs.specs.Past.{IsRunBy, UsesHeld, held}
 use Rattle.queue_inject.specs.declared.row.Row.TheVariants as at
 use Rattle.queue_inject.specs.Table.{row_after}
 use Rattle.queue_inject.proofs.Holds.{holds_what_it_uses}
-use Rattle.queue_inject.proofs.Acts.{IsAct, IsAlone, next_act, next_alone}
+use Rattle.mail_world.specs.Acting.{IsAct}
+use Rattle.queue_inject.proofs.Acts.{IsAlone, next_act, next_alone}
 use Rattle.queue_clean.specs.Asked.{IsAsked}
 use Rattle.queue_clean.specs.Asked.IsAsked.{Searches, Stats, Unlinks, Takes, Gives, Ends}
 use Rattle.queue_clean.proofs.Demands.{asks, needs_none}
-use Rattle.mail_world.specs.declared.event.Program.{Program}
-use Rattle.mail_world.specs.declared.event.Program.TheVariants.{Injector, Cleaner}
+use Rattle.world_events.specs.declared.event.Program.{Program}
+use Rattle.world_events.specs.declared.event.Program.TheVariants.{Injector, Cleaner}
 use Rattle.mail_world.specs.declared.any_machine.AnyMachine.{AnyMachine}
 use Rattle.mail_world.specs.declared.any_machine.AnyMachine.TheVariants.{Mail, Clean}
 use Rattle.mail_world.specs.Pipework.{Slot}
-use Rattle.mail_world.specs.History.{Life, State, InputIsFound, FindsInputAlone, MayFind, MayRun, next_of, latest, own_call, booked_by, held_by, cut_off}
+use Rattle.mail_world.specs.History.{Actor, Life, State, InputIsFound, FindsInputAlone, MayFind, MayRun, next_of, latest, own_call, booked_by, held_by, cut_off}
 use Rattle.mail_world.specs.History.Life.{Alive, Over}
 use Rattle.mail_world.specs.Headline.{IsBooked, EndsWell}
-use Rattle.mail_world.specs.ByKind.{IsMail, CanFind, HasRoom, Leaves}
-use Rattle.mail_world.specs.World.{input_ready}
-use Rattle.queue_law.specs.Numbers.{Role, Queue, about, IsSorted, IsUnsorted, Sound}
+use Rattle.mail_world.specs.Readiness.{found_by, found_at, found_in, finds}
+use Rattle.mail_world.specs.declared.mailer.Mailer.{Mailer}
+use Rattle.queue_clean.specs.Machine.{Machine as Cleaning}
+use Rattle.mail_world.specs.ByKind.{IsMail, CanFind, HasRoom, Leaves, Follows, Mails, Cleans}
+use Rattle.call_fs.specs.declared.program.TheConstants.{INPUT_READY}
+use Rattle.queue_law.specs.Books.{Injection, IsInjected}
+use Rattle.queue_law.specs.Numbers.{Role, Queue, about, IsSorted, Sound, IsEarly}
 use Rattle.queue_law.specs.Injectors.{InjectorFares}
 use Rattle.queue_law.specs.Steps.{Elsewhere, after_halt}
 use Rattle.queue_law.proofs.Frame.{injector_frame, outside_same}
@@ -54,10 +60,10 @@ pub program_uses : (program : Program) (past : List Own) (now : ℕ) (ready : Re
 program_uses (Injector args) past now ready run = holds_what_it_uses args past now ready run
 program_uses (Cleaner start) past now ready run = needs_none (held past) (asks tt past now ready)
 
--- it may always be told that its input is ready
-pub machine_finds : (m : AnyMachine) → CanFind m input_ready
-machine_finds (Mail mailer) = tt
-machine_finds (Clean cleaner) = tt
+-- it may be told that anything is ready
+pub machine_finds : (m : AnyMachine) (ready : Ready) → CanFind m ready
+machine_finds (Mail mailer) ready = tt
+machine_finds (Clean cleaner) ready = tt
 
 -- it takes no memory
 pub machine_has_room : (m : AnyMachine) → HasRoom m
@@ -70,9 +76,35 @@ mail_runs (Injector args) mail = tt
 mail_runs other mail = absurd mail
 
 -- its input is ready, so that it never waits
-pub program_acts : (program : Program) → IsMail program → (past : List Own) (now : ℕ) → IsAct (next_of program past now input_ready)
-program_acts (Injector args) mail past now = next_act args past now input_ready refl
-program_acts other mail past now = absurd mail
+pub program_acts : (s : State) (a : List ℕ) (program : Program) → IsMail program → (past : List Own) (now : ℕ) → IsAct (next_of program past now (found_by s a program))
+program_acts s a (Injector args) mail past now = next_act args past now INPUT_READY refl
+program_acts s a other mail past now = absurd mail
+
+-- and nothing else is ready to it
+pub program_alone : (s : State) (a : List ℕ) (program : Program) → IsMail program → FindsInputAlone (found_by s a program)
+program_alone s a (Injector args) mail = (refl, refl)
+program_alone s a other mail = absurd mail
+
+pub found_alone : (s : State) (a : List ℕ) (x : Actor) → s.actors a ≡ Some x → IsMail x.program → FindsInputAlone (found_in s a)
+found_alone s a x is mail = subst FindsInputAlone (sym (ap (found_at s a) is)) (program_alone s a x.program mail)
+
+-- each injector finds the same
+pub mail_found : (s : State) (a : List ℕ) (program : Program) → MayRun program → found_by s a program ≡ INPUT_READY
+mail_found s a (Injector args) runs = refl
+mail_found s a (Cleaner start) runs = absurd runs
+
+-- what the machine of a mail finds is what its program finds
+mailer_finds : (m : Mailer) (s : State) (a : List ℕ) (program : Program) (past : List Own) → IsMail program → Mails m program past → INPUT_READY ≡ found_by s a program
+mailer_finds m s a (Injector args) past mail f = refl
+mailer_finds m s a other past mail f = absurd mail
+
+cleaner_is_none : (m : Cleaning) (program : Program) (past : List Own) → IsMail program → Cleans m program past → ⊥
+cleaner_is_none m (Injector args) past mail f = f
+cleaner_is_none m (Cleaner start) past mail f = mail
+
+pub machine_found : (m : AnyMachine) (s : State) (a : List ℕ) (program : Program) (past : List Own) → IsMail program → Follows m program past → finds m ≡ found_by s a program
+machine_found (Mail mailer) s a program past mail f = mailer_finds mailer s a program past mail f
+machine_found (Clean cleaner) s a program past mail f = absurd (cleaner_is_none cleaner program past mail f)
 
 -- it starts no program
 pub program_starts_none : (program : Program) (past : List Own) (now : ℕ) (ready : Ready) (asked : ChildData) → next_of program past now ready ≡ needs.Start asked → ⊥
@@ -104,7 +136,7 @@ fares_start now q a (Injector args) runs = injector_start now q a args
 fares_start now q a (Cleaner start) runs = absurd runs
 
 -- what asks for nothing that concerns another program passes nothing
-passes_none : (due : NeedData) → IsAlone due → IsPass due → ⊥
+pub passes_none : (due : NeedData) → IsAlone due → IsPass due → ⊥
 passes_none (needs.File call) alone pass = pass
 passes_none (needs.Take port) alone pass = alone
 passes_none (needs.Give port bytes) alone pass = alone
@@ -179,24 +211,25 @@ leaves_same (Injector args) d opens = outside_same d opens
 leaves_same (Cleaner start) d opens = outside_same d opens
 
 -- what a call of it leads to
-pub record Calls (now : ℕ) (q : Queue) (a : List ℕ) (program : Program) (past : List Own) (life : Life) (read : ℕ) (ready : Ready) (call : CallData) (told : Told) (wrote : ℕ) : Type 0 where
+pub record Calls (controls : Controls) (now : ℕ) (q : Queue) (a : List ℕ) (program : Program) (past : List Own) (life : Life) (read : ℕ) (ready : Ready) (call : CallData) (told : Told) (wrote : ℕ) : Type 0 where
   pub role : ℕ → Role
   pub number : Option ℕ
   pub elsewhere : Elsewhere now a number q (queue_by q a program read call told.answer wrote role)
-  pub sound : Sound (queue_by q a program read call told.answer wrote role)
+  pub sound : Sound controls (queue_by q a program read call told.answer wrote role)
   pub fares : FaresBy now (queue_by q a program read call told.answer wrote role) a program (own_call read ready call told ∷ past) life
   pub outside : Leaves program q.disk (queue_by q a program read call told.answer wrote role).disk
   pub sorted : (n : ℕ) → IsSorted (about q n) → about (queue_by q a program read call told.answer wrote role) n ≡ about q n
-  pub unsorted : (n : ℕ) → IsUnsorted (about q n) → IsUnsorted (about (queue_by q a program read call told.answer wrote role) n)
+  pub accepted : (i : Injection) → IsInjected q.books i → i.accepted ≡ true → IsInjected (queue_by q a program read call told.answer wrote role).books i
+  pub early : IsEarly q → IsEarly (queue_by q a program read call told.answer wrote role)
 
-pub fares_calls : (now : ℕ) (q : Queue) (a : List ℕ) (program : Program) (past : List Own) (life : Life) (read : ℕ) (ready : Ready) (call : CallData) (told : Told) (wrote : ℕ)
-    → Sound q → FaresBy now q a program past life → life ≡ Alive → latest program past ≤ read → now ≤ read + 43200
+pub fares_calls : (controls : Controls) (now : ℕ) (q : Queue) (a : List ℕ) (program : Program) (past : List Own) (life : Life) (read : ℕ) (ready : Ready) (call : CallData) (told : Told) (wrote : ℕ)
+    → Sound controls q → FaresBy now q a program past life → life ≡ Alive → latest program past ≤ read → now ≤ read + 43200
     → next_of program past read ready ≡ needs.File call → Fits q.disk call told.answer wrote
-    → Calls now q a program past life read ready call told wrote
-fares_calls now q a (Injector args) past life read ready call told wrote G F alive no_earlier no_stall next fits =
+    → Calls controls now q a program past life read ready call told wrote
+fares_calls controls now q a (Injector args) past life read ready call told wrote G F alive no_earlier no_stall next fits =
     let lives : InjectorFares now q a args past true false = subst (λ (l : Life). InjectorFares now q a args past (is_alive l) (is_well l)) alive F in
-    let w = injector_calls now q a args past read ready call told wrote G lives no_earlier no_stall next fits in
+    let w = injector_calls controls now q a args past read ready call told wrote G lives no_earlier no_stall next fits in
     let r = queue_by q a (Injector args) read call told.answer wrote w.role in
     let fares = subst (λ (l : Life). InjectorFares now r a args (own_call read ready call told ∷ past) (is_alive l) (is_well l)) (sym alive) w.fares in
-    record { role = w.role; number = w.number; elsewhere = w.elsewhere; sound = w.sound; fares = fares; outside = w.outside; sorted = w.sorted; unsorted = w.unsorted }
-fares_calls now q a (Cleaner start) past life read ready call told wrote G F alive no_earlier no_stall next fits = absurd F
+    record { role = w.role; number = w.number; elsewhere = w.elsewhere; sound = w.sound; fares = fares; outside = w.outside; accepted = w.accepted; sorted = w.sorted; early = w.early }
+fares_calls controls now q a (Cleaner start) past life read ready call told wrote G F alive no_earlier no_stall next fits = absurd F

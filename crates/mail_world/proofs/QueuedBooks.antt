@@ -1,7 +1,7 @@
 -- An injector made the link that accepts its mail exactly where the books of the history have its accepted injection.
-use Rattle.std.proofs.Common.{◌≡◌, ◌⊎◌, inl, inr, ℕ, List, [], ◌∷◌, ◌++◌, reverse, Bool, true, false, ◌&&◌, ◌||◌, Option, Some, None, refl, sym, ap, ◌∙◌, subst, ⊎_elim, bytes_eq}
+use Rattle.std.proofs.Common.{◌≡◌, ◌⊎◌, inl, inr, ℕ, List, [], ◌∷◌, reverse, Bool, true, false, ◌&&◌, ◌||◌, Option, Some, None, refl, sym, ap, ◌∙◌, subst, ⊎_elim, bytes_eq}
 use Rattle.std.proofs.Math.Bool.{or-true, or-false}
-use Rattle.std.specs.Prelude.{if◌then◌else◌, option_to_list}
+use Rattle.std.specs.Prelude.{if◌then◌else◌}
 use Rattle.std.specs.List.{AllZip}
 use Rattle.std.specs.Option.{option_map}
 use Rattle.call_fs.specs.declared.calls.CallData.{CallData}
@@ -10,7 +10,7 @@ use Rattle.call_fs.specs.declared.calls.Answer.{Answer}
 use Rattle.call_fs.specs.declared.calls.Answer.TheVariants.{Created, Opened, Count, Done, Stat as Stated, Name as Named, NoName, Refused}
 use Rattle.call_fs.specs.declared.calls.Told.{Told}
 use Rattle.call_fs.specs.declared.program.Ready.{Ready}
-use Rattle.call_fs.specs.Disk.{Disk, Among}
+use Rattle.call_fs.specs.Disk.{Disk}
 use Rattle.call_fs.specs.Maps.{put, put_at}
 use Rattle.call_fs.specs.declared.past.NeedData.{NeedData}
 use Rattle.call_fs.specs.declared.past.NeedData.TheVariants as needs
@@ -27,15 +27,16 @@ use Rattle.queue_paths.specs.Names.{Name, path, parse}
 use Rattle.queue_paths.specs.Names.Name.{Pid, Of}
 use Rattle.queue_paths.specs.Names.Part.{Mess, Intd, Todo, Info, Local, Remote, Bounce}
 use Rattle.queue_paths.proofs.Paths.{exact}
-use Rattle.mail_world.specs.declared.event.Event.{Event as Kept}
-use Rattle.mail_world.specs.declared.event.Program.{Program}
-use Rattle.mail_world.specs.declared.event.Program.TheVariants.{Injector, Cleaner}
+use Rattle.world_events.specs.declared.event.Event.{Event as Kept}
+use Rattle.world_events.specs.declared.event.Program.{Program}
+use Rattle.world_events.specs.declared.event.Program.TheVariants.{Injector, Cleaner}
 use Rattle.mail_world.specs.History.{Event, Actor, Injection, Books, Life, State, MayRun, next_of, own_call, stopped, acted, finished, begun, accept, linked, booked, books_after, after, Legal}
 use Rattle.mail_world.specs.History.Event.{Start, Act, Child, Generation, Report, End, Stop, Moment, Halt}
 use Rattle.mail_world.specs.History.Life.{Over, Stopped}
 use Rattle.mail_world.specs.Headline.{IsBooked, HasQueued, Safe}
 use Rattle.mail_world.specs.World.{Tells}
 use Rattle.mail_world.specs.Books.{is_to_todo, is_accepting, is_accepting_by, is_accepted, AcceptedAreBooked}
+use Rattle.mail_world.proofs.BookedNumbers.{IsIn, among_option, injections_told}
 use Rattle.mail_world.proofs.Headline.{headline}
 use Rattle.mail_world.proofs.Kept.{runs_always}
 use Rattle.mail_world.proofs.Owns.{IsPass, by_act, may_read}
@@ -43,17 +44,9 @@ use Rattle.mail_world.proofs.Tests.{text_cases, same_text}
 
 -- What is accepted in the books was linked.
 
--- an injection of these books
-abbrev IsIn : Books → Injection → Type 0
-IsIn b q = ((n : ℕ) × (b.living n ≡ Some q)) ⊎ Among q b.over
-
 -- each accepted one was linked, so far as this says
 abbrev AreLinked : Books → (List ℕ → Bool) → Type 0
 AreLinked b said = (q : Injection) → IsIn b q → q.accepted ≡ true → said q.actor ≡ true
-
-among_option : (o : Option Injection) (over : List Injection) (q : Injection) → Among q (option_to_list o ++ over) → (o ≡ Some q) ⊎ Among q over
-among_option None over q h = inr h
-among_option (Some x) over q h = ⊎_elim (λ e. inl (ap Some (sym e))) (λ w. inr w) h
 
 -- a message's link begins one that isn't accepted
 mess_linked : (b : Books) (a : List ℕ) (args : Arguments) (old : List ℕ) (n : ℕ) (said : List ℕ → Bool) → AreLinked b said → AreLinked (linked b a args old (Some (Of Mess n))) said
@@ -353,7 +346,10 @@ booked_row d events h legal told a w =
     sym (ap (λ a. is_accepted a h) w.1.2) ∙ linked_told d events h legal told q is w.1.4
 
 pub accepted_booked : AcceptedAreBooked
-accepted_booked d events h legal told a = (
-  λ agreed. row_booked (after d h) a ((after d h).actors a) (headline d [] h legal) refl (row_told d (reverse events) h legal told a agreed),
-  λ w. booked_row d (reverse events) h legal told a w,
+accepted_booked d events h legal told = (
+  λ a. (
+    λ agreed. row_booked (after d h) a ((after d h).actors a) (headline d [] h legal) refl (row_told d (reverse events) h legal told a agreed),
+    λ w. booked_row d (reverse events) h legal told a w,
+  ),
+  λ q is. injections_told d (reverse events) h legal told q (⊎_elim (λ l. inl (q.number, l)) (λ o. inr o) is),
 )

@@ -1,7 +1,7 @@
 -- The life of an actor, by the kept events.
 use Rattle.std.proofs.Common.{◌≡◌, ℕ, List, [], ◌∷◌, ◌++◌, length, Bool, true, false, if◌then◌else◌, refl, ap, ◌∙◌, reverse}
 use Rattle.std.proofs.lemmas.List.{reverse-append, length-reverse}
-use Rattle.mail_world.specs.declared.event.Event.{Event as Kept}
+use Rattle.world_events.specs.declared.event.Event.{Event as Kept}
 use Rattle.mail_world.specs.World.{Span, span_after, span_of, starts, ends}
 use Rattle.mail_world.specs.World.Span.{Unborn, Lasting, OverAt}
 

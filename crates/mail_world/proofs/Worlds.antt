@@ -17,27 +17,32 @@ use Rattle.call_fs.specs.Apply.{Apply, IsReadBy}
 use Rattle.mail_bytes.specs.Told.{OnTold, Meets}
 use Rattle.call_fs.specs.declared.crash_file_system.Survival.{Survival}
 use Rattle.call_fs.specs.Choices.{Halts}
+use Rattle.call_fs.specs.declared.past.GotData.{GotData}
 use Rattle.call_fs.specs.declared.past.GotData.TheVariants.{Answered}
+use Rattle.call_fs.specs.declared.past.GotData.TheVariants as came
 use Rattle.call_fs.specs.declared.past.NeedData.{NeedData}
 use Rattle.call_fs.specs.declared.past.NeedData.TheVariants as needs
+use Rattle.call_fs.specs.declared.past.Own.{Own}
 use Rattle.mail_world.specs.declared.actor.Actor.{Actor as Held}
-use Rattle.mail_world.specs.declared.event.Event.{Event as Kept}
-use Rattle.mail_world.specs.declared.event.Event.TheVariants as kept
-use Rattle.mail_world.specs.declared.event.Program.{Program}
-use Rattle.mail_world.specs.History.{Life, State, next_of, start_of, called, finished, happens, held_by, shut_by}
+use Rattle.world_events.specs.declared.event.Event.{Event as Kept}
+use Rattle.world_events.specs.declared.event.Event.TheVariants as kept
+use Rattle.world_events.specs.declared.event.Program.{Program}
+use Rattle.mail_world.specs.History.{Life, State, FindsInputAlone, own_call, next_of, start_of, called, finished, happens, held_by, shut_by}
 use Rattle.mail_world.specs.History.Event.{Start, Moment, Halt}
 use Rattle.mail_world.specs.History.Life.{Over, Stopped}
-use Rattle.mail_world.specs.World.{next_pid, is_start, input_ready, IsStep, span_after, span_of, was_started, EndsAt}
+use Rattle.call_fs.specs.declared.program.Ready.{Ready}
+use Rattle.mail_world.specs.World.{kept_call, next_pid, is_start, ComesWhole, IsOwnOf, IsStep, span_after, span_of, was_started, EndsAt}
 use Rattle.mail_world.specs.World.Span.{OverAt}
 use Rattle.mail_world.specs.ByKind.{IsMail, Follows}
 use Rattle.mail_world.specs.Inside.{known, span_by, IsMember, AreActors, IsOpenTo, IsLed, IsWorld}
-use Rattle.mail_world.specs.Acting.{MayAct, MayMake, AreOpen, AreCutOff, HasActed, IsFinished, call_event, open_after, shut}
+use Rattle.mail_world.specs.Readiness.{found_by, found_at, found_in, finds}
+use Rattle.mail_world.specs.Acting.{IsAct, MayAct, MayMake, AreOpen, AreCutOff, HasActed, HasDone, IsCarried, MakesOf, IsFinished, opened_by, open_after, shut}
 use Rattle.mail_world.proofs.Known.{known_push}
 use Rattle.mail_world.proofs.Spans.{span_push}
 use Rattle.mail_world.proofs.Histories.{IsActing, LeadsOn, call_told, end_told, stop_told, moment_told, start_told, halt_told, led_on, led_still}
 use Rattle.mail_world.proofs.Descriptors.{shut_listed}
 use Rattle.mail_world.proofs.Opens.{Opens, opens_by, owns_backs}
-use Rattle.mail_world.proofs.Programs.{program_uses}
+use Rattle.mail_world.proofs.Programs.{program_uses, program_acts, program_alone, machine_found}
 use Rattle.mail_world.proofs.Lists.{some_at}
 use Rattle.mail_world.proofs.Crew.{Halted, crew_halts, crew_acts, crew_looks, crew_waits, crew_starts}
 use Rattle.mail_world.proofs.Acts.{Finishes, call_alone, end_finishes, stop_finishes, finish_alone, start_alone, call_member, finish_member, start_member, look_member}
@@ -79,8 +84,8 @@ pub record StandsAt (places : List ℕ → Option ℕ) (actors : List Held) (s :
   pub lives : x.ended ≡ None
 
 -- a call that is due uses only what its actor holds
-due_uses : (s : State) (events : List Kept) (p : ℕ) (x : Held) (m : IsMember s events p x) → UsesHeld (held m.actor.past) (next_of m.actor.program m.actor.past p input_ready)
-due_uses s events p x m = program_uses m.actor.program m.actor.past p input_ready m.run
+due_uses : (s : State) (events : List Kept) (p : ℕ) (x : Held) (ready : Ready) (m : IsMember s events p x) → UsesHeld (held m.actor.past) (next_of m.actor.program m.actor.past p ready)
+due_uses s events p x ready m = program_uses m.actor.program m.actor.past p ready m.run
 
 -- what is due may be made
 pub may_make : (d : Disk) (h : ℕ → Option Mode) (due : NeedData) → Backs d h → UsesHeld h due → MayMake d due
@@ -92,20 +97,20 @@ may_make d h (needs.Command bytes) backs uses = tt
 may_make d h needs.Wait backs uses = tt
 may_make d h (needs.Ended status) backs uses = tt
 
-pub may_act : (told : Option Disk) (places : List ℕ → Option ℕ) (actors : List Held) (s : State) (events : List Kept) (p n i : ℕ) (x : Held)
-    → IsWorld told places actors s events p n → StandsAt places actors s events p i x → MayAct told x.machine p
-may_act told places actors s events p n i x w at =
+pub may_act : (told : Option Disk) (places : List ℕ → Option ℕ) (actors : List Held) (s : State) (events : List Kept) (p n i : ℕ) (x : Held) (ready : Ready)
+    → IsWorld told places actors s events p n → (at : StandsAt places actors s events p i x) → ready ≡ found_by s x.name at.member.actor.program → MayAct told x.machine p ready
+may_act told places actors s events p n i x ready w at finds =
     let m = at.member in
     let past = m.actor.past in
-    let due = next_of m.actor.program past p input_ready in
+    let due = next_of m.actor.program past p ready in
     record {
       program = m.actor.program;
       past = past;
       follows = m.follows;
-      mail = m.mail;
       run = m.run;
+      acts = subst (λ (ready : Ready). IsAct (next_of m.actor.program past p ready)) (sym finds) (program_acts s x.name m.actor.program m.mail past p);
       may = on_told told (λ d. IsOpenTo d actors s) (λ d. MayMake d due)
-          (λ d o. may_make d (held past) due (owns_backs d s.holder x.name (held past) ((o.each i x at.is).owns m.actor m.is (m.alive at.lives))) (due_uses s events p x m)) w.opens;
+          (λ d o. may_make d (held past) due (owns_backs d s.holder x.name (held past) ((o.each i x at.is).owns m.actor m.is (m.alive at.lives))) (due_uses s events p x ready m)) w.opens;
     }
 
 -- an actor's machine looked
@@ -126,48 +131,48 @@ acting : (s : State) (p : ℕ) (x : Held) (events : List Kept) (m : IsMember s e
 acting s p x events m lives = record { is = m.is; mail = m.mail; alive = m.alive lives; in_order = m.in_order }
 
 -- what is open after a call
-call_open : (d e : Disk) (places : List ℕ → Option ℕ) (actors : List Held) (s : State) (events : List Kept) (p i : ℕ) (x y : Held) (at : StandsAt places actors s events p i x) (c : CallData) (got : Told)
+call_open : (d e : Disk) (places : List ℕ → Option ℕ) (actors : List Held) (s : State) (events : List Kept) (p i : ℕ) (x y : Held) (ready : Ready) (at : StandsAt places actors s events p i x) (c : CallData) (got : Told)
     → AreActors places actors s events p → y.name ≡ x.name → y.descriptors.items ≡ open_after x.descriptors.items c got.answer
-    → next_of at.member.actor.program at.member.actor.past p input_ready ≡ needs.File c → Apply d p c got.answer e
-    → IsOpenTo d actors s → IsOpenTo e (set actors i y) (called s x.name p input_ready c got 0 (Some at.member.actor))
-call_open d e places actors s events p i x y at c got crew name list due applied o =
+    → next_of at.member.actor.program at.member.actor.past p ready ≡ needs.File c → Apply d p c got.answer e
+    → IsOpenTo d actors s → IsOpenTo e (set actors i y) (called s x.name p ready c got 0 (Some at.member.actor))
+call_open d e places actors s events p i x y ready at c got crew name list due applied o =
     let opens : Opens d e s.holder (held_by s.holder x.name c got.answer) x.name c got.answer =
     subst (λ (e : Disk). Opens d e s.holder (held_by s.holder x.name c got.answer) x.name c got.answer) (sym applied.2) (opens_by d p c got.answer applied.0 s.holder x.name applied.1) in
-    let uses : Uses (held at.member.actor.past) c = subst (UsesHeld (held at.member.actor.past)) due (due_uses s events p x at.member) in
-    call_opens places actors s events p i x y at.member d e input_ready c got crew at.is (at.member.alive at.lives) name list opens uses o
+    let uses : Uses (held at.member.actor.past) c = subst (UsesHeld (held at.member.actor.past)) due (due_uses s events p x ready at.member) in
+    call_opens places actors s events p i x y at.member d e ready c got crew at.is (at.member.alive at.lives) name list opens uses o
 
 -- what led here goes on with an actor's call
-call_leads_on : (old new : Option Disk) (places : List ℕ → Option ℕ) (actors : List Held) (events : List Kept) (p i : ℕ) (x : Held) (c : CallData) (got : Told)
-    → (at : StandsAt places actors (known events) events p i x)
-    → next_of at.member.actor.program at.member.actor.past p input_ready ≡ needs.File c
+call_leads_on : (old new : Option Disk) (places : List ℕ → Option ℕ) (actors : List Held) (events : List Kept) (p i : ℕ) (x : Held) (ready : Ready) (c : CallData) (got : Told)
+    → (at : StandsAt places actors (known events) events p i x) → FindsInputAlone ready
+    → next_of at.member.actor.program at.member.actor.past p ready ≡ needs.File c
     → Meets old new (λ d e. Apply d p c got.answer e × IsReadBy d c got)
-    → LeadsOn old new events (events ++ call_event x.name p c got ∷ []) p p
-call_leads_on old new places actors events p i x c got at due made =
-    call_told old new events p x.name at.member.actor input_ready c got (acting (known events) p x events at.member at.lives) (refl, refl) due made
+    → LeadsOn old new events (events ++ kept_call x.name p ready c got ∷ []) p p
+call_leads_on old new places actors events p i x ready c got at alone due made =
+    call_told old new events p x.name at.member.actor ready c got (acting (known events) p x events at.member at.lives) alone due made
 
 -- an actor made a call
-pub call_keeps : (old new : Option Disk) (places : List ℕ → Option ℕ) (actors : List Held) (events : List Kept) (p n i : ℕ) (x y : Held) (c : CallData) (got : Told)
-    → IsWorld old places actors (known events) events p n → (at : StandsAt places actors (known events) events p i x)
+pub call_keeps : (old new : Option Disk) (places : List ℕ → Option ℕ) (actors : List Held) (events : List Kept) (p n i : ℕ) (x y : Held) (ready : Ready) (c : CallData) (got : Told)
+    → IsWorld old places actors (known events) events p n → (at : StandsAt places actors (known events) events p i x) → FindsInputAlone ready
     → y.name ≡ x.name → y.ended ≡ x.ended → y.descriptors.items ≡ open_after x.descriptors.items c got.answer
-    → IsAnswerTo c got.answer → next_of at.member.actor.program at.member.actor.past p input_ready ≡ needs.File c
-    → Follows y.machine at.member.actor.program ((record { read = p; ready = input_ready; due = needs.File c; came = Answered got }) ∷ at.member.actor.past)
+    → IsAnswerTo c got.answer → next_of at.member.actor.program at.member.actor.past p ready ≡ needs.File c
+    → Follows y.machine at.member.actor.program ((record { read = p; ready = ready; due = needs.File c; came = Answered got }) ∷ at.member.actor.past)
     → Meets old new (λ d e. Apply d p c got.answer e × IsReadBy d c got)
-    → IsWorld new places (set actors i y) (known (events ++ call_event x.name p c got ∷ [])) (events ++ call_event x.name p c got ∷ []) p n
-call_keeps old new places actors events p n i x y c got w at name ended list kind due follows made =
+    → IsWorld new places (set actors i y) (known (events ++ kept_call x.name p ready c got ∷ [])) (events ++ kept_call x.name p ready c got ∷ []) p n
+call_keeps old new places actors events p n i x y ready c got w at alone name ended list kind due follows made =
     let s = known events in
     let m = at.member in
-    let k = call_event x.name p c got in
-    let t = called s x.name p input_ready c got 0 (Some m.actor) in
-    let is : known (events ++ k ∷ []) ≡ t = known_push events k ∙ ap (called s x.name p input_ready c got 0) m.is in
+    let k = kept_call x.name p ready c got in
+    let t = called s x.name p ready c got 0 (Some m.actor) in
+    let is : known (events ++ k ∷ []) ≡ t = known_push events k ∙ ap (called s x.name p ready c got 0) m.is in
     subst (λ (s : State). IsWorld new places (set actors i y) s (events ++ k ∷ []) p n) (sym is) (record {
       moment = w.moment;
       now = w.now;
       pid = w.pid ∙ sym (pid_push events k ∙ omega arith);
-      kept = crew_acts places actors s t events k p i x y w.kept at.is name (call_alone s x.name m.actor p input_ready c got) (λ a. refl)
-          (call_member s events p x y input_ready c got m at.lives name ended due kind follows);
+      kept = crew_acts places actors s t events k p i x y w.kept at.is name (call_alone s x.name m.actor p ready c got) (λ a. refl)
+          (call_member s events p x y ready c got m at.lives name ended due kind follows);
       opens = on_both old new (λ d. IsOpenTo d actors s) (λ d. IsOpenTo d (set actors i y) t) (λ d e. Apply d p c got.answer e × IsReadBy d c got)
-          (λ d e applied o. call_open d e places actors s events p i x y at c got w.kept name list due applied.0 o) made w.opens;
-      led = led_on old new (λ d e. Apply d p c got.answer e × IsReadBy d c got) events (events ++ k ∷ []) p p made (call_leads_on old new places actors events p i x c got at due made) w.led;
+          (λ d e applied o. call_open d e places actors s events p i x y ready at c got w.kept name list due applied.0 o) made w.opens;
+      led = led_on old new (λ d e. Apply d p c got.answer e × IsReadBy d c got) events (events ++ k ∷ []) p p made (call_leads_on old new places actors events p i x ready c got at alone due made) w.led;
     })
 
 -- what an actor has open can be closed
@@ -185,13 +190,13 @@ shut_is old new places actors s events p n i x w at met =
     (λ d e o is. is ∙ shut_listed d x.name s.holder x.descriptors.items (o.each i x at.is).lists) w.opens met
 
 -- what led here goes on with an actor's end
-end_leads_on : (old new : Option Disk) (places : List ℕ → Option ℕ) (actors : List Held) (events : List Kept) (p n i : ℕ) (x : Held) (status : ℕ)
-    → IsWorld old places actors (known events) events p n → (at : StandsAt places actors (known events) events p i x)
-    → next_of at.member.actor.program at.member.actor.past p input_ready ≡ needs.Ended status
+end_leads_on : (old new : Option Disk) (places : List ℕ → Option ℕ) (actors : List Held) (events : List Kept) (p n i : ℕ) (x : Held) (ready : Ready) (status : ℕ)
+    → IsWorld old places actors (known events) events p n → (at : StandsAt places actors (known events) events p i x) → FindsInputAlone ready
+    → next_of at.member.actor.program at.member.actor.past p ready ≡ needs.Ended status
     → Meets old new (λ d e. e ≡ shut x.descriptors.items d)
-    → LeadsOn old new events (events ++ kept.End x.name p input_ready status ∷ []) p p
-end_leads_on old new places actors events p n i x status w at due made =
-    end_told old new events p x.name at.member.actor input_ready status (acting (known events) p x events at.member at.lives) (refl, refl) due
+    → LeadsOn old new events (events ++ kept.End x.name p ready status ∷ []) p p
+end_leads_on old new places actors events p n i x ready status w at alone due made =
+    end_told old new events p x.name at.member.actor ready status (acting (known events) p x events at.member at.lives) alone due
     (shut_is old new places actors (known events) events p n i x w at made)
 
 -- and with its stop
@@ -229,28 +234,70 @@ finish_keeps old new places actors events later p n i x y k life w at f over on 
       led = led_on old new (λ d e. e ≡ shut x.descriptors.items d) events (events ++ k ∷ []) p p over.closed on w.led;
     }))
 
--- a step of an actor
-pub acted_keeps : (did : Option ℕ) (old new : Option Disk) (places : List ℕ → Option ℕ) (actors : List Held) (events later : List Kept) (p n i : ℕ) (x y : Held)
-    → IsWorld old places actors (known events) events p n → StandsAt places actors (known events) events p i x → HasActed did old new x y events later p
-    → IsWorld new places (set actors i y) (known later) later p n
-acted_keeps None old new places actors events later p n i x y w at acted =
-    subst (λ (l : List Kept). IsWorld new places (set actors i y) (known l) l p n) (sym acted.event)
-    (call_keeps old new places actors events p n i x y acted.call acted.told w at acted.name acted.ended acted.descriptors acted.kind
-    (acted.due at.member.actor.program at.member.actor.past at.member.follows)
-    (acted.follows at.member.actor.program at.member.actor.past at.member.follows) acted.made)
-acted_keeps (Some status) old new places actors events later p n i x y w at acted =
-    finish_keeps old new places actors events later p n i x y (kept.End x.name p input_ready status) (Over status) w at (end_finishes x.name p input_ready status) acted.over
-    (end_leads_on old new places actors events p n i x status w at (acted.due at.member.actor.program at.member.actor.past at.member.follows) acted.over.closed)
+-- what a world carries out is a file call
+pub record IsCall (now : ℕ) (ready : Ready) (own : Own) : Type 0 where
+  pub call : CallData
+  pub told : Told
+  pub is : own ≡ own_call now ready call told
+  pub kind : IsAnswerTo call told.answer
 
-pub acted_leads_on : (did : Option ℕ) (old new : Option Disk) (places : List ℕ → Option ℕ) (actors : List Held) (events later : List Kept) (p n i : ℕ) (x y : Held)
-    → IsWorld old places actors (known events) events p n → StandsAt places actors (known events) events p i x → HasActed did old new x y events later p
+call_of : (now : ℕ) (ready : Ready) (read : ℕ) (found : Ready) (due : NeedData) (came : GotData) → read ≡ now → found ≡ ready → IsCarried due came
+    → IsCall now ready (record { read = read; ready = found; due = due; came = came })
+call_of now ready read found (needs.File c) (Answered got) r f carried = record {
+  call = c;
+  told = got;
+  is = ap (λ (read : ℕ). own_call read found c got) r ∙ ap (λ (found : Ready). own_call now found c got) f;
+  kind = carried.0;
+}
+call_of now ready read found (needs.File c) (came.Took bytes) r f carried = absurd carried
+call_of now ready read found (needs.File c) came.End r f carried = absurd carried
+call_of now ready read found (needs.File c) (came.Ended status) r f carried = absurd carried
+call_of now ready read found (needs.File c) came.Crashed r f carried = absurd carried
+call_of now ready read found (needs.File c) came.Gave r f carried = absurd carried
+call_of now ready read found (needs.File c) (came.Started pid) r f carried = absurd carried
+call_of now ready read found (needs.File c) came.Failed r f carried = absurd carried
+call_of now ready read found (needs.File c) came.Memory r f carried = absurd carried
+call_of now ready read found (needs.Take port) came r f carried = absurd carried
+call_of now ready read found (needs.Give port bytes) came r f carried = absurd carried
+call_of now ready read found (needs.Start child) came r f carried = absurd carried
+call_of now ready read found (needs.Command bytes) came r f carried = absurd carried
+call_of now ready read found needs.Wait came r f carried = absurd carried
+call_of now ready read found (needs.Ended status) came r f carried = absurd carried
+
+pub done_call : (old new : Option Disk) (events later : List Kept) (p : ℕ) (x y : Held) (ready : Ready) (done : HasDone old new x y events later p ready) → IsCall p ready done.own
+done_call old new events later p x y ready done = call_of p ready done.own.read done.own.ready done.own.due done.own.came done.read done.found done.carried
+
+-- a step of an actor
+pub acted_keeps : (did : Option ℕ) (old new : Option Disk) (places : List ℕ → Option ℕ) (actors : List Held) (events later : List Kept) (p n i : ℕ) (x y : Held) (ready : Ready)
+    → IsWorld old places actors (known events) events p n → StandsAt places actors (known events) events p i x → FindsInputAlone ready → HasActed did old new x y events later p ready
+    → IsWorld new places (set actors i y) (known later) later p n
+acted_keeps None old new places actors events later p n i x y ready w at alone acted =
+    let m = at.member in
+    let made = done_call old new events later p x y ready acted in
+    let is = made.is in
+    subst (λ (l : List Kept). IsWorld new places (set actors i y) (known l) l p n) (sym (acted.event ∙ ap (λ (own : Own). events ++ kept.Act x.name own ∷ []) is))
+    (call_keeps old new places actors events p n i x y ready made.call made.told w at alone acted.name acted.ended
+    (acted.descriptors ∙ ap (λ (own : Own). opened_by x.descriptors.items own.due own.came) is) made.kind
+    (acted.due m.actor.program m.actor.past m.follows ∙ ap (λ (own : Own). own.due) is)
+    (subst (λ (own : Own). Follows y.machine m.actor.program (own ∷ m.actor.past)) is (acted.follows m.actor.program m.actor.past m.follows))
+    (subst (λ (own : Own). MakesOf p own.due own.came old new) is acted.made))
+acted_keeps (Some status) old new places actors events later p n i x y ready w at alone acted =
+    finish_keeps old new places actors events later p n i x y (kept.End x.name p ready status) (Over status) w at (end_finishes x.name p ready status) acted.over
+    (end_leads_on old new places actors events p n i x ready status w at alone (acted.due at.member.actor.program at.member.actor.past at.member.follows) acted.over.closed)
+
+pub acted_leads_on : (did : Option ℕ) (old new : Option Disk) (places : List ℕ → Option ℕ) (actors : List Held) (events later : List Kept) (p n i : ℕ) (x y : Held) (ready : Ready)
+    → IsWorld old places actors (known events) events p n → StandsAt places actors (known events) events p i x → FindsInputAlone ready → HasActed did old new x y events later p ready
     → LeadsOn old new events later p p
-acted_leads_on None old new places actors events later p n i x y w at acted =
-    subst (λ (l : List Kept). LeadsOn old new events l p p) (sym acted.event)
-    (call_leads_on old new places actors events p i x acted.call acted.told at (acted.due at.member.actor.program at.member.actor.past at.member.follows) acted.made)
-acted_leads_on (Some status) old new places actors events later p n i x y w at acted =
+acted_leads_on None old new places actors events later p n i x y ready w at alone acted =
+    let m = at.member in
+    let made = done_call old new events later p x y ready acted in
+    let is = made.is in
+    subst (λ (l : List Kept). LeadsOn old new events l p p) (sym (acted.event ∙ ap (λ (own : Own). events ++ kept.Act x.name own ∷ []) is))
+    (call_leads_on old new places actors events p i x ready made.call made.told at alone (acted.due m.actor.program m.actor.past m.follows ∙ ap (λ (own : Own). own.due) is)
+    (subst (λ (own : Own). MakesOf p own.due own.came old new) is acted.made))
+acted_leads_on (Some status) old new places actors events later p n i x y ready w at alone acted =
     subst (λ (l : List Kept). LeadsOn old new events l p p) (sym acted.over.event)
-    (end_leads_on old new places actors events p n i x status w at (acted.due at.member.actor.program at.member.actor.past at.member.follows) acted.over.closed)
+    (end_leads_on old new places actors events p n i x ready status w at alone (acted.due at.member.actor.program at.member.actor.past at.member.follows) acted.over.closed)
 
 -- an actor was stopped
 pub stopped_keeps : (old new : Option Disk) (places : List ℕ → Option ℕ) (actors : List Held) (events later : List Kept) (p n i : ℕ) (x y : Held)
@@ -389,9 +436,51 @@ new_keeps told places none = record {
   every (Some x) P f = f x
 
 -- the event of a step
-pub acted_step : {D : Type 0} (d e : D) (did : Option ℕ) (old new : Option Disk) (events later : List Kept) (p : ℕ) (a : List ℕ) (x y : Held)
-    → x.name ≡ a → HasActed did old new x y events later p → IsStep a did (record { disk = d; events = events; present = p }) (record { disk = e; events = later; present = p })
-acted_step d e None old new events later p a x y name acted =
-    (acted.call, acted.told, acted.event ∙ ap (λ (a : List ℕ). events ++ call_event a p acted.call acted.told ∷ []) name)
-acted_step d e (Some status) old new events later p a x y name acted =
-    acted.over.event ∙ ap (λ (a : List ℕ). events ++ kept.End a p input_ready status ∷ []) name
+whole : (due : NeedData) (came : GotData) → IsCarried due came → ComesWhole due came
+whole (needs.File c) (Answered got) carried = (got, refl)
+whole (needs.File c) (came.Took bytes) carried = absurd carried
+whole (needs.File c) came.End carried = absurd carried
+whole (needs.File c) (came.Ended status) carried = absurd carried
+whole (needs.File c) came.Crashed carried = absurd carried
+whole (needs.File c) came.Gave carried = absurd carried
+whole (needs.File c) (came.Started pid) carried = absurd carried
+whole (needs.File c) came.Failed carried = absurd carried
+whole (needs.File c) came.Memory carried = absurd carried
+whole (needs.Take port) came carried = absurd carried
+whole (needs.Give port bytes) came carried = absurd carried
+whole (needs.Start child) came carried = absurd carried
+whole (needs.Command bytes) came carried = absurd carried
+whole needs.Wait came carried = absurd carried
+whole (needs.Ended status) came carried = absurd carried
+
+done_own : (s : State) (events : List Kept) (p : ℕ) (x : Held) (ready : Ready) (m : IsMember s events p x) (own : Own) → ready ≡ found_in s x.name → own.read ≡ p → own.ready ≡ ready
+    → next_of m.actor.program m.actor.past p ready ≡ own.due → IsCarried own.due own.came → IsOwnOf s p x.name own
+done_own s events p x ready m own finds read found due carried = record {
+  actor = m.actor;
+  is = m.is;
+  read = read;
+  ready = found ∙ finds;
+  due = ap (next_of m.actor.program m.actor.past p) (sym finds) ∙ due;
+  came = whole own.due own.came carried;
+}
+
+pub acted_step : {D : Type 0} (d e : D) (did : Option ℕ) (old new : Option Disk) (events later : List Kept) (p : ℕ) (a : List ℕ) (x y : Held) (ready : Ready)
+    → x.name ≡ a → IsMember (known events) events p x → ready ≡ found_in (known events) x.name → HasActed did old new x y events later p ready
+    → IsStep a did (record { disk = d; events = events; present = p }) (record { disk = e; events = later; present = p })
+acted_step d e None old new events later p a x y ready name m finds acted =
+    subst (λ (a : List ℕ). IsStep a None (record { disk = d; events = events; present = p }) (record { disk = e; events = later; present = p })) name
+    (acted.own, done_own (known events) events p x ready m acted.own finds acted.read acted.found (acted.due m.actor.program m.actor.past m.follows) acted.carried, acted.event)
+acted_step d e (Some status) old new events later p a x y ready name m finds acted =
+    acted.over.event ∙ ap (λ (ready : Ready). events ++ kept.End x.name p ready status ∷ []) finds
+    ∙ ap (λ (a : List ℕ). events ++ kept.End a p (found_in (known events) a) status ∷ []) name
+
+-- what its machine finds is what its program finds
+pub member_found : (s : State) (events : List Kept) (p : ℕ) (x : Held) (ready : Ready) (m : IsMember s events p x) → ready ≡ finds x.machine → ready ≡ found_by s x.name m.actor.program
+member_found s events p x ready m is = is ∙ machine_found x.machine s x.name m.actor.program m.actor.past m.mail m.follows
+
+pub member_finds : (s : State) (events : List Kept) (p : ℕ) (x : Held) (ready : Ready) (m : IsMember s events p x) → ready ≡ found_by s x.name m.actor.program → ready ≡ found_in s x.name
+member_finds s events p x ready m finds = finds ∙ sym (ap (found_at s x.name) m.is)
+
+-- and that is no more than its input
+pub member_alone : (s : State) (events : List Kept) (p : ℕ) (x : Held) (ready : Ready) (m : IsMember s events p x) → ready ≡ found_by s x.name m.actor.program → FindsInputAlone ready
+member_alone s events p x ready m finds = subst FindsInputAlone (sym finds) (program_alone s x.name m.actor.program m.mail)

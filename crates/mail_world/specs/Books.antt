@@ -1,6 +1,6 @@
 -- The books of a world: what became of each injection, by the events that the world kept, and by each history that they
 -- tell.
-use Rattle.std.specs.Prelude.{◌≡◌, ◌↔◌, ℕ, List, [], ◌∷◌, ◌++◌, length, map, reverse, take, Bool, true, false, ◌&&◌, ◌||◌, codes, bytes_eq, if◌then◌else◌, Option, Some, None, vec_len, vec_capacity, ◌<◌}
+use Rattle.std.specs.Prelude.{◌≡◌, ◌↔◌, ℕ, List, [], ◌∷◌, ◌++◌, length, map, reverse, Bool, true, false, ◌&&◌, ◌||◌, bytes_eq, if◌then◌else◌, Option, Some, None}
 use Rattle.std.specs.List.{AllZip}
 use Rattle.call_fs.specs.declared.calls.CallData.{CallData}
 use Rattle.call_fs.specs.declared.calls.CallData.TheVariants.{Link}
@@ -10,107 +10,25 @@ use Rattle.call_fs.specs.declared.past.NeedData.{NeedData}
 use Rattle.call_fs.specs.declared.past.NeedData.TheVariants.{File}
 use Rattle.call_fs.specs.declared.past.GotData.{GotData}
 use Rattle.call_fs.specs.declared.past.GotData.TheVariants.{Answered}
-use Rattle.call_fs.specs.Disk.{Disk}
-use Rattle.queue_paths.specs.Names.{Name, path, parse, used_name}
+use Rattle.call_fs.specs.Disk.{Disk, Among}
+use Rattle.queue_paths.specs.Names.{Name, path, parse, is_number}
 use Rattle.queue_paths.specs.Names.Name.{Of}
-use Rattle.queue_paths.specs.Names.Part.{Mess, Intd, Todo}
+use Rattle.queue_paths.specs.Names.Part.{Intd, Todo}
 use Rattle.queue_inject.specs.declared.injection.Arguments.{Arguments}
 use Rattle.queue_inject.specs.Texts.{recipients_of}
-use Rattle.mail_world.specs.declared.event.Event.{Event as Kept}
-use Rattle.mail_world.specs.declared.event.Event.TheVariants as kept
+use Rattle.world_events.specs.declared.event.Event.{Event as Kept}
 use Rattle.mail_world.specs.declared.actor.Actor.{Actor as Held}
-use Rattle.mail_world.specs.declared.books.Books.{Books}
-use Rattle.mail_world.specs.declared.books.Entry.{Entry}
-use Rattle.mail_world.specs.declared.books.Life.{Life as ToldLife}
-use Rattle.mail_world.specs.declared.books.Life.TheVariants as told
+use Rattle.world_events.specs.declared.books.Entry.{Entry}
+use Rattle.world_events.specs.declared.books.Life.{Life as ToldLife}
+use Rattle.world_events.specs.declared.books.Life.TheVariants as told
 use Rattle.mail_world.specs.ByKind.{injection_of}
-use Rattle.mail_world.specs.History.{Event, Actor, Life, State, after, Legal}
+use Rattle.mail_world.specs.History.{Event, Actor, Life, State, Injection, after, Legal}
 use Rattle.mail_world.specs.History.Event.{Start, Act, Child, Generation, Report, End, Stop, Moment, Halt}
 use Rattle.mail_world.specs.History.Life.{Alive, Over, Stopped}
-use Rattle.mail_world.specs.Headline.{HasQueued}
+use Rattle.mail_world.specs.Headline.{IsInjected, HasQueued}
 use Rattle.mail_world.specs.World.{Tells}
-
--- their entries, the oldest injection first
-abbrev pub entries_of : Books → List Entry
-entries_of books = books.entries.items
-
--- room for one entry more
-abbrev pub HasPlace : Books → Type 0
-HasPlace books = vec_len books.entries < vec_capacity books.entries
-
--- By the events that a world kept
-
--- the entry of an injector that starts
-abbrev pub new_entry : List ℕ → Arguments → Entry
-new_entry a args = record { actor = a; pid = args.pid; number = None; recipients = length (recipients_of args); accepted = false; life = told.Alive }
-
-abbrev pub entry_by : List ℕ → Option Arguments → List Entry
-entry_by a None = []
-entry_by a (Some args) = new_entry a args ∷ []
-
--- the entry that an event begins
-abbrev pub entered_by : Kept → List Entry
-entered_by (kept.Start a program) = entry_by a (injection_of program)
-entered_by (kept.Act a own) = []
-entered_by (kept.End a read ready status) = []
-entered_by (kept.Stop a) = []
-entered_by (kept.Moment m) = []
-entered_by (kept.Halt how) = []
-
--- a link to a name in todo, answered Ok
-abbrev pub queues : CallData → Answer → Bool
-queues (Link old new) Done = bytes_eq (take 5 new) (codes "todo/")
-queues call answer = false
-
--- an event put its actor's mail into the queue
-abbrev pub queues_by : NeedData → GotData → Bool
-queues_by (File call) (Answered told) = queues call told.answer
-queues_by due came = false
-
--- the number of the message whose name a call linked, answered Ok
-abbrev pub mess_number : Option Name → Option ℕ
-mess_number (Some (Of Mess n)) = Some n
-mess_number name = None
-
-abbrev pub linked_number : CallData → Answer → Option ℕ
-linked_number (Link old new) Done = mess_number (used_name new)
-linked_number call answer = None
-
-abbrev pub number_by : NeedData → GotData → Option ℕ
-number_by (File call) (Answered told) = linked_number call told.answer
-number_by due came = None
-
--- a number, or the one before where there is none
-abbrev pub newer : Option ℕ → Option ℕ → Option ℕ
-newer None before = before
-newer (Some n) before = Some n
-
--- an entry after an event of its own actor
-abbrev pub acted_on : NeedData → GotData → Entry → Entry
-acted_on due came e = record e { number = newer (number_by due came) e.number; accepted = queues_by due came || e.accepted }
-
-abbrev pub left_as : ToldLife → Entry → Entry
-left_as life e = record e { life = life }
-
--- the life that a machine stop leaves
-abbrev pub cut_off : ToldLife → ToldLife
-cut_off told.Alive = told.Stopped
-cut_off (told.Ended status) = told.Ended status
-cut_off told.Stopped = told.Stopped
-
--- an entry after one event more
-abbrev pub noted : Kept → Entry → Entry
-noted (kept.Start a program) e = e
-noted (kept.Act a own) e = if bytes_eq a e.actor then acted_on own.due own.came e else e
-noted (kept.End a read ready status) e = if bytes_eq a e.actor then left_as (told.Ended status) e else e
-noted (kept.Stop a) e = if bytes_eq a e.actor then left_as told.Stopped e else e
-noted (kept.Moment m) e = e
-noted (kept.Halt how) e = left_as (cut_off e.life) e
-
--- the entries after these events, the newest event first
-abbrev pub books_of : List Kept → List Entry
-books_of [] = []
-books_of (event ∷ before) = map (noted event) (books_of before) ++ entered_by event
+-- the books by the events that a world kept
+pub use Rattle.world_events.specs.Books.{entries_of, HasPlace, new_entry, entry_by, entered_by, queues, queues_by, mess_number, linked_number, number_by, newer, acted_on, left_as, cut_off, noted, books_of}
 
 -- what a world's books keep: the entry of each actor at its place, as its events tell it
 pub record AreBooked (entries : List Entry) (actors : List Held) (events : List Kept) : Type 0 where
@@ -206,8 +124,15 @@ abbrev pub BooksAreTheModels : Type 0
 BooksAreTheModels =
     (d : Disk) (events : List Kept) (h : List Event) → Legal d h → AllZip Tells (reverse events) h → books_of (reverse events) ≡ books_in d h
 
--- A mail is accepted in them exactly where the books of the state have an accepted injection of it.
+-- An injection of the state's books is of one of the mails that were started, and has the number that these books tell of it.
+pub record IsOfMail (h : List Event) (q : Injection) : Type 0 where
+  pub mail : Among (q.actor, q.args) (mails_of h)
+  pub number : is_number q.number ≡ true → number_of q.actor h ≡ Some q.number
+
+-- A mail is accepted in them exactly if the books of the state have an accepted injection of it; and each injection there,
+-- accepted or not, is of its actor's mail, with that mail's sender and recipients, and has its number.
 abbrev pub AcceptedAreBooked : Type 0
 AcceptedAreBooked =
-    (d : Disk) (events : List Kept) (h : List Event) → Legal d h → AllZip Tells (reverse events) h → (a : List ℕ)
-    → (is_accepted a h ≡ true) ↔ ((args : Arguments) × HasQueued (after d h).books a args)
+    (d : Disk) (events : List Kept) (h : List Event) → Legal d h → AllZip Tells (reverse events) h
+    → ((a : List ℕ) → (is_accepted a h ≡ true) ↔ ((args : Arguments) × HasQueued (after d h).books a args))
+    × ((q : Injection) → IsInjected (after d h).books q → IsOfMail h q)

@@ -1,6 +1,7 @@
 -- The machine of an actor, by its kind. A new program is one case of each of these, and of `next_of` and its neighbours in
 -- History.antt.
 use Rattle.std.specs.Prelude.{◌≡◌, ℕ, List, ◌∷◌, Bool, true, Option, Some, None}
+use Rattle.call_fs.specs.declared.file_system.TheConstants.{PIECE}
 use Rattle.call_fs.specs.declared.program.Ready.{Ready}
 use Rattle.call_fs.specs.declared.past.NeedData.{NeedData}
 use Rattle.call_fs.specs.declared.past.GotData.{GotData}
@@ -15,16 +16,13 @@ use Rattle.queue_clean.specs.Machine.{Machine as Cleaning, due_now as cleaning_d
 use Rattle.queue_clean.specs.Stands.{Stands as CleansAfter}
 use Rattle.call_fs.specs.Disk.{Disk}
 use Rattle.queue_law.specs.Steps.{Outside}
-use Rattle.mail_world.specs.declared.event.Program.{Program}
-use Rattle.mail_world.specs.declared.event.Program.TheVariants.{Injector, Cleaner}
+use Rattle.world_events.specs.declared.event.Program.{Program}
+use Rattle.world_events.specs.declared.event.Program.TheVariants.{Injector, Cleaner}
 use Rattle.mail_world.specs.declared.mailer.Mailer.{Mailer}
 use Rattle.mail_world.specs.declared.any_machine.AnyMachine.{AnyMachine}
 use Rattle.mail_world.specs.declared.any_machine.AnyMachine.TheVariants.{Mail, Clean}
-
--- what an injector is started with, and no other program
-abbrev pub injection_of : Program → Option Arguments
-injection_of (Injector args) = Some args
-injection_of other = None
+-- what an injector is started with
+pub use Rattle.world_events.specs.Programs.{injection_of}
 
 -- A program that a world runs so far. Its input is ready at any point, and it takes, gives and starts nothing.
 abbrev pub IsMail : Program → Type 0
@@ -93,7 +91,7 @@ need_of (Clean cleaner) = cleaning_due cleaner
 -- how many bytes it may be handed of one taking
 abbrev pub takes_of : AnyMachine → ℕ
 takes_of (Mail mailer) = 0
-takes_of (Clean cleaner) = 8192
+takes_of (Clean cleaner) = PIECE
 
 -- it takes no memory any more
 abbrev pub HasRoom : AnyMachine → Type 0

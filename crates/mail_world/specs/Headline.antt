@@ -8,8 +8,8 @@ use Rattle.queue_inject.specs.declared.row.Row.TheVariants as Row
 use Rattle.queue_inject.specs.Table.{row_after}
 use Rattle.queue_inject.specs.Texts.{entered, todo_of, recipients_of}
 use Rattle.call_fs.specs.declared.past.Own.{Own}
-use Rattle.mail_world.specs.declared.event.Program.{Program}
-use Rattle.mail_world.specs.declared.event.Program.TheVariants.{Injector, Cleaner}
+use Rattle.world_events.specs.declared.event.Program.{Program}
+use Rattle.world_events.specs.declared.event.Program.TheVariants.{Injector, Cleaner}
 use Rattle.queue_states.specs.declared.state.State.TheVariants.{Other}
 use Rattle.queue_states.specs.States.{state_of}
 use Rattle.mail_world.specs.History.{Event, Actor, Injection, Books, State, after, Legal}
@@ -27,7 +27,7 @@ pub record IsPending (d : Disk) (q : Injection) : Type 0 where
 pub data Accounted (s : State) (q : Injection) (recipient : ℕ) : Type 0 where
   Pending : s.books.living q.number ≡ Some q → IsPending s.disk q → Accounted s q recipient
 
--- what the past of a program has put into the books: where an injector has queued its message, its accepted injection
+-- what the past of a program has put into the books: if an injector has queued its message, its accepted injection
 abbrev pub IsBooked : Books → List ℕ → Program → List Own → Type 0
 IsBooked b a (Injector args) past = row_after args past ≡ Row.Queued → HasQueued b a args
 IsBooked b a (Cleaner start) past = Unit {0}

@@ -31,8 +31,8 @@ use Rattle.queue_paths.specs.Names.{Part, path}
 use Rattle.queue_paths.specs.Names.Name.{Of}
 use Rattle.queue_inject.specs.Table.{Next, has_input}
 use Rattle.queue_clean.specs.Table.{Next as CleansNext}
-use Rattle.mail_world.specs.declared.event.Program.{Program}
-use Rattle.mail_world.specs.declared.event.Program.TheVariants.{Injector, Cleaner}
+use Rattle.world_events.specs.declared.event.Program.{Program}
+use Rattle.world_events.specs.declared.event.Program.TheVariants.{Injector, Cleaner}
 use Rattle.actor_names.specs.MailNames.{members}
 use Rattle.mail_world.specs.Pipework.{Pipework, Tenant, Slot, is_ready, Yields, no_pipework, slot_of, pipework_after, with_child, without_writer, with_generation, with_report}
 use Rattle.mail_world.specs.Pipework.Tenant.{Runs, Remote}
@@ -257,7 +257,7 @@ IsAppend (Append fd bytes) answer = Unit {0}
 IsAppend call answer = ⊥
 
 -- An injector may find its input ready: a mail's, which stands in its start, at any point; a child's before its first
--- append, and where it was given or its writer is gone.
+-- append, and if it was given or its writer is gone.
 abbrev pub InputIsFound : Pipework → List ℕ → Option Slot → List Own → Ready → Type 0
 InputIsFound pipework a None past ready = Unit {0}
 InputIsFound pipework a (Some slot) past ready =

@@ -1,39 +1,21 @@
 -- What the fields of a world mean, and what they keep.
-use Rattle.std.specs.Prelude.{◌≡◌, ℕ, ◌≤◌, ◌==◌, List, [], ◌∷◌, map, reverse, count_by, Bool, false, Option, Some, None, IsSome, IsSomeAnd, is_some, is_none, bytes_eq}
+use Rattle.std.specs.Prelude.{◌≡◌, ℕ, ◌≤◌, ◌==◌, List, [], ◌∷◌, reverse, count_by, Bool, false, Option, Some, None, IsSome, IsSomeAnd, is_some, is_none, bytes_eq}
 use Rattle.std.specs.List.{list_any, slice_get}
 use Rattle.call_fs.specs.declared.calls.Fd.{Fd}
 use Rattle.call_fs.specs.Disk.{Disk}
 use Rattle.call_fs.specs.declared.modes.Mode.{Mode}
 use Rattle.mail_bytes.specs.Moments.{IsMoment}
-use Rattle.call_fs.specs.Apply.{empty_file}
 use Rattle.mail_bytes.specs.Told.{OnTold}
 use Rattle.call_fs.specs.Past.{IsRunBy, held}
-use Rattle.mail_world.specs.declared.event.Event.{Event as Kept}
-use Rattle.mail_world.specs.declared.event.Event.TheVariants as kept
+use Rattle.world_events.specs.declared.event.Event.{Event as Kept}
 use Rattle.mail_world.specs.declared.actor.Actor.{Actor as Held}
 use Rattle.mail_world.specs.ByKind.{IsMail, Follows}
-use Rattle.mail_world.specs.History.{Event, Actor, State, after, latest, next_of}
-use Rattle.mail_world.specs.History.Event.{Start, Act, End, Stop, Moment, Halt}
+use Rattle.mail_world.specs.History.{Event, Actor, State, latest, next_of}
 use Rattle.mail_world.specs.History.Life.{Alive}
 use Rattle.mail_world.specs.World.{Leads, Span, span_of, was_started, next_pid}
 use Rattle.mail_world.specs.World.Span.{Unborn, Lasting, OverAt}
-
--- a kept event, read as one whose failed write had written nothing, or that left nothing of any file
-abbrev pub event_of : Kept → Event
-event_of (kept.Start a program) = Start a program
-event_of (kept.Act a own) = Act a own 0
-event_of (kept.End a read ready status) = End a read ready status
-event_of (kept.Stop a) = Stop a
-event_of (kept.Moment m) = Moment m
-event_of (kept.Halt how) = Halt how (λ _. [])
-
--- any disk
-abbrev pub nowhere : Disk
-nowhere = record { dirs = []; names = λ _. None; files = λ _. empty_file 0; opens = λ _. None }
-
--- What the kept events tell of the actors, of who holds each descriptor, and of the moment, whatever the disk is.
-abbrev pub known : List Kept → State
-known events = after nowhere (map event_of (reverse events))
+-- what kept events tell
+pub use Rattle.mail_world.specs.Known.{event_of, nowhere, known}
 
 -- the life of an actor that ended with this event, or lasts
 abbrev pub span_by : Option ℕ → Span

@@ -1,5 +1,5 @@
 -- pipes, and who runs in whose slot
-pub mod Pipework
+pub use Rattle.world_pipes.specs.Pipework
 -- histories: what happens, the state after it, and which are legal
 pub mod History
 -- what is claimed of each state, and the headline
@@ -7,7 +7,11 @@ pub mod Headline
 -- what each event leaves as it was
 pub mod Untouched
 -- the history that a world keeps
-pub mod Kept
+pub use Rattle.world_events.specs.Kept
+-- what kept events tell
+pub mod Known
+-- what an actor finds ready
+pub mod Readiness
 -- what is promised of a world
 pub mod World
 -- the machines of actors

@@ -1,11 +1,11 @@
--- What each event of a legal history leaves as it was, besides that each state is safe.
+-- What an event of a legal history leaves as it was, besides that each state is safe.
 use Rattle.std.specs.Prelude.{◌≡◌, ◌≢◌, ℕ, List, ◌∷◌, Bool, true, false, Option, Some, None}
 use Rattle.call_fs.specs.Disk.{Disk, Open}
 use Rattle.queue_law.specs.Books.{Injection, IsInjected}
 use Rattle.queue_law.specs.Numbers.{Role, Queue, About, about, IsSorted}
 use Rattle.queue_law.specs.Injectors.{IsHeld}
 use Rattle.queue_law.specs.Steps.{Outside}
-use Rattle.mail_world.specs.declared.event.Program.{Program}
+use Rattle.world_events.specs.declared.event.Program.{Program}
 use Rattle.mail_world.specs.ByKind.{Leaves}
 use Rattle.mail_world.specs.History.{Event, Actor, State, happens, after, Legal}
 use Rattle.mail_world.specs.History.Event.{Start, Act, Child, Generation, Report, End, Stop, Moment, Halt}
@@ -63,8 +63,8 @@ IsOther (Stop a) o = o ≢ a
 IsOther (Moment m) o = Unit {0}
 IsOther (Halt how contents) o = ⊥
 
--- What an event leaves: what isn't the queue's, as its program does; what other actors hold open; what was accepted; and all that
--- concerns a preprocessed number. A machine stop closes each descriptor, and leaves of the files what survives.
+-- What an event leaves: what was accepted; and, unless it is a machine stop, what isn't the queue's, as its program does, what
+-- other actors hold open, and all that concerns a preprocessed number. A machine stop closes each descriptor.
 pub record LeavesRest (s : State) (e : Event) : Type 0 where
   pub outside : is_halt e ≡ false → LeavesBy (doer s e) s.disk (happens s e).disk
   pub opens : (o : List ℕ) (fd : ℕ) (how : Open) → IsOther e o → IsHeld s.disk.opens s.holder o fd how → IsHeld (happens s e).disk.opens (happens s e).holder o fd how

@@ -5,6 +5,7 @@ use Rattle.call_fs.specs.declared.calls.CallData.{CallData}
 use Rattle.call_fs.specs.declared.calls.Told.{Told}
 use Rattle.call_fs.specs.declared.program.Ready.{Ready}
 use Rattle.call_fs.specs.declared.past.NeedData.{NeedData}
+use Rattle.call_fs.specs.declared.past.Own.{Own}
 use Rattle.call_fs.specs.declared.past.NeedData.TheVariants.{File}
 use Rattle.call_fs.specs.declared.past.GotData.{GotData}
 use Rattle.call_fs.specs.declared.past.GotData.TheVariants.{Answered}
@@ -15,12 +16,14 @@ use Rattle.call_fs.specs.Disk.{Disk}
 use Rattle.queue_inject.specs.declared.injection.Arguments.{Arguments}
 use Rattle.queue_inject.specs.declared.injection.InputEnd.TheVariants.{Whole}
 use Rattle.received_line.specs.declared.line.Invoked.TheVariants.{Uid}
-use Rattle.mail_world.specs.declared.event.Event.{Event as Kept}
-use Rattle.mail_world.specs.declared.event.Event.TheVariants as kept
-use Rattle.mail_world.specs.declared.event.Program.TheVariants.{Injector}
-use Rattle.mail_world.specs.History.{Event, own_call, starts_program, after, EachAllowed, Legal}
+use Rattle.world_events.specs.declared.event.Event.{Event as Kept}
+use Rattle.world_events.specs.declared.event.Event.TheVariants as kept
+use Rattle.world_events.specs.declared.event.Program.TheVariants.{Injector}
+use Rattle.mail_world.specs.History.{Event, Actor, State, own_call, starts_program, next_of, after, EachAllowed, Legal}
 use Rattle.mail_world.specs.History.Event.{Start, Act, Child, Generation, Report, End, Stop, Moment, Halt}
 use Rattle.mail_world.specs.Headline.{Safe}
+use Rattle.mail_world.specs.Known.{known}
+use Rattle.mail_world.specs.Readiness.{found_in}
 
 -- an actor's file call, as it is kept
 abbrev pub kept_call : List ℕ → ℕ → Ready → CallData → Told → Kept
@@ -166,10 +169,6 @@ mail pid start message envelope = record {
   envelope_end = Whole;
 }
 
--- an injector finds its input ready
-abbrev pub input_ready : Ready
-input_ready = record { links = true ∷ false ∷ false ∷ false ∷ []; child = None }
-
 -- the world after the start of a mail
 abbrev pub started_world : {D : Type 0} → Seen D → List ℕ → List ℕ → List ℕ → Seen D
 started_world old name message envelope = record {
@@ -178,11 +177,26 @@ started_world old name message envelope = record {
   present = old.present;
 }
 
--- A step of that actor appends one event: a file call with what it was told, or the end that was told.
+-- what may come of what is due to an actor in a world: nothing fails there but a file call, and no other thing is due so far
+abbrev pub ComesWhole : NeedData → GotData → Type 0
+ComesWhole (File call) came = (told : Told) × (came ≡ Answered told)
+ComesWhole due came = ⊥
+
+-- an event of that actor at this moment: what was due, with all that it finds ready, and what came of it
+pub record IsOwnOf (s : State) (present : ℕ) (a : List ℕ) (own : Own) : Type 0 where
+  pub actor : Actor
+  pub is : s.actors a ≡ Some actor
+  pub read : own.read ≡ present
+  pub ready : own.ready ≡ found_in s a
+  pub due : next_of actor.program actor.past present (found_in s a) ≡ own.due
+  pub came : ComesWhole own.due own.came
+
+-- A step of that actor appends one event: what it did, or the end that was told. It finds ready what the events so far
+-- tell.
 abbrev pub IsStep : {D : Type 0} → List ℕ → Option ℕ → Seen D → Seen D → Type 0
 IsStep a None old new =
-    (call : CallData) × (told : Told) × (new.events ≡ old.events ++ kept_call a old.present input_ready call told ∷ [])
-IsStep a (Some status) old new = new.events ≡ old.events ++ kept.End a old.present input_ready status ∷ []
+    (own : Own) × IsOwnOf (known old.events) old.present a own × (new.events ≡ old.events ++ kept.Act a own ∷ [])
+IsStep a (Some status) old new = new.events ≡ old.events ++ kept.End a old.present (found_in (known old.events) a) status ∷ []
 
 -- a stop of that actor appends one event, and the present moment stays
 abbrev pub IsStop : {D : Type 0} → List ℕ → Seen D → Seen D → Type 0

@@ -1,12 +1,19 @@
 // The machine of an actor.
 ghost use Rattle.std.specs.Prelude.{◌≡◌, ◌∷◌, List, ℕ, IsTrue};
+ghost use Rattle.mail_world.specs.Readiness.{finds};
 
 use crate::Program;
 use crate::mailer::Mailer;
-use call_fs::{Got, Machine, Need, Ready};
+use call_fs::{Got, INPUT_READY, Machine, Need, Ready};
 use mail_bytes::Memory;
 use queue_clean::Cleaner;
 use std::alloc::Global;
+
+/// What a program finds ready in whose pipes nothing lies.
+const NOTHING_READY: Ready = Ready {
+    links: [false; 4],
+    child: None,
+};
 
 /// A program of the world as a machine, with what the world keeps beside it: a case for each kind.
 #[derive(Drop)]
@@ -15,6 +22,18 @@ pub enum AnyMachine {
     Mail(Mailer),
     /// A cleaner. The world makes none yet: it starts with its generation.
     Clean(Cleaner),
+}
+
+impl AnyMachine {
+    /// What it finds ready. No pipe is kept yet, by which a cleaner would.
+    pub fn finds(&self) -> Ready
+        ensures { result ≡ finds self.now }
+    {
+        match self {
+            AnyMachine::Mail(_) => INPUT_READY,
+            AnyMachine::Clean(_) => NOTHING_READY,
+        }
+    }
 }
 
 impl Machine for AnyMachine {

@@ -3,7 +3,7 @@ ghost use Rattle.std.specs.Prelude.{◌≡◌, [], IfOk, vec_len, vec_capacity};
 ghost use Rattle.call_fs.specs.Calls.{bytes_read};
 ghost use Rattle.mail_world.specs.Acting.{most_read, HasFew};
 
-use call_fs::{Answer, CallData};
+use call_fs::{Answer, CallData, PIECE};
 use mail_bytes::{ByteText, Memory};
 use std::alloc::Global;
 
@@ -22,7 +22,7 @@ pub fn room_to_read(alloc: Global, call: &CallData) -> Result<Vec<u8>, Memory>
 
 /// The bytes that an answer counts, of the beginning of the buffer. Takes no memory. The conditions: the room is empty,
 /// and they have room there and in the buffer.
-pub fn kept_read(mut room: Vec<u8>, answer: &Answer, buffer: &[u8; 8192]) -> ByteText
+pub fn kept_read(mut room: Vec<u8>, answer: &Answer, buffer: &[u8; PIECE]) -> ByteText
     requires empty { room.items ≡ [] }
     requires len { vec_len room ≡ 0 }
     requires few { HasFew (vec_capacity room) answer.now }

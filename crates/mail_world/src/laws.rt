@@ -18,8 +18,9 @@ pub fn accepted_are_booked()
     ensures { AcceptedAreBooked }
 {}
 
-/// Each event of a legal history leaves what isn't the queue's, what other actors hold open, what was accepted, and all that
-/// concerns a preprocessed number. A machine stop closes each descriptor, and leaves of the files what survives.
+/// Each event of a legal history leaves what was accepted. Each except a machine stop also leaves what isn't the queue's, what
+/// other actors hold open, and all that concerns a preprocessed number; of these nothing is said after a machine stop, which
+/// closes each descriptor.
 pub fn events_leave()
     ensures { EventsLeave }
 {}

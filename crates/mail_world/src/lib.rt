@@ -8,9 +8,7 @@
 
 mod actor;
 mod any_machine;
-mod books;
 mod error;
-mod event;
 mod kept_read;
 pub mod laws;
 mod mailer;
@@ -18,7 +16,6 @@ mod places;
 mod world;
 
 pub use actor_names::ActorName;
-pub use books::{Books, Entry, Life};
 pub use error::WorldError;
-pub use event::{Event, History, Program};
 pub use world::{Did, World};
+pub use world_events::{Books, Entry, Event, History, Life, Program};

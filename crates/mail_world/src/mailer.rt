@@ -6,7 +6,7 @@ ghost use Rattle.queue_inject.specs.declared.injection.Arguments.{Arguments};
 ghost use Rattle.queue_inject.specs.Machine.{room_of};
 ghost use Rattle.queue_inject.specs.Rows.{part_in};
 ghost use Rattle.queue_inject.specs.Stands.{Stands};
-ghost use Rattle.mail_world.specs.declared.event.Program.TheVariants.{Injector as Injecting};
+ghost use Rattle.world_events.specs.declared.event.Program.TheVariants.{Injector as Injecting};
 ghost use Rattle.mail_world.specs.World.{mail};
 ghost use Rattle.mail_world.specs.ByKind.{Mails, IsInput, AreInputs};
 

@@ -16,11 +16,10 @@ ghost use Rattle.mail_world.specs.Books.{entries_of, books_of, books_in};
 
 use crate::actor::{Actor, cut_off_all, mail_of};
 use crate::any_machine::AnyMachine;
-use crate::books::Books;
 use crate::laws::{books_are_the_models, headline};
 use crate::mailer::Mailer;
 use crate::places::Places;
-use crate::{ActorName, Event, History, Program, WorldError};
+use crate::{ActorName, Books, Event, History, Program, WorldError};
 use actor_names::is_mail_name;
 use call_fs::{CallFs, CrashFs, Survival, Taken};
 use mail_bytes::Memory;
@@ -221,7 +220,14 @@ impl<D: CallFs> World<D> {
         // for this event, and for the stop of each actor
         self.history.reserve(self.actors.len() + 1)?;
         let acting = &mut self.actors[place];
-        let did = acting.act(alloc, &mut self.disk, &mut self.history, self.present)?;
+        let ready = acting.machine.finds();
+        let did = acting.act(
+            alloc,
+            &mut self.disk,
+            &mut self.history,
+            self.present,
+            ready,
+        )?;
         self.books.note(place, self.history.newest());
         Ok(did)
     }

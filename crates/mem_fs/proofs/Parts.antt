@@ -26,7 +26,7 @@ then_assoc Less b c = refl
 then_assoc Equal b c = refl
 then_assoc Greater b c = refl
 
--- a text compares with two texts in a row as its front does with the first, and then its rest with the second
+-- a text compares with two texts in a row as its prefix does with the first, and then its rest with the second
 pub slice_cmp-append : (name front rest : List ℕ) → slice_cmp nat_cmp name (front ++ rest) ≡ ordering_then (slice_cmp nat_cmp (take (length front) name) front) (slice_cmp nat_cmp (drop (length front) name) rest)
 slice_cmp-append name [] rest = refl
 slice_cmp-append [] (y ∷ front) rest = refl

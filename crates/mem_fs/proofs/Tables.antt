@@ -19,7 +19,7 @@ some_entry (x ∷ xs) h = x
 abbrev pub NoneBefore : {K V : Type 0} → List (K × V) → K → ℕ → Type 0
 NoneBefore {K} {V} es k i = (j : ℕ) (d : K × V) → j < i → j < length es → (get_or es j d).0 ≢ k
 
--- no key behind place i is this one
+-- no key after place i is this one
 abbrev pub NoneBehind : {K V : Type 0} → List (K × V) → K → ℕ → Type 0
 NoneBehind {K} {V} es k i = (j : ℕ) (d : K × V) → i < j → j < length es → (get_or es j d).0 ≢ k
 

@@ -43,8 +43,8 @@ pub fn part_of<'a>(name: &'a [u8], dir: &[u8]) -> Option<&'a [u8]>
 pub fn compare(name: &[u8], dir: &[u8], part: &[u8]) -> Ordering
     ensures { result ≡ slice_cmp nat_cmp name.now (dir.now ++ 47 ∷ part.now) }
 {
-    let (front, rest) = name.split_at(name.len().min(dir.len()));
-    front.cmp(dir).then(compare_rest(rest, part))
+    let (start, rest) = name.split_at(name.len().min(dir.len()));
+    start.cmp(dir).then(compare_rest(rest, part))
 }
 
 /// How the rest of a name compares with a `/` and a part.

@@ -5,7 +5,7 @@ ghost use Rattle.outside.specs.Streams.{CountsFailures};
 ghost use Rattle.outside.specs.Children.{Arrival, FillsFront, IsFailedPost, Posted, Receives, arrivals, is_failure, posted};
 ghost use Rattle.outside.specs.Forms.{IsWithin, rest_from};
 
-use crate::source::copy_front;
+use crate::source::copy_prefix;
 use mail_bytes::ByteText;
 use std::marker::Model;
 
@@ -144,7 +144,7 @@ impl Posts for MemPosts {
         match &self.posts[at] {
             Waiting::Bytes { chan, bytes } => {
                 let chan = *chan;
-                let len = copy_front(&bytes.as_slice()[given..], into);
+                let len = copy_prefix(&bytes.as_slice()[given..], into);
                 self.given = given + len;
                 Post::Bytes { chan, len }
             }

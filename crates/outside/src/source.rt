@@ -110,14 +110,14 @@ impl Source for MemSource {
             self.is_ended = true;
             return Took::End;
         }
-        let count = copy_front(&self.pieces[at].as_slice()[given..], into);
+        let count = copy_prefix(&self.pieces[at].as_slice()[given..], into);
         self.given = given + count;
         Took::Got(count)
     }
 }
 
 /// Copies as many bytes to the start of `into` as there is room for, and answers how many.
-pub fn copy_front(from: &[u8], into: &mut [u8]) -> usize
+pub fn copy_prefix(from: &[u8], into: &mut [u8]) -> usize
     ensures count { result ≡ min (length from.now) (length into.old) }
     ensures copied { take result into.new ≡ take result from.now }
 {

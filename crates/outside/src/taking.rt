@@ -6,6 +6,9 @@ use crate::source::{Source, Took};
 use mail_bytes::Memory;
 use std::alloc::Global;
 
+/// How many bytes are asked for at once.
+const PIECE: usize = 8192;
+
 /// Why no more was taken of a source.
 #[derive(Clone, Copy, PartialEq, Eq)]
 pub enum Stopped {
@@ -36,7 +39,7 @@ pub fn take_up_to<S: Source>(
     ensures failed { IfOk result (λ got. got.1 ≡ Stopped.Failed → Rose (S.faults source.old) (S.faults source.new)) }
 {
     let mut bytes = Vec::new(alloc);
-    let mut piece = [0; 8192];
+    let mut piece = [0; PIECE];
     while bytes.len() < most {
         let room = (most - bytes.len()).min(piece.len());
         match source.take(&mut piece[..room]) {

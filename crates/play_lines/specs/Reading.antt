@@ -40,10 +40,10 @@ CanFollow (keyword.Word first) (Some rest) = (read : List ℕ) × StandsFor rest
 CanFollow other rest = ⊥
 
 -- the first line of some bytes, and what stands after its newline
-pub record IsFirstLine (bytes text behind : List ℕ) : Type 0 where
-  pub whole : completed bytes ≡ (text ++ 10 ∷ []) ++ completed behind
+pub record IsFirstLine (bytes text after : List ℕ) : Type 0 where
+  pub whole : completed bytes ≡ (text ++ 10 ∷ []) ++ completed after
   pub unbroken : IsUnbroken text
-  pub shorter : length behind < length bytes
+  pub shorter : length after < length bytes
 
 -- an entry stands before all lines, and agrees with the entries before it
 abbrev pub MayFollow : Content → Entry → Type 0

@@ -38,10 +38,10 @@ pub fn read_script(alloc: Global, bytes: &[u8]) -> Result<Script, ScriptError>
     let mut rest = bytes;
     let mut number: u64 = 0;
     while !rest.is_empty() {
-        let (text, behind) = first_line(rest);
+        let (text, after) = first_line(rest);
         number += 1;
         match read_line(alloc, text, &mut script) {
-            Ok(()) => rest = behind,
+            Ok(()) => rest = after,
             Err(WordError::Malformed) => return Err(ScriptError::Line(number)),
             Err(WordError::Memory) => return Err(ScriptError::Memory),
         }
@@ -54,9 +54,9 @@ fn first_line(bytes: &[u8]) -> (&[u8], &[u8])
     requires { bytes.now ≢ [] }
     ensures { IsFirstLine bytes.now result.0.now result.1.now }
 {
-    let (text, behind) = cut(bytes, b'\n');
-    match behind {
-        Some(behind) => (text, behind),
+    let (text, after) = cut(bytes, b'\n');
+    match after {
+        Some(after) => (text, after),
         None => (text, b""),
     }
 }

@@ -1,14 +1,14 @@
 -- What a past did outside, and one event more.
-use Rattle.std.proofs.Common.{◌≡◌, ℕ, ◌+◌, ◌≤◌, List, [], ◌∷◌, ◌++◌, Option, Some, None, refl, sym, ap, ◌∙◌, subst, ⊎_elim, arith, append_assoc}
+use Rattle.std.proofs.Common.{◌≡◌, ℕ, ◌≤◌, List, [], ◌∷◌, ◌++◌, Option, Some, None, refl, sym, ap, ◌∙◌, subst, ⊎_elim, arith, append_assoc}
 use Rattle.call_fs.specs.declared.past.Own.{Own}
 use Rattle.call_fs.specs.Disk.{Disk}
-use Rattle.call_fs.specs.Past.{LeadsTo, Makes, InOrder, Backs, calls_of, moments_of, latest_from, held, kept_as, HasCall, IsFault}
+use Rattle.call_fs.specs.Past.{LeadsTo, Makes, Backs, calls_of, moments_of, latest_from, held, kept_as}
 use Rattle.call_fs.proofs.Held.{backs_past}
 use Rattle.mail_bytes.specs.Told.{Meets, OnTold, Records, Rose}
 use Rattle.call_fs.specs.declared.program.Port.TheVariants as port
 use Rattle.call_fs.specs.declared.past.NeedData.TheVariants.{Take}
-use Rattle.program_runner.specs.Outside.{Outside, AreKept, Does, Takes, TakesEnd, EndsInput, Puts, Gives, taken_by, FailsToTake, FailsToGive}
-use Rattle.program_runner.specs.Runs.{Did, taken_in, GivesInAll, HasEvent}
+use Rattle.program_runner.specs.Outside.{Outside, AreKept, Does, Takes, TakesEnd, EndsInput, Puts, taken_by}
+use Rattle.program_runner.specs.Runs.{Did, taken_in, GivesInAll}
 
 -- Lists that are kept
 

@@ -1,14 +1,14 @@
 -- What the posts answered, one after another.
-use Rattle.std.proofs.Common.{◌≡◌, ℕ, ◌≤◌, List, [], ◌∷◌, ◌++◌, take, map, flat_map, Bool, true, false, Option, Some, None, Ok, Err, Result, OnOk, IfOk, refl, sym, ap, ◌∙◌, subst, ⊎_elim, arith, append_assoc}
+use Rattle.std.proofs.Common.{◌≡◌, ℕ, List, [], ◌∷◌, ◌++◌, flat_map, Bool, true, false, Option, Some, None, Ok, Err, Result, OnOk, IfOk, refl, sym, ap, ◌∙◌, subst, ⊎_elim, append_assoc}
 use Rattle.std.specs.declared.alloc.AllocError.{AllocError}
-use Rattle.mail_bytes.specs.Told.{Meets, Records}
+use Rattle.mail_bytes.specs.Told.{Meets, OnTold, Records}
 use Rattle.outside.specs.Streams.{CountsFailures}
 use Rattle.outside.specs.Children.{Arrival, Posted, IsFailedPost, Receives, arrivals, posted}
 use Rattle.outside.specs.declared.posts.Post.{Post}
 use Rattle.outside.specs.declared.posts.Post.TheVariants as post
 use Rattle.outside.specs.declared.posts.Waiting.{Waiting}
-use Rattle.program_runner.specs.Lines.{LineState, Gathers, as_list, brought, piece_of}
-use Rattle.program_runner.specs.Serving.{PostsTold, Answers, IsGathered, IsHeard, IsKept}
+use Rattle.program_runner.specs.Lines.{LineState, brought, piece_of}
+use Rattle.program_runner.specs.Serving.{PostsTold, Answers, IsGathered, IsHeard}
 use Rattle.program_runner.proofs.Deeds.{kept_one}
 use Rattle.program_runner.proofs.Members.{answered_nothing, answered_then, flat_more}
 
@@ -58,15 +58,25 @@ pieces (post.End chan) into = refl
 pieces (post.Failed chan) into = refl
 pieces post.Turn into = refl
 
+none_at_turn : (answer : Post) (into : List ℕ) (a b : Option (List Arrival)) → [] ≡ piece_of answer (posted answer into).bytes → Meets a b (Receives answer into) → OnTold b (λ left. left ≡ [])
+none_at_turn post.Turn into None None none m = tt
+none_at_turn post.Turn into (Some x) (Some y) none m = m.1
+none_at_turn post.Turn into (Some x) None none m = absurd m
+none_at_turn post.Turn into None (Some y) none m = absurd m
+none_at_turn (post.Bytes chan len) into a b none m = absurd (cc)
+none_at_turn (post.End chan) into a b none m = absurd (cc)
+none_at_turn (post.Failed chan) into a b none m = absurd (cc)
+
 module _ (answer : Post) (into : List ℕ) (old new : PostsTold) (waiting : Meets old.waiting new.waiting (Receives answer into)) (told : Records old.asked new.asked (posted answer into))
     (cause : CountsFailures old.faults new.faults (IsFailedPost answer)) where
   pub heard_lost : (l m : LineState) (why : AllocError) → IsHeard l m (Err why) old new
-  heard_lost l m why = record { post = posted answer into; kept = tt; answers = answered answer into old new waiting told cause }
+  heard_lost l m why = record { post = posted answer into; kept = tt; none = tt; answers = answered answer into old new waiting told cause }
 
   pub heard_turn : (l : LineState) → [] ≡ piece_of answer (posted answer into).bytes → IsHeard l l (Ok true) old new
   heard_turn l none = record {
     post = posted answer into;
     kept = (ap (λ (t : List Waiting). record l { kept = t }) (sym (nothing_more l.kept) ∙ ap (λ (t : List Waiting). l.kept ++ t) (none ∙ pieces answer into)), λ h. a_turn answer into none);
+    none = none_at_turn answer into old.waiting new.waiting none waiting;
     answers = answered answer into old new waiting told cause;
   }
 
@@ -74,6 +84,7 @@ module _ (answer : Post) (into : List ℕ) (old new : PostsTold) (waiting : Meet
   heard_piece l m piece is keeps = record {
     post = posted answer into;
     kept = (keeps ∙ ap (λ (t : List Waiting). record l { kept = l.kept ++ t }) (is ∙ pieces answer into), λ h. absurd (cc));
+    none = tt;
     answers = answered answer into old new waiting told cause;
   }
 
@@ -112,6 +123,7 @@ module _ (old mid new : LineState) (p q r : PostsTold) (h : HasKept old mid p q)
   gathers heard = record {
     asked = h.asked ++ heard.post ∷ [];
     kept = λ is. record { before = h.asked; turned = ap (λ (t : Posted). h.asked ++ t ∷ []) (heard.kept.1 refl); keeps = keeps_more heard.post heard.kept.0 };
+    none = λ is. heard.none;
     answers = answered_then h.asked (heard.post ∷ []) p q r h.answers heard.answers;
   }
 
@@ -125,8 +137,9 @@ module _ (old mid new : LineState) (p q r : PostsTold) (h : HasKept old mid p q)
   kept_lost result heard = record {
     asked = h.asked ++ heard.post ∷ [];
     kept = λ is. absurd (cc);
+    none = λ is. absurd (cc);
     answers = answered_then h.asked (heard.post ∷ []) p q r h.answers heard.answers;
   }
 
 pub kept_on : (old new : LineState) (p q : PostsTold) → HasKept old new p q → IsGathered old new false p q
-kept_on old new p q h = record { asked = h.asked; kept = λ is. absurd (cc); answers = h.answers }
+kept_on old new p q h = record { asked = h.asked; kept = λ is. absurd (cc); none = λ is. absurd (cc); answers = h.answers }

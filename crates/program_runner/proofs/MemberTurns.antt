@@ -1,6 +1,5 @@
 -- One turn of a program with channels.
-use Rattle.std.proofs.Common.{◌≡◌, ◌≢◌, ℕ, ◌≤◌, List, [], ◌∷◌, ◌++◌, Bool, true, false, Option, Some, None, Ok, Err, refl, sym, ap, ◌∙◌, subst, inl, inr, arith}
-use Rattle.std.specs.declared.alloc.AllocError.{AllocError}
+use Rattle.std.proofs.Common.{◌≡◌, ◌≢◌, ℕ, ◌≤◌, List, [], ◌∷◌, true, false, Option, Some, None, refl, sym, ap, ◌∙◌, subst, arith}
 use Rattle.call_fs.specs.declared.calls.CallData.{CallData}
 use Rattle.call_fs.specs.declared.past.ChildData.{ChildData}
 use Rattle.call_fs.specs.declared.past.NeedData.{NeedData}
@@ -21,8 +20,8 @@ use Rattle.program_runner.specs.declared.served.Served.{Served}
 use Rattle.program_runner.specs.Outside.{AreKept, Outside, Does, Looks}
 use Rattle.program_runner.specs.Runs.{Change}
 use Rattle.program_runner.specs.Lines.{LineState, HasToWait, Serves, ready_of}
-use Rattle.program_runner.specs.Serving.{Answers, ByDone, IfDone, IsGathered, IsPossible, IsServed, MayServe, PostsTold, PutsOut, Serving, SpawnerTold, Spawns, is_done}
-use Rattle.program_runner.specs.Members.{Acts, Asks, Beside, Idles, IsCarried, LeadsToNone, MayAct, Tends, Waits, uncounted}
+use Rattle.program_runner.specs.Serving.{ByDone, IsGathered, IsPossible, IsServed, BringsSome, MayServe, PutsOut, Serving, SpawnerTold, Spawns, is_done}
+use Rattle.program_runner.specs.Members.{Acts, Asks, Beside, Idles, IsCarried, IsNoEnd, LeadsToNone, MayAct, Tends, Waits, uncounted}
 use Rattle.program_runner.specs.Members.Step.{Acted, Looked}
 use Rattle.program_runner.proofs.Deeds.{kept_none, kept_one}
 use Rattle.program_runner.proofs.Serves.{asked_nothing}
@@ -46,7 +45,7 @@ may_serve : (n : Need) → IsCarried (due_of n) → ((c : Call) → n ≢ lent.F
 may_serve (lent.File c) carried file ended = absurd (file c refl)
 may_serve (lent.Take p) carried file ended = tt
 may_serve (lent.Give p bytes) carried file ended = tt
-may_serve (lent.Start child) carried file ended = carried
+may_serve (lent.Start child) carried file ended = tt
 may_serve (lent.Command bytes) carried file ended = absurd carried
 may_serve lent.Wait carried file ended = tt
 may_serve (lent.Ended status) carried file ended = absurd (ended status refl)
@@ -98,6 +97,26 @@ does_served old new read ready moment later last old_moments moments due came ma
       both_none P (Some x) b is was = absurd (cc)
       both_none P None (Some y) is was = absurd (cc)
 
+-- It has to wait
+
+leads_to_none : (due : NeedData) (l : LineState) → HasToWait due l → LeadsToNone due l
+leads_to_none needs.Wait l h = tt
+leads_to_none (needs.Take p) l h = h
+leads_to_none (needs.File call) l h = absurd h
+leads_to_none (needs.Give p bytes) l h = absurd h
+leads_to_none (needs.Start child) l h = absurd h
+leads_to_none (needs.Command bytes) l h = absurd h
+leads_to_none (needs.Ended status) l h = absurd h
+
+no_end : (due : NeedData) (l : LineState) → HasToWait due l → IsNoEnd due
+no_end needs.Wait l h = tt
+no_end (needs.Take p) l h = tt
+no_end (needs.File call) l h = tt
+no_end (needs.Give p bytes) l h = tt
+no_end (needs.Start child) l h = tt
+no_end (needs.Command bytes) l h = tt
+no_end (needs.Ended status) l h = absurd h
+
 -- What it did beside
 
 module _ (words : ChildData → List (List ℕ)) (old new : Beside) (mid : LineState) (g : IsGathered old.lines mid true old.posts new.posts) where
@@ -107,6 +126,7 @@ module _ (words : ChildData → List (List ℕ)) (old new : Beside) (mid : LineS
     posts = g.answers;
     gathered = mid;
     gathers = g.kept refl;
+    none = g.none refl;
     ready = ready;
     moments = moments;
     spawner = spawner;
@@ -119,6 +139,7 @@ module _ (words : ChildData → List (List ℕ)) (old new : Beside) (mid : LineS
     posts = g.answers;
     gathered = mid;
     gathers = g.kept refl;
+    none = g.none refl;
     ready = is;
     moments = moments;
     spawner = subst (λ s. Spawns [] old.spawner s) (sym spawner) (asked_nothing old.spawner);
@@ -134,8 +155,8 @@ module _ (words : ChildData → List (List ℕ)) (old new : Beside) (mid : LineS
     pub acts : (after : A → List Own → Type 0) (came : GotData) (done : (args : A) (past : List Own) → looked args past → after args (record { read = present; ready = found; due = held; came = came } ∷ past))
         (change : Change) (o n : Outside) (calls : List SpawnCall) (due : NeedData) → change now ready came → asked ≡ due → MayCome due came
         → Does (record { read = now; ready = ready; due = due; came = came }) o n → Spawns calls old.spawner new.spawner → Serves words due came calls mid new.lines
-        → Acts next words before after change o n old new
-    acts after came done change o n calls due changed is may does spawns serves = record {
+        → (room : ℕ) → BringsSome room came → Acts next words room before after change o n old new
+    acts after came done change o n calls due changed is may does spawns serves room some = record {
       ready = ready;
       on = record {
         event = record { read = now; ready = ready; due = due; came = came };
@@ -147,6 +168,7 @@ module _ (words : ChildData → List (List ℕ)) (old new : Beside) (mid : LineS
         changed = changed;
         does = does;
       };
+      some = some;
       asked = g.asked;
       calls = calls;
       tends = tends_act (record { read = now; ready = ready; due = due; came = came }) calls is_ready moments spawns serves;
@@ -165,9 +187,10 @@ module _ (words : ChildData → List (List ℕ)) (old new : Beside) (mid : LineS
       due_by : (args : A) (past : List Own) → looked args past → next args past now ready ≡ asked
       due_by args past l = sym (says args past l ∙ ap (λ (n : ℕ). next args past n found) present_is ∙ ap (λ (r : Ready). next args past now r) found_is)
 
-    pub waits : (due : NeedData) (o n : Outside) → asked ≡ due → Looks now o n → new.spawner ≡ old.spawner → LeadsToNone due mid → new.lines ≡ mid
+    pub waits : (due : NeedData) (o n : Outside) → asked ≡ due → Looks now o n → new.spawner ≡ old.spawner → HasToWait due mid → new.lines ≡ mid
         → Waits next words before looked o n old new
-    waits due o n is outside spawner none lines = record { due = due; idles = idles due o n is outside spawner none lines; stands = looks }
+    waits due o n is outside spawner quiet lines =
+        record { due = due; on = no_end due mid quiet; idles = idles due o n is outside spawner (leads_to_none due mid quiet) lines; stands = looks }
 
 -- a look at the clock
 pub looks_so : (old new : Outside) (read : ℕ) → IsMoment read → old.last ≤ read → Records old.moments new.moments read → new.last ≡ read
@@ -225,19 +248,10 @@ module _ (words : ChildData → List (List ℕ)) (due : NeedData) (most : ℕ) (
   served_now is s = subst (λ b. ByDone b (HasToWait due l × (m ≡ l) × (new ≡ old)) (Serving (λ calls. Serves words due came calls l m) old new)) is s
 
   pub possible_now : is_done served ≡ true → IsPossible due most served came → MayCome due came
-  possible_now is p = (subst (λ b. ByDone b (Unit {0}) (MayCome due came × IsWithin most came)) is p).0
+  possible_now is p = (subst (λ b. ByDone b (Unit {0}) (MayCome due came × IsWithin most came × BringsSome most came)) is p).0
 
-  pub within_now : is_done served ≡ true → IsPossible due most served came → IsWithin most came
-  within_now is p = (subst (λ b. ByDone b (Unit {0}) (MayCome due came × IsWithin most came)) is p).1
+  pub some_now : is_done served ≡ true → IsPossible due most served came → (room : ℕ) → most ≡ room → BringsSome room came
+  some_now is p room same = subst (λ (n : ℕ). BringsSome n came) same (subst (λ b. ByDone b (Unit {0}) (MayCome due came × IsWithin most came × BringsSome most came)) is p).2
 
   pub not_yet : is_done served ≡ false → IsServed (Serves words) due served came l m old new → HasToWait due l × (m ≡ l) × (new ≡ old)
   not_yet is s = subst (λ b. ByDone b (HasToWait due l × (m ≡ l) × (new ≡ old)) (Serving (λ calls. Serves words due came calls l m) old new)) is s
-
-pub leads_to_none : (due : NeedData) (l : LineState) → HasToWait due l → LeadsToNone due l
-leads_to_none needs.Wait l h = tt
-leads_to_none (needs.Take p) l h = h
-leads_to_none (needs.File call) l h = absurd h
-leads_to_none (needs.Give p bytes) l h = absurd h
-leads_to_none (needs.Start child) l h = absurd h
-leads_to_none (needs.Command bytes) l h = absurd h
-leads_to_none (needs.Ended status) l h = absurd h

@@ -1,7 +1,6 @@
 -- Runs that begin, go on and end.
 use Rattle.std.proofs.Common.{◌≡◌, ℕ, ◌+◌, ◌≤◌, List, [], ◌∷◌, Option, Some, None, refl, subst, arith}
 use Rattle.call_fs.specs.declared.program.Ready.{Ready}
-use Rattle.call_fs.specs.declared.past.NeedData.TheVariants.{Ended}
 use Rattle.call_fs.specs.declared.past.Own.{Own}
 use Rattle.call_fs.specs.Past.{Table, IsRunBy}
 use Rattle.program_runner.specs.Outside.{Outside}

@@ -1,5 +1,5 @@
 -- Calls of a spawner, and what was taken, given and started by them.
-use Rattle.std.proofs.Common.{◌≡◌, ◌⊎◌, ℕ, ◌≤◌, List, [], ◌∷◌, ◌++◌, take, set, get_or, slice_get, length, position, zero, suc, ◌<◌, Option, Some, None, Result, Ok, Err, IfOk, refl, sym, ap, ◌∙◌, subst, ⊎_elim, arith, append_assoc}
+use Rattle.std.proofs.Common.{◌≡◌, ℕ, ◌≤◌, List, [], ◌∷◌, ◌++◌, take, set, get_or, slice_get, length, position, zero, suc, ◌<◌, true, false, Option, Some, None, Result, Ok, Err, IfOk, refl, sym, ap, ◌∙◌, subst, ⊎_elim, arith}
 use Rattle.call_fs.specs.declared.program.Port.{Port}
 use Rattle.call_fs.specs.declared.program.Port.TheVariants as port
 use Rattle.call_fs.specs.declared.past.ChildData.{ChildData}
@@ -12,7 +12,7 @@ use Rattle.call_fs.specs.Program.{MayCome, IsWithin}
 use Rattle.mail_bytes.specs.Told.{Meets, Records, Rose}
 use Rattle.outside.specs.Streams.{CountsFailures}
 use Rattle.outside.specs.Streams.{Gives as Given}
-use Rattle.outside.specs.Children.{SpawnCall, Starts}
+use Rattle.outside.specs.Children.{Starts}
 use Rattle.outside.specs.Children.SpawnCall.{Start, Feed, Finish, AskStatus}
 use Rattle.outside.specs.declared.posts.Waiting.{Waiting}
 use Rattle.outside.specs.declared.posts.Waiting.TheVariants as waiting
@@ -27,9 +27,9 @@ use Rattle.program_runner.specs.declared.line.Line.{Line}
 use Rattle.program_runner.specs.declared.line.Line.TheVariants as line
 use Rattle.program_runner.specs.declared.served.Served.{Served}
 use Rattle.program_runner.specs.declared.served.Served.TheVariants as served
-use Rattle.program_runner.specs.Outside.{AreKept, Gives}
-use Rattle.program_runner.specs.Lines.{LineState, Serves, after_start, came_of_start, slot_of, TakesBy, TakesOf, TakesAs, IsQuiet, is_of, left_at, line_of, link_line, link_of, program_line, program_of, status_line, came_of_status, came_of_giving}
-use Rattle.program_runner.specs.Serving.{FitsPiece, IfDone, IsGiven, IsPossible, IsFront, IsServed, IsTaken, IsTakenAs, PutsOut, Serving, SpawnerTold, Spawns, came_with}
+use Rattle.program_runner.specs.Outside.{Gives}
+use Rattle.program_runner.specs.Lines.{LineState, Serves, after_start, after_taking, came_of_start, slot_of, HasToWait, TakesBy, TakesAs, IsQuiet, is_of, is_over, left_at, line_of, link_line, link_of, program_line, program_of, status_line, came_of_status, came_of_giving}
+use Rattle.program_runner.specs.Serving.{BringsSome, ByDone, FitsPiece, IfDone, IsAsked, IsGiven, IsPossible, IsFront, IsServed, IsStatusTaken, IsTaken, IsTakenAs, IsTakenBy, PutsOut, Serving, SpawnerTold, Spawns, came_with, is_done, served_status}
 use Rattle.program_runner.proofs.Deeds.{kept_more, kept_none, kept_one}
 
 -- Calls of a spawner
@@ -80,7 +80,7 @@ asked_start old new words told starts calls cause = record {
 -- a line of which bytes come, of this channel
 abbrev pub IsChannel : Line → ℕ → Type 0
 IsChannel (line.Link from) chan = from ≡ chan
-IsChannel (line.Program from) chan = from ≡ chan
+IsChannel (line.Program slot from) chan = from ≡ chan
 IsChannel other chan = ⊥
 
 abbrev pub IsStatus : Line → ℕ → ℕ → Type 0
@@ -96,9 +96,9 @@ link_no_status : (x : Option ℕ) (slot chan : ℕ) → IsStatus (link_line x) s
 link_no_status None slot chan is = is
 link_no_status (Some from) slot chan is = is
 
-program_no_status : (x : Option ℕ) (slot chan : ℕ) → IsStatus (program_line x) slot chan → ⊥
-program_no_status None slot chan is = is
-program_no_status (Some from) slot chan is = is
+program_no_status : (d : ℕ) (x : Option ℕ) (slot chan : ℕ) → IsStatus (program_line d x) slot chan → ⊥
+program_no_status d None slot chan is = is
+program_no_status d (Some from) slot chan is = is
 
 status_no_channel : (d : ℕ) (x : Option ℕ) (chan : ℕ) → IsChannel (status_line d x) chan → ⊥
 status_no_channel d None chan is = is
@@ -146,33 +146,21 @@ status_kind l port.Clean slot chan told is = absurd (link_no_status (link_of l 0
 status_kind l port.Lspawn slot chan told is = absurd (link_no_status (link_of l 1) slot chan is)
 status_kind l port.Rspawn slot chan told is = absurd (link_no_status (link_of l 2) slot chan is)
 status_kind l port.Todo slot chan told is = absurd (link_no_status (link_of l 3) slot chan is)
-status_kind l (port.Program d) slot chan told is = absurd (program_no_status (program_of l d) slot chan is)
+status_kind l (port.Program d) slot chan told is = absurd (program_no_status d (program_of l d) slot chan is)
 status_kind l (port.Status d) slot chan told is = status_told d told
 
 -- What was taken
 
-takes_by : (x : Line) (chan : ℕ) (came : GotData) (l m : LineState) (kept : List Waiting) → IsChannel x chan → TakesOf chan came l.kept kept → m ≡ record l { kept = kept }
-    → TakesBy x came [] l m
-takes_by (line.Link from) chan came l m kept is takes keeps = (kept, subst (λ n. TakesOf n came l.kept kept) (sym is) takes, refl, keeps)
-takes_by (line.Program from) chan came l m kept is takes keeps = (kept, subst (λ n. TakesOf n came l.kept kept) (sym is) takes, refl, keeps)
-takes_by line.Missing chan came l m kept is takes keeps = absurd is
-takes_by line.Output chan came l m kept is takes keeps = absurd is
-takes_by (line.Status slot from) chan came l m kept is takes keeps = absurd is
-
-is_quiet : (x : Line) (chan : ℕ) (kept : List Waiting) → IsChannel x chan → position (is_of chan) kept ≡ None → IsQuiet x kept
-is_quiet (line.Link from) chan kept is none = subst (λ n. position (is_of n) kept ≡ None) (sym is) none
-is_quiet (line.Program from) chan kept is none = subst (λ n. position (is_of n) kept ≡ None) (sym is) none
-is_quiet line.Missing chan kept is none = absurd is
-is_quiet line.Output chan kept is none = absurd is
-is_quiet (line.Status slot from) chan kept is none = absurd is
-
 module _ (l m : LineState) (p : Port) (s : SpawnerTold) where
-  took_as : (chan most : ℕ) (came : GotData) → IsChannel (line_of l p) chan → IsTakenAs chan most came l m → Serving (λ calls. TakesAs (Take p) came calls l m) s s
-  took_as chan most came is (kept, takes, keeps, few) = record { calls = []; done = takes_by (line_of l p) chan came l m kept is takes keeps; spawns = asked_nothing s }
+  takes_link : (chan most : ℕ) (came : GotData) → IsTakenAs chan most came l m → TakesBy (line.Link chan) came [] l m
+  takes_link chan most came (kept, takes, keeps, few, some) = (kept, takes, refl, keeps)
 
-  -- of a channel
-  pub took_of : (chan most : ℕ) (told : Served) (into : List ℕ) → IsChannel (line_of l p) chan → IsTaken chan most told into l m → IsServed TakesAs (Take p) told (came_with told into) l m s s
-  took_of chan most served.Nothing into is (none, same) = (is_quiet (line_of l p) chan l.kept is none, same, refl)
+  took_as : (chan most : ℕ) (came : GotData) → line_of l p ≡ line.Link chan → IsTakenAs chan most came l m → Serving (λ calls. TakesAs (Take p) came calls l m) s s
+  took_as chan most came is takes = record { calls = []; done = subst (λ x. TakesBy x came [] l m) (sym is) (takes_link chan most came takes); spawns = asked_nothing s }
+
+  -- of a link
+  pub took_of : (chan most : ℕ) (told : Served) (into : List ℕ) → line_of l p ≡ line.Link chan → IsTaken chan most told into l m → IsServed TakesAs (Take p) told (came_with told into) l m s s
+  took_of chan most served.Nothing into is (none, same) = (subst (λ x. IsQuiet x l) (sym is) none, same, refl)
   took_of chan most (served.Took count) into is (fits, takes) = took_as chan most (got.Took (take count into)) is takes
   took_of chan most served.End into is takes = took_as chan most got.End is takes
   took_of chan most served.Failed into is takes = took_as chan most got.Failed is takes
@@ -184,9 +172,9 @@ module _ (l m : LineState) (p : Port) (s : SpawnerTold) where
 
   pub took_possible : (chan most : ℕ) (told : Served) (into : List ℕ) → IsChannel (line_of l p) chan → IsTaken chan most told into l m → IsPossible (Take p) most told (came_with told into)
   took_possible chan most served.Nothing into is takes = tt
-  took_possible chan most (served.Took count) into is (fits, (kept, takes, keeps, few)) = (bytes_kind l p chan (take count into) is, few)
-  took_possible chan most served.End into is takes = (end_kind l p chan is, tt)
-  took_possible chan most served.Failed into is takes = (failed_kind p, tt)
+  took_possible chan most (served.Took count) into is (fits, (kept, takes, keeps, few, some)) = (bytes_kind l p chan (take count into) is, few, some)
+  took_possible chan most served.End into is takes = (end_kind l p chan is, tt, tt)
+  took_possible chan most served.Failed into is takes = (failed_kind p, tt, tt)
   took_possible chan most (served.Ended code) into is takes = absurd takes
   took_possible chan most served.Crashed into is takes = absurd takes
   took_possible chan most served.Gave into is takes = absurd takes
@@ -204,25 +192,119 @@ took_fits l m chan most served.Gave into takes = absurd takes
 took_fits l m chan most (served.Started pid) into takes = absurd takes
 took_fits l m chan most served.Memory into takes = absurd takes
 
+-- of a program
+module _ (l m : LineState) (p : Port) (s : SpawnerTold) (slot chan : ℕ) (is : line_of l p ≡ line.Program slot chan) where
+  is_program : IsChannel (line_of l p) chan
+  is_program = subst (λ x. IsChannel x chan) (sym is) refl
+
+  took_by : (most : ℕ) (came : GotData) (mid : LineState) → IsTakenAs chan most came l mid → m ≡ after_taking slot came mid → Serving (λ calls. TakesAs (Take p) came calls l m) s s
+  took_by most came mid (kept, takes, keeps, few, some) after = record {
+    calls = [];
+    done = subst (λ x. TakesBy x came [] l m) (sym is) (kept, takes, refl, after ∙ ap (after_taking slot came) keeps);
+    spawns = asked_nothing s;
+  }
+
+  pub took_of_program : (most : ℕ) (told : Served) (into : List ℕ) → IsTakenBy slot chan most told into l m → IsServed TakesAs (Take p) told (came_with told into) l m s s
+  took_of_program most served.Nothing into (mid, (none, same), after) = (subst (λ x. IsQuiet x l) (sym is) none, after ∙ same, refl)
+  took_of_program most (served.Took count) into (mid, (fits, takes), after) = took_by most (got.Took (take count into)) mid takes after
+  took_of_program most served.End into (mid, takes, after) = took_by most got.End mid takes after
+  took_of_program most served.Failed into (mid, takes, after) = took_by most got.Failed mid takes after
+  took_of_program most (served.Ended code) into (mid, takes, after) = absurd takes
+  took_of_program most served.Crashed into (mid, takes, after) = absurd takes
+  took_of_program most served.Gave into (mid, takes, after) = absurd takes
+  took_of_program most (served.Started pid) into (mid, takes, after) = absurd takes
+  took_of_program most served.Memory into (mid, takes, after) = absurd takes
+
+  pub program_possible : (most : ℕ) (told : Served) (into : List ℕ) → IsTakenBy slot chan most told into l m → IsPossible (Take p) most told (came_with told into)
+  program_possible most told into (mid, takes, after) = took_possible l mid p s chan most told into is_program takes
+
+pub program_fits : (l m : LineState) (slot chan most : ℕ) (told : Served) (into : List ℕ) → IsTakenBy slot chan most told into l m → FitsPiece told
+program_fits l m slot chan most told into (mid, takes, after) = took_fits l mid chan most told into takes
+
 takes_none : (x : Line) (l m : LineState) → IsNoLine x → m ≡ l → TakesBy x got.Failed [] l m
 takes_none line.Missing l m is same = (refl, refl, same)
 takes_none line.Output l m is same = (refl, refl, same)
 takes_none (line.Link from) l m is same = absurd is
-takes_none (line.Program from) l m is same = absurd is
+takes_none (line.Program slot from) l m is same = absurd is
 takes_none (line.Status slot from) l m is same = absurd is
 
 -- of no line
 pub took_none : (l : LineState) (p : Port) (s : SpawnerTold) → IsNoLine (line_of l p) → Serving (λ calls. TakesAs (Take p) got.Failed calls l l) s s
 took_none l p s is = record { calls = []; done = takes_none (line_of l p) l l is refl; spawns = asked_nothing s }
 
-takes_status : (x : Line) (slot chan : ℕ) (told : Status) (l m : LineState) → x ≡ line.Status slot chan → m ≡ record l { programs = set l.programs slot None }
-    → TakesBy x (came_of_status told) (AskStatus chan told ∷ []) l m
-takes_status x slot chan told l m is after = subst (λ y. TakesBy y (came_of_status told) (AskStatus chan told ∷ []) l m) (sym is) (told, refl, refl, after)
+came_of_served : (ended : Status) (into : List ℕ) → came_with (served_status ended) into ≡ came_of_status ended
+came_of_served (status.Ended code) into = refl
+came_of_served status.Crashed into = refl
+came_of_served status.Failed into = refl
+
+status_fits : (ended : Status) → FitsPiece (served_status ended)
+status_fits (status.Ended code) = tt
+status_fits status.Crashed = tt
+status_fits status.Failed = tt
+
+within_status : (most : ℕ) (ended : Status) → IsWithin most (came_of_status ended) × BringsSome most (came_of_status ended)
+within_status most (status.Ended code) = (tt, tt)
+within_status most status.Crashed = (tt, tt)
+within_status most status.Failed = (tt, tt)
+
+-- the first of these of what wasn't done, and the second of what was
+by_done : (told : Served) (A B : Type 0) (P : Served → Type 0) → IfDone told A B → (A → P served.Nothing) → (B → is_done told ≡ true → P told) → P told
+by_done served.Nothing A B P h quiet done = quiet h
+by_done (served.Took count) A B P h quiet done = done h refl
+by_done served.End A B P h quiet done = done h refl
+by_done (served.Ended code) A B P h quiet done = done h refl
+by_done served.Crashed A B P h quiet done = done h refl
+by_done served.Gave A B P h quiet done = done h refl
+by_done (served.Started pid) A B P h quiet done = done h refl
+by_done served.Failed A B P h quiet done = done h refl
+by_done served.Memory A B P h quiet done = done h refl
+
+if_done : (told : Served) (A B : Type 0) → is_done told ≡ true → B → IfDone told A B
+if_done told A B is h = subst (λ b. ByDone b A B) (sym is) h
+
+status_done : (ended : Status) → is_done (served_status ended) ≡ true
+status_done (status.Ended code) = refl
+status_done status.Crashed = refl
+status_done status.Failed = refl
+
+pub status_asked : (slot chan : ℕ) (told : Served) (ended : Status) (l m : LineState) (old new : SpawnerTold) → is_over l slot chan ≡ true → told ≡ served_status ended
+    → m ≡ record l { programs = set l.programs slot None } → Spawns (AskStatus chan ended ∷ []) old new → IsStatusTaken slot chan told l m old new
+status_asked slot chan told ended l m old new over is gone spawns =
+    if_done told ((is_over l slot chan ≡ false) × (m ≡ l) × (new ≡ old)) (IsAsked slot chan told l m old new) (ap is_done is ∙ status_done ended)
+    (record { over = over; ended = ended; is = is; gone = gone; spawns = spawns })
 
 -- of a status
-pub took_status : (l m : LineState) (p : Port) (slot chan : ℕ) (told : Status) (old new : SpawnerTold) → line_of l p ≡ line.Status slot chan
-    → m ≡ record l { programs = set l.programs slot None } → Spawns (AskStatus chan told ∷ []) old new → Serving (λ calls. TakesAs (Take p) (came_of_status told) calls l m) old new
-took_status l m p slot chan told old new is after spawns = record { calls = AskStatus chan told ∷ []; done = takes_status (line_of l p) slot chan told l m is after; spawns = spawns }
+module _ (l m : LineState) (p : Port) (slot chan : ℕ) (told : Served) (into : List ℕ) (old new : SpawnerTold) (is : line_of l p ≡ line.Status slot chan)
+    (taken : IsStatusTaken slot chan told l m old new) where
+  took_asked : IsAsked slot chan told l m old new → Serving (λ calls. TakesAs (Take p) (came_with told into) calls l m) old new
+  took_asked a = record {
+    calls = AskStatus chan a.ended ∷ [];
+    done = subst (λ x. TakesBy x (came_with told into) (AskStatus chan a.ended ∷ []) l m) (sym is)
+        (a.over, a.ended, ap (λ (t : Served). came_with t into) a.is ∙ came_of_served a.ended into, refl, a.gone);
+    spawns = a.spawns;
+  }
+
+  pub took_status : IsServed TakesAs (Take p) told (came_with told into) l m old new
+  took_status = by_done told ((is_over l slot chan ≡ false) × (m ≡ l) × (new ≡ old)) (IsAsked slot chan told l m old new)
+      (λ t. IsServed TakesAs (Take p) t (came_with told into) l m old new) taken
+      (λ q. (subst (λ x. IsQuiet x l) (sym is) q.0, q.1, q.2))
+      (λ a done. if_done told (HasToWait (Take p) l × (m ≡ l) × (new ≡ old)) (Serving (λ calls. TakesAs (Take p) (came_with told into) calls l m) old new) done (took_asked a))
+
+  asked_possible : (most : ℕ) → IsAsked slot chan told l m old new → MayCome (Take p) (came_with told into) × IsWithin most (came_with told into) × BringsSome most (came_with told into)
+  asked_possible most a =
+      let came : came_with told into ≡ came_of_status a.ended = ap (λ (t : Served). came_with t into) a.is ∙ came_of_served a.ended into in
+      let within = within_status most a.ended in
+      subst (λ (g : GotData). MayCome (Take p) g × IsWithin most g × BringsSome most g) (sym came)
+      (status_kind l p slot chan a.ended (subst (λ x. IsStatus x slot chan) (sym is) (refl, refl)), within.0, within.1)
+
+  pub status_possible : (most : ℕ) → IsPossible (Take p) most told (came_with told into)
+  status_possible most = by_done told ((is_over l slot chan ≡ false) × (m ≡ l) × (new ≡ old)) (IsAsked slot chan told l m old new)
+      (λ t. IsPossible (Take p) most t (came_with told into)) taken (λ q. tt)
+      (λ a done. if_done told (Unit {0}) (MayCome (Take p) (came_with told into) × IsWithin most (came_with told into) × BringsSome most (came_with told into)) done (asked_possible most a))
+
+  pub status_piece : FitsPiece told
+  status_piece = by_done told ((is_over l slot chan ≡ false) × (m ≡ l) × (new ≡ old)) (IsAsked slot chan told l m old new)
+      FitsPiece taken (λ q. tt) (λ a done. subst FitsPiece (sym a.is) (status_fits a.ended))
 
 -- What was given
 
@@ -238,9 +320,9 @@ link_no_output : (x : Option ℕ) → IsOutput (link_line x) → ⊥
 link_no_output None is = is
 link_no_output (Some from) is = is
 
-program_no_output : (x : Option ℕ) → IsOutput (program_line x) → ⊥
-program_no_output None is = is
-program_no_output (Some from) is = is
+program_no_output : (d : ℕ) (x : Option ℕ) → IsOutput (program_line d x) → ⊥
+program_no_output d None is = is
+program_no_output d (Some from) is = is
 
 status_no_output : (d : ℕ) (x : Option ℕ) → IsOutput (status_line d x) → ⊥
 status_no_output d None is = is
@@ -323,7 +405,7 @@ puts_all l port.Clean bytes told a b before now is taken cause = absurd (link_no
 puts_all l port.Lspawn bytes told a b before now is taken cause = absurd (link_no_output (link_of l 1) is)
 puts_all l port.Rspawn bytes told a b before now is taken cause = absurd (link_no_output (link_of l 2) is)
 puts_all l port.Todo bytes told a b before now is taken cause = absurd (link_no_output (link_of l 3) is)
-puts_all l (port.Program d) bytes told a b before now is taken cause = absurd (program_no_output (program_of l d) is)
+puts_all l (port.Program d) bytes told a b before now is taken cause = absurd (program_no_output d (program_of l d) is)
 puts_all l (port.Status d) bytes told a b before now is taken cause = absurd (status_no_output d (program_of l d) is)
 
 -- if it holds of what is Ok, so does this
@@ -334,14 +416,14 @@ if_ok (Err why) P Q on h = tt
 -- What was taken of a piece
 
 takes_front : (piece : Waiting) (chan place most : ℕ) (told : Served) (rest into : List ℕ) (l m : LineState) → position (is_of chan) l.kept ≡ Some place → slice_get l.kept place ≡ Some piece
-    → IsFront piece most told rest into → m ≡ record l { kept = left_at l.kept place chan rest } → IsTaken chan most told into l m
-takes_front (waiting.Bytes from bytes) chan place most told rest into l m found there (count, is, fits, few, parts) keeps =
+    → IsFront piece most told rest into → BringsSome most (came_with told into) → m ≡ record l { kept = left_at l.kept place chan rest } → IsTaken chan most told into l m
+takes_front (waiting.Bytes from bytes) chan place most told rest into l m found there (count, is, fits, few, parts) some keeps =
     subst (λ t. IsTaken chan most t into l m) (sym is)
-    (fits, (left_at l.kept place chan rest, (place, from, rest, found, there ∙ ap (λ (b : List ℕ). Some (waiting.Bytes from b)) parts, refl), keeps, few))
-takes_front (waiting.End from) chan place most told rest into l m found there (is, none) keeps =
-    subst (λ t. IsTaken chan most t into l m) (sym is) (left_at l.kept place chan [], (place, from, found, there, refl), keeps ∙ ap (λ (r : List ℕ). record l { kept = left_at l.kept place chan r }) none, tt)
-takes_front (waiting.Failed from) chan place most told rest into l m found there (is, none) keeps =
-    subst (λ t. IsTaken chan most t into l m) (sym is) (left_at l.kept place chan [], (place, from, found, there, refl), keeps ∙ ap (λ (r : List ℕ). record l { kept = left_at l.kept place chan r }) none, tt)
+    (fits, (left_at l.kept place chan rest, (place, from, rest, found, there ∙ ap (λ (b : List ℕ). Some (waiting.Bytes from b)) parts, refl), keeps, few, subst (λ (t : Served). BringsSome most (came_with t into)) is some))
+takes_front (waiting.End from) chan place most told rest into l m found there (is, none) some keeps =
+    subst (λ t. IsTaken chan most t into l m) (sym is) (left_at l.kept place chan [], (place, from, found, there, refl), keeps ∙ ap (λ (r : List ℕ). record l { kept = left_at l.kept place chan r }) none, tt, tt)
+takes_front (waiting.Failed from) chan place most told rest into l m found there (is, none) some keeps =
+    subst (λ t. IsTaken chan most t into l m) (sym is) (left_at l.kept place chan [], (place, from, found, there, refl), keeps ∙ ap (λ (r : List ℕ). record l { kept = left_at l.kept place chan r }) none, tt, tt)
 
 get_there : {X : Type 0} (l : List X) (i : ℕ) (x : X) → i < length l → x ≡ get_or l i x → slice_get l i ≡ Some x
 get_there [] i x inside is = absurd (omega (arith, inside))
@@ -349,9 +431,9 @@ get_there (y ∷ l) zero x inside is = ap Some (sym is)
 get_there (y ∷ l) (suc i) x inside is = get_there l i x (omega (arith, inside)) is
 
 pub took_front : (piece : Waiting) (chan place most : ℕ) (told : Served) (rest into : List ℕ) (l m : LineState) → position (is_of chan) l.kept ≡ Some place → place < length l.kept
-    → piece ≡ get_or l.kept place piece → IsFront piece most told rest into → m ≡ record l { kept = left_at l.kept place chan rest } → IsTaken chan most told into l m
-took_front piece chan place most told rest into l m found inside is front keeps =
-    takes_front piece chan place most told rest into l m found (get_there l.kept place piece inside is) front keeps
+    → piece ≡ get_or l.kept place piece → IsFront piece most told rest into → BringsSome most (came_with told into) → m ≡ record l { kept = left_at l.kept place chan rest } → IsTaken chan most told into l m
+took_front piece chan place most told rest into l m found inside is front some keeps =
+    takes_front piece chan place most told rest into l m found (get_there l.kept place piece inside is) front some keeps
 
 -- What came of givings and starts
 

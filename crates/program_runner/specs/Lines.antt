@@ -1,6 +1,6 @@
 -- The channels of a program: which one each of its pipes is, what came of them and wasn't taken yet, and what is done with
 -- them.
-use Rattle.std.specs.Prelude.{◌≡◌, ◌⊎◌, ℕ, List, [], ◌∷◌, ◌++◌, take, set, slice_get, slice_index_or, position, flat_map, Bool, true, false, ◌==◌, Contains, Option, Some, None, is_some}
+use Rattle.std.specs.Prelude.{◌≡◌, ◌⊎◌, ℕ, ◌<◌, List, [], ◌∷◌, ◌++◌, length, set, slice_get, slice_index_or, position, flat_map, Bool, true, false, ◌==◌, ◌||◌, Option, Some, None, is_some}
 use Rattle.std.specs.List.{remove}
 use Rattle.call_fs.specs.declared.program.Port.{Port}
 use Rattle.call_fs.specs.declared.program.Port.TheVariants as port
@@ -26,12 +26,19 @@ use Rattle.outside.specs.Children.SpawnCall.{Start, Feed, Finish, AskStatus}
 use Rattle.program_runner.specs.declared.line.Line.{Line}
 use Rattle.program_runner.specs.declared.line.Line.TheVariants as line
 
--- The channels of the links, in the order of `Ready`, and of the program of each delivery; and what came and wasn't taken
--- yet, the first one first.
+-- The channels of the links, in the order of `Ready`, and of the program of each delivery; of which deliveries the program's
+-- end was taken; and what came and wasn't taken yet, the first one first.
 pub record LineState : Type 0 where
   pub links : List (Option ℕ)
   pub programs : List (Option ℕ)
+  pub over : List Bool
   pub kept : List Waiting
+
+-- a piece of bytes has some
+abbrev pub HasSome : Waiting → Type 0
+HasSome (waiting.Bytes chan bytes) = 0 < length bytes
+HasSome (waiting.End chan) = Unit {0}
+HasSome (waiting.Failed chan) = Unit {0}
 
 -- Which channel is which
 
@@ -45,9 +52,9 @@ abbrev pub link_line : Option ℕ → Line
 link_line None = line.Missing
 link_line (Some chan) = line.Link chan
 
-abbrev pub program_line : Option ℕ → Line
-program_line None = line.Missing
-program_line (Some chan) = line.Program chan
+abbrev pub program_line : ℕ → Option ℕ → Line
+program_line slot None = line.Missing
+program_line slot (Some chan) = line.Program slot chan
 
 abbrev pub status_line : ℕ → Option ℕ → Line
 status_line slot None = line.Missing
@@ -61,7 +68,7 @@ line_of l port.Clean = link_line (link_of l 0)
 line_of l port.Lspawn = link_line (link_of l 1)
 line_of l port.Rspawn = link_line (link_of l 2)
 line_of l port.Todo = link_line (link_of l 3)
-line_of l (port.Program slot) = program_line (program_of l slot)
+line_of l (port.Program slot) = program_line slot (program_of l slot)
 line_of l (port.Status slot) = status_line slot (program_of l slot)
 
 -- the delivery whose program it is, 0 for an only child
@@ -112,6 +119,10 @@ abbrev pub has_ended : List Waiting → Option ℕ → Bool
 has_ended kept None = false
 has_ended kept (Some chan) = is_some (position (is_last_of chan) kept)
 
+-- the program of a delivery, with this channel, has ended: its end came, or was taken already
+abbrev pub is_over : LineState → ℕ → ℕ → Bool
+is_over l slot chan = slice_index_or l.over slot false || has_ended l.kept (Some chan)
+
 -- What is ready: each link of which something came, and the lowest delivery whose program has ended.
 abbrev pub ready_of : LineState → Ready
 ready_of l = record {
@@ -142,18 +153,25 @@ TakesOf chan got.Failed old new = (place from : ℕ) × (position (is_of chan) o
     × (slice_get old place ≡ Some (waiting.Failed from)) × (new ≡ remove old place)
 TakesOf chan other old new = ⊥
 
+-- that a program's end was taken, or that its output can't be read any more, is kept until its delivery has another one
+abbrev pub after_taking : ℕ → GotData → LineState → LineState
+after_taking slot got.End l = record l { over = set l.over slot true }
+after_taking slot got.Failed l = record l { over = set l.over slot true }
+after_taking slot other l = l
+
 abbrev pub came_of_status : Status → GotData
 came_of_status (status.Ended code) = got.Ended code
 came_of_status status.Crashed = got.Crashed
 came_of_status status.Failed = got.Failed
 
--- Of a line that is missing every taking fails; and a program is gone once its status was told.
+-- Of a line that is missing every taking fails. A status is told once the program has ended, and then that is gone.
 abbrev pub TakesBy : Line → GotData → List SpawnCall → LineState → LineState → Type 0
 TakesBy line.Missing came calls old new = (came ≡ got.Failed) × (calls ≡ []) × (new ≡ old)
 TakesBy line.Output came calls old new = (came ≡ got.Failed) × (calls ≡ []) × (new ≡ old)
 TakesBy (line.Link chan) came calls old new = (kept : List Waiting) × TakesOf chan came old.kept kept × (calls ≡ []) × (new ≡ record old { kept = kept })
-TakesBy (line.Program chan) came calls old new = (kept : List Waiting) × TakesOf chan came old.kept kept × (calls ≡ []) × (new ≡ record old { kept = kept })
-TakesBy (line.Status slot chan) came calls old new = (told : Status) × (came ≡ came_of_status told) × (calls ≡ AskStatus chan told ∷ [])
+TakesBy (line.Program slot chan) came calls old new = (kept : List Waiting) × TakesOf chan came old.kept kept × (calls ≡ [])
+    × (new ≡ after_taking slot came (record old { kept = kept }))
+TakesBy (line.Status slot chan) came calls old new = (is_over old slot chan ≡ true) × (told : Status) × (came ≡ came_of_status told) × (calls ≡ AskStatus chan told ∷ [])
     × (new ≡ record old { programs = set old.programs slot None })
 
 -- a taking, as an event does it
@@ -170,7 +188,7 @@ abbrev pub GivesBy : Line → List ℕ → Gave → List SpawnCall → Type 0
 GivesBy line.Missing bytes told calls = (told ≡ gave.Failed) × (calls ≡ [])
 GivesBy line.Output bytes told calls = calls ≡ []
 GivesBy (line.Link chan) bytes told calls = calls ≡ Feed chan bytes told ∷ []
-GivesBy (line.Program chan) bytes told calls = calls ≡ Feed chan bytes told ∷ Finish chan ∷ []
+GivesBy (line.Program slot chan) bytes told calls = calls ≡ Feed chan bytes told ∷ Finish chan ∷ []
 GivesBy (line.Status slot chan) bytes told calls = (told ≡ gave.Failed) × (calls ≡ [])
 
 abbrev pub came_of_start : Started → GotData
@@ -180,7 +198,7 @@ came_of_start started.Memory = got.Memory
 
 -- a child that was started is the program of its delivery
 abbrev pub after_start : ℕ → Started → LineState → LineState
-after_start slot (started.Chan chan pid) l = record l { programs = set l.programs slot (Some chan) }
+after_start slot (started.Chan chan pid) l = record l { programs = set l.programs slot (Some chan); over = set l.over slot false }
 after_start slot started.Failed l = l
 after_start slot started.Memory l = l
 
@@ -193,16 +211,18 @@ Serves words (needs.Start child) came calls old new = (told : Started) × (came 
 Serves words (needs.File call) came calls old new = (calls ≡ []) × (new ≡ old)
 Serves words other came calls old new = ⊥
 
--- nothing came of a line of which bytes come
-abbrev pub IsQuiet : Line → List Waiting → Type 0
-IsQuiet (line.Link chan) kept = position (is_of chan) kept ≡ None
-IsQuiet (line.Program chan) kept = position (is_of chan) kept ≡ None
-IsQuiet other kept = ⊥
+-- nothing came of a line of which bytes come, or the program whose status it is hasn't ended
+abbrev pub IsQuiet : Line → LineState → Type 0
+IsQuiet (line.Link chan) l = position (is_of chan) l.kept ≡ None
+IsQuiet (line.Program slot chan) l = position (is_of chan) l.kept ≡ None
+IsQuiet (line.Status slot chan) l = is_over l slot chan ≡ false
+IsQuiet other l = ⊥
 
--- a program that has to wait: it asks for that, or takes of a line of which nothing came
+-- a program that has to wait: it asks for that, takes of a line of which nothing came, or asks for the status of a program
+-- that hasn't ended
 abbrev pub HasToWait : NeedData → LineState → Type 0
 HasToWait needs.Wait l = Unit {0}
-HasToWait (needs.Take port) l = IsQuiet (line_of l port) l.kept
+HasToWait (needs.Take port) l = IsQuiet (line_of l port) l
 HasToWait other l = ⊥
 
 -- Calls of a spawner

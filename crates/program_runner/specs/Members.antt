@@ -5,7 +5,7 @@ use Rattle.std.specs.declared.alloc.AllocError.{AllocError}
 use Rattle.call_fs.specs.declared.program.Ready.{Ready}
 use Rattle.call_fs.specs.declared.past.ChildData.{ChildData}
 use Rattle.call_fs.specs.declared.past.NeedData.{NeedData}
-use Rattle.call_fs.specs.declared.past.NeedData.TheVariants.{File, Take, Give, Start, Command, Wait, Ended}
+use Rattle.call_fs.specs.declared.past.NeedData.TheVariants.{Take, Command, Wait, Ended}
 use Rattle.call_fs.specs.declared.past.Own.{Own}
 use Rattle.call_fs.specs.Disk.{Disk}
 use Rattle.call_fs.specs.Past.{Table, IsRunBy, Backs, held}
@@ -14,7 +14,7 @@ use Rattle.outside.specs.Children.{Posted, SpawnCall}
 use Rattle.program_runner.specs.Outside.{Outside, AreKept, Looks}
 use Rattle.program_runner.specs.Runs.{Change, GoesOn, Did, most_turns}
 use Rattle.program_runner.specs.Lines.{LineState, Gathers, Serves, HasToWait, ready_of}
-use Rattle.program_runner.specs.Serving.{MayStart, PostsTold, Answers, SpawnerTold, Spawns}
+use Rattle.program_runner.specs.Serving.{PostsTold, Answers, SpawnerTold, Spawns, NoneWait, HasBytes, BringsSome}
 
 -- A count that stands at its last value, and so tells nothing: a program with channels has no input of its own.
 abbrev pub uncounted : ℕ
@@ -50,7 +50,12 @@ abbrev pub calls_in : Step → List SpawnCall
 calls_in (Acted asked event calls) = calls
 calls_in (Looked asked read ready due) = []
 
--- A look leads to no event if the program has ended, or has to wait.
+-- it isn't the end
+abbrev pub IsNoEnd : NeedData → Type 0
+IsNoEnd (Ended status) = ⊥
+IsNoEnd other = Unit {0}
+
+-- A look leads to no event if the program has ended, or has to wait. No event is at the end: that isn't served.
 abbrev pub LeadsToNone : NeedData → LineState → Type 0
 LeadsToNone (Ended status) l = Unit {0}
 LeadsToNone Wait l = Unit {0}
@@ -68,6 +73,7 @@ pub record Tends (words : ChildData → List (List ℕ)) (step : Step) (old new 
   pub posts : Answers (asked_in step) old.posts new.posts
   pub gathered : LineState
   pub gathers : Gathers old.lines (asked_in step) gathered
+  pub none : NoneWait new.posts
   pub ready : ready_in step ≡ ready_of gathered
   pub moments : Records old.moments new.moments (read_in step)
   pub spawner : Spawns (calls_in step) old.spawner new.spawner
@@ -75,10 +81,9 @@ pub record Tends (words : ChildData → List (List ℕ)) (step : Step) (old new 
 
 -- One turn
 
--- what a program may do that is run so: all but the commands of a user, and to start a local delivery
+-- what a program may do that is run so: all but the commands of a user
 abbrev pub IsCarried : NeedData → Type 0
 IsCarried (Command bytes) = ⊥
-IsCarried (Start child) = MayStart child
 IsCarried other = Unit {0}
 
 -- A machine that may take a turn: it stands for some past that is a run, which only asks for what is carried, and whose
@@ -91,10 +96,12 @@ pub record MayAct {A : Type 0} (next : A → Table) (stands : A → List Own →
   pub carried : (now : ℕ) (ready : Ready) → IsCarried (next args past now ready)
   pub backed : OnTold disk (λ d. Backs d (held past))
 
--- One event more: it was due after each past that the machine stood for.
-pub record Acts {A : Type 0} (next : A → Table) (words : ChildData → List (List ℕ)) (before after : A → List Own → Type 0) (change : Change) (old new : Outside) (beside now : Beside) : Type 0 where
+-- One event more: it was due after each past that the machine stood for. If it is a taking, and there was room for any bytes,
+-- it brought some.
+pub record Acts {A : Type 0} (next : A → Table) (words : ChildData → List (List ℕ)) (room : ℕ) (before after : A → List Own → Type 0) (change : Change) (old new : Outside) (beside now : Beside) : Type 0 where
   pub ready : Ready
   pub on : GoesOn next before after change ready old new
+  pub some : BringsSome room on.event.came
   pub asked : List Posted
   pub calls : List SpawnCall
   pub tends : Tends words (Acted asked on.event calls) beside now
@@ -108,9 +115,10 @@ pub record Idles {A : Type 0} (next : A → Table) (words : ChildData → List (
   pub looks : Looks read old new
   pub tends : Tends words (Looked asked read ready due) beside now
 
--- It has to wait, and stands for the same pasts as before.
+-- It has to wait, so it hasn't ended, and stands for the same pasts as before.
 pub record Waits {A : Type 0} (next : A → Table) (words : ChildData → List (List ℕ)) (before after : A → List Own → Type 0) (old new : Outside) (beside now : Beside) : Type 0 where
   pub due : NeedData
+  pub on : IsNoEnd due
   pub idles : Idles next words before due old new beside now
   pub stands : (args : A) (past : List Own) → before args past → after args past
 
@@ -125,16 +133,17 @@ pub record Asks (old new : Outside) (beside now : Beside) : Type 0 where
   pub spawner : now.spawner ≡ beside.spawner
 
 -- A turn that ran out of memory: its event is one more, or nothing was done.
-abbrev pub IsCut : {A : Type 0} → (A → Table) → (ChildData → List (List ℕ)) → (A → List Own → Type 0) → Outside → Outside → Beside → Beside → Type 0
-IsCut next words before old new beside now =
-    Acts next words before (λ args past. Unit {0}) (λ read ready came. Unit {0}) old new beside now ⊎ Asks old new beside now
+abbrev pub IsCut : {A : Type 0} → (A → Table) → (ChildData → List (List ℕ)) → ℕ → (A → List Own → Type 0) → Outside → Outside → Beside → Beside → Type 0
+IsCut next words room before old new beside now =
+    Acts next words room before (λ args past. Unit {0}) (λ read ready came. Unit {0}) old new beside now ⊎ Asks old new beside now
 
-abbrev pub IsTurnOf : {A : Type 0} → (A → Table) → (ChildData → List (List ℕ)) → (A → List Own → Type 0) → (A → List Own → Type 0) → Change → Result (Option ℕ) AllocError → Outside → Outside → Beside → Beside → Type 0
-IsTurnOf next words before after change (Ok None) old new beside now =
-    Acts next words before after change old new beside now
+-- A turn, with room for so many bytes of a taking. It answers a status exactly if it finds the program at its end.
+abbrev pub IsTurnOf : {A : Type 0} → (A → Table) → (ChildData → List (List ℕ)) → ℕ → (A → List Own → Type 0) → (A → List Own → Type 0) → Change → Result (Option ℕ) AllocError → Outside → Outside → Beside → Beside → Type 0
+IsTurnOf next words room before after change (Ok None) old new beside now =
+    Acts next words room before after change old new beside now
     ⊎ Waits next words before after old new beside now
-IsTurnOf next words before after change (Ok (Some status)) old new beside now = Idles next words before (Ended status) old new beside now
-IsTurnOf next words before after change (Err why) old new beside now = IsCut next words before old new beside now
+IsTurnOf next words room before after change (Ok (Some status)) old new beside now = Idles next words before (Ended status) old new beside now
+IsTurnOf next words room before after change (Err why) old new beside now = IsCut next words room before old new beside now
 
 -- Whole runs
 
@@ -149,6 +158,23 @@ abbrev pub AreDueBy : Table → List Step → Type 0
 AreDueBy next [] = Unit {0}
 AreDueBy next (Acted asked event calls ∷ before) = AreDueBy next before
 AreDueBy next (Looked asked read ready due ∷ before) = AreDueBy next before × (next (events_of before) read ready ≡ due)
+
+-- none of these looks found the program at its end
+abbrev pub AreNoEnds : List Step → Type 0
+AreNoEnds [] = Unit {0}
+AreNoEnds (Acted asked event calls ∷ before) = AreNoEnds before
+AreNoEnds (Looked asked read ready due ∷ before) = IsNoEnd due × AreNoEnds before
+
+-- each taking brought some bytes
+abbrev pub AllHaveBytes : List Step → Type 0
+AllHaveBytes [] = Unit {0}
+AllHaveBytes (Acted asked event calls ∷ before) = HasBytes event.came × AllHaveBytes before
+AllHaveBytes (Looked asked read ready due ∷ before) = AllHaveBytes before
+
+-- once there was a turn, nothing is waiting
+abbrev pub NoneWaitAfter : List Step → PostsTold → Type 0
+NoneWaitAfter [] posts = Unit {0}
+NoneWaitAfter (step ∷ before) posts = NoneWait posts
 
 -- all answers of the posts, all calls of the spawner, and all moments that were read, in order
 abbrev pub all_asked : List Step → List Posted
@@ -179,40 +205,47 @@ Leads words first (step ∷ before) last = (mid : LineState) × Leads words firs
 pub record DidBeside (words : ChildData → List (List ℕ)) (turns : List Step) (old new : Beside) : Type 0 where
   pub moments : AreKept old.moments new.moments (all_read turns)
   pub posts : Answers (all_asked turns) old.posts new.posts
+  pub none : NoneWaitAfter turns new.posts
   pub spawner : Spawns (all_calls turns) old.spawner new.spawner
   pub lines : Leads words old.lines turns new.lines
 
--- A run: some turns, whose events are a run of the table for all arguments for which the machine stood.
-pub record IsRunOf {A : Type 0} (next : A → Table) (words : ChildData → List (List ℕ)) (possible : A → Type 0) (turns : List Step) (start : ℕ) (old new : Outside) (beside now : Beside) : Type 0 where
+-- A run: some turns, whose events are a run of the table for all arguments for which the machine stood. If the machine always
+-- has room for bytes, each taking brought some.
+pub record IsRunOf {A : Type 0} (next : A → Table) (words : ChildData → List (List ℕ)) (roomy : Type 0) (possible : A → Type 0) (turns : List Step) (start : ℕ) (old new : Outside) (beside now : Beside) : Type 0 where
   pub run : (args : A) → possible args → IsRunBy (next args) (events_of turns)
   pub due : (args : A) → possible args → AreDueBy (next args) turns
+  pub some : roomy → AllHaveBytes turns
   pub did : Did start (events_of turns) old new
   pub did_beside : DidBeside words turns beside now
 
--- it goes on after so many turns
-pub record GoesOnStill {A : Type 0} (next : A → Table) (words : ChildData → List (List ℕ)) (stands : A → List Own → Type 0) (possible : A → Type 0) (start count : ℕ) (old new : Outside) (beside now : Beside) : Type 0 where
+-- it goes on after so many turns, none of which found it at its end
+pub record GoesOnStill {A : Type 0} (next : A → Table) (words : ChildData → List (List ℕ)) (roomy : Type 0) (stands : A → List Own → Type 0) (possible : A → Type 0) (start count : ℕ) (old new : Outside) (beside now : Beside) : Type 0 where
   pub turns : List Step
   pub long : length turns ≡ count
+  pub on : AreNoEnds turns
   pub holds : (args : A) → possible args → stands args (events_of turns)
-  pub ran : IsRunOf next words possible turns start old new beside now
+  pub ran : IsRunOf next words roomy possible turns start old new beside now
 
--- it ended with this status, which was due at its last look
-pub record HasEndedSo {A : Type 0} (next : A → Table) (words : ChildData → List (List ℕ)) (possible : A → Type 0) (start status : ℕ) (old new : Outside) (beside now : Beside) : Type 0 where
+-- it ended with this status, which was due at its last look and at none before
+pub record HasEndedSo {A : Type 0} (next : A → Table) (words : ChildData → List (List ℕ)) (roomy : Type 0) (possible : A → Type 0) (start status : ℕ) (old new : Outside) (beside now : Beside) : Type 0 where
   pub asked : List Posted
   pub read : ℕ
   pub ready : Ready
   pub before : List Step
-  pub ran : IsRunOf next words possible (Looked asked read ready (Ended status) ∷ before) start old new beside now
+  pub on : AreNoEnds before
+  pub ran : IsRunOf next words roomy possible (Looked asked read ready (Ended status) ∷ before) start old new beside now
 
--- it ran out of memory: what it did until then is a run that was cut short
-pub record WasCut {A : Type 0} (next : A → Table) (words : ChildData → List (List ℕ)) (possible : A → Type 0) (start : ℕ) (old new : Outside) (beside now : Beside) : Type 0 where
+-- it ran out of memory: what it did until then is a run that was cut short, and that hadn't ended
+pub record WasCut {A : Type 0} (next : A → Table) (words : ChildData → List (List ℕ)) (roomy : Type 0) (possible : A → Type 0) (start : ℕ) (old new : Outside) (beside now : Beside) : Type 0 where
   pub turns : List Step
   pub mid : Outside
   pub mid_beside : Beside
-  pub ran : IsRunOf next words possible turns start old mid beside mid_beside
+  pub on : AreNoEnds turns
+  pub ran : IsRunOf next words roomy possible turns start old mid beside mid_beside
   pub rest : (mid ≡ new) × (mid_beside ≡ now) ⊎ Asks mid new mid_beside now
 
-abbrev pub RanTo : {A : Type 0} → Result (Option ℕ) AllocError → (A → Table) → (ChildData → List (List ℕ)) → (A → List Own → Type 0) → (A → Type 0) → ℕ → Outside → Outside → Beside → Beside → Type 0
-RanTo (Ok (Some status)) next words stands possible start old new beside now = HasEndedSo next words possible start status old new beside now
-RanTo (Ok None) next words stands possible start old new beside now = GoesOnStill next words stands possible start most_turns old new beside now
-RanTo (Err why) next words stands possible start old new beside now = WasCut next words possible start old new beside now
+-- The run of a program. Its machine may always have room for bytes (`roomy`).
+abbrev pub RanTo : {A : Type 0} → Result (Option ℕ) AllocError → (A → Table) → (ChildData → List (List ℕ)) → Type 0 → (A → List Own → Type 0) → (A → Type 0) → ℕ → Outside → Outside → Beside → Beside → Type 0
+RanTo (Ok (Some status)) next words roomy stands possible start old new beside now = HasEndedSo next words roomy possible start status old new beside now
+RanTo (Ok None) next words roomy stands possible start old new beside now = GoesOnStill next words roomy stands possible start most_turns old new beside now
+RanTo (Err why) next words roomy stands possible start old new beside now = WasCut next words roomy possible start old new beside now

@@ -1,15 +1,14 @@
 -- One turn of a program, and whole runs: the events are those of its table, and they did outside what they say.
-use Rattle.std.specs.Prelude.{◌≡◌, ◌⊎◌, ℕ, ◌≤◌, List, [], ◌∷◌, ◌++◌, length, Option, Some, None, IsSome}
+use Rattle.std.specs.Prelude.{◌≡◌, ◌⊎◌, ℕ, ◌≤◌, List, [], ◌∷◌, ◌++◌, length, Option, Some, None}
 use Rattle.call_fs.specs.declared.program.Port.TheVariants as port
 use Rattle.call_fs.specs.declared.program.Ready.{Ready}
 use Rattle.call_fs.specs.declared.past.NeedData.{NeedData}
-use Rattle.call_fs.specs.declared.past.NeedData.TheVariants.{File, Take, Give, Start, Command, Wait, Ended}
+use Rattle.call_fs.specs.declared.past.NeedData.TheVariants.{File, Take, Give, Ended}
 use Rattle.call_fs.specs.declared.past.GotData.{GotData}
 use Rattle.call_fs.specs.declared.past.Own.{Own}
 use Rattle.call_fs.specs.Disk.{Disk}
 use Rattle.call_fs.specs.Past.{Table, IsRunBy, HasCall, IsFault, LeadsTo, InOrder, Backs, calls_of, moments_of, latest_from, held}
 use Rattle.call_fs.specs.Program.{MayCome}
-use Rattle.mail_bytes.specs.Moments.{IsMoment}
 use Rattle.mail_bytes.specs.Told.{Meets, OnTold, Rose}
 use Rattle.program_runner.specs.Outside.{Outside, AreKept, Does, Looks, TakesEnd, FailsToTake, FailsToGive, Gives, taken_by}
 

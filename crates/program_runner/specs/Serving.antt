@@ -1,10 +1,9 @@
 -- What the posts answered, what a spawner was asked, and how a need was served that is no file call.
-use Rattle.std.specs.Prelude.{◌≡◌, ◌⊎◌, ℕ, ◌≤◌, List, [], ◌∷◌, ◌++◌, length, take, flat_map, position, Bool, true, false, Option, Some, None}
+use Rattle.std.specs.Prelude.{◌≡◌, ℕ, ◌<◌, ◌≤◌, List, [], ◌∷◌, ◌++◌, length, take, set, flat_map, position, Bool, true, false, Option, None}
+use Rattle.call_fs.specs.declared.file_system.TheConstants.{PIECE}
 use Rattle.call_fs.specs.declared.program.Port.TheVariants as port
 use Rattle.outside.specs.declared.sink.Gave.{Gave}
 use Rattle.program_runner.specs.declared.line.Line.{Line}
-use Rattle.call_fs.specs.declared.past.ChildData.{ChildData}
-use Rattle.call_fs.specs.declared.past.ChildData.TheVariants.{Local}
 use Rattle.call_fs.specs.declared.past.NeedData.{NeedData}
 use Rattle.call_fs.specs.declared.past.NeedData.TheVariants.{Take, Give, Start, Wait}
 use Rattle.call_fs.specs.declared.past.GotData.{GotData}
@@ -12,21 +11,28 @@ use Rattle.call_fs.specs.declared.past.GotData.TheVariants as got
 use Rattle.call_fs.specs.Program.{MayCome, IsWithin}
 use Rattle.std.specs.Prelude.{Result, Ok, Err}
 use Rattle.std.specs.declared.alloc.AllocError.{AllocError}
-use Rattle.mail_bytes.specs.Told.{Meets, Rose}
+use Rattle.mail_bytes.specs.Told.{Meets, OnTold, Rose}
 use Rattle.outside.specs.Children.{Arrival, Posted, SpawnCall, arrivals}
 use Rattle.outside.specs.declared.posts.Waiting.{Waiting}
 use Rattle.outside.specs.declared.posts.Waiting.TheVariants as waiting
 use Rattle.outside.specs.declared.posts.Post.TheVariants as post
+use Rattle.outside.specs.declared.spawner.Status.{Status}
+use Rattle.outside.specs.declared.spawner.Status.TheVariants as status
+use Rattle.outside.specs.Children.SpawnCall.{AskStatus}
 use Rattle.program_runner.specs.declared.served.Served.{Served}
 use Rattle.program_runner.specs.declared.served.Served.TheVariants as served
 use Rattle.program_runner.specs.Outside.{AreKept, Gives}
-use Rattle.program_runner.specs.Lines.{LineState, GivesBy, HasToWait, Fosters, IsFailedAnswer, IsFailedCall, HasOne, Gathers, TakesOf, brought, is_of, piece_of}
+use Rattle.program_runner.specs.Lines.{LineState, GivesBy, HasToWait, Fosters, IsFailedAnswer, IsFailedCall, HasOne, Gathers, TakesOf, brought, is_of, is_over, piece_of}
 
 -- What posts tell: what is waiting, the calls that they were asked, and how often they failed.
 pub record PostsTold : Type 0 where
   pub waiting : Option (List Arrival)
   pub asked : Option (List Posted)
   pub faults : ℕ
+
+-- nothing is waiting, if they tell what is
+abbrev pub NoneWait : PostsTold → Type 0
+NoneWait posts = OnTold posts.waiting (λ left. left ≡ [])
 
 -- The posts answered so, and nothing else.
 pub record Answers (asked : List Posted) (old new : PostsTold) : Type 0 where
@@ -62,19 +68,14 @@ came_with served.Memory into = got.Memory
 
 -- the bytes fit into a piece
 abbrev pub FitsPiece : Served → Type 0
-FitsPiece (served.Took count) = count ≤ 8192
+FitsPiece (served.Took count) = count ≤ PIECE
 FitsPiece other = Unit {0}
-
--- Which children are started so. A local delivery isn't yet.
-abbrev pub MayStart : ChildData → Type 0
-MayStart (Local slot words uid) = ⊥
-MayStart other = Unit {0}
 
 -- a need that is no file call and no end: a taking, a giving, a start, or to wait
 abbrev pub MayServe : NeedData → Type 0
 MayServe (Take port) = Unit {0}
 MayServe (Give port bytes) = Unit {0}
-MayServe (Start child) = MayStart child
+MayServe (Start child) = Unit {0}
 MayServe Wait = Unit {0}
 MayServe other = ⊥
 
@@ -108,9 +109,19 @@ abbrev pub IsServed : (NeedData → GotData → List SpawnCall → LineState →
 IsServed serves due served came l m old new =
     IfDone served (HasToWait due l × (m ≡ l) × (new ≡ old)) (Serving (λ calls. serves due came calls l m) old new)
 
--- what came may come of what was due, and is no more than so many bytes
+-- a taking brought some bytes
+abbrev pub HasBytes : GotData → Type 0
+HasBytes (got.Took bytes) = 0 < length bytes
+HasBytes other = Unit {0}
+
+-- so it did, if there was room for any
+abbrev pub BringsSome : ℕ → GotData → Type 0
+BringsSome most (got.Took bytes) = 0 < most → 0 < length bytes
+BringsSome most other = Unit {0}
+
+-- what came may come of what was due, and is no more than so many bytes, and some if that is so many
 abbrev pub IsPossible : NeedData → ℕ → Served → GotData → Type 0
-IsPossible due most served came = IfDone served (Unit {0}) (MayCome due came × IsWithin most came)
+IsPossible due most served came = IfDone served (Unit {0}) (MayCome due came × IsWithin most came × BringsSome most came)
 
 -- bytes were given by a line
 abbrev pub IsGiven : Line → List ℕ → Gave → SpawnerTold → SpawnerTold → Type 0
@@ -129,30 +140,67 @@ abbrev pub IsKept : Posted → LineState → LineState → Result Bool AllocErro
 IsKept p old new (Ok turned) = (new ≡ record old { kept = old.kept ++ piece_of p.answer p.bytes }) × (turned ≡ true → p ≡ record { answer = post.Turn; bytes = [] })
 IsKept p old new (Err why) = Unit {0}
 
+-- nothing is waiting after such an answer
+abbrev pub NoneWaitBy : Result Bool AllocError → PostsTold → Type 0
+NoneWaitBy (Ok true) posts = NoneWait posts
+NoneWaitBy (Ok false) posts = Unit {0}
+NoneWaitBy (Err why) posts = Unit {0}
+
 pub record IsHeard (old new : LineState) (result : Result Bool AllocError) (before after : PostsTold) : Type 0 where
   pub post : Posted
   pub kept : IsKept post old new result
+  pub none : NoneWaitBy result after
   pub answers : Answers (post ∷ []) before after
 
 -- all that came until nothing was waiting is kept, unless memory ran out
 pub record IsGathered (old new : LineState) (all : Bool) (before after : PostsTold) : Type 0 where
   pub asked : List Posted
   pub kept : all ≡ true → Gathers old asked new
+  pub none : all ≡ true → NoneWait after
   pub answers : Answers asked before after
 
 -- what a taking brings of a piece, with the bytes in the buffer, and what it leaves of it
 abbrev pub IsFront : Waiting → ℕ → Served → List ℕ → List ℕ → Type 0
-IsFront (waiting.Bytes chan bytes) most told rest into = (count : ℕ) × (told ≡ served.Took count) × (count ≤ 8192) × (length (take count into) ≤ most) × (bytes ≡ take count into ++ rest)
+IsFront (waiting.Bytes chan bytes) most told rest into = (count : ℕ) × (told ≡ served.Took count) × (count ≤ PIECE) × (length (take count into) ≤ most) × (bytes ≡ take count into ++ rest)
 IsFront (waiting.End chan) most told rest into = (told ≡ served.End) × (rest ≡ [])
 IsFront (waiting.Failed chan) most told rest into = (told ≡ served.Failed) × (rest ≡ [])
 
 -- It was taken of this channel, or nothing came of it.
 abbrev pub IsTakenAs : ℕ → ℕ → GotData → LineState → LineState → Type 0
-IsTakenAs chan most came l m = (kept : List Waiting) × TakesOf chan came l.kept kept × (m ≡ record l { kept = kept }) × IsWithin most came
+IsTakenAs chan most came l m = (kept : List Waiting) × TakesOf chan came l.kept kept × (m ≡ record l { kept = kept }) × IsWithin most came × BringsSome most came
 
 abbrev pub IsTaken : ℕ → ℕ → Served → List ℕ → LineState → LineState → Type 0
 IsTaken chan most served.Nothing into l m = (position (is_of chan) l.kept ≡ None) × (m ≡ l)
-IsTaken chan most (served.Took count) into l m = (count ≤ 8192) × IsTakenAs chan most (got.Took (take count into)) l m
+IsTaken chan most (served.Took count) into l m = (count ≤ PIECE) × IsTakenAs chan most (got.Took (take count into)) l m
 IsTaken chan most served.End into l m = IsTakenAs chan most got.End l m
 IsTaken chan most served.Failed into l m = IsTakenAs chan most got.Failed l m
 IsTaken chan most other into l m = ⊥
+
+-- what is kept of the end of a delivery's program once it was served
+abbrev pub after_served : ℕ → Served → LineState → LineState
+after_served slot served.End l = record l { over = set l.over slot true }
+after_served slot served.Failed l = record l { over = set l.over slot true }
+after_served slot other l = l
+
+-- It was taken of the program of this delivery, which has this channel.
+abbrev pub IsTakenBy : ℕ → ℕ → ℕ → Served → List ℕ → LineState → LineState → Type 0
+IsTakenBy slot chan most told into l m = (mid : LineState) × IsTaken chan most told into l mid × (m ≡ after_served slot told mid)
+
+-- how a program ended, as it is served
+abbrev pub served_status : Status → Served
+served_status (status.Ended code) = served.Ended code
+served_status status.Crashed = served.Crashed
+served_status status.Failed = served.Failed
+
+-- The spawner told how the program of this delivery ended, which has this channel.
+pub record IsAsked (slot chan : ℕ) (told : Served) (l m : LineState) (old new : SpawnerTold) : Type 0 where
+  pub over : is_over l slot chan ≡ true
+  pub ended : Status
+  pub is : told ≡ served_status ended
+  pub gone : m ≡ record l { programs = set l.programs slot None }
+  pub spawns : Spawns (AskStatus chan ended ∷ []) old new
+
+-- so it did; or it wasn't asked, since the program hasn't ended
+abbrev pub IsStatusTaken : ℕ → ℕ → Served → LineState → LineState → SpawnerTold → SpawnerTold → Type 0
+IsStatusTaken slot chan told l m old new =
+    IfDone told ((is_over l slot chan ≡ false) × (m ≡ l) × (new ≡ old)) (IsAsked slot chan told l m old new)

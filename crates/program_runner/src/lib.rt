@@ -23,6 +23,6 @@ pub use lines::Lines;
 pub use member_running::run_member;
 pub use nothing::Nothing;
 pub use one_member_turn::member_turn;
-pub use one_turn::{INPUT_READY, take, turn};
+pub use one_turn::{take, turn};
 pub use running::run_on;
 pub use served::Served;

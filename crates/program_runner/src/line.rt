@@ -9,8 +9,8 @@ pub enum Line {
     Output,
     /// A link, with this channel.
     Link(u32),
-    /// The program of a delivery, with this channel.
-    Program(u32),
+    /// The program of this delivery, with this channel.
+    Program(u8, u32),
     /// The exit status of the program of this delivery, with this channel.
     Status(u8, u32),
 }

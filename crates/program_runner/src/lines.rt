@@ -1,8 +1,8 @@
 // The channels of a program, and what came of them.
-ghost use Rattle.std.specs.Prelude.{◌≡◌, ◌<◌, ◌++◌, ◌∷◌, [], IfOk, IfSome, OnOk, OnErr, false, is_ok, is_some, length, position, set, slice_index_or, None};
-ghost use Rattle.program_runner.specs.Lines.{as_list, channel_of, has_come, has_ended, is_last_of, is_of, left_at, line_of, link_line, piece_of, program_line, ready_of, status_line};
+ghost use Rattle.std.specs.Prelude.{◌≡◌, ◌<◌, ◌++◌, ◌∷◌, [], IfOk, IfSome, OnOk, OnErr, false, is_ok, is_some, length, position, replicate, set, slice_index_or, None};
+ghost use Rattle.program_runner.specs.Lines.{HasSome, as_list, channel_of, has_come, has_ended, is_last_of, is_of, is_over, left_at, line_of, link_line, piece_of, program_line, ready_of, status_line};
 ghost use Rattle.outside.specs.Children.{FillsFront, posted};
-ghost use Rattle.program_runner.specs.Serving.{IsFront, IsGathered, IsHeard, IsTaken};
+ghost use Rattle.program_runner.specs.Serving.{BringsSome, IsFront, IsGathered, IsHeard, IsTaken, IsTakenBy, after_served, came_with};
 
 use crate::line::Line;
 use crate::served::Served;
@@ -15,31 +15,38 @@ use std::marker::Model;
 /// How many deliveries there are.
 const DELIVERIES: usize = 256;
 
-/// The channels of a program, and what came of them and wasn't taken yet.
+/// The channels of a program, what came of them and wasn't taken yet, and which programs' ends were taken.
 #[derive(Drop)]
 pub struct Lines {
     links: [Option<u32>; 4],
     programs: [Option<u32>; DELIVERIES],
+    over: [bool; DELIVERIES],
     kept: Vec<Waiting>,
 }
 
 impl Model for Lines {
-    ghost use Rattle.program_runner.specs.Lines.{LineState};
+    ghost use Rattle.std.specs.Prelude.{All};
+    ghost use Rattle.program_runner.specs.Lines.{HasSome, LineState};
 
     ghost Value = { LineState };
 
-    ghost view = { λ l. record { links = l.links; programs = l.programs; kept = l.kept.items } };
+    ghost view = { λ l. record { links = l.links; programs = l.programs; over = l.over; kept = l.kept.items } };
+
+    ghost invariant = { λ l. All HasSome l.kept.items };
 }
 
 impl Lines {
     /// Lines with these links, in the order of `Ready`, and no program, of which nothing came yet. Takes no memory.
     pub fn new(alloc: Global, links: [Option<u32>; 4]) -> Self
         ensures links { result.links ≡ links }
+        ensures programs { result.programs ≡ replicate 256 None }
+        ensures over { result.over ≡ replicate 256 false }
         ensures kept { result.kept ≡ [] }
     {
         Lines {
             links,
             programs: [None; DELIVERIES],
+            over: [false; DELIVERIES],
             kept: Vec::new(alloc),
         }
     }
@@ -108,7 +115,7 @@ impl Lines {
             Port::Lspawn => link_line(self.links[1]),
             Port::Rspawn => link_line(self.links[2]),
             Port::Todo => link_line(self.links[3]),
-            Port::Program(slot) => program_line(self.programs[slot as usize]),
+            Port::Program(slot) => program_line(slot, self.programs[slot as usize]),
             Port::Status(slot) => status_line(slot, self.programs[slot as usize]),
         }
     }
@@ -118,6 +125,20 @@ impl Lines {
         ensures { self.new ≡ record self.old { programs = set self.old.programs slot chan } }
     {
         self.programs[slot as usize] = chan;
+    }
+
+    /// Whether the program of this delivery, which has this channel, has ended: its end came, or a failure of its output.
+    pub(crate) fn is_over(&self, slot: u8, chan: u32) -> bool
+        ensures { result ≡ is_over self.now slot chan }
+    {
+        self.over[slot as usize] || has_ended(self.kept.as_slice(), &Some(chan))
+    }
+
+    /// The end of this delivery's program was taken, or the delivery has a new one.
+    pub(crate) fn set_over(&mut self, slot: u8, over: bool)
+        ensures { self.new ≡ record self.old { over = set self.old.over slot over } }
+    {
+        self.over[slot as usize] = over;
     }
 
     /// Asks the posts until nothing is waiting, and keeps what came. Fails only if memory runs out; what came last is then
@@ -153,8 +174,10 @@ impl Lines {
         }
     }
 
-    /// Keeps this piece, and answers that something was waiting. After an `Err` all is as before.
+    /// Keeps this piece, and answers that something was waiting. After an `Err` all is as before. The condition: a piece of
+    /// bytes has some.
     fn keep(&mut self, piece: Waiting) -> Result<bool, Memory>
+        requires { HasSome piece }
         ensures ok { OnOk result (self.new ≡ record self.old { kept = self.old.kept ++ piece ∷ [] }) }
         ensures more { IfOk result (λ turned. turned ≡ false) }
         ensures err { OnErr result (self.new ≡ self.old) }
@@ -183,6 +206,34 @@ impl Lines {
         Ok(served)
     }
 
+    /// Takes of the program of this delivery, which has this channel, as `take_of`, and keeps that it has ended if that is
+    /// what came.
+    pub(crate) fn take_of_program(
+        &mut self,
+        alloc: Global,
+        slot: u8,
+        chan: u32,
+        most: usize,
+        into: &mut [u8; PIECE],
+    ) -> Result<Served, Memory>
+        ensures ok { IfOk result (λ served. IsTakenBy slot chan most served into.new self.old self.new) }
+        ensures err { OnErr result (self.new ≡ self.old) }
+    {
+        let served = self.take_of(alloc, chan, most, into)?;
+        self.note_served(slot, served);
+        Ok(served)
+    }
+
+    /// Keeps that the program of this delivery has ended, if that was served.
+    fn note_served(&mut self, slot: u8, served: Served)
+        ensures { self.new ≡ after_served slot served self.old }
+    {
+        match served {
+            Served::End | Served::Failed => self.set_over(slot, true),
+            _ => {}
+        }
+    }
+
     /// Leaves the rest of a piece of this channel in its place. The condition: a piece stands there.
     fn leave(&mut self, place: usize, chan: u32, rest: ByteText)
         requires { place < length self.old.kept }
@@ -206,13 +257,13 @@ fn link_line(chan: Option<u32>) -> Line
     }
 }
 
-/// The line of a program with this channel.
-fn program_line(chan: Option<u32>) -> Line
-    ensures { result ≡ program_line chan }
+/// The line of this delivery's program with this channel.
+fn program_line(slot: u8, chan: Option<u32>) -> Line
+    ensures { result ≡ program_line slot chan }
 {
     match chan {
         None => Line::Missing,
-        Some(chan) => Line::Program(chan),
+        Some(chan) => Line::Program(slot, chan),
     }
 }
 
@@ -242,7 +293,8 @@ fn front_of(
     most: usize,
     into: &mut [u8; PIECE],
 ) -> Result<(Served, ByteText), Memory>
-    ensures { IfOk result (λ front. IsFront piece.now most front.0 front.1 into.new) }
+    ensures front { IfOk result (λ front. IsFront piece.now most front.0 front.1 into.new) }
+    ensures some { HasSome piece.now → IfOk result (λ front. BringsSome most (came_with front.0 into.new)) }
 {
     match piece {
         Waiting::Bytes { bytes, .. } => {
@@ -259,7 +311,8 @@ fn front_of(
 /// What a post brought, with its bytes in this buffer. The condition: they fit into it.
 fn brought_by(alloc: Global, post: Post, buffer: &[u8; PIECE]) -> Result<Option<Waiting>, Memory>
     requires { FillsFront post PIECE }
-    ensures { IfOk result (λ piece. as_list piece ≡ piece_of post (posted post buffer.now).bytes) }
+    ensures brought { IfOk result (λ piece. as_list piece ≡ piece_of post (posted post buffer.now).bytes) }
+    ensures some { IfOk result (λ piece. IfSome piece HasSome) }
 {
     match post {
         Post::Turn => Ok(None),

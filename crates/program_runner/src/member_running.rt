@@ -1,5 +1,5 @@
 // A program with channels that runs until it ends.
-ghost use Rattle.std.specs.Prelude.{[], List, ℕ, None};
+ghost use Rattle.std.specs.Prelude.{◌<◌, [], List, ℕ, None};
 ghost use Rattle.call_fs.specs.Past.{IsRunBy};
 ghost use Rattle.call_fs.specs.declared.past.Own.{Own};
 ghost use Rattle.call_fs.specs.declared.program.Ready.{Ready as Found};
@@ -20,7 +20,7 @@ const TURNS: u64 = u64::MAX;
 /// its children are channels of the spawner; its children are started by these words. It goes on as long as it has to wait,
 /// for `TURNS` turns at most, which nobody lives to see; then `None`. Fails only if memory runs out; what it did until then
 /// is a run that was cut short. The conditions: it has no past yet, it may find anything ready at any time, and it asks for
-/// no command of a user and starts no local delivery.
+/// no command of a user.
 pub fn run_member<M: Machine, D: CallFs, K: Clock, C: ChildWords, P: Posts, S: Spawner, O: Sink>(
     alloc: Global,
     machine: &mut M,
@@ -35,7 +35,7 @@ pub fn run_member<M: Machine, D: CallFs, K: Clock, C: ChildWords, P: Posts, S: S
     requires new { (args : M.Arguments) × M.stands machine.old args [] }
     requires finds { (m : M) (ready : Found) → M.can_find m ready }
     requires carried { (args : M.Arguments) (past : List Own) (now : ℕ) (ready : Found) → IsRunBy (M.next args) past → IsCarried (M.next args past now ready) }
-    ensures { RanTo result M.next (C.words words.now) (M.stands machine.new) (λ args. M.stands machine.old args []) (K.last clock.old)
+    ensures { RanTo result M.next (C.words words.now) ((m : M) → 0 < M.takes_at_most m) (M.stands machine.new) (λ args. M.stands machine.old args []) (K.last clock.old)
         (record { disk = D.disk disk.old; calls = D.calls disk.old; disk_faults = D.faults disk.old; moments = None; last = K.last clock.old; left = None; input_faults = uncounted; taken = O.taken output.old; output_faults = O.faults output.old })
         (record { disk = D.disk disk.new; calls = D.calls disk.new; disk_faults = D.faults disk.new; moments = None; last = K.last clock.new; left = None; input_faults = uncounted; taken = O.taken output.new; output_faults = O.faults output.new })
         (record { moments = K.calls clock.old; posts = record { waiting = P.waiting posts.old; asked = P.calls posts.old; faults = P.faults posts.old }; spawner = record { children = S.children spawner.old; calls = S.calls spawner.old; faults = S.faults spawner.old }; lines = lines.old })

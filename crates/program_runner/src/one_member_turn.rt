@@ -15,8 +15,7 @@ use std::alloc::Global;
 /// One turn of a program with channels: what its posts brought is kept, it is told the moment and what is ready, and does
 /// what is due: a file call, a taking from what came, a giving, a start. None then, also if it has to wait; its exit
 /// status if it has ended. Its children are started by these words. Fails only if memory runs out. The conditions: it may
-/// find anything ready; and it stands for a run that asks for no command of a user and starts no local delivery,
-/// and whose descriptors are open.
+/// find anything ready; and it stands for a run that asks for no command of a user, and whose descriptors are open.
 pub fn member_turn<M: Machine, D: CallFs, K: Clock, C: ChildWords, P: Posts, S: Spawner, O: Sink>(
     alloc: Global,
     machine: &mut M,
@@ -30,7 +29,7 @@ pub fn member_turn<M: Machine, D: CallFs, K: Clock, C: ChildWords, P: Posts, S: 
 ) -> Result<Option<u8>, Memory>
     requires finds { (m : M) (ready : Found) → M.can_find m ready }
     requires may { MayAct M.next (M.stands machine.old) (D.disk disk.old) }
-    ensures { IsTurnOf M.next (C.words words.now) (M.stands machine.old) (M.stands machine.new)
+    ensures { IsTurnOf M.next (C.words words.now) (M.takes_at_most machine.old) (M.stands machine.old) (M.stands machine.new)
         (λ read found came. (mid : M) × M.looks machine.old read found mid × M.goes mid came machine.new) result
         (record { disk = D.disk disk.old; calls = D.calls disk.old; disk_faults = D.faults disk.old; moments = None; last = K.last clock.old; left = None; input_faults = uncounted; taken = O.taken output.old; output_faults = O.faults output.old })
         (record { disk = D.disk disk.new; calls = D.calls disk.new; disk_faults = D.faults disk.new; moments = None; last = K.last clock.new; left = None; input_faults = uncounted; taken = O.taken output.new; output_faults = O.faults output.new })

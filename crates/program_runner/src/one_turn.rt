@@ -12,12 +12,6 @@ use mail_bytes::Memory;
 use outside::{Clock, Gave, Sink, Source, Took};
 use std::alloc::Global;
 
-/// What a program finds ready whose input is ready.
-pub const INPUT_READY: Ready = Ready {
-    links: [true, false, false, false],
-    child: None,
-};
-
 /// One turn of a program: it is told the moment and what is ready, and does what is due: a file call, a taking of its
 /// input, a giving to its output. None then; its exit status if it has ended. Fails only when out of memory at what came of
 /// a call that was made. The conditions: it may find this ready; and it stands for a run that asks for no more than

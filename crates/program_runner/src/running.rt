@@ -3,10 +3,10 @@ ghost use Rattle.std.specs.Prelude.{◌≡◌, [], List, ℕ, IsOk, IfOk};
 ghost use Rattle.call_fs.specs.Past.{IsRunBy};
 ghost use Rattle.call_fs.specs.declared.past.Own.{Own};
 ghost use Rattle.program_runner.specs.Runs.{RunsTo, IsPlain};
-ghost use Rattle.program_runner.specs.declared.one_turn.TheConstants.{INPUT_READY};
+ghost use Rattle.call_fs.specs.declared.program.TheConstants.{INPUT_READY};
 
-use crate::one_turn::{INPUT_READY, turn};
-use call_fs::{CallFs, Machine};
+use crate::one_turn::turn;
+use call_fs::{CallFs, INPUT_READY, Machine};
 use mail_bytes::Memory;
 use outside::{Clock, Sink, Source};
 use std::alloc::Global;

@@ -5,7 +5,7 @@ ghost use Rattle.call_fs.specs.declared.past.ChildData.{ChildData};
 ghost use Rattle.call_fs.specs.Program.{child_data, due_of};
 ghost use Rattle.outside.specs.Children.SpawnCall.{AskStatus, Start};
 ghost use Rattle.program_runner.specs.Lines.{Serves, TakesAs, after_start, came_of_giving, line_of, slot_of};
-ghost use Rattle.program_runner.specs.Serving.{FitsPiece, IsGiven, IsPossible, IsServed, MayServe, MayStart, PutsOut, Spawns, came_with, is_done};
+ghost use Rattle.program_runner.specs.Serving.{FitsPiece, IsGiven, IsPossible, IsServed, IsStatusTaken, MayServe, PutsOut, Spawns, came_with, is_done, served_status};
 
 use crate::child_words::ChildWords;
 use crate::line::Line;
@@ -69,12 +69,32 @@ fn take_port<S: Spawner>(
     match lines.line(port) {
         Line::Missing | Line::Output => Ok(Served::Failed),
         Line::Link(chan) => lines.take_of(alloc, chan, most, into),
-        Line::Program(chan) => lines.take_of(alloc, chan, most, into),
-        Line::Status(slot, chan) => match ask_status(lines, slot, chan, spawner) {
-            Status::Ended(code) => Ok(Served::Ended(code)),
-            Status::Crashed => Ok(Served::Crashed),
-            Status::Failed => Ok(Served::Failed),
-        },
+        Line::Program(slot, chan) => lines.take_of_program(alloc, slot, chan, most, into),
+        Line::Status(slot, chan) => Ok(take_status(lines, slot, chan, spawner)),
+    }
+}
+
+/// Takes the status of the program of this delivery, which has this channel; nothing comes until the program has ended.
+fn take_status<S: Spawner>(lines: &mut Lines, slot: u8, chan: u32, spawner: &mut S) -> Served
+    ensures { IsStatusTaken slot chan result lines.old lines.new
+        (record { children = S.children spawner.old; calls = S.calls spawner.old; faults = S.faults spawner.old })
+        (record { children = S.children spawner.new; calls = S.calls spawner.new; faults = S.faults spawner.new }) }
+{
+    if lines.is_over(slot, chan) {
+        served_status(ask_status(lines, slot, chan, spawner))
+    } else {
+        Served::Nothing
+    }
+}
+
+/// How a program ended, as it is served.
+fn served_status(status: Status) -> Served
+    ensures { result ≡ served_status status }
+{
+    match status {
+        Status::Ended(code) => Served::Ended(code),
+        Status::Crashed => Served::Crashed,
+        Status::Failed => Served::Failed,
     }
 }
 
@@ -128,7 +148,7 @@ fn give_port<S: Spawner, O: Sink>(
         Line::Missing | Line::Status(_, _) => Gave::Failed,
         Line::Output => output.give(bytes),
         Line::Link(chan) => spawner.feed(chan, bytes),
-        Line::Program(chan) => {
+        Line::Program(_, chan) => {
             let gave = spawner.feed(chan, bytes);
             spawner.finish(chan);
             gave
@@ -136,7 +156,7 @@ fn give_port<S: Spawner, O: Sink>(
     }
 }
 
-/// Serves a start. The condition: it is no local delivery.
+/// Serves a start.
 fn start_need<C: ChildWords, S: Spawner>(
     alloc: Global,
     words: &C,
@@ -144,7 +164,6 @@ fn start_need<C: ChildWords, S: Spawner>(
     child: Child<'_>,
     spawner: &mut S,
 ) -> Served
-    requires { MayStart (child_data child) }
     ensures served { (into : List ℕ) → IsServed (Serves (C.words words.now)) (Begin (child_data child.entry)) result (came_with result into) lines.old lines.new
         (record { children = S.children spawner.old; calls = S.calls spawner.old; faults = S.faults spawner.old })
         (record { children = S.children spawner.new; calls = S.calls spawner.new; faults = S.faults spawner.new }) }
@@ -159,7 +178,7 @@ fn start_need<C: ChildWords, S: Spawner>(
     }
 }
 
-/// Starts a child, which is then the program of its delivery. The condition: it is no local delivery.
+/// Starts a child, which is then the program of its delivery.
 fn start_child<C: ChildWords, S: Spawner>(
     alloc: Global,
     words: &C,
@@ -167,7 +186,6 @@ fn start_child<C: ChildWords, S: Spawner>(
     child: Child<'_>,
     spawner: &mut S,
 ) -> Started
-    requires { MayStart (child_data child) }
     ensures lines { lines.new ≡ after_start (slot_of (child_data child.entry)) result lines.old }
     ensures started { Spawns (Start (C.words words.now (child_data child.entry)) result ∷ [])
         (record { children = S.children spawner.old; calls = S.calls spawner.old; faults = S.faults spawner.old })
@@ -184,19 +202,20 @@ fn note(lines: &mut Lines, slot: u8, started: Started)
     ensures { lines.new ≡ after_start slot started lines.old }
 {
     match started {
-        Started::Chan { chan, .. } => lines.set_program(slot, Some(chan)),
+        Started::Chan { chan, .. } => {
+            lines.set_program(slot, Some(chan));
+            lines.set_over(slot, false);
+        }
         Started::Failed | Started::Memory => {}
     }
 }
 
-/// The delivery whose program it is, 0 for an only child. The condition: it is no local delivery.
+/// The delivery whose program it is, 0 for an only child.
 fn slot_of(child: &Child<'_>) -> u8
-    requires { MayStart (child_data child.now) }
     ensures { result ≡ slot_of (child_data child.now) }
 {
     match child {
         Child::Bounce { .. } | Child::Forward { .. } => 0,
-        Child::Remote { slot, .. } => *slot,
-        Child::Local { .. } => unreachable!(),
+        Child::Local { slot, .. } | Child::Remote { slot, .. } => *slot,
     }
 }

@@ -11,6 +11,7 @@ mod reader_source;
 mod status;
 #[cfg(test)]
 mod tests;
+mod unread;
 mod writer_sink;
 
 use call_fs::CallFs;
@@ -24,11 +25,12 @@ use outside::{MemPosts, MemSpawner, OpenGate, Source};
 use qmail_top::qmail;
 use reader_source::ReaderSource;
 use status::status_of;
-use std::alloc::{AllocError, Global};
+use std::alloc::Global;
+use std::env;
 use std::process::ExitCode;
 #[cfg(test)]
 use std::test::Fail;
-use std::{env, io};
+use unread::unread_words;
 use writer_sink::WriterSink;
 
 /// The program's entry, with the exit status that `program` tells.
@@ -47,12 +49,11 @@ fn run(rt: &HostRuntime, alloc: Global) -> Result<u8, Memory> {
     run_words(rt, alloc, &words, &mut ReaderSource::new(rt.stdin()))
 }
 
-/// The words after the program's name. If one isn't UTF-8 there are none, which is no command.
+/// The words after the program's name. If one isn't UTF-8 there are none, which is no command; `Err` if memory runs out.
 fn words_of(rt: &HostRuntime, alloc: Global) -> Result<Vec<String>, Memory> {
     match env::args(rt) {
         Ok(words) => words.skip(1).collect(alloc),
-        Err(why) if why.kind() == io::ErrorKind::OutOfMemory => Err(AllocError),
-        Err(_) => Ok(Vec::new(alloc)),
+        Err(why) => unread_words(alloc, why.kind()),
     }
 }
 

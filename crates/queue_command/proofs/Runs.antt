@@ -27,7 +27,7 @@ use Rattle.program_runner.specs.Outside.{AreKept}
 use Rattle.program_runner.specs.Outside.{Outside as Around}
 use Rattle.program_runner.specs.Runs.{IsRunning, GoesOn, IsTurn, IsPlain, MayTurn}
 use Rattle.program_runner.specs.Runs.{HasRun as HasRunTo}
-use Rattle.program_runner.specs.declared.one_turn.TheConstants.{INPUT_READY}
+use Rattle.call_fs.specs.declared.program.TheConstants.{INPUT_READY}
 use Rattle.program_runner.proofs.Deeds.{kept_more, kept_one}
 use Rattle.program_runner.proofs.Runs.{begins, narrows, may_turn, turned_on, turned_to_end}
 use Rattle.queue_command.specs.declared.input.Form.{Form}

@@ -8,7 +8,7 @@ use Rattle.queue_inject.specs.declared.injection.Arguments.{Arguments}
 use Rattle.queue_inject.specs.Table.{Next}
 use Rattle.queue_inject.specs.Run.{IsRun}
 use Rattle.queue_inject.specs.Causes.{IsCausedBy}
-use Rattle.program_runner.specs.declared.one_turn.TheConstants.{INPUT_READY}
+use Rattle.call_fs.specs.declared.program.TheConstants.{INPUT_READY}
 use Rattle.queue_command.specs.declared.input.Form.{Form}
 use Rattle.queue_command.specs.Inputs.{Stream}
 use Rattle.queue_command.specs.Runs.{Outside, Who}

@@ -13,7 +13,7 @@ use Rattle.queue_inject.specs.Stands.{IsStartedBy}
 use Rattle.call_fs.specs.Past.{HasCall, IsFault, LeadsTo, InOrder, calls_of, moments_of, latest_from}
 use Rattle.program_runner.specs.Outside.{AreKept}
 use Rattle.program_runner.specs.Runs.{Finds}
-use Rattle.program_runner.specs.declared.one_turn.TheConstants.{INPUT_READY}
+use Rattle.call_fs.specs.declared.program.TheConstants.{INPUT_READY}
 use Rattle.queue_command.specs.Inputs.{Heard, Begins}
 
 -- What a disk and a clock tell: what the disk holds, the calls that it was asked, how often it failed, and the moments

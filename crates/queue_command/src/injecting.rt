@@ -5,10 +5,10 @@ ghost use Rattle.queue_command.specs.Injected.{HasInjected, HasInjectedFrom};
 
 use crate::input::{Form, feed};
 use crate::netstring::Place;
-use call_fs::{CallFs, PIECE};
+use call_fs::{CallFs, INPUT_READY, PIECE};
 use mail_bytes::Memory;
 use outside::{Clock, Source};
-use program_runner::{INPUT_READY, Nothing, turn};
+use program_runner::{Nothing, turn};
 use queue_inject::{Injector, statuses_have_causes};
 use received_line::Invoked;
 use std::alloc::Global;

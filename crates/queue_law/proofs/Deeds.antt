@@ -1,7 +1,8 @@
 -- What one call of an injector does to the queue: it makes a file, writes one, or changes a name.
-use Rattle.std.proofs.Common.{◌≡◌, ◌≢◌, ℕ, List, Bool, true, false, Option, Some, refl, sym, ap, ◌∙◌, subst, ⊎_elim}
+use Rattle.std.proofs.Common.{◌≡◌, ◌≢◌, ◌⊎◌, inr, ℕ, List, Bool, true, false, Option, Some, None, refl, sym, ap, ◌∙◌, subst, ⊎_elim}
+use Rattle.address_rules.specs.declared.controls.Controls.{Controls}
 use Rattle.call_fs.specs.Maps.{put, put_at}
-use Rattle.call_fs.specs.Disk.{File}
+use Rattle.call_fs.specs.Disk.{File, Among}
 use Rattle.call_fs.specs.declared.modes.Mode.{Mode}
 use Rattle.call_fs.specs.Apply.{empty_file, IsNew}
 use Rattle.queue_inject.specs.declared.injection.Arguments.{Arguments}
@@ -12,12 +13,13 @@ use Rattle.queue_paths.specs.Names.Part.{Mess, Intd, Todo, Info, Local, Remote, 
 use Rattle.queue_law.specs.Books.{Injection, Books, IsInjected}
 use Rattle.call_fs.proofs.Maps.{put_cases, put_same, put_other, put_at_cases, put_at_other}
 use Rattle.queue_law.proofs.Tests.{off, tells_name}
-use Rattle.queue_law.specs.Numbers.{Entry, entry, Role, Queue, look, IsPidRole, IsRecent, IsRight, Suits, NameSuits, NamesSuit, About, about, is_later, is_later_name, IsUnsorted, Phase, NoneLost, Sound}
-use Rattle.queue_law.proofs.Looks.{find_some, find_far, find_put, find_other, found}
+use Rattle.queue_law.specs.Numbers.{Entry, entry, Role, Queue, look, IsPidRole, IsRecent, IsRight, Suits, NameSuits, NamesSuit, About, about, is_later, is_later_name, IsUnsorted, Phase, NoneLost, Sound, IsEarly}
+use Rattle.queue_law.proofs.Looks.{find_some, find_none, not_found, find_far, find_put, find_other, found}
+use Rattle.queue_law.proofs.Frame.{still_there}
 use Rattle.queue_law.specs.Injectors.{IsBegun, Basis}
 use Rattle.queue_law.specs.Numbers.Role.{AsMessage, AsPart, AsOld}
 use Rattle.queue_law.specs.Numbers.Phase.{Free}
-use Rattle.queue_law.specs.Steps.{Concerns, Apart, Elsewhere, Outside, LeavesLater}
+use Rattle.queue_law.specs.Steps.{Touches, Concerns, Apart, Elsewhere, Outside, LeavesLater}
 
 -- a new file with a new name
 abbrev pub made : Queue → List ℕ → Name → (fd i read : ℕ) → Role → Queue
@@ -51,22 +53,34 @@ named q x o c = record {
   role = q.role;
 }
 
+-- no name has a file of this number
+abbrev pub IsNowhere : Queue → ℕ → Type 0
+IsNowhere q n = (x : Name) (y : Entry) → look q x ≡ Some y → y.number ≢ n
+
+-- The number is this injector's to touch: no name has a file of it yet, or its file is its own, and it may touch it.
+abbrev pub IsOwn : Queue → List ℕ → Arguments → ℕ → Type 0
+IsOwn q a args n = IsNowhere q n ⊎ ((q.role n ≡ AsMessage a args) × Touches q a args n)
+
 -- What a call of a leads to: of the number in `number` this holds then, of all else nothing changed, and the next row
 -- has what it rests on.
-pub record Outcome (now : ℕ) (q : Queue) (a : List ℕ) (args : Arguments) (r : Queue) (row : Row) : Type 0 where
+pub record Outcome (controls : Controls) (now : ℕ) (q : Queue) (a : List ℕ) (args : Arguments) (r : Queue) (row : Row) : Type 0 where
   pub number : Option ℕ
   pub elsewhere : Elsewhere now a number q r
   pub suits : NamesSuit r
-  pub fine : (n : ℕ) → number ≡ Some n → Phase (about r n)
-  pub over : NoneLost r.books
+  pub fine : (n : ℕ) → number ≡ Some n → Phase controls (about r n)
+  pub over : NoneLost controls r.books
+  pub accepted : (i : Injection) → IsInjected q.books i → i.accepted ≡ true → IsInjected r.books i
+  pub waits : IsEarly q → (n : ℕ) (i : Injection) → r.books.living n ≡ Some i → i.accepted ≡ true → look r (Of Todo n) ≢ None
+  pub none_over : IsEarly q → (i : Injection) → Among i r.books.over → i.accepted ≡ true → ⊥
   pub outside : Outside q.disk r.disk
   pub later : LeavesLater q r
   pub unsorted : (n : ℕ) → number ≡ Some n → IsUnsorted (about q n)
+  pub own : (n : ℕ) → number ≡ Some n → IsOwn q a args n
   pub next : Basis r a args row
 
 -- a number whose injection has begun is free
-pub begun_phase : (q : Queue) (a : List ℕ) (args : Arguments) (n : ℕ) → IsBegun (about q n) a args n → Phase (about q n)
-begun_phase q a args n h = Free (record {
+pub begun_phase : (controls : Controls) (q : Queue) (a : List ℕ) (args : Arguments) (n : ℕ) → IsBegun (about q n) a args n → Phase controls (about q n)
+begun_phase controls q a args n h = Free (record {
   not_accepted = λ i lives t. let w = h.lives in let v : i.accepted ≡ false = cc in off (sym v ∙ t);
   unsorted = h.unsorted;
   no_todo = h.no_todo;
@@ -77,7 +91,7 @@ begun_phase q a args n h = Free (record {
 pub later_far : (x : Name) (part : Part) (n : ℕ) → is_later_name x ≡ false → is_later part ≡ true → Of part n ≢ x
 later_far x part n early later same = off (sym early ∙ sym (ap is_later_name same) ∙ later)
 
-at_number : (r : Queue) (P : About → Type 0) (n : ℕ) → P (about r n) → (k : ℕ) → ◌≡◌ {A = Option ℕ} (Some n) (Some k) → P (about r k)
+pub at_number : (r : Queue) (P : About → Type 0) (n : ℕ) → P (about r n) → (k : ℕ) → ◌≡◌ {A = Option ℕ} (Some n) (Some k) → P (about r k)
 at_number r P n h k same = let w : n ≡ k = cc in subst (λ k. P (about r k)) w h
 
 -- a file that comes with preprocessing was made as one
@@ -123,6 +137,13 @@ module _ (q : Queue) (x : Name) where
         find_other q.disk.names (put q.disk.files i (empty_file read)) x y (Some i) far
         ∙ find_far q.disk.names q.disk.files y i (empty_file read) (unnamed y)
 
+    -- what wasn't there then wasn't there before
+    pub made_none : (y : Name) → look (made q a x fd i read role) y ≡ None → look q y ≡ None
+    made_none y none = ⊎_elim
+        (λ (same : y ≡ x). let w = made_same in let v = ap (look (made q a x fd i read role)) same in absurd (cc))
+        (λ (far : y ≢ x). sym (made_other y far) ∙ none)
+        (tells_name x y)
+
   pub named_other : (o : Option ℕ) (c : Books) (y : Name) → y ≢ x → look (named q x o c) y ≡ look q y
   named_other o c y far = find_other q.disk.names q.disk.files x y o far
 
@@ -132,15 +153,15 @@ made_for i (AsMessage actor args) = i
 made_for i (AsPart part n) = n
 made_for i AsOld = i
 
-pid_number : (i : ℕ) (role : Role) → IsPidRole role → made_for i role ≡ i
-pid_number i (AsMessage actor args) h = refl
-pid_number i (AsPart part n) h = absurd h
-pid_number i AsOld h = refl
+pid_number : (i start : ℕ) (role : Role) → IsPidRole start role → made_for i role ≡ i
+pid_number i start (AsMessage actor args) h = refl
+pid_number i start (AsPart part n) h = absurd h
+pid_number i start AsOld h = refl
 
 module _ (now : ℕ) (q : Queue) (S : NamesSuit q) where
   -- each name of a file concerns the number that the file was made for
-  its_number : (x : Name) (y : Entry) → look q x ≡ Some y → Concerns q x (Some (made_for y.number (q.role y.number)))
-  its_number (Pid p s k) y h = λ z g. let w = pid_number y.number (q.role y.number) (S (Pid p s k) y h).0 in cc
+  pub its_number : (x : Name) (y : Entry) → look q x ≡ Some y → Concerns q x (Some (made_for y.number (q.role y.number)))
+  its_number (Pid p s k) y h = λ z g. let w = pid_number y.number s (q.role y.number) (S (Pid p s k) y h).0 in cc
   its_number (Of Mess k) y h = let w = (S (Of Mess k) y h).0 in ap (λ u. Some (made_for y.number u)) w.1.2 ∙ ap Some w.0
   its_number (Of Intd k) y h = ap (λ u. Some (made_for y.number u)) (S (Of Intd k) y h).0
   its_number (Of Todo k) y h = ap (λ u. Some (made_for y.number u)) (S (Of Todo k) y h).0
@@ -151,14 +172,14 @@ module _ (now : ℕ) (q : Queue) (S : NamesSuit q) where
 
   -- an injector's message is no other injector's
   pub own_apart : (a : List ℕ) (args : Arguments) (n : ℕ) → q.role n ≡ AsMessage a args → Apart now q a (Some n)
-  own_apart a args n mine o args' other soon x y h his same =
+  own_apart a args n mine o args' other soon x y h his touches same =
       let w : n ≡ y.number = cc in
       let v : q.role n ≡ q.role y.number = ap q.role w in
       other (cc)
 
   -- the names still suit
   module _ (x : Name) where
-    made_suits : (a : List ℕ) (fd i read : ℕ) (role : Role) → IsNew q.disk (path x) fd i
+    pub made_suits : (a : List ℕ) (fd i read : ℕ) (role : Role) → IsNew q.disk (path x) fd i
         → IsRight x (record { number = i; file = empty_file read }) role → NamesSuit (made q a x fd i read role)
     made_suits a fd i read role new right y z h =
         let r = made q a x fd i read role in
@@ -175,13 +196,13 @@ module _ (now : ℕ) (q : Queue) (S : NamesSuit q) where
         subst (IsRight y z) (sym kept) (S y z old))
         (tells_name x y)
 
-    named_suits : (o : Option ℕ) (c : Books) → NameSuits (named q x o c) x → NamesSuit (named q x o c)
+    pub named_suits : (o : Option ℕ) (c : Books) → NameSuits (named q x o c) x → NamesSuit (named q x o c)
     named_suits o c here y z h = ⊎_elim
         (λ (same : y ≡ x). subst (λ v. IsRight v z (q.role z.number)) (sym same) (here z (ap (look (named q x o c)) (sym same) ∙ h)))
         (λ (far : y ≢ x). S y z (sym (named_other q x o c y far) ∙ h))
         (tells_name x y)
 
-  written_suits : (j : ℕ) (f : File) → IsRecent f (q.role j) → NamesSuit (written q j f)
+  pub written_suits : (j : ℕ) (f : File) → IsRecent f (q.role j) → NamesSuit (written q j f)
   written_suits j f recent y z h =
       let files = put q.disk.files j f in
       let w = found q.disk.names files y z h in
@@ -197,7 +218,7 @@ module _ (now : ℕ) (q : Queue) (S : NamesSuit q) where
       )
 
 -- a new file of the queue is none of those outside it
-made_outside : (q : Queue) (x : Name) (fd i read : ℕ) → IsNew q.disk (path x) fd i
+pub made_outside : (q : Queue) (x : Name) (fd i read : ℕ) → IsNew q.disk (path x) fd i
     → Outside q.disk (record {
       dirs = q.disk.dirs;
       names = put_at q.disk.names (path x) (Some i);
@@ -214,15 +235,18 @@ made_outside q x fd i read new = record {
 }
 
 -- the outcome of each deed
-module _ (now : ℕ) (q : Queue) (a : List ℕ) (args : Arguments) (G : Sound q) where
+module _ (controls : Controls) (now : ℕ) (q : Queue) (a : List ℕ) (args : Arguments) (G : Sound controls q) where
   abbrev pub Leads : Queue → Row → Type 0
-  Leads r row = Outcome now q a args r row
+  Leads r row = Outcome controls now q a args r row
 
-  pub made_outcome : (x : Name) (fd i read : ℕ) (role : Role) (m : ℕ) (row : Row) → IsNew q.disk (path x) fd i → is_later_name x ≡ false → IsUnsorted (about q m)
+  number_own : (n : ℕ) → IsOwn q a args n → (k : ℕ) → ◌≡◌ {A = Option ℕ} (Some n) (Some k) → IsOwn q a args k
+  number_own n own k same = let w : n ≡ k = cc in subst (IsOwn q a args) w own
+
+  pub made_outcome : (x : Name) (fd i read : ℕ) (role : Role) (m : ℕ) (row : Row) → IsNew q.disk (path x) fd i → is_later_name x ≡ false → IsUnsorted (about q m) → IsOwn q a args m
       → Concerns q x (Some m) → Apart now q a (Some m) → IsRight x (record { number = i; file = empty_file read }) role
-      → Phase (about (made q a x fd i read role) m) → Basis (made q a x fd i read role) a args row
+      → Phase controls (about (made q a x fd i read role) m) → Basis (made q a x fd i read role) a args row
       → Leads (made q a x fd i read role) row
-  made_outcome x fd i read role m row new early unsorted concerns apart right fine next = record {
+  made_outcome x fd i read role m row new early unsorted own concerns apart right fine next = record {
     number = Some m;
     elsewhere = record {
       looks = λ y far. made_other q x a fd i read role new y (λ same. far (subst (λ z. Concerns q z (Some m)) (sym same) concerns));
@@ -233,12 +257,16 @@ module _ (now : ℕ) (q : Queue) (a : List ℕ) (args : Arguments) (G : Sound q)
           record { opened = put_other q.disk.opens fd _ k far ∙ h.opened; held = put_other q.holder fd _ k far ∙ h.held };
       roles = λ y z h. put_other q.role i role z.number (unnamed q x a fd i read role new y z h);
       apart = apart;
-      accepted = λ _ h _. h;
+      accepted = λ i h _. still_there q.books i h;
     };
+    accepted = λ _ h _. h;
+    waits = λ e k p lives t none. e.waits k p lives t (made_none q x a fd i read role new (Of Todo k) none);
+    none_over = λ e. e.none_over;
     suits = made_suits now q G.suits x a fd i read role new right;
-    fine = at_number (made q a x fd i read role) Phase m fine;
+    fine = at_number (made q a x fd i read role) (Phase controls) m fine;
     later = λ part n later. made_other q x a fd i read role new (Of part n) (later_far x part n early later);
     unsorted = at_number q IsUnsorted m unsorted;
+    own = number_own m own;
     over = G.over;
     outside = made_outside q x fd i read new;
     next = next;
@@ -255,15 +283,19 @@ module _ (now : ℕ) (q : Queue) (a : List ℕ) (args : Arguments) (G : Sound q)
       opens = λ _ _ _ _ h. h;
       roles = λ _ _ _. refl;
       apart = own_apart now q G.suits a args n mine;
-      accepted = λ _ h _. h;
+      accepted = λ i h _. still_there q.books i h;
     };
+    accepted = λ _ h _. h;
+    waits = λ e k i lives t none. e.waits k i lives t (find_none q.disk.names q.disk.files (Of Todo k) (not_found q.disk.names (put q.disk.files j f) (Of Todo k) none));
+    none_over = λ e. e.none_over;
     suits = written_suits now q G.suits j f recent;
-    fine = at_number (written q j f) Phase n (begun_phase (written q j f) a args n begins);
+    fine = at_number (written q j f) (Phase controls) n (begun_phase controls (written q j f) a args n begins);
     later = λ part k later. find_far q.disk.names q.disk.files (Of part k) j f (λ z h same.
         let mine = early_role x j (q.role j) early (G.suits x (entry q.disk.files j) (find_some q.disk.names q.disk.files x j there)).0 in
         let his = later_role part k z.number (q.role z.number) later (G.suits (Of part k) z h).0 in
         off (sym mine ∙ ap (λ i. is_later_role (q.role i)) (sym same) ∙ his));
     unsorted = at_number q IsUnsorted n unsorted;
+    own = number_own n (inr (mine, inr begins.lives));
     over = G.over;
     outside = record {
       names = λ _ _. refl;
@@ -274,10 +306,12 @@ module _ (now : ℕ) (q : Queue) (a : List ℕ) (args : Arguments) (G : Sound q)
   }
 
   pub named_outcome : (x : Name) (o : Option ℕ) (c : Books) (n : ℕ) (row : Row) → is_later_name x ≡ false → IsUnsorted (about q n) → q.role n ≡ AsMessage a args
-      → ((k : ℕ) → o ≡ Some k → (y : Name) × (q.disk.names (path y) ≡ Some k)) → Concerns q x (Some n) → NameSuits (named q x o c) x → ((k : ℕ) → k ≢ n → c.living k ≡ q.books.living k)
-      → ((i : Injection) → IsInjected q.books i → i.accepted ≡ true → IsInjected c i) → NoneLost c
-      → Phase (about (named q x o c) n) → Basis (named q x o c) a args row → Leads (named q x o c) row
-  named_outcome x o c n row early unsorted mine queued concerns here living accepted over fine next = record {
+      → Touches q a args n → ((k : ℕ) → o ≡ Some k → (y : Name) × (q.disk.names (path y) ≡ Some k)) → Concerns q x (Some n) → NameSuits (named q x o c) x → ((k : ℕ) → k ≢ n → c.living k ≡ q.books.living k)
+      → ((i : Injection) → IsInjected q.books i → i.accepted ≡ true → IsInjected c i) → NoneLost controls c
+      → (IsEarly q → (k : ℕ) (i : Injection) → c.living k ≡ Some i → i.accepted ≡ true → look (named q x o c) (Of Todo k) ≢ None)
+      → (IsEarly q → (i : Injection) → Among i c.over → i.accepted ≡ true → ⊥)
+      → Phase controls (about (named q x o c) n) → Basis (named q x o c) a args row → Leads (named q x o c) row
+  named_outcome x o c n row early unsorted mine touches queued concerns here living accepted over waits none_over fine next = record {
     number = Some n;
     elsewhere = record {
       looks = λ y far. named_other q x o c y (λ same. far (subst (λ z. Concerns q z (Some n)) (sym same) concerns));
@@ -285,12 +319,16 @@ module _ (now : ℕ) (q : Queue) (a : List ℕ) (args : Arguments) (G : Sound q)
       opens = λ _ _ _ _ h. h;
       roles = λ _ _ _. refl;
       apart = own_apart now q G.suits a args n mine;
-      accepted = accepted;
+      accepted = λ i h t. still_there c i (accepted i h t);
     };
+    accepted = accepted;
+    waits = waits;
+    none_over = none_over;
     suits = named_suits now q G.suits x o c here;
-    fine = at_number (named q x o c) Phase n fine;
+    fine = at_number (named q x o c) (Phase controls) n fine;
     later = λ part k later. named_other q x o c (Of part k) (later_far x part k early later);
     unsorted = at_number q IsUnsorted n unsorted;
+    own = number_own n (inr (mine, touches));
     over = over;
     outside = record {
       names = λ name far. put_at_other q.disk.names (path x) o name (λ same. far x (sym same));

@@ -1,9 +1,13 @@
 -- A step of a program that is none of the queue's.
-use Rattle.std.proofs.Common.{◌≡◌, ℕ, List, None, sym, ap, ◌∙◌, subst}
+use Rattle.std.proofs.Common.{◌≡◌, ℕ, List, true, Some, None, sym, ap, ◌∙◌, subst}
+use Rattle.address_rules.specs.declared.controls.Controls.{Controls}
+use Rattle.call_fs.specs.Disk.{Among}
 use Rattle.queue_paths.specs.Names.{Name}
 use Rattle.queue_paths.specs.Names.Name.{Of}
-use Rattle.queue_law.specs.Books.{Books, IsInjected}
-use Rattle.queue_law.specs.Numbers.{Role, Queue, look, about, IsRight, Phase, NoneLost, Sound}
+use Rattle.queue_paths.specs.Names.Part.{Todo}
+use Rattle.queue_law.specs.Books.{Injection, Books, IsInjected}
+use Rattle.queue_law.specs.Numbers.{Role, Queue, look, about, IsRight, Phase, NoneLost, Sound, IsEarly}
+use Rattle.queue_law.proofs.Frame.{still_there}
 use Rattle.queue_law.specs.Steps.{Elsewhere, Foreign, ForeignersKeep}
 use Rattle.queue_law.proofs.Looks.{find_same}
 
@@ -14,11 +18,11 @@ module _ (a : List ℕ) (q r : Queue) (F : Foreign a q r) where
   pub foreign_about : (n : ℕ) → about r n ≡ about q n
   foreign_about n = λ i. record { parts = λ part. same (Of part n) i; living = (F.books i).living n }
 
-  pub foreign_sound : Sound q → Sound r
-  foreign_sound G = record {
+  pub foreign_sound : (controls : Controls) → Sound controls q → Sound controls r
+  foreign_sound controls G = record {
     suits = λ x y h. subst (λ (role : ℕ → Role). IsRight x y (role y.number)) (sym F.role) (G.suits x y (sym (same x) ∙ h));
-    fine = λ n. subst Phase (sym (foreign_about n)) (G.fine n);
-    over = subst NoneLost (sym F.books) G.over;
+    fine = λ n. subst (Phase controls) (sym (foreign_about n)) (G.fine n);
+    over = subst (NoneLost controls) (sym F.books) G.over;
   }
 
   pub foreign_elsewhere : (now : ℕ) → Elsewhere now a None q r
@@ -27,13 +31,21 @@ module _ (a : List ℕ) (q r : Queue) (F : Foreign a q r) where
     living = λ n _. ap (λ (b : Books). b.living n) F.books;
     opens = F.opens;
     roles = λ x y _. ap (λ (role : ℕ → Role). role y.number) F.role;
-    apart = λ _ _ _ _ _ _ _ _ h. absurd (cc);
-    accepted = λ i h _. subst (λ (b : Books). IsInjected b i) (sym F.books) h;
+    apart = λ _ _ _ _ _ _ _ _ _ h. absurd (cc);
+    accepted = λ i h _. still_there r.books i (subst (λ (b : Books). IsInjected b i) (sym F.books) h);
+  }
+
+  pub foreign_early : IsEarly q → IsEarly r
+  foreign_early e = record {
+    unsorted = λ n part later. same (Of part n) ∙ e.unsorted n part later;
+    waits = λ n i lives t none. e.waits n i (subst (λ (b : Books). b.living n ≡ Some i) F.books lives) t (sym (same (Of Todo n)) ∙ none);
+    none_over = subst (λ (b : Books). (i : Injection) → Among i b.over → i.accepted ≡ true → ⊥) (sym F.books) e.none_over;
   }
 
 pub foreigners_keep : ForeignersKeep
 foreigners_keep = record {
-  sound = foreign_sound;
+  sound = λ controls a q r F. foreign_sound a q r F controls;
   elsewhere = λ now a q r F. foreign_elsewhere a q r F now;
   abouts = foreign_about;
+  early = foreign_early;
 }

@@ -1,18 +1,26 @@
 -- A machine stop: what was synced survives as it was.
 use Rattle.std.proofs.Common.{◌≡◌, ℕ, suc, ◌<◌, ◌≤◌, List, [], ◌∷◌, length, Bool, false, Option, Some, None, refl, sym, ap, ◌∙◌, subst, ⊎_elim, arith, slice_get, le_antisymm}
+use Rattle.address_rules.specs.declared.controls.Controls.{Controls}
 use Rattle.call_fs.specs.Disk.{File, Among, IsSynced}
 use Rattle.call_fs.specs.Survival.{HadAt, Survives, AllSurvive, settled}
 use Rattle.queue_paths.specs.Names.{Name}
 use Rattle.queue_paths.specs.Names.Name.{Of}
-use Rattle.queue_paths.specs.Names.Part.{Mess, Intd, Todo}
+use Rattle.queue_paths.specs.Names.Part.{Mess, Intd, Todo, Info, Bounce}
+use Rattle.queue_inject.specs.Texts.{message_text}
+use Rattle.send_jobs.specs.declared.channels.Channel.{Channel}
+use Rattle.queue_law.specs.Books.{Injection}
+use Rattle.queue_law.specs.Routes.{lane_part}
+use Rattle.queue_law.proofs.Marks.{marked_survives}
 use Rattle.call_fs.specs.declared.past.Own.{Own}
 use Rattle.queue_inject.specs.declared.injection.Arguments.{Arguments}
-use Rattle.queue_law.specs.Numbers.{Entry, entry, Role, Queue, look, IsRecent, about, Phase, Sound}
+use Rattle.queue_law.specs.Numbers.{Entry, entry, Role, Queue, look, IsRecent, about, LaneState, NotesState, Phase, Sound, IsEarly}
+use Rattle.queue_law.specs.Numbers.LaneState.{LaneThere, LaneGone}
+use Rattle.queue_law.specs.Numbers.NotesState.{NotYet}
 use Rattle.queue_law.proofs.Tests.{off}
 use Rattle.queue_law.proofs.Looks.{find_some, find_none, not_found, found}
 use Rattle.queue_law.specs.Injectors.{InjectorFares}
 use Rattle.queue_law.specs.Numbers.Role.{AsMessage, AsPart, AsOld}
-use Rattle.queue_law.specs.Numbers.Phase.{Free, Queued, Sorted}
+use Rattle.queue_law.specs.Numbers.Phase.{Free, Queued, Sorted, Finished}
 use Rattle.queue_law.specs.Steps.{after_halt}
 
 same_lists : (xs ys : List ℕ) → length xs ≡ length ys → ((k : ℕ) → k < length ys → slice_get xs k ≡ slice_get ys k) → xs ≡ ys
@@ -50,8 +58,12 @@ settled_recent (AsPart part n) f bytes h = h
 settled_recent AsOld f bytes h = h
 
 module _ (q : Queue) (contents : ℕ → List ℕ) (survives : AllSurvive q.disk contents) where
-  after_file : Entry → Entry
+  pub after_file : Entry → Entry
   after_file y = record { number = y.number; file = settled (contents y.number) y.file }
+
+  pub after_number : (y : Entry) → (after_file y).number ≡ y.number
+  unfolding after_file
+  after_number y = refl
 
   pub still_absent : (x : Name) → look q x ≡ None → look (after_halt contents q) x ≡ None
   still_absent x h = find_none q.disk.names _ x (not_found q.disk.names q.disk.files x h)
@@ -59,60 +71,111 @@ module _ (q : Queue) (contents : ℕ → List ℕ) (survives : AllSurvive q.disk
   was_absent : (x : Name) → look (after_halt contents q) x ≡ None → look q x ≡ None
   was_absent x h = find_none q.disk.names q.disk.files x (not_found q.disk.names _ x h)
 
-  still_there : (x : Name) (y : Entry) → look q x ≡ Some y → look (after_halt contents q) x ≡ Some (after_file y)
+  pub still_there : (x : Name) (y : Entry) → look q x ≡ Some y → look (after_halt contents q) x ≡ Some (after_file y)
   unfolding after_file
   still_there x y h =
       let w = found q.disk.names q.disk.files x y h in
       find_some q.disk.names _ x y.number w.0 ∙ ap (λ (z : Entry). Some (record { number = y.number; file = settled (contents y.number) z.file })) (sym w.1)
 
-  still_synced : (x : Name) (y : Entry) (text : List ℕ) → look q x ≡ Some y → IsSynced y.file text → IsSynced (after_file y).file text
+  was_there : (x : Name) (y : Entry) → look (after_halt contents q) x ≡ Some y → (z : Entry) × (look q x ≡ Some z) × (after_file z ≡ y)
+  unfolding after_file
+  was_there x y h =
+      let w = found q.disk.names _ x y h in
+      (entry q.disk.files y.number, find_some q.disk.names q.disk.files x y.number w.0, sym w.1)
+
+  pub still_synced : (x : Name) (y : Entry) (text : List ℕ) → look q x ≡ Some y → IsSynced y.file text → IsSynced (after_file y).file text
   unfolding after_file
   still_synced x y text h synced =
       let w = found q.disk.names q.disk.files x y h in
       let s = survives _ y.number w.0 in
       settled_synced y.file (contents y.number) text synced (subst (λ (z : Entry). Survives z.file (contents y.number)) (sym w.1) s)
 
-  phase_after : (n : ℕ) → Phase (about q n) → Phase (about (after_halt contents q) n)
-  phase_after n (Free h) = Free (record {
+  lane_after : (controls : Controls) (n : ℕ) (i : Injection) (ch : Channel) → LaneState controls (about q n) i ch
+      → LaneState controls (about (after_halt contents q) n) i ch
+  unfolding after_file
+  lane_after controls n i ch (LaneGone none all) = LaneGone (still_absent (Of (lane_part ch) n) none) all
+  lane_after controls n i ch (LaneThere y there marked) =
+      let w = found q.disk.names q.disk.files (Of (lane_part ch) n) y there in
+      let s = survives _ y.number w.0 in
+      LaneThere (after_file y) (still_there (Of (lane_part ch) n) y there)
+      (marked_survives controls i ch y.file (contents y.number) marked (subst (λ (z : Entry). Survives z.file (contents y.number)) (sym w.1) s))
+
+  notes_after : (n : ℕ) (i : Injection) → NotesState (about q n) i → NotesState (about (after_halt contents q) n) i
+  notes_after n i (NotYet none unnoted) = NotYet (still_absent (Of Bounce n) none) unnoted
+
+  phase_after : (controls : Controls) (n : ℕ) → Phase controls (about q n) → Phase controls (about (after_halt contents q) n)
+  phase_after controls n (Free h) = Free (record {
     not_accepted = h.not_accepted;
     unsorted = λ part later. still_absent (Of part n) (h.unsorted part later);
     no_todo = still_absent (Of Todo n) h.no_todo;
     intd_below = λ none. still_absent (Of Intd n) (h.intd_below (was_absent (Of Mess n) none));
   })
-  phase_after n (Queued h) = Queued (record {
-    unsorted = λ part later. still_absent (Of part n) (h.unsorted part later);
-    injection = h.injection;
-    lives = h.lives;
-    accepted = h.accepted;
-    mess = after_file h.mess;
-    mess_there = still_there (Of Mess n) h.mess h.mess_there;
-    message = still_synced (Of Mess n) h.mess _ h.mess_there h.message;
+  phase_after controls n (Queued h) = Queued (record {
+    taken = record {
+      injection = h.taken.injection;
+      lives = h.taken.lives;
+      accepted = h.taken.accepted;
+      mess = after_file h.taken.mess;
+      mess_there = still_there (Of Mess n) h.taken.mess h.taken.mess_there;
+      message = still_synced (Of Mess n) h.taken.mess _ h.taken.mess_there h.taken.message;
+      valid = h.taken.valid;
+      spots = h.taken.spots;
+    };
     todo = after_file h.todo;
     todo_there = still_there (Of Todo n) h.todo h.todo_there;
     text = still_synced (Of Todo n) h.todo _ h.todo_there h.text;
-    valid = h.valid;
+    no_bounce = still_absent (Of Bounce n) h.no_bounce;
+    unnoted = h.unnoted;
   })
-  phase_after n (Sorted some h) =
-      Sorted (some.0, some.1, λ none. some.2 (was_absent (Of some.0 n) none)) (record {
-        injection = h.injection;
-        lives = h.lives;
-        accepted = h.accepted;
-        mess = after_file h.mess;
-        mess_there = still_there (Of Mess n) h.mess h.mess_there;
-        message = still_synced (Of Mess n) h.mess _ h.mess_there h.message;
-        valid = h.valid;
-      })
+  phase_after controls n (Sorted h) = Sorted (record {
+    taken = record {
+      injection = h.taken.injection;
+      lives = h.taken.lives;
+      accepted = h.taken.accepted;
+      mess = after_file h.taken.mess;
+      mess_there = still_there (Of Mess n) h.taken.mess h.taken.mess_there;
+      message = still_synced (Of Mess n) h.taken.mess _ h.taken.mess_there h.taken.message;
+      valid = h.taken.valid;
+      spots = h.taken.spots;
+    };
+    no_todo = still_absent (Of Todo n) h.no_todo;
+    no_intd = still_absent (Of Intd n) h.no_intd;
+    info = after_file h.info;
+    info_there = still_there (Of Info n) h.info h.info_there;
+    text = still_synced (Of Info n) h.info _ h.info_there h.text;
+    lanes = λ ch. lane_after controls n h.taken.injection ch (h.lanes ch);
+    notes = notes_after n h.taken.injection h.notes;
+  })
+  phase_after controls n (Finished h) = Finished (record {
+    injection = h.injection;
+    lives = h.lives;
+    accepted = h.accepted;
+    message = λ y e.
+        let w = was_there (Of Mess n) y e in
+        subst (λ (z : Entry). IsSynced z.file (message_text h.injection.args).bytes) w.2 (still_synced (Of Mess n) w.0 _ w.1 (h.message w.0 w.1));
+    no_todo = still_absent (Of Todo n) h.no_todo;
+    no_intd = still_absent (Of Intd n) h.no_intd;
+    unsorted = λ part later. still_absent (Of part n) (h.unsorted part later);
+    settled = h.settled;
+  })
 
-  pub sound_after : Sound q → Sound (after_halt contents q)
-  sound_after G = record {
+  pub sound_after : (controls : Controls) → Sound controls q → Sound controls (after_halt contents q)
+  sound_after controls G = record {
     suits = λ x y h.
         let w = found q.disk.names _ x y h in
         let right = G.suits x (entry q.disk.files y.number) (find_some q.disk.names q.disk.files x y.number w.0) in
         let recent = settled_recent (q.role y.number) (q.disk.files y.number) (contents y.number) right.1 in
         (right.0, subst (λ (z : Entry). IsRecent z.file (q.role y.number)) (sym w.1) recent);
-    fine = λ n. phase_after n (G.fine n);
+    fine = λ n. phase_after controls n (G.fine n);
     over = G.over;
   }
+
+pub early_after : (q : Queue) (contents : ℕ → List ℕ) → IsEarly q → IsEarly (after_halt contents q)
+early_after q contents e = record {
+  unsorted = λ n part later. find_none q.disk.names _ (Of part n) (not_found q.disk.names q.disk.files (Of part n) (e.unsorted n part later));
+  waits = λ n i lives t none. e.waits n i lives t (find_none q.disk.names q.disk.files (Of Todo n) (not_found q.disk.names _ (Of Todo n) none));
+  none_over = e.none_over;
+}
 
 -- an injector that lived is stopped, and one that was over is so
 pub injector_halt : (now : ℕ) (q : Queue) (contents : ℕ → List ℕ) (a : List ℕ) (args : Arguments) (past : List Own) (lives ended : Bool)

@@ -1,5 +1,6 @@
 -- The rows of an injector's table at which a name comes or goes.
 use Rattle.std.proofs.Common.{◌≡◌, ◌≢◌, ◌⊎◌, inl, inr, ℕ, List, ◌++◌, true, false, Option, Some, None, option_to_list, refl, sym, ap, ◌∙◌, subst, ⊎_elim}
+use Rattle.address_rules.specs.declared.controls.Controls.{Controls}
 use Rattle.call_fs.specs.Maps.{put}
 use Rattle.call_fs.specs.Disk.{Among}
 use Rattle.queue_inject.specs.declared.injection.Arguments.{Arguments}
@@ -7,27 +8,45 @@ use Rattle.queue_inject.specs.declared.row.Row.{Row}
 use Rattle.queue_inject.specs.declared.row.Row.TheVariants as at
 use Rattle.queue_paths.specs.Names.{Name, path}
 use Rattle.queue_paths.specs.Names.Name.{Pid, Of}
-use Rattle.queue_paths.specs.Names.Part.{Mess, Intd, Todo}
+use Rattle.queue_paths.specs.Names.Part.{Mess, Intd, Todo, Bounce}
 use Rattle.queue_inject.specs.Texts.{message_text}
 use Rattle.queue_inject.specs.Table.{in_message}
 use Rattle.queue_law.specs.Books.{Injection, Books, begun, accept, IsInjected, IsValid}
 use Rattle.call_fs.proofs.Maps.{put_cases, put_same, put_other}
 use Rattle.queue_law.specs.Ledgers.{no_ledger}
 use Rattle.queue_law.specs.Injectors.{IsFailure, IsBegun, IsBare, Holds, AtLink, AtUnlink, AtLinkTodo, Basis}
-use Rattle.queue_law.proofs.Tests.{off, same_text}
-use Rattle.queue_law.specs.Numbers.{Entry, entry, Queue, IsRight, NameSuits, About, about, is_later_name, IsUnsorted, IsFree, Phase, Sound}
+use Rattle.queue_law.specs.Marks.{IsSettled}
+use Rattle.queue_law.proofs.Tests.{off, same_text, tells_name}
+use Rattle.queue_law.specs.Numbers.{Entry, entry, Queue, look, IsRight, NameSuits, About, about, is_later_name, IsUnsorted, Phase, Sound}
 use Rattle.queue_law.proofs.Looks.{find_put, find_gone, find_none, found}
 use Rattle.queue_law.specs.Numbers.Role.{AsMessage}
-use Rattle.queue_law.specs.Numbers.Phase.{Free, Queued, Sorted}
+use Rattle.queue_law.specs.Numbers.Phase.{Free, Queued, Sorted, Finished}
 use Rattle.queue_law.specs.Steps.{Concerns}
 use Rattle.queue_law.proofs.Deeds.{named, begun_phase, later_far, named_other, Leads, named_outcome}
 use Rattle.queue_law.proofs.Rows.{message_next}
 
--- a number without a message is free
-free_of : (w : About) → Phase w → w.parts Mess ≡ None → IsFree w
-free_of w (Free h) none = h
-free_of w (Queued h) none = let t = h.mess_there in absurd (cc)
-free_of w (Sorted some h) none = let t = h.mess_there in absurd (cc)
+-- a number without a message: nothing of it is there, and nothing is owed
+record IsGone (controls : Controls) (w : About) : Type 0 where
+  unsorted : IsUnsorted w
+  no_todo : w.parts Todo ≡ None
+  no_intd : w.parts Intd ≡ None
+  settled : (i : Injection) → w.living ≡ Some i → i.accepted ≡ true → IsSettled controls i
+
+gone_of : (controls : Controls) (w : About) → Phase controls w → w.parts Mess ≡ None → IsGone controls w
+gone_of controls w (Free h) none = record {
+  unsorted = h.unsorted;
+  no_todo = h.no_todo;
+  no_intd = h.intd_below none;
+  settled = λ i lives t. absurd (h.not_accepted i lives t);
+}
+gone_of controls w (Queued h) none = let t = h.taken.mess_there in absurd (cc)
+gone_of controls w (Sorted h) none = let t = h.taken.mess_there in absurd (cc)
+gone_of controls w (Finished h) none = record {
+  unsorted = h.unsorted;
+  no_todo = h.no_todo;
+  no_intd = h.no_intd;
+  settled = λ i lives t. let l = h.lives in let same : h.injection ≡ i = cc in subst (IsSettled controls) same h.settled;
+}
 
 -- the books when an injection begins: the life of the one before is over
 abbrev pub beginning : Books → List ℕ → Arguments → ℕ → Books
@@ -72,9 +91,9 @@ still_accepted b a args n own i h t = ⊎_elim
     (λ (over : Among i b.over). inr over)
     h
 
-module _ (now : ℕ) (q : Queue) (a : List ℕ) (args : Arguments) (G : Sound q) where
+module _ (controls : Controls) (now : ℕ) (q : Queue) (a : List ℕ) (args : Arguments) (G : Sound controls q) where
   abbrev To : Queue → Row → Type 0
-  To = Leads now q a args G
+  To = Leads controls now q a args G
 
   -- where a name now leads
   put_right : (x : Name) (i : ℕ) (c : Books) (y : Entry) → IsRight x y (q.role y.number) → y ≡ entry q.disk.files i
@@ -92,7 +111,7 @@ module _ (now : ℕ) (q : Queue) (a : List ℕ) (args : Arguments) (G : Sound q)
       let c = beginning q.books a args n in
       let r = named q x (Some n) c in
       let none = find_none q.disk.names q.disk.files x free in
-      let F = free_of (about q n) (G.fine n) none in
+      let F = gone_of controls (about q n) (G.fine n) none in
       let pid = Pid args.pid args.start seq in
       let y : Entry = record { number = n; file = h.file } in
       let is = (found q.disk.names q.disk.files pid y h.pid).1 in
@@ -104,19 +123,26 @@ module _ (now : ℕ) (q : Queue) (a : List ℕ) (args : Arguments) (G : Sound q)
         no_todo = other (Of Todo n) (λ s. cc) ∙ F.no_todo;
         lives = put_same q.books.living n _;
       } in
-      named_outcome now q a args G x (Some n) c n (at.UnlinkPid seq n (record { 0 = fd })) refl F.unsorted h.mine
+      named_outcome controls now q a args G x (Some n) c n (at.UnlinkPid seq n (record { 0 = fd })) refl F.unsorted h.mine (inl none)
       (λ k is. (pid, (found q.disk.names q.disk.files pid y h.pid).0 ∙ is))
       refl
       (put_right x n c y ((refl, (a, args, h.mine)), (G.suits pid y h.pid).1) is)
       (λ k far. put_other q.books.living n _ k far)
       (λ i w t. still_injected q.books a args n i w)
-      (λ i w t. ⊎_elim (λ lives. F.not_accepted i lives t) (λ over. G.over i over t) (old_among (q.books.living n) q.books.over i w))
-      (begun_phase r a args n begins) (
+      (λ i w t. ⊎_elim (λ lives. F.settled i lives t) (λ over. G.over i over t) (old_among (q.books.living n) q.books.over i w))
+      (λ e k i lives t none. ⊎_elim
+      (λ (s : (k ≡ n) × (put q.books.living n (Some (begun a args n)) k ≡ Some (begun a args n))).
+      let w = s.1 in let same : begun a args n ≡ i = cc in off (ap (λ (z : Injection). z.accepted) same ∙ t))
+      (λ (s : (k ≢ n) × (put q.books.living n (Some (begun a args n)) k ≡ q.books.living k)).
+      e.waits k i (sym s.1 ∙ lives) t (sym (other (Of Todo k) (λ s. cc)) ∙ none))
+      (put_cases q.books.living n (Some (begun a args n)) k))
+      (λ e i w t. ⊎_elim (λ lives. e.waits n i lives t F.no_todo) (λ over. e.none_over i over t) (old_among (q.books.living n) q.books.over i w))
+      (begun_phase controls r a args n begins) (
         record {
           mess = record {
             holds = record {
               mine = h.mine;
-              rest = record { bare = record { begins = begins; no_intd = other (Of Intd n) (λ s. cc) ∙ F.intd_below none }; holds = h.empty };
+              rest = record { bare = record { begins = begins; no_intd = other (Of Intd n) (λ s. cc) ∙ F.no_intd }; holds = h.empty };
             };
             opened = h.opened;
           };
@@ -127,11 +153,15 @@ module _ (now : ℕ) (q : Queue) (a : List ℕ) (args : Arguments) (G : Sound q)
       )
 
   -- a name of this injector's goes
-  gone_row : (x : Name) (n : ℕ) (row : Row) → is_later_name x ≡ false → IsUnsorted (about q n) → q.role n ≡ AsMessage a args → Concerns q x (Some n)
-      → Phase (about (named q x None q.books) n) → Basis (named q x None q.books) a args row → To (named q x None q.books) row
-  gone_row x n row early unsorted mine concerns fine next =
-      named_outcome now q a args G x None q.books n row early unsorted mine (λ k is. absurd (cc)) concerns
-      (λ z h. let w = find_gone q.disk.names q.disk.files x in absurd (cc)) (λ _ _. refl) (λ _ w _. w) G.over fine next
+  gone_row : (x : Name) (n : ℕ) (row : Row) → is_later_name x ≡ false → ((k : ℕ) → Of Todo k ≢ x) → IsUnsorted (about q n) → q.role n ≡ AsMessage a args
+      → (about q n).living ≡ Some (begun a args n) → Concerns q x (Some n)
+      → Phase controls (about (named q x None q.books) n) → Basis (named q x None q.books) a args row → To (named q x None q.books) row
+  gone_row x n row early no_todo unsorted mine lives concerns fine next =
+      named_outcome controls now q a args G x None q.books n row early unsorted mine (inr lives) (λ k is. absurd (cc)) concerns
+      (λ z h. let w = find_gone q.disk.names q.disk.files x in absurd (cc)) (λ _ _. refl) (λ _ w _. w) G.over
+      (λ e k i lives t none. e.waits k i lives t (sym (named_other q x None q.books (Of Todo k) (no_todo k)) ∙ none))
+      (λ e. e.none_over)
+      fine next
 
   -- another name went, and the injection goes on
   abbrev begun_still : (x : Name) (n : ℕ) → is_later_name x ≡ false → Of Mess n ≢ x → Of Todo n ≢ x → IsBegun (about q n) a args n
@@ -154,7 +184,7 @@ module _ (now : ℕ) (q : Queue) (a : List ℕ) (args : Arguments) (G : Sound q)
       let d = h.mess.holds.rest in
       let begins = begun_still x n refl (λ s. cc) (λ s. cc) d.bare.begins in
       let no_intd = named_other q x None q.books (Of Intd n) (λ s. cc) ∙ d.bare.no_intd in
-      gone_row x n _ refl d.bare.begins.unsorted h.mess.holds.mine (λ y e. let w = h.pid in cc) (begun_phase r a args n begins)
+      gone_row x n _ refl (λ k s. cc) d.bare.begins.unsorted h.mess.holds.mine d.bare.begins.lives (λ y e. let w = h.pid in cc) (begun_phase controls r a args n begins)
       (message_next r a args n fd 0 (record {
         holds = record { mine = h.mess.holds.mine; rest = record { bare = record { begins = begins; no_intd = no_intd }; holds = d.holds } };
         opened = h.mess.opened;
@@ -166,7 +196,7 @@ module _ (now : ℕ) (q : Queue) (a : List ℕ) (args : Arguments) (G : Sound q)
       let x = Of Intd n in
       let r = named q x None q.books in
       let begins = begun_still x n refl (λ s. cc) (λ s. cc) h.rest in
-      gone_row x n _ refl h.rest.unsorted h.mine refl (begun_phase r a args n begins)
+      gone_row x n _ refl (λ k s. cc) h.rest.unsorted h.mine h.rest.lives refl (begun_phase controls r a args n begins)
       (record { mine = h.mine; rest = record { begins = begins; no_intd = find_gone q.disk.names q.disk.files x } }, bad)
 
   pub clean_mess_row : (n : ℕ) (cause : ℕ) → Holds q a args n (λ w. IsBare w a args n) → IsFailure cause
@@ -175,7 +205,7 @@ module _ (now : ℕ) (q : Queue) (a : List ℕ) (args : Arguments) (G : Sound q)
       let x = Of Mess n in
       let other = named_other q x None q.books in
       let b = h.rest.begins in
-      gone_row x n _ refl b.unsorted h.mine refl
+      gone_row x n _ refl (λ k s. cc) b.unsorted h.mine b.lives refl
       (Free (record {
         not_accepted = λ i lives t. let w = b.lives in let v : i.accepted ≡ false = cc in off (sym v ∙ t);
         unsorted = λ part later. other (Of part n) (later_far x part n refl later) ∙ b.unsorted part later;
@@ -193,24 +223,34 @@ module _ (now : ℕ) (q : Queue) (a : List ℕ) (args : Arguments) (G : Sound q)
       let y : Entry = record { number = h.number; file = w.file } in
       let is = (found q.disk.names q.disk.files (Of Intd n) y w.intd).1 in
       let lives : c.living n ≡ Some (taken a args n) = put_same q.books.living n _ ∙ ap (accept a) w.begins.lives ∙ accept_own a args n in
-      named_outcome now q a args G x (Some h.number) c n at.Queued refl w.begins.unsorted h.holds.mine
+      named_outcome controls now q a args G x (Some h.number) c n at.Queued refl w.begins.unsorted h.holds.mine (inr w.begins.lives)
       (λ k is. (Of Intd n, (found q.disk.names q.disk.files (Of Intd n) y w.intd).0 ∙ is))
       refl
       (put_right x h.number c y (G.suits (Of Intd n) y w.intd) is)
       (λ k far. put_other q.books.living n _ k far)
       (λ i. still_accepted q.books a args n w.begins.lives i)
       G.over
+      (λ e k i living t none. ⊎_elim
+      (λ (same : Of Todo k ≡ x). let r = named q x (Some h.number) c in let v = find_put q.disk.names q.disk.files x h.number in let u = ap (look r) same in absurd (cc))
+      (λ (far : Of Todo k ≢ x).
+      e.waits k i (sym (put_other q.books.living n _ k (λ s. far (ap (Of Todo) s))) ∙ living) t (sym (named_other q x (Some h.number) c (Of Todo k) far) ∙ none))
+      (tells_name x (Of Todo k)))
+      (λ e. e.none_over)
       (Queued (record {
-        unsorted = λ part later. named_other q x (Some h.number) c (Of part n) (later_far x part n refl later) ∙ w.begins.unsorted part later;
-        injection = taken a args n;
-        lives = lives;
-        accepted = refl;
-        mess = record { number = n; file = w.begins.file };
-        mess_there = named_other q x (Some h.number) c (Of Mess n) (λ s. cc) ∙ w.begins.mess;
-        message = w.message;
+        taken = record {
+          injection = taken a args n;
+          lives = lives;
+          accepted = refl;
+          mess = record { number = n; file = w.begins.file };
+          mess_there = named_other q x (Some h.number) c (Of Mess n) (λ s. cc) ∙ w.begins.mess;
+          message = w.message;
+          valid = valid;
+          spots = λ ch place none. absurd none;
+        };
         todo = y;
         todo_there = find_put q.disk.names q.disk.files x h.number ∙ ap Some (sym is);
         text = w.fulfils;
-        valid = valid;
+        no_bounce = named_other q x (Some h.number) c (Of Bounce n) (λ s. cc) ∙ w.begins.unsorted Bounce refl;
+        unnoted = refl;
       }))
       (tt, (taken a args n, inl lives, refl, refl, refl))

@@ -1,5 +1,6 @@
 -- The rows of an injector's table at which a file is made or written.
-use Rattle.std.proofs.Common.{◌≡◌, ◌≢◌, ℕ, zero, suc, ◌+◌, ◌≤◌, List, length, take, drop, Some, None, refl, sym, ap, ◌∙◌, subst}
+use Rattle.std.proofs.Common.{◌≡◌, ◌≢◌, inl, inr, ℕ, zero, suc, ◌+◌, ◌≤◌, List, length, take, drop, Option, Some, None, refl, sym, ap, ◌∙◌, subst}
+use Rattle.address_rules.specs.declared.controls.Controls.{Controls}
 use Rattle.call_fs.specs.Disk.{File, IsSynced}
 use Rattle.call_fs.specs.Apply.{empty_file, grown, grown_part, synced, IsNew}
 use Rattle.queue_inject.specs.declared.injection.Arguments.{Arguments}
@@ -17,12 +18,17 @@ use Rattle.queue_law.specs.Numbers.{Entry, Queue, look, IsRecent, about, IsUnsor
 use Rattle.queue_law.proofs.Looks.{find_far, find_absent, find_near, found}
 use Rattle.queue_law.specs.Injectors.{IsBegun, IsBare, IsWhole, HasIntd, Holds, AtMess, AtTodo, Basis}
 use Rattle.queue_law.specs.Numbers.Role.{AsMessage, AsPart}
-use Rattle.queue_law.specs.Numbers.Phase.{Free, Queued, Sorted}
-use Rattle.queue_law.proofs.Deeds.{made, written, begun_phase, later_far, made_for, made_same, made_other, own_apart, Leads, made_outcome, written_outcome}
+use Rattle.queue_law.specs.Numbers.Phase.{Free, Queued, Sorted, Finished}
+use Rattle.queue_law.proofs.Deeds.{made, written, IsNowhere, begun_phase, later_far, unnamed, made_for, made_same, made_other, own_apart, Leads, made_outcome, written_outcome}
 
 -- a synced file holds what it held, on the disk
 synced_with : (f : File) (bytes : List ℕ) → f.bytes ≡ bytes → IsSynced (synced f) bytes
 synced_with f bytes holds = record { holds = holds; all = holds; none_given = refl; no_shorter = ap length holds; no_longer = ap length holds }
+
+-- what can't be there isn't
+none_of : {A : Type 0} (o : Option A) → ((y : A) → o ≡ Some y → ⊥) → o ≡ None
+none_of None never = refl
+none_of (Some y) never = absurd (never y refl)
 
 -- what comes after so many bytes of a message, and of an envelope
 pub message_next : (q : Queue) (a : List ℕ) (args : Arguments) (n fd done : ℕ) → AtMess q a args n fd (take done (message_text args).bytes)
@@ -63,18 +69,23 @@ todo_next q a args n fd done whole h =
     ))
     (λ status bad. (record { mine = h.holds.mine; rest = w.begins }, bad))
 
-module _ (now : ℕ) (q : Queue) (a : List ℕ) (args : Arguments) (G : Sound q) where
+module _ (controls : Controls) (now : ℕ) (q : Queue) (a : List ℕ) (args : Arguments) (G : Sound controls q) where
   abbrev To : Queue → Row → Type 0
-  To = Leads now q a args G
+  To = Leads controls now q a args G
 
-  -- the number of a new file isn't preprocessed, since it has no message yet
-  unused_unsorted : (fd i : ℕ) (x : Name) → IsNew q.disk (path x) fd i → Phase (about q i) → IsUnsorted (about q i)
+  -- the number of a new file has no message yet
+  unused_mess : (fd i : ℕ) (x : Name) → IsNew q.disk (path x) fd i → (y : Entry) → look q (Of Mess i) ≡ Some y → ⊥
+  unused_mess fd i x new y h =
+      let there = (found q.disk.names q.disk.files (Of Mess i) y h).0 in
+      let number = (G.suits (Of Mess i) y h).0.0 in
+      new.unused.unnamed (path (Of Mess i)) (there ∙ ap Some number)
+
+  -- so it isn't preprocessed
+  unused_unsorted : (fd i : ℕ) (x : Name) → IsNew q.disk (path x) fd i → Phase controls (about q i) → IsUnsorted (about q i)
   unused_unsorted fd i x new (Free h) = h.unsorted
-  unused_unsorted fd i x new (Queued h) = h.unsorted
-  unused_unsorted fd i x new (Sorted some h) =
-      let there = (found q.disk.names q.disk.files (Of Mess i) h.mess h.mess_there).0 in
-      let number = (G.suits (Of Mess i) h.mess h.mess_there).0.0 in
-      absurd (new.unused.unnamed (path (Of Mess i)) (there ∙ ap Some number))
+  unused_unsorted fd i x new (Queued h) = absurd (unused_mess fd i x new h.taken.mess h.taken.mess_there)
+  unused_unsorted fd i x new (Sorted h) = absurd (unused_mess fd i x new h.taken.mess h.taken.mess_there)
+  unused_unsorted fd i x new (Finished h) = h.unsorted
 
   -- the file that an injector makes first
   pub create_row : (seq fd i read : ℕ) → args.start ≤ read → IsNew q.disk (path (Pid args.pid args.start seq)) fd i
@@ -84,16 +95,19 @@ module _ (now : ℕ) (q : Queue) (a : List ℕ) (args : Arguments) (G : Sound q)
       let role = AsMessage a args in
       let number = λ (y : Name) (z : Entry) (h : look q y ≡ Some z). (found q.disk.names q.disk.files y z h).0 in
       let other = made_other q x a fd i read role new in
+      let nowhere : IsNowhere q i = unnamed q x a fd i read role new in
       let same : about (made q a x fd i read role) i ≡ about q i =
       λ j. record { parts = λ part. other (Of part i) (λ s. cc) j; living = q.books.living i } in
-      made_outcome now q a args G x fd i read role i (at.LinkMess seq i (record { 0 = fd })) new refl (unused_unsorted fd i x new (G.fine i))
+      made_outcome controls now q a args G x fd i read role i (at.LinkMess seq i (record { 0 = fd })) new refl (unused_unsorted fd i x new (G.fine i))
+      (inl nowhere)
       (λ y h. let w = number x y h in let v = new.free in absurd (cc))
-      (λ o args' apart soon y z h his s. new.unused.unnamed (path y) (number y z h ∙ sym s))
-      (tt, late)
-      (subst Phase (sym same) (G.fine i)) (
+      (λ o args' apart soon y z h his touches s. new.unused.unnamed (path y) (number y z h ∙ sym s))
+      (refl, late)
+      (subst (Phase controls) (sym same) (G.fine i)) (
         record {
           mine = put_same q.role i role;
           file = empty_file read;
+          no_mess = other (Of Mess i) (λ s. cc) ∙ none_of (look q (Of Mess i)) (unused_mess fd i x new);
           pid = made_same q x a fd i read role new;
           empty = refl;
           opened = record { opened = put_same q.disk.opens fd _; held = put_same q.holder fd (Some a) };
@@ -117,11 +131,11 @@ module _ (now : ℕ) (q : Queue) (a : List ℕ) (args : Arguments) (G : Sound q)
         no_todo = other (Of Todo n) (λ s. cc) ∙ b.no_todo;
         lives = b.lives;
       } in
-      made_outcome now q a args G x fd i read role n (in_todo (intd_text args) n fd 0) new refl b.unsorted
+      made_outcome controls now q a args G x fd i read role n (in_todo (intd_text args) n fd 0) new refl b.unsorted (inr (h.mine, inr b.lives))
       refl
       (own_apart now q G.suits a args n h.mine)
       (refl, tt)
-      (begun_phase r a args n begins)
+      (begun_phase controls r a args n begins)
       (todo_next r a args n fd 0 whole (record {
         number = i;
         holds = record {
@@ -159,7 +173,7 @@ module _ (now : ℕ) (q : Queue) (a : List ℕ) (args : Arguments) (G : Sound q)
   mess_row : (n : ℕ) (f : File) (row : Row) → q.role n ≡ AsMessage a args → IsBare (about q n) a args n → args.start ≤ f.moment
       → Basis (written q n f) a args row → To (written q n f) row
   mess_row n f row mine bare late next =
-      written_outcome now q a args G (Of Mess n) n f n row refl bare.begins.unsorted (found q.disk.names q.disk.files (Of Mess n) _ bare.begins.mess).0 mine (ap (made_for n) mine) (subst (IsRecent f) (sym mine) late) (bare_written n f bare).begins next
+      written_outcome controls now q a args G (Of Mess n) n f n row refl bare.begins.unsorted (found q.disk.names q.disk.files (Of Mess n) _ bare.begins.mess).0 mine (ap (made_for n) mine) (subst (IsRecent f) (sym mine) late) (bare_written n f bare).begins next
 
   draft_bytes : (n fd : ℕ) (bytes : List ℕ) → AtMess q a args n fd bytes → (q.disk.files n).bytes ≡ bytes
   draft_bytes n fd bytes h = let d = h.holds.rest in ap (λ (f : File). f.bytes) (sym (file_is (Of Mess n) n _ d.bare.begins.mess)) ∙ d.holds
@@ -237,7 +251,7 @@ module _ (now : ℕ) (q : Queue) (a : List ℕ) (args : Arguments) (G : Sound q)
       → Basis (written q i f) a args row → To (written q i f) row
   todo_row n i f row P h next =
       let role = (G.suits (Of Intd n) _ h.rest.intd).0 in
-      written_outcome now q a args G (Of Intd n) i f n row refl h.rest.begins.unsorted (found q.disk.names q.disk.files (Of Intd n) _ h.rest.intd).0 h.mine (ap (made_for i) role) (subst (IsRecent f) (sym role) tt)
+      written_outcome controls now q a args G (Of Intd n) i f n row refl h.rest.begins.unsorted (found q.disk.names q.disk.files (Of Intd n) _ h.rest.intd).0 h.mine (ap (made_for i) role) (subst (IsRecent f) (sym role) tt)
       (intd_written n i f P (λ _. Unit {0}) h.mine h.rest tt).begins next
 
   todo_bytes : (n fd : ℕ) (bytes : List ℕ) (h : AtTodo q a args n fd bytes) → (q.disk.files h.number).bytes ≡ bytes

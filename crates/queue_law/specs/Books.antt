@@ -1,5 +1,5 @@
 -- The books: the injections that the calls of injectors began and accepted; and what a call makes of readings and descriptors.
-use Rattle.std.specs.Prelude.{◌≡◌, ◌⊎◌, ℕ, List, [], ◌∷◌, ◌++◌, Bool, true, false, Option, Some, None, option_to_list, if◌then◌else◌, bytes_eq}
+use Rattle.std.specs.Prelude.{◌≡◌, ◌⊎◌, ℕ, List, [], ◌∷◌, ◌++◌, Bool, true, false, Option, Some, None, option_map, option_to_list, if◌then◌else◌, bytes_eq}
 use Rattle.call_fs.specs.declared.calls.CallData.{CallData}
 use Rattle.call_fs.specs.declared.calls.CallData.TheVariants.{Close, Link}
 use Rattle.call_fs.specs.declared.calls.Answer.{Answer}
@@ -16,7 +16,7 @@ use Rattle.queue_paths.specs.Names.Name.{Of}
 use Rattle.queue_paths.specs.Names.Part.{Mess, Intd, Todo}
 use Rattle.queue_inject.specs.declared.injection.Arguments.{Arguments}
 use Rattle.queue_inject.specs.Texts.{message_text, intd_text}
-use Rattle.queue_law.specs.Ledgers.{Ledger, no_ledger}
+use Rattle.queue_law.specs.Ledgers.{Spot, Ledger, no_ledger}
 
 -- a file call and what was told, as an event of a program's own past
 abbrev pub own_call : ℕ → Ready → CallData → Told → Own
@@ -27,7 +27,7 @@ abbrev pub last_read : ℕ → List Own → ℕ
 last_read start [] = start
 last_read start (event ∷ before) = event.read
 
--- An injection: an Ok link by an injector to the name of a message. It is accepted where that injector's link of intd
+-- An injection: an Ok link by an injector to the name of a message. It is accepted if that injector's link of intd
 -- to todo answered Ok. Its ledger says what senders did with it.
 pub record Injection : Type 0 where
   pub number : ℕ
@@ -70,6 +70,21 @@ held_by holder a call (Created fd n) = put holder fd.0 (Some a)
 held_by holder a call (Opened fd) = put holder fd.0 (Some a)
 held_by holder a (Close fd) Done = put holder fd.0 None
 held_by holder a call answer = holder
+
+-- the books when a recipient of the message with this number is reported delivered
+abbrev pub with_delivered : Spot → Injection → Injection
+with_delivered s i = record i { ledger = record i.ledger { delivered = s ∷ i.ledger.delivered } }
+
+abbrev pub delivered_in : Books → ℕ → Spot → Books
+delivered_in b n s = record { living = put b.living n (option_map (with_delivered s) (b.living n)); over = b.over }
+
+-- the same injection later on: its ledger may have grown, and all else is as it was
+pub record IsLater (i j : Injection) : Type 0 where
+  pub number_is : j.number ≡ i.number
+  pub actor_is : j.actor ≡ i.actor
+  pub args_are : j.args ≡ i.args
+  pub accepted_is : j.accepted ≡ i.accepted
+  pub delivered : (s : Spot) → Among s i.ledger.delivered → Among s j.ledger.delivered
 
 -- an injection, whether its life lasts or is over
 abbrev pub IsInjected : Books → Injection → Type 0

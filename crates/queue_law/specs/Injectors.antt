@@ -8,7 +8,8 @@ use Rattle.queue_inject.specs.declared.row.Row.{Row}
 use Rattle.queue_inject.specs.declared.row.Row.TheVariants as at
 use Rattle.queue_inject.specs.Texts.{message_text, intd_text}
 use Rattle.queue_inject.specs.Table.{row_after}
-use Rattle.queue_paths.specs.Names.Name.{Pid}
+use Rattle.queue_limits.specs.declared.times.TheConstants.{DAY, LONGEST_STALL}
+use Rattle.queue_paths.specs.Names.Name.{Pid, Of}
 use Rattle.queue_paths.specs.Names.Part.{Mess, Intd, Todo}
 use Rattle.queue_law.specs.Books.{Books, begun, last_read, IsValid, HasQueued}
 use Rattle.queue_law.specs.Numbers.{Queue, look, About, about, IsUnsorted}
@@ -73,6 +74,7 @@ pub record Holds (q : Queue) (a : List ℕ) (args : Arguments) (n : ℕ) (P : Ab
 pub record AtLink (q : Queue) (a : List ℕ) (args : Arguments) (seq n fd : ℕ) : Type 0 where
   pub mine : q.role n ≡ AsMessage a args
   pub file : File
+  pub no_mess : look q (Of Mess n) ≡ None
   pub pid : look q (Pid args.pid args.start seq) ≡ Some (record { number = n; file = file })
   pub empty : file.bytes ≡ []
   pub opened : IsOpen q a fd n
@@ -133,14 +135,14 @@ Basis q a args row = Relies q a args row × Settles q.books a args row
 
 -- An injector that may still call: it makes no call after a day, and reads no moment that lies over half a day back.
 abbrev pub InTime : ℕ → Arguments → Type 0
-InTime now args = now ≤ args.start + 129600
+InTime now args = now ≤ args.start + (DAY + LONGEST_STALL)
 
 -- A living injector at its row. One that is over its day owes nothing of the disk.
 pub record Stands (now : ℕ) (q : Queue) (a : List ℕ) (args : Arguments) (row : Row) : Type 0 where
   pub relies : InTime now args → Relies q a args row
   pub settles : Settles q.books a args row
 
--- What holds of an injector: by its row while it lives; where it has queued its message, whether it lives or not; of its end
+-- What holds of an injector: by its row while it lives; if it has queued its message, whether it lives or not; of its end
 -- with 0, if it has ended so; and of its readings.
 pub record InjectorFares (now : ℕ) (q : Queue) (a : List ℕ) (args : Arguments) (past : List Own) (lives ended : Bool) : Type 0 where
   pub stands : lives ≡ true → Stands now q a args (row_after args past)

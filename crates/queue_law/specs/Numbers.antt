@@ -1,12 +1,16 @@
 -- What holds of each name and of each message number of the queue.
-use Rattle.std.specs.Prelude.{◌≡◌, ◌≢◌, ℕ, ◌≤◌, List, Bool, true, false, Option, Some, None, option_map}
+use Rattle.std.specs.Prelude.{◌≡◌, ◌≢◌, ℕ, ◌≤◌, List, [], Bool, true, false, Option, Some, None, option_map}
+use Rattle.address_rules.specs.declared.controls.Controls.{Controls}
 use Rattle.call_fs.specs.Disk.{Disk, File, Among, IsSynced}
 use Rattle.queue_inject.specs.declared.injection.Arguments.{Arguments}
 use Rattle.queue_inject.specs.Texts.{message_text, intd_text}
 use Rattle.queue_paths.specs.Names.{Name, Part, path}
 use Rattle.queue_paths.specs.Names.Name.{Pid, Of}
 use Rattle.queue_paths.specs.Names.Part.{Mess, Intd, Todo, Info, Local, Remote, Bounce}
+use Rattle.send_jobs.specs.declared.channels.Channel.{Channel}
 use Rattle.queue_law.specs.Books.{Injection, Books, IsValid}
+use Rattle.queue_law.specs.Routes.{info_of, lane_part}
+use Rattle.queue_law.specs.Marks.{AllMarked, HasItsSpots, IsLaneDelivered, IsSettled}
 
 -- a file, and its number
 pub record Entry : Type 0 where
@@ -36,14 +40,15 @@ pub record Queue : Type 0 where
 abbrev pub look : Queue → Name → Option Entry
 look q x = find q.disk.names q.disk.files x
 
--- a name suits what its file was made as; a message has the number of its file
-abbrev pub IsPidRole : Role → Type 0
-IsPidRole (AsMessage actor args) = Unit {0}
-IsPidRole (AsPart part n) = ⊥
-IsPidRole AsOld = Unit {0}
+-- A name suits what its file was made as: a pid name tells the start of its injector, and a message has the number of its
+-- file.
+abbrev pub IsPidRole : ℕ → Role → Type 0
+IsPidRole start (AsMessage actor args) = args.start ≡ start
+IsPidRole start (AsPart part n) = ⊥
+IsPidRole start AsOld = Unit {0}
 
 abbrev pub Suits : Name → ℕ → Role → Type 0
-Suits (Pid pid start seq) i role = IsPidRole role
+Suits (Pid pid start seq) i role = IsPidRole start role
 Suits (Of Mess n) i role = (i ≡ n) × ((actor : List ℕ) × (args : Arguments) × (role ≡ AsMessage actor args))
 Suits (Of Intd n) i role = role ≡ AsPart Todo n
 Suits (Of Todo n) i role = role ≡ AsPart Todo n
@@ -104,43 +109,82 @@ pub record IsFree (w : About) : Type 0 where
   pub no_todo : w.parts Todo ≡ None
   pub intd_below : w.parts Mess ≡ None → w.parts Intd ≡ None
 
--- its message is accepted: message and envelope are whole, and on the disk
-pub record IsQueued (w : About) : Type 0 where
-  pub unsorted : IsUnsorted w
+-- its message is accepted, whole, and on the disk
+pub record IsTaken (controls : Controls) (w : About) : Type 0 where
   pub injection : Injection
   pub lives : w.living ≡ Some injection
   pub accepted : injection.accepted ≡ true
   pub mess : Entry
   pub mess_there : w.parts Mess ≡ Some mess
   pub message : IsSynced mess.file (message_text injection.args).bytes
+  pub valid : IsValid injection.args
+  pub spots : HasItsSpots controls injection
+
+-- So it is, and its todo file, which is whole and on the disk, waits to be preprocessed. What preprocessing began may be there:
+-- info, and the files of the channels, whatever they hold.
+pub record IsQueued (controls : Controls) (w : About) : Type 0 where
+  pub taken : IsTaken controls w
   pub todo : Entry
   pub todo_there : w.parts Todo ≡ Some todo
-  pub text : IsSynced todo.file (intd_text injection.args).bytes
-  pub valid : IsValid injection.args
+  pub text : IsSynced todo.file (intd_text taken.injection.args).bytes
+  pub no_bounce : w.parts Bounce ≡ None
+  pub unnoted : taken.injection.ledger.noted ≡ []
 
--- Preprocessing has made a file of it: its message is accepted, whole, and on the disk.
-pub record IsTaken (w : About) : Type 0 where
+-- The file of a channel after preprocessing: it is there, and each record of it reads `T`, or `D` once its recipient was reported
+-- delivered; or it isn't, and each recipient of the channel was. A channel without recipients has none.
+pub data LaneState (controls : Controls) (w : About) (i : Injection) (ch : Channel) : Type 0 where
+  LaneThere : (y : Entry) → w.parts (lane_part ch) ≡ Some y → AllMarked controls i ch y.file → LaneState controls w i ch
+  LaneGone : w.parts (lane_part ch) ≡ None → IsLaneDelivered controls i ch → LaneState controls w i ch
+
+-- The notes of failures after preprocessing: there are none. Those that a bounce file keeps come with the programs that write it.
+pub data NotesState (w : About) (i : Injection) : Type 0 where
+  NotYet : w.parts Bounce ≡ None → i.ledger.noted ≡ [] → NotesState w i
+
+-- It is preprocessed: todo is gone, and info and the channel files are those of its message.
+pub record IsPreprocessed (controls : Controls) (w : About) : Type 0 where
+  pub taken : IsTaken controls w
+  pub no_todo : w.parts Todo ≡ None
+  pub no_intd : w.parts Intd ≡ None
+  pub info : Entry
+  pub info_there : w.parts Info ≡ Some info
+  pub text : IsSynced info.file (info_of taken.injection.args)
+  pub lanes : (ch : Channel) → LaneState controls w taken.injection ch
+  pub notes : NotesState w taken.injection
+
+-- It is finished: nothing is owed of its message, whose file may still be there, and no other is.
+pub record IsFinished (controls : Controls) (w : About) : Type 0 where
   pub injection : Injection
   pub lives : w.living ≡ Some injection
   pub accepted : injection.accepted ≡ true
-  pub mess : Entry
-  pub mess_there : w.parts Mess ≡ Some mess
-  pub message : IsSynced mess.file (message_text injection.args).bytes
-  pub valid : IsValid injection.args
+  pub message : (y : Entry) → w.parts Mess ≡ Some y → IsSynced y.file (message_text injection.args).bytes
+  pub no_todo : w.parts Todo ≡ None
+  pub no_intd : w.parts Intd ≡ None
+  pub unsorted : IsUnsorted w
+  pub settled : IsSettled controls injection
 
--- The phases of a number. What more holds of one that is being preprocessed, and of one that is finished, comes with the
--- programs that preprocess and finish.
-pub data Phase (w : About) : Type 0 where
-  Free : IsFree w → Phase w
-  Queued : IsQueued w → Phase w
-  Sorted : IsSorted w → IsTaken w → Phase w
+-- The phases of a number, under these control files. `mail a a@x b@y : hi`, `run a` of number 1 leads from Free to Queued: mess/1 and
+-- todo/1 are there, and intd/1. A preprocessing that makes info/1, local/1 and remote/1, and then takes intd/1 and todo/1 away, leads to
+-- Sorted. There each report of a delivery goes into the ledger, and then a mark into its record; when the ledger has both, the channel
+-- files go, then info/1, which leads to Finished, then mess/1. A new injection of number 1 leads to Free.
+pub data Phase (controls : Controls) (w : About) : Type 0 where
+  Free : IsFree w → Phase controls w
+  Queued : IsQueued controls w → Phase controls w
+  Sorted : IsPreprocessed controls w → Phase controls w
+  Finished : IsFinished controls w → Phase controls w
 
--- a life is over only where nothing was accepted
-abbrev pub NoneLost : Books → Type 0
-NoneLost b = (i : Injection) → Among i b.over → i.accepted ≡ true → ⊥
+-- of an accepted injection whose life is over nothing is owed
+abbrev pub NoneLost : Controls → Books → Type 0
+NoneLost controls b = (i : Injection) → Among i b.over → i.accepted ≡ true → IsSettled controls i
 
 -- what holds of the names, of the numbers and of the books
-pub record Sound (q : Queue) : Type 0 where
+pub record Sound (controls : Controls) (q : Queue) : Type 0 where
   pub suits : NamesSuit q
-  pub fine : (n : ℕ) → Phase (about q n)
-  pub over : NoneLost q.books
+  pub fine : (n : ℕ) → Phase controls (about q n)
+  pub over : NoneLost controls q.books
+
+-- No number was preprocessed yet: no file that comes with it is there, each message that is accepted stands in todo, and no accepted
+-- injection's life is over.
+pub record IsEarly (q : Queue) : Type 0 where
+  pub unsorted : (n : ℕ) → IsUnsorted (about q n)
+  pub waits : (n : ℕ) (i : Injection) → q.books.living n ≡ Some i → i.accepted ≡ true → look q (Of Todo n) ≢ None
+  pub none_over : (i : Injection) → Among i q.books.over → i.accepted ≡ true → ⊥

@@ -12,13 +12,8 @@ pub const FLAT_DIRS: [&[u8]; 3] = [b"intd", b"todo", b"bounce"];
 /// Those that have one directory for each split.
 pub const SPLIT_DIRS: [&[u8]; 4] = [b"mess", b"info", b"local", b"remote"];
 
-/// How many splits there are.
+/// How many splits there are; the first is 0.
 pub const SPLITS: u64 = 23;
-
-/// There are 23, from 0 to 22. A law: the contract of a function that does nothing.
-pub fn splits_are_23()
-    ensures { SPLITS ≡ 23 }
-{}
 
 /// The directory of a split: `DIR/SPLIT`. Fails only if out of memory.
 pub fn split_dir(alloc: Global, dir: &[u8], split: u64) -> Result<Vec<u8>, Memory>

@@ -9,6 +9,6 @@ mod dirs;
 mod laws;
 mod names;
 
-pub use dirs::{FLAT_DIRS, SPLIT_DIRS, SPLITS, queue_dirs, split_dir, splits_are_23};
-pub use laws::names_are_exact;
+pub use dirs::{FLAT_DIRS, SPLIT_DIRS, SPLITS, queue_dirs, split_dir};
+pub use laws::{names_are_exact, splits_are_23};
 pub use names::{Name, parse, path, split};

@@ -183,7 +183,7 @@ fn rest_after<'a>(text: &'a [u8], dir: &[u8]) -> Option<&'a [u8]>
 
 /// What stands before and after the first such byte.
 fn cut(text: &[u8], sep: u8) -> Option<(&[u8], &[u8])>
-    ensures { MatchOption result ((front rest : List ℕ) → text.now ≢ front ++ (sep ∷ rest))
+    ensures { MatchOption result ((before rest : List ℕ) → text.now ≢ before ++ (sep ∷ rest))
         (λ parts. (parts.0.now ≡ before sep text.now) × (parts.1.now ≡ after sep text.now)
         × (text.now ≡ parts.0.now ++ (sep ∷ parts.1.now))) }
 {

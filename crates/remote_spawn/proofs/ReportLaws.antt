@@ -1,12 +1,12 @@
 -- Reports as a relation.
-use Rattle.std.proofs.Common.{◌≡◌, ◌≢◌, ℕ, List, [], ◌∷◌, ◌++◌, drop, Bool, true, false, Option, Some, None, eqb, leb, refl, sym, ap, ◌∙◌, subst, inl, inr, ⊎_elim, arith, codes}
+use Rattle.std.proofs.Common.{◌≡◌, ◌≢◌, ℕ, List, [], ◌∷◌, ◌++◌, Bool, true, false, Option, Some, None, eqb, leb, refl, sym, ap, ◌∙◌, subst, inl, inr, ⊎_elim, arith, codes}
 use Rattle.std.specs.Prelude.{◌↔◌, ◌&&◌, ◌==◌, nat_lt, All, slice_index, unwrap_or, if◌then◌else◌}
 use Rattle.std.specs.List.{AllByRecursion, list_all}
 use Rattle.std.proofs.lemmas.Bool.{cases_Bool, cond_both, cond-true, cond-false, eqb-true, eqb-false, ne_eqb, ltb-true}
 use Rattle.std.proofs.lemmas.List.Elements.{All-head, All-tail, All-from_recursion, recursion_from_All}
 use Rattle.outside.specs.declared.spawner.Status.{Status}
 use Rattle.outside.specs.declared.spawner.Status.TheVariants.{Ended, Crashed, Failed}
-use Rattle.remote_spawn.specs.Parts.{HasNoNul, IsMessageOf, IsVerdict, Message, first_message, parts, recipient_text}
+use Rattle.remote_spawn.specs.Parts.{HasNoNul, IsMessageOf, IsVerdict, Message, first_message, is_verdict, parts, recipient_in_part, recipient_text}
 use Rattle.remote_spawn.specs.Reports.{IsReport, IsReportOf, IsSuccess, IsTold, crashed, letter_by, letter_of_message, line, message_of, rank, report_of, silent, text_by, told, told_by, untold_by}
 use Rattle.remote_spawn.specs.Reports.IsReportOf.{CanNotRun, IsRefused, IsSilent, Tells}
 use Rattle.remote_spawn.proofs.PartLaws.{are_parts, parts_are, is_first_message, first_message_is}
@@ -16,14 +16,14 @@ is_told output = record {
   these = parts output;
   are = are_parts output;
   message = message_of output;
-  found = is_first_message (drop 1 (parts output));
+  found = is_first_message (parts output);
   is = refl;
 }
 
 told_is : (output report : List ℕ) → IsTold output report → told output ≡ report
 told_is output report h =
     let these : parts output ≡ h.these = parts_are output h.these h.are in
-    let message : message_of output ≡ h.message = ap (λ t. first_message (drop 1 t)) these ∙ first_message_is (drop 1 h.these) h.message h.found in
+    let message : message_of output ≡ h.message = ap first_message these ∙ first_message_is h.these h.message h.found in
     ap (λ m. told_by (letter_by (slice_index output 0) m) (recipient_text (parts output)) m) message
     ∙ ap (λ t. told_by (letter_by (slice_index output 0) h.message) (recipient_text t) h.message) these
     ∙ sym h.is
@@ -98,17 +98,13 @@ lacks_append (b ∷ x) y h k = (h.0, lacks_append x y h.1 k)
 no_nul : (text : List ℕ) → HasNoNul text → Lacks text
 no_nul text h = recursion_from_All (λ b. b ≢ 0) text h
 
-lacks_tail : (text : List ℕ) → Lacks text → Lacks (drop 1 text)
-lacks_tail [] h = tt
-lacks_tail (b ∷ text) h = h.1
+recipient_in_part_lacks : (part : List ℕ) → Lacks part → Lacks (recipient_in_part part)
+recipient_in_part_lacks [] h = tt
+recipient_in_part_lacks (b ∷ text) h = cond_both (is_verdict b) [] text Lacks (λ _. tt) (λ _. h.1)
 
 recipient_lacks : (these : List (List ℕ)) → All HasNoNul these → Lacks (recipient_text these)
 recipient_lacks [] h = tt
-recipient_lacks (part ∷ more) h = lacks_tail part (no_nul part (All-head HasNoNul part more h))
-
-rest_lack : (these : List (List ℕ)) → All HasNoNul these → All HasNoNul (drop 1 these)
-rest_lack [] h = h
-rest_lack (part ∷ more) h = All-tail HasNoNul part more h
+recipient_lacks (part ∷ more) h = recipient_in_part_lacks part (no_nul part (All-head HasNoNul part more h))
 
 inside : (before : List (List ℕ)) (part : List ℕ) (after : List (List ℕ)) → All HasNoNul (before ++ part ∷ after) → HasNoNul part
 inside [] part after h = All-head HasNoNul part after h
@@ -138,10 +134,10 @@ IsPlain report = IsVerdict (slice_index report 0) × Lacks report
 
 told_plain : (output report : List ℕ) → IsTold output report → IsPlain report
 told_plain output report h =
-    let verdict = letter_is (slice_index output 0) h.message (message_letter (drop 1 h.these) h.message h.found) in
+    let verdict = letter_is (slice_index output 0) h.message (message_letter h.these h.message h.found) in
     let letter = letter_by (slice_index output 0) h.message in
     let text = lacks_append (recipient_text h.these) (text_by letter h.message) (recipient_lacks h.these h.are.whole)
-    (message_lacks (drop 1 h.these) h.message letter (rest_lack h.these h.are.whole) h.found) in
+    (message_lacks h.these h.message letter h.are.whole h.found) in
     subst IsPlain (sym h.is) (verdict, (not_zero letter verdict, text))
 
 code_plain : (code : ℕ) (output report : List ℕ) → IsReportOf code output report → IsPlain report
@@ -199,7 +195,7 @@ told_success output report h e =
       these = h.these;
       are = h.are;
       text = message.0;
-      found = subst (IsMessageOf (drop 1 h.these)) message.1 h.found;
+      found = subst (IsMessageOf h.these) message.1 h.found;
       not_soft = way.not_soft;
       not_hard = way.not_hard;
     }
@@ -228,11 +224,11 @@ letter_k first text soft hard =
 
 gives_k : (output : List ℕ) → IsSuccess (Ended 0) output → slice_index (exited 0 output) 0 ≡ 75
 gives_k [] h =
-    let none : drop 1 h.these ≡ [] = ap (drop 1) (sym (parts_are [] h.these h.are)) in
+    let none : h.these ≡ [] = sym (parts_are [] h.these h.are) in
     absurd (not_empty h.found.before (75 ∷ h.text) h.found.after (sym none ∙ h.found.split))
 gives_k (b ∷ output) h =
     let message : message_of (b ∷ output) ≡ Some (75, h.text) =
-    ap (λ t. first_message (drop 1 t)) (parts_are (b ∷ output) h.these h.are) ∙ first_message_is (drop 1 h.these) (Some (75, h.text)) h.found in
+    ap first_message (parts_are (b ∷ output) h.these h.are) ∙ first_message_is h.these (Some (75, h.text)) h.found in
     ap (letter_by b) message ∙ letter_k b h.text h.not_soft h.not_hard
 
 back : (status : Status) (output : List ℕ) → IsSuccess status output → slice_index (report_of status output) 0 ≡ 75

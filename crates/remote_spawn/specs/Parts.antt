@@ -1,5 +1,6 @@
--- The parts of a remote program's output, each ended by NUL: the recipient report and the message report (qmail-remote(8)).
-use Rattle.std.specs.Prelude.{◌≡◌, ◌≢◌, ℕ, List, [], ◌∷◌, ◌++◌, drop, All, Bool, ◌||◌, ◌⊎◌, Option, Some, None, if◌then◌else◌, ◌==◌, flat_map}
+-- The parts of a remote program's output, each ended by NUL: the recipient report, if there is one, and the message report
+-- (qmail-remote(8)).
+use Rattle.std.specs.Prelude.{◌≡◌, ◌≢◌, ℕ, List, [], ◌∷◌, ◌++◌, All, Bool, ◌||◌, ◌⊎◌, Option, Some, None, if◌then◌else◌, ◌==◌, flat_map}
 use Rattle.std.specs.Option.{option_or}
 use Rattle.remote_spawn.specs.declared.parts.Message.{Message as Lent}
 
@@ -25,15 +26,20 @@ abbrev pub message_in_part : List ℕ → Option Message
 message_in_part [] = None
 message_in_part (letter ∷ text) = if is_verdict letter then Some (letter, text) else None
 
--- The message report among these parts is the first that begins with K, Z or D.
+-- The message report is the first part that begins with K, Z or D, which may be the first of all.
 abbrev pub first_message : List (List ℕ) → Option Message
 first_message [] = None
 first_message (part ∷ more) = option_or (message_in_part part) (first_message more)
 
--- The recipient report is the first part, whatever it begins with; its text is what comes after its letter.
+abbrev pub recipient_in_part : List ℕ → List ℕ
+recipient_in_part [] = []
+recipient_in_part (letter ∷ text) = if is_verdict letter then [] else text
+
+-- The recipient report is the first part, and its text is what comes after its letter; a first part that begins with K, Z or D
+-- is the message report, and there is no recipient report.
 abbrev pub recipient_text : List (List ℕ) → List ℕ
 recipient_text [] = []
-recipient_text (part ∷ more) = drop 1 part
+recipient_text (part ∷ more) = recipient_in_part part
 
 -- a message report that is lent
 abbrev pub said : Option Lent → Option Message

@@ -1,6 +1,6 @@
 -- The report of a remote program's end: a letter, K for a success, Z for a later try or D for a failure, and a text
 -- (qmail-rspawn(8)).
-use Rattle.std.specs.Prelude.{◌≡◌, ◌≢◌, ℕ, List, [], ◌∷◌, ◌++◌, drop, Option, Some, None, if◌then◌else◌, ◌==◌, nat_le, slice_index, unwrap_or, codes}
+use Rattle.std.specs.Prelude.{◌≡◌, ◌≢◌, ℕ, List, [], ◌∷◌, ◌++◌, Option, Some, None, if◌then◌else◌, ◌==◌, nat_le, slice_index, unwrap_or, codes}
 use Rattle.outside.specs.declared.spawner.Status.{Status}
 use Rattle.outside.specs.declared.spawner.Status.TheVariants.{Ended, Crashed, Failed}
 use Rattle.remote_spawn.specs.Parts.{Message, parts, first_message, recipient_text, AreParts, IsMessageOf}
@@ -8,8 +8,8 @@ use Rattle.remote_spawn.specs.Parts.{Message, parts, first_message, recipient_te
 abbrev pub line : List ℕ → List ℕ
 line text = text ++ 10 ∷ []
 
--- The letter: where the recipient report says `s`, temporary, it is Z; where it says `h`, permanent, D; else that of the message
--- report, and D where there is none.
+-- The letter: if the recipient report says `s`, temporary, it is Z; if it says `h`, permanent, D; else that of the message
+-- report, and D if there is none.
 abbrev pub letter_of_message : Option Message → ℕ
 letter_of_message None = 68
 letter_of_message (Some message) = message.0
@@ -21,7 +21,7 @@ letter_by first message = if first == 115 then 90 else (if first == 104 then 68 
 abbrev pub rank : ℕ → ℕ
 rank letter = if letter == 75 then 2 else (if letter == 90 then 1 else 0)
 
--- The text of the message report is left out where it is better than the letter that is given: `hno`, NUL, `Kok`, NUL gives `Dno`.
+-- The text of the message report is left out if it is better than the letter that is given: `hno`, NUL, `Kok`, NUL gives `Dno`.
 abbrev pub text_by : ℕ → Option Message → List ℕ
 text_by letter None = []
 text_by letter (Some message) = if nat_le (rank message.0) (rank letter) then message.1 else []
@@ -29,18 +29,18 @@ text_by letter (Some message) = if nat_le (rank message.0) (rank letter) then me
 abbrev pub told_by : ℕ → List ℕ → Option Message → List ℕ
 told_by letter recipient message = letter ∷ (recipient ++ text_by letter message)
 
--- the message report of an output: it comes after the recipient report
+-- the message report of an output
 abbrev pub message_of : List ℕ → Option Message
-message_of output = first_message (drop 1 (parts output))
+message_of output = first_message (parts output)
 
 abbrev pub letter_told : List ℕ → ℕ
 letter_told output = letter_by (slice_index output 0) (message_of output)
 
--- what an output tells: `sno`, NUL, `Zx`, NUL gives `Znox`, and `r`, NUL, `Kok`, NUL gives `Kok`
+-- what an output tells: `sno`, NUL, `Zx`, NUL gives `Znox`; `r`, NUL, `Kok`, NUL gives `Kok`, and so does `Kok`, NUL
 abbrev pub told : List ℕ → List ℕ
 told output = told_by (letter_told output) (recipient_text (parts output)) (message_of output)
 
--- the report where nothing was told
+-- the report if nothing was told
 abbrev pub crashed : List ℕ
 crashed = line (codes "Zqmail-remote crashed.")
 
@@ -68,7 +68,7 @@ pub record IsTold (output report : List ℕ) : Type 0 where
   pub these : List (List ℕ)
   pub are : AreParts output these
   pub message : Option Message
-  pub found : IsMessageOf (drop 1 these) message
+  pub found : IsMessageOf these message
   pub is : report ≡ told_by (letter_by (slice_index output 0) message) (recipient_text these) message
 
 pub data IsReportOf (code : ℕ) (output report : List ℕ) : Type 0 where
@@ -82,13 +82,12 @@ IsReport (Ended code) output report = IsReportOf code output report
 IsReport Crashed output report = report ≡ crashed
 IsReport Failed output report = report ≡ crashed
 
--- A success was told: the program exited with 0, its message report begins with K, and its recipient report with neither `s`
--- nor `h`.
+-- A success was told: the program exited with 0, its message report begins with K, and its output with neither `s` nor `h`.
 pub record IsSuccess (status : Status) (output : List ℕ) : Type 0 where
   pub ended : status ≡ Ended 0
   pub these : List (List ℕ)
   pub are : AreParts output these
   pub text : List ℕ
-  pub found : IsMessageOf (drop 1 these) (Some (75, text))
+  pub found : IsMessageOf these (Some (75, text))
   pub not_soft : slice_index output 0 ≢ 115
   pub not_hard : slice_index output 0 ≢ 104

@@ -1,13 +1,26 @@
-//! The remote spawner's reports: what the status and the output of a remote program become (qmail-rspawn(8), qmail-remote(8)).
+//! The remote spawner (qmail-rspawn(8), qmail-remote(8)): the program that starts a remote program for each request, and tells
+//! what became of it.
 //!
-//! The contract of this crate: `letter_of` and `report_of` give exactly the report of a program's end. `reports_are_exact`
-//! says which one that is, and `successes_are_told` that a success is told only if the program told it: it exited with 0, its
-//! message report begins with `K`, and its recipient report with neither `s` nor `h`.
+//! It is a machine: `look` tells it the moment and what is ready, `need` says what it does next, and `done` hands in what
+//! came of that. Its contract: what it needs is what its table says of its own past, which it doesn't store. The table is
+//! in `specs/Table.antt`; which requests are bad, in `specs/Asked.antt`.
+//!
+//! `letter_of` and `report_of` give exactly the report of a program's end. `reports_are_exact` says which one that is, and
+//! `successes_are_told` that a success is told only if the program told it: it exited with 0, its message report begins
+//! with `K`, and its output with neither `s` nor `h`.
 #![tactic(auto)]
 
+mod asked;
 mod laws;
+mod machine;
 mod parts;
+mod place;
 mod reports;
+mod row;
+mod steps;
 
-pub use laws::{reports_are_exact, successes_are_told};
+pub use laws::{reports_are_exact, statuses_have_causes, successes_are_told, worked_runs};
+pub use machine::RemoteSpawn;
+pub use place::{Place, SLOTS};
 pub use reports::{letter_of, report_of};
+pub use row::Row;

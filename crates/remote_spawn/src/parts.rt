@@ -1,6 +1,6 @@
 // The parts of an output.
-ghost use Rattle.std.specs.Prelude.{◌≡◌, ◌<◌, ◌∷◌, ◌==◌, [], IfSome, MatchOption, drop, length, position};
-ghost use Rattle.remote_spawn.specs.Parts.{first_message, message_in_part, parts, recipient_text, said};
+ghost use Rattle.std.specs.Prelude.{◌≡◌, ◌<◌, ◌∷◌, ◌==◌, [], IfSome, MatchOption, length, position};
+ghost use Rattle.remote_spawn.specs.Parts.{first_message, is_verdict, message_in_part, parts, recipient_in_part, recipient_text, said};
 
 /// What a message report says.
 #[derive(Clone, Copy)]
@@ -29,26 +29,31 @@ fn first_nul(bytes: &[u8]) -> Option<usize>
     bytes.iter().position(|byte| *byte == 0)
 }
 
-/// The text of the recipient report, which is the first part whatever its letter is, and what comes after that part. Both are
-/// empty if no part is ended.
-pub fn after_recipient(output: &[u8]) -> (&[u8], &[u8])
-    ensures text { result.0.now ≡ recipient_text (parts output.now) }
-    ensures rest { parts result.1.now ≡ drop 1 (parts output.now) }
+/// The text of the recipient report; empty if there is none.
+pub fn recipient_text(output: &[u8]) -> &[u8]
+    ensures { result.now ≡ recipient_text (parts output.now) }
 {
     match cut_part(output) {
-        Some((part, rest)) => (without_letter(part), rest),
-        None => (&[], &[]),
+        Some((part, _)) => recipient_in_part(part),
+        None => &[],
     }
 }
 
-/// A part without its letter.
-fn without_letter(part: &[u8]) -> &[u8]
-    ensures { result.now ≡ drop 1 part.now }
+/// The text of the recipient report in a first part; empty if that begins with `K`, `Z` or `D`, and so is the message report.
+fn recipient_in_part(part: &[u8]) -> &[u8]
+    ensures { result.now ≡ recipient_in_part part.now }
 {
     match part.split_first() {
-        Some((_, text)) => text,
-        None => part,
+        Some((letter, text)) if !is_verdict(*letter) => text,
+        _ => &[],
     }
+}
+
+/// Whether a part that begins with this letter is a message report.
+fn is_verdict(letter: u8) -> bool
+    ensures { result ≡ is_verdict letter }
+{
+    matches!(letter, b'K' | b'Z' | b'D')
 }
 
 /// The message report in a part; `None` exactly if it begins with none of `K`, `Z` and `D`.
@@ -56,7 +61,7 @@ fn message_in_part(part: &[u8]) -> Option<Message<'_>>
     ensures { said result ≡ message_in_part part.now }
 {
     match part.split_first() {
-        Some((letter, text)) if matches!(letter, b'K' | b'Z' | b'D') => Some(Message {
+        Some((letter, text)) if is_verdict(*letter) => Some(Message {
             letter: *letter,
             text,
         }),

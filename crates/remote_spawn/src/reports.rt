@@ -4,7 +4,7 @@ ghost use Rattle.std.specs.Option.{option_copied};
 ghost use Rattle.remote_spawn.specs.Parts.{parts, said};
 ghost use Rattle.remote_spawn.specs.Reports.{letter_by, letter_told, rank, report_of, text_by, told, untold};
 
-use crate::parts::{Message, after_recipient, first_message};
+use crate::parts::{Message, first_message, recipient_text};
 use mail_bytes::Memory;
 use outside::Status;
 use std::alloc::Global;
@@ -57,20 +57,18 @@ fn first_byte(bytes: &[u8]) -> u8
 fn letter_told(output: &[u8]) -> u8
     ensures { result ≡ letter_told output.now }
 {
-    let (_, rest) = after_recipient(output);
-    letter_by(first_byte(output), first_message(rest))
+    letter_by(first_byte(output), first_message(output))
 }
 
 /// The report that an output tells.
 fn told(alloc: Global, output: &[u8]) -> Result<Vec<u8>, Memory>
     ensures { IfOk result (λ report. report.items ≡ told output.now) }
 {
-    let (recipient, rest) = after_recipient(output);
-    let message = first_message(rest);
+    let message = first_message(output);
     let letter = letter_by(first_byte(output), message);
     let mut report = Vec::new(alloc);
     report.push(letter)?;
-    report.extend_from_slice(recipient)?;
+    report.extend_from_slice(recipient_text(output))?;
     report.extend_from_slice(text_by(letter, message))?;
     Ok(report)
 }

@@ -10,7 +10,7 @@ use Rattle.std.proofs.lemmas.List.{take-append-drop, get_or-take, get_or-drop, g
 use Rattle.std.proofs.lemmas.List.Elements.{All-nil, All-cons, All-head, All-tail, All-append, All-filter, All-weaker, All-contains, All-contains_itself, filter_passes, filter-append, Contains-append_left, Contains-append_right, Contains-append_cases, Contains-get_or}
 use Rattle.std.proofs.lemmas.List.Filters.{length-filter_both}
 use Rattle.std.proofs.lemmas.List.Kept.{AllPairs-cons, AllPairs-filter}
-use Rattle.retry_schedule.specs.Due.{IsBefore, before, IsInOrder, IsSchedule, IsFree, IsFirst, added, is_due, removed}
+use Rattle.retry_schedule.specs.Due.{IsBefore, before, IsInOrder, IsSchedule, HasNoEntry, IsFirst, added, is_due, removed}
 
 -- The order of entries.
 
@@ -100,13 +100,13 @@ not_true false h = refl
 not_after : (e o : ℕ × ℕ) → before o e ≡ true → before e o ≡ false
 not_after e o h = not_true (before e o) (λ t. before_one_way o e ((before_decides o e).0 h) ((before_decides e o).0 t))
 
-after_place : (e : ℕ × ℕ) (es : List (ℕ × ℕ)) (i : ℕ) → IsFree e.1 es → IsPartitionPoint (λ o. before o e ≡ true) (λ o. before o e ≡ false) es i → drop i es ≡ filter (λ o. before e o) es
+after_place : (e : ℕ × ℕ) (es : List (ℕ × ℕ)) (i : ℕ) → HasNoEntry e.1 es → IsPartitionPoint (λ o. before o e ≡ true) (λ o. before o e ≡ false) es i → drop i es ≡ filter (λ o. before e o) es
 after_place e es i free at =
     filter_last (λ o. before e o) es i
     (All-weaker (λ o. before o e ≡ true) (λ o. before e o ≡ false) (λ o h. not_after e o h) (take i es) (within_take (λ o. before o e ≡ true) es i at.0))
     (within_drop (λ o. before e o ≡ true) es i (λ k d low high. (before_decides e (get_or es k d)).1 (not_before (get_or es k d) e (at.1 k d low high) (free k d high))))
 
-pub place_is : (e : ℕ × ℕ) (es : List (ℕ × ℕ)) (i : ℕ) → IsFree e.1 es → IsPartitionPoint (λ o. before o e ≡ true) (λ o. before o e ≡ false) es i → insert es i e ≡ added e es
+pub place_is : (e : ℕ × ℕ) (es : List (ℕ × ℕ)) (i : ℕ) → HasNoEntry e.1 es → IsPartitionPoint (λ o. before o e ≡ true) (λ o. before o e ≡ false) es i → insert es i e ≡ added e es
 place_is e es i free at = ap (λ t. t ++ e ∷ drop i es) (before_place e es i at) ∙ ap (λ t. filter (λ o. before o e) es ++ e ∷ t) (after_place e es i free at)
 
 -- Pairs of a list.
@@ -201,7 +201,7 @@ added_pairs R e es h low high across =
     All-cons (R a) e (filter (λ o. before e o) es) (low a f.0 ((before_decides a e).0 f.1))
     (all_by (R a) (filter (λ o. before e o) es) (λ b v. let g = from_filter (λ x. before e x) es b v in across a b f.0 g.0 ((before_decides a e).0 f.1) ((before_decides e b).0 g.1)))))
 
-pub schedule_added : (e : ℕ × ℕ) (es : List (ℕ × ℕ)) → IsSchedule es → IsFree e.1 es → IsSchedule (added e es)
+pub schedule_added : (e : ℕ × ℕ) (es : List (ℕ × ℕ)) → IsSchedule es → HasNoEntry e.1 es → IsSchedule (added e es)
 schedule_added e es h free = record {
   order = added_pairs IsBefore e es h.order (λ o w k. k) (λ o w k. k) (λ a b v w k l. before_trans a e b k l);
   one = added_pairs (λ a b. a.1 ≢ b.1) e es h.one (λ o w k. All-contains (λ x. x.1 ≢ e.1) es o free w) (λ o w k same. All-contains (λ x. x.1 ≢ e.1) es o free w (sym same))
@@ -214,7 +214,7 @@ in_removed n o es = (
   λ w. in_filter (λ e. not (eqb e.1 n)) es o w.0 ((Decides-not (eqb o.1 n) (Decides-eqb o.1 n)).1 w.1),
 )
 
-pub free_removed : (n : ℕ) (es : List (ℕ × ℕ)) → IsFree n (removed n es)
+pub free_removed : (n : ℕ) (es : List (ℕ × ℕ)) → HasNoEntry n (removed n es)
 free_removed n es = all_by (λ e. e.1 ≢ n) (removed n es) (λ o w. ((in_removed n o es).0 w).1)
 
 pub schedule_removed : (n : ℕ) (es : List (ℕ × ℕ)) → IsSchedule es → IsSchedule (removed n es)

@@ -21,16 +21,16 @@ pub record IsSchedule (es : List (ℕ × ℕ)) : Type 0 where
   pub one : AllPairs (λ a b. a.1 ≢ b.1) es
 
 -- a number has no entry
-abbrev pub IsFree : ℕ → List (ℕ × ℕ) → Type 0
-IsFree n es = All (λ e. e.1 ≢ n) es
+abbrev pub HasNoEntry : ℕ → List (ℕ × ℕ) → Type 0
+HasNoEntry n es = All (λ e. e.1 ≢ n) es
 
 -- a number has an entry
-abbrev pub IsDue : ℕ → List (ℕ × ℕ) → Type 0
-IsDue n es = (due : ℕ) × Contains es (due, n)
+abbrev pub HasEntry : ℕ → List (ℕ × ℕ) → Type 0
+HasEntry n es = (due : ℕ) × Contains es (due, n)
 
 -- when a number is due; none exactly when it has no entry
 abbrev pub IsDueOf : ℕ → List (ℕ × ℕ) → Option ℕ → Type 0
-IsDueOf n es found = MatchOption found (IsFree n es) (λ due. Contains es (due, n))
+IsDueOf n es found = MatchOption found (HasNoEntry n es) (λ due. Contains es (due, n))
 
 -- an entry among others: those before it, it, and those after it
 abbrev pub added : ℕ × ℕ → List (ℕ × ℕ) → List (ℕ × ℕ)

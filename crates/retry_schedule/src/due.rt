@@ -1,7 +1,7 @@
 // Which entry is due first.
 ghost use Rattle.std.specs.Prelude.{◌≡◌, ◌≢◌, ◌<◌, ◌≤◌, ◌↔◌, ◌⊎◌, ℕ, Bool, true, List, [], Option, Contains, IfOk, OnErr, OnOk, length, vec_len, vec_capacity};
 ghost use Rattle.std.specs.List.{insert};
-ghost use Rattle.retry_schedule.specs.Due.{before, IsInOrder, IsFree, IsSchedule, IsFirst, IsDue, IsDueOf, added, removed, is_due, put, moved, first_due};
+ghost use Rattle.retry_schedule.specs.Due.{before, IsInOrder, HasNoEntry, IsSchedule, IsFirst, HasEntry, IsDueOf, added, removed, is_due, put, moved, first_due};
 
 use std::alloc::{AllocError, Global};
 use std::marker::Model;
@@ -36,7 +36,7 @@ impl Due {
 
     /// Puts an entry in. The condition: n has none. After an `Err`, which means out of memory, it is as before.
     pub fn add(&mut self, due: u64, n: u64) -> Result<(), AllocError>
-        requires { IsFree n self.old }
+        requires { HasNoEntry n self.old }
         ensures ok { OnOk result (self.new ≡ added (due, n) self.old) }
         ensures err { OnErr result (self.new ≡ self.old) }
     {
@@ -62,7 +62,7 @@ impl Due {
     /// Gives n another due moment. The condition: n has an entry. After an `Err`, which means out of memory, it is
     /// as before.
     pub fn change(&mut self, n: u64, due: u64) -> Result<(), AllocError>
-        requires { IsDue n self.old }
+        requires { HasEntry n self.old }
         ensures ok { OnOk result (self.new ≡ added (due, n) (removed n self.old)) }
         ensures err { OnErr result (self.new ≡ self.old) }
     {
@@ -128,7 +128,7 @@ fn take_out(entries: &mut Vec<(u64, u64)>, n: u64) -> usize
     requires schedule { IsSchedule entries.old.items }
     ensures items { entries.new.items ≡ removed n entries.old.items }
     ensures schedule { IsSchedule entries.new.items }
-    ensures free { IsFree n entries.new.items }
+    ensures free { HasNoEntry n entries.new.items }
     ensures len { vec_len entries.new ≤ vec_len entries.old }
     ensures less { is_due n entries.old.items ≡ true → vec_len entries.new < vec_len entries.old }
     ensures capacity { vec_capacity entries.new ≡ vec_capacity entries.old }
@@ -141,7 +141,7 @@ fn take_out(entries: &mut Vec<(u64, u64)>, n: u64) -> usize
 /// Puts an entry in. The conditions: its number has none, and there is room.
 fn put_back(entries: &mut Vec<(u64, u64)>, entry: (u64, u64))
     requires schedule { IsSchedule entries.old.items }
-    requires free { IsFree entry.1 entries.old.items }
+    requires free { HasNoEntry entry.1 entries.old.items }
     requires room { vec_len entries.old < vec_capacity entries.old }
     ensures schedule { IsSchedule entries.new.items }
     ensures items { entries.new.items ≡ added entry entries.old.items }
@@ -152,7 +152,7 @@ fn put_back(entries: &mut Vec<(u64, u64)>, entry: (u64, u64))
 /// Puts an entry in. The condition: its number has none. It needs memory only when the room is full.
 fn put(entries: &mut Vec<(u64, u64)>, entry: (u64, u64)) -> Result<(), AllocError>
     requires schedule { IsSchedule entries.old.items }
-    requires free { IsFree entry.1 entries.old.items }
+    requires free { HasNoEntry entry.1 entries.old.items }
     ensures schedule { IsSchedule entries.new.items }
     ensures ok { OnOk result (entries.new.items ≡ added entry entries.old.items) }
     ensures err { OnErr result (entries.new.items ≡ entries.old.items) }
@@ -166,7 +166,7 @@ fn put(entries: &mut Vec<(u64, u64)>, entry: (u64, u64)) -> Result<(), AllocErro
 /// How many entries are before this one.
 fn place(entries: &[(u64, u64)], entry: (u64, u64)) -> usize
     requires order { IsInOrder entries.now }
-    requires free { IsFree entry.1 entries.now }
+    requires free { HasNoEntry entry.1 entries.now }
     ensures within { result ≤ length entries.now }
     ensures place { insert entries.now result entry ≡ added entry entries.now }
 {

@@ -1,7 +1,7 @@
 // Laws of square roots and of the entries that are due: contracts of functions that do nothing.
 ghost use Rattle.std.specs.Prelude.{◌≡◌, ◌≢◌, ◌<◌, ◌≤◌, ◌↔◌, ◌⊎◌, ◌+◌, ◌*◌, ℕ, List, Option, Contains};
 ghost use Rattle.retry_schedule.specs.Retry.{IsRoot, root};
-ghost use Rattle.retry_schedule.specs.Due.{IsFree, IsSchedule, IsFirst, added, removed};
+ghost use Rattle.retry_schedule.specs.Due.{HasNoEntry, IsSchedule, IsFirst, added, removed};
 
 /// Each number has one root, and what is the greatest is that one.
 pub fn roots_are_exact()
@@ -18,10 +18,10 @@ pub fn entries_are_exact()
     ensures removed { (n : ℕ) (o : ℕ × ℕ) (es : List (ℕ × ℕ)) →
         Contains (removed n es) o ↔ (Contains es o × (o.1 ≢ n)) }
     ensures adds { (e : ℕ × ℕ) (es : List (ℕ × ℕ)) →
-        IsSchedule es → IsFree e.1 es → IsSchedule (added e es) }
+        IsSchedule es → HasNoEntry e.1 es → IsSchedule (added e es) }
     ensures removes { (n : ℕ) (es : List (ℕ × ℕ)) →
         IsSchedule es → IsSchedule (removed n es) }
-    ensures frees { (n : ℕ) (es : List (ℕ × ℕ)) → IsFree n (removed n es) }
+    ensures frees { (n : ℕ) (es : List (ℕ × ℕ)) → HasNoEntry n (removed n es) }
     ensures first { (now : ℕ) (es : List (ℕ × ℕ)) (a b : Option (ℕ × ℕ)) →
         IsFirst now es a → IsFirst now es b → a ≡ b }
 {}

@@ -1,5 +1,5 @@
 -- What a script's history keeps beside being legal: finitely many names, and what each living actor's past holds open.
-use Rattle.std.proofs.Common.{◌≡◌, ◌≢◌, ◌⊎◌, inl, inr, ⊎_elim, ℕ, ◌≤◌, List, [], ◌∷◌, Option, Some, None, refl, sym, ap, ◌∙◌, subst, arith}
+use Rattle.std.proofs.Common.{◌≡◌, ◌≢◌, ◌⊎◌, inl, inr, ⊎_elim, ℕ, ◌≤◌, List, [], ◌∷◌, Bool, true, false, if◌then◌else◌, bytes_eq, Option, Some, None, refl, sym, ap, ◌∙◌, subst, arith}
 use Rattle.call_fs.specs.declared.calls.CallData.{CallData}
 use Rattle.call_fs.specs.declared.calls.Told.{Told}
 use Rattle.call_fs.specs.Past.{IsRunBy, UsesHeld, held}
@@ -12,21 +12,22 @@ use Rattle.call_fs.specs.declared.past.NeedData.TheVariants as needs
 use Rattle.call_fs.specs.declared.past.Own.{Own}
 use Rattle.call_fs.specs.Maps.{put_at}
 use Rattle.call_fs.proofs.Maps.{put_at_cases}
-use Rattle.mail_world.specs.declared.event.Program.{Program}
-use Rattle.mail_world.specs.History.{Event, call_act, Actor, Life, State, Legal, MayRead, next_of, latest, start_of, stopped, after, happens, called, finished}
+use Rattle.world_events.specs.declared.event.Program.{Program}
+use Rattle.mail_world.specs.History.{Event, call_act, Actor, Life, State, Legal, MayRead, next_of, latest, start_of, stopped, after, happens, called, finished, unless_by, shut_by}
 use Rattle.mail_world.specs.History.Event.{Start, End, Stop, Moment, Halt}
 use Rattle.mail_world.specs.History.Life.{Alive, Over, Stopped}
 use Rattle.mail_world.specs.Inside.{Owns}
 use Rattle.mail_world.specs.Acting.{MayMake}
-use Rattle.mail_world.specs.World.{input_ready}
+use Rattle.mail_world.specs.Readiness.{found_in}
 use Rattle.mail_world.proofs.Opens.{opens_by, fits_answer, owns_backs, closes_own, own_stays, owns_after}
 use Rattle.mail_world.specs.ByKind.{IsMail}
-use Rattle.mail_world.proofs.Programs.{mail_runs, program_uses, program_finds}
+use Rattle.mail_world.proofs.Programs.{found_alone, mail_runs, program_uses, program_finds}
 use Rattle.mail_world.proofs.Worlds.{may_make}
 use Rattle.mail_world.proofs.Hands.{own_after}
-use Rattle.scenario.specs.Played.{Answers, DoesNext, DoesAlive, DoesStep, StepsTo}
+use Rattle.scenario.specs.Played.{DoesNext, DoesAlive, DoesStep, StepsTo}
 use Rattle.scenario.specs.Played.Outcome.{Happens}
-use Rattle.scenario.proofs.FiniteDisks.{IsFinite, finite_after, finite_shut, finite_halted}
+use Rattle.crash_fs.specs.Answers.{Answers, IsFinite}
+use Rattle.crash_fs.proofs.FiniteDisks.{finite_after, fewer_open, finite_halted}
 use Rattle.scenario.proofs.LastingFiles.{AreLasting, lasting_after, lasting_halted, halt_survives}
 use Rattle.call_fs.specs.declared.crash_file_system.Survival.{Survival}
 use Rattle.call_fs.specs.Choices.{contents_by}
@@ -43,16 +44,30 @@ pub record Carries (s : State) : Type 0 where
   pub no_child : (a : List ℕ) → s.pipework.slots a ≡ None
   pub mails : (a : List ℕ) (x : Actor) → s.actors a ≡ Some x → IsMail x.program
 
+unless_was : {X : Type 0} (a : List ℕ) (o : Option (List ℕ)) (file : Option X) (x : X) → unless_by a o file ≡ Some x
+    → file ≡ Some x
+unless_was a None file x is = is
+unless_was a (Some b) file x is =
+    elim (bytes_eq b a) as (λ (t : Bool). (if t then None else file) ≡ Some x → file ≡ Some x) [
+      | true ↦ λ e. absurd (cc)
+      | false ↦ λ e. e
+    ] is
+
+-- an end leaves finitely many open
+finite_shut : (a : List ℕ) (holder : ℕ → Option (List ℕ)) (d : Disk) → IsFinite d → IsFinite (shut_by a holder d)
+finite_shut a holder d f =
+    fewer_open d (λ fd. unless_by a (holder fd) (d.opens fd)) (λ fd o is. unless_was a (holder fd) (d.opens fd) o is) f
+
 -- A step of a living actor: a call with an answer, or its end.
 abbrev pub HasCalled : Plan → State → List ℕ → Actor → Event → Type 0
 HasCalled plan s a x e =
-    (c : CallData) × (got : Told) × (next_of x.program x.past s.now input_ready ≡ needs.File c)
-    × Answers plan s.disk c got × (e ≡ call_act a s.now input_ready c got 0)
+    (c : CallData) × (got : Told) × (next_of x.program x.past s.now (found_in s a) ≡ needs.File c)
+    × Answers plan s.disk c got × (e ≡ call_act a s.now (found_in s a) c got 0)
 
 abbrev pub HasEnded : State → List ℕ → Actor → Event → Type 0
 HasEnded s a x e =
-    (status : ℕ) × (next_of x.program x.past s.now input_ready ≡ needs.Ended status)
-    × (e ≡ End a s.now input_ready status)
+    (status : ℕ) × (next_of x.program x.past s.now (found_in s a) ≡ needs.Ended status)
+    × (e ≡ End a s.now (found_in s a) status)
 
 pub record HasStepped (plan : Plan) (s : State) (a : List ℕ) (e : Event) : Type 0 where
   pub actor : Actor
@@ -64,7 +79,7 @@ same_event : (e f : Event) → Happens e ≡ Happens f → e ≡ f
 same_event e f h = cc
 
 stepped_due : (plan : Plan) (s : State) (a : List ℕ) (x : Actor) (due : NeedData) (e : Event)
-    → next_of x.program x.past s.now input_ready ≡ due → DoesNext plan s a due (Happens e)
+    → next_of x.program x.past s.now (found_in s a) ≡ due → DoesNext plan s a due (Happens e)
     → HasCalled plan s a x e ⊎ HasEnded s a x e
 stepped_due plan s a x (needs.File c) e next h = inl (c, h.0, next, h.1, same_event e _ h.2)
 stepped_due plan s a x (needs.Ended status) e next h = inr (status, next, same_event e _ h)
@@ -80,7 +95,7 @@ stepped_life plan s a x Alive e is alive h = record {
   actor = x;
   is = is;
   alive = alive;
-  did = stepped_due plan s a x (next_of x.program x.past s.now input_ready) e refl h;
+  did = stepped_due plan s a x (next_of x.program x.past s.now (found_in s a)) e refl h;
 }
 stepped_life plan s a x (Over status) e is over h = absurd (cc)
 stepped_life plan s a x Stopped e is over h = absurd (cc)
@@ -103,20 +118,20 @@ put_actor actors a b x y is = ⊎_elim
 
 module _ (s : State) (a : List ℕ) (x : Actor) (carries : Carries s) (is : s.actors a ≡ Some x) where
   -- what is due uses what is held
-  due_uses : UsesHeld (held x.past) (next_of x.program x.past s.now input_ready)
-  due_uses = program_uses x.program x.past s.now input_ready (carries.runs a x is)
+  due_uses : UsesHeld (held x.past) (next_of x.program x.past s.now (found_in s a))
+  due_uses = program_uses x.program x.past s.now (found_in s a) (carries.runs a x is)
 
   -- so it may be made
-  pub due_may : x.life ≡ Alive → MayMake s.disk (next_of x.program x.past s.now input_ready)
+  pub due_may : x.life ≡ Alive → MayMake s.disk (next_of x.program x.past s.now (found_in s a))
   due_may alive =
-      may_make s.disk (held x.past) (next_of x.program x.past s.now input_ready)
+      may_make s.disk (held x.past) (next_of x.program x.past s.now (found_in s a))
       (owns_backs s.disk s.holder a (held x.past) (carries.owns a x is alive)) due_uses
 
-  called_carries : (c : CallData) (got : Told) → x.life ≡ Alive → next_of x.program x.past s.now input_ready ≡ needs.File c
-      → Fits s.disk c got.answer 0 → Carries (called s a s.now input_ready c got 0 (Some x))
+  called_carries : (c : CallData) (got : Told) → x.life ≡ Alive → next_of x.program x.past s.now (found_in s a) ≡ needs.File c
+      → Fits s.disk c got.answer 0 → Carries (called s a s.now (found_in s a) c got 0 (Some x))
   called_carries c got alive due fits =
-      let t = called s a s.now input_ready c got 0 (Some x) in
-      let own : Own = record { read = s.now; ready = input_ready; due = needs.File c; came = Answered got } in
+      let t = called s a s.now (found_in s a) c got 0 (Some x) in
+      let own : Own = record { read = s.now; ready = found_in s a; due = needs.File c; came = Answered got } in
       let now : Actor = record { program = x.program; past = own ∷ x.past; life = x.life } in
       let opens = opens_by s.disk s.now c got.answer 0 s.holder a fits in
       let mine = carries.owns a x is alive in
@@ -218,20 +233,20 @@ goes_step : (d : Disk) (h : List Event) (plan : Plan) (a : List ℕ) (e : Event)
 goes_step d h plan a e x so is alive (inl (c, got, due, given, same)) =
     let s = after d h in
     let carries = so.carries in
-    let f : Event = call_act a s.now input_ready c got 0 in
+    let f : Event = call_act a s.now (found_in s a) c got 0 in
     subst (λ (e : Event). Goes d (e ∷ h)) (sym same) (record {
       legal = (
         so.legal,
         record {
           actor = x;
           reads = may_read s a x carries is alive;
-          finds = program_finds s a x.program (carries.mails a x is) x.past input_ready (carries.no_child a) (refl, refl);
+          finds = program_finds s a x.program (carries.mails a x is) x.past (found_in s a) (carries.no_child a) (found_alone s a x is (carries.mails a x is));
           due = due;
           came = (given.fits, given.bytes);
         },
       );
       carries =
-          subst (λ (o : Option Actor). Carries (called s a s.now input_ready c got 0 o)) (sym is)
+          subst (λ (o : Option Actor). Carries (called s a s.now (found_in s a) c got 0 o)) (sym is)
           (called_carries s a x carries is c got alive due given.fits);
     })
 goes_step d h plan a e x so is alive (inr (status, due, same)) =
@@ -243,7 +258,7 @@ goes_step d h plan a e x so is alive (inr (status, due, same)) =
         record {
           actor = x;
           reads = may_read s a x carries is alive;
-          finds = program_finds s a x.program (carries.mails a x is) x.past input_ready (carries.no_child a) (refl, refl);
+          finds = program_finds s a x.program (carries.mails a x is) x.past (found_in s a) (carries.no_child a) (found_alone s a x is (carries.mails a x is));
           due = due;
         },
       );

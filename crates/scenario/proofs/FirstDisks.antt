@@ -12,7 +12,7 @@ use Rattle.script_words.specs.declared.entry.Entry.{Entry}
 use Rattle.script_words.specs.declared.entry.Entry.TheVariants.{File as FileOf, Dir}
 use Rattle.script_words.specs.Entries.{dirs_above}
 use Rattle.scenario.specs.FirstDisk.{bare_dirs, HasMade, AreMade, Enters, EntersAll, IsFirstDisk}
-use Rattle.scenario.proofs.Decided.{listed, same_text}
+use Rattle.crash_fs.proofs.Decided.{listed, same_text}
 
 -- Nothing is open, and of the numbers just so many of the greatest are named.
 record HasTaken (d : Disk) (count : ℕ) : Type 0 where

@@ -1,5 +1,5 @@
 -- A write that failed and changed nothing happened as if it had written nothing.
-use Rattle.std.proofs.Common.{◌≡◌, ◌≢◌, ℕ, List, Option, Some, None, refl, sym, ap, ◌∙◌, ⊎_elim, arith}
+use Rattle.std.proofs.Common.{◌≡◌, ◌≢◌, ℕ, List, Option, Some, None, refl, sym, ap, ◌∙◌, ⊎_elim}
 use Rattle.std.proofs.Math.Path.{fun_ext}
 use Rattle.call_fs.specs.declared.calls.CallData.{CallData}
 use Rattle.call_fs.specs.declared.calls.CallData.TheVariants as call
@@ -13,6 +13,7 @@ use Rattle.call_fs.specs.Apply.{effect, changed, Fits}
 use Rattle.call_fs.proofs.Maps.{put_cases}
 use Rattle.mail_world.specs.History.{Actor, State, Allowed, call_act, called, happens}
 use Rattle.mail_world.proofs.Unwritten.{wrote_nothing}
+use Rattle.crash_fs.proofs.PlannedAnswers.{fits_unwritten}
 
 unchanged : (d : Disk) (o : Option Open) → changed d o (λ f. f) ≡ d
 unchanged d None = refl
@@ -34,20 +35,6 @@ fault_nothing d now (call.Unlink name) = refl
 fault_nothing d now (call.Stat name) = refl
 fault_nothing d now (call.NextName dir last) = refl
 
-fault_fits : (d : Disk) (c : CallData) (w : ℕ) → Fits d c (Refused Fault) w → Fits d c (Refused Fault) 0
-fault_fits d (call.CreateExcl name) w fits = fits
-fault_fits d (call.Open name how) w fits = fits
-fault_fits d (call.ReadAt fd at len) w fits = fits
-fault_fits d (call.WriteAt fd at bytes) w fits = (fits.0, omega arith)
-fault_fits d (call.Append fd bytes) w fits = (fits.0, omega arith)
-fault_fits d (call.Truncate fd len) w fits = fits
-fault_fits d (call.Sync fd) w fits = fits
-fault_fits d (call.Close fd) w fits = fits
-fault_fits d (call.Link old new) w fits = fits
-fault_fits d (call.Unlink name) w fits = fits
-fault_fits d (call.Stat name) w fits = fits
-fault_fits d (call.NextName dir last) w fits = fits
-
 -- what a call did that left nothing half written
 abbrev IsNothing : Disk → ℕ → CallData → Answer → ℕ → Type 0
 IsNothing d now c answer w = (Fits d c answer w → Fits d c answer 0) × (effect d now c answer w ≡ effect d now c answer 0)
@@ -56,7 +43,7 @@ no_fault : (d : Disk) (now : ℕ) (c : CallData) (answer : Answer) (w : ℕ) →
 no_fault d now c answer w other = let same = wrote_nothing d c answer w other in (same.0, same.1 now)
 
 none_written : (d : Disk) (now : ℕ) (c : CallData) (answer : Answer) (w : ℕ) → (answer ≡ Refused Fault → effect d now c answer w ≡ d) → IsNothing d now c answer w
-none_written d now c (Refused Fault) w nothing = (fault_fits d c w, nothing refl ∙ sym (fault_nothing d now c))
+none_written d now c (Refused Fault) w nothing = (fits_unwritten d c (Refused Fault) w, nothing refl ∙ sym (fault_nothing d now c))
 none_written d now c (Refused NotThere) w nothing = no_fault d now c (Refused NotThere) w (λ e. absurd (cc))
 none_written d now c (Refused Exists) w nothing = no_fault d now c (Refused Exists) w (λ e. absurd (cc))
 none_written d now c (Refused Memory) w nothing = no_fault d now c (Refused Memory) w (λ e. absurd (cc))

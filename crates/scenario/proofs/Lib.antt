@@ -18,30 +18,16 @@ pub mod Tracings
 pub mod Showings
 -- lists in one strict order with the same members are one
 pub mod OneOrder
--- a call has one answer
-pub mod OneAnswer
 -- a step comes to one outcome, and a run is one list of steps
 pub mod OneStep
 -- what is shown is one text
 pub mod OneShown
 -- a script prints one text
 pub mod OneText
--- lists in order, each item once
-pub mod InOrder
--- what holds or doesn't
-pub mod Decided
--- disks with finitely many names and open descriptors
-pub mod FiniteDisks
 -- writes that failed
 pub mod HalfWritten
--- calls by a plan
-pub mod CountedCalls
 -- what each file reads as may survive
 pub mod LastingFiles
--- the least free number and descriptor
-pub mod LeastFree
--- the answers of a disk that fails only if it is chosen
-pub mod GivenAnswers
 -- the names of a directory and the numbers in use, listed
 pub mod Listings
 -- what a script's history keeps beside being legal

@@ -1,11 +1,8 @@
 -- A disk with finitely many names has the list of a directory, and that of the numbers that aren't in S1.
-use Rattle.std.proofs.Common.{◌≡◌, ◌≢◌, inl, inr, ⊎_elim, ℕ, suc, ◌<◌, ◌≤◌, ◌^◌, List, [], ◌∷◌, ◌++◌, length, drop, Contains, nat_cmp, Less, Option, Some, None, IsSome, IsTrue, refl, sym, ap, ◌∙◌, subst}
-use Rattle.std.specs.Cmp.Lexicographic.{slice_cmp}
-use Rattle.std.proofs.lemmas.Bool.{cases_eq}
-use Rattle.std.proofs.lemmas.Cmp.{nat_list_cmp_total, nat_cmp_total}
+use Rattle.std.proofs.Common.{◌≡◌, ◌≢◌, inl, inr, ⊎_elim, ℕ, ◌<◌, ◌≤◌, ◌^◌, List, [], ◌∷◌, Contains, nat_cmp, Option, Some, None, IsTrue, refl, sym, ap, ◌∙◌, subst}
+use Rattle.std.proofs.lemmas.Cmp.{nat_cmp_total}
 use Rattle.std.proofs.lemmas.List.Elements.{All-weaker, All-contains_itself}
 use Rattle.call_fs.specs.Disk.{Disk, Among}
-use Rattle.call_fs.specs.Apply.{StandsAfter, IsLater}
 use Rattle.call_fs.specs.Choices.{AreNamed}
 use Rattle.queue_paths.specs.Names.{Name, Part, path, parse, is_number}
 use Rattle.queue_paths.specs.Names.Name.{Pid, Of}
@@ -13,65 +10,14 @@ use Rattle.queue_paths.proofs.Paths.{parse-path, is_number_tells, is_number_if}
 use Rattle.queue_states.specs.declared.state.State.TheVariants.{S1}
 use Rattle.queue_states.specs.States.{state_of}
 use Rattle.scenario.specs.Shown.{AreNamesIn, AreNumbersIn}
-use Rattle.scenario.proofs.Decided.{Decided, both, neither, is_true, up_to, is_some, listed}
-use Rattle.scenario.proofs.FiniteDisks.{IsFinite}
-use Rattle.scenario.proofs.InOrder.{contains_among, among_contains, passing, ordered, rises_pairs, equal_is, pairs_increase}
-use Rattle.queue_states.proofs.Listed.{same-text}
+use Rattle.crash_fs.specs.Answers.{IsFinite}
+use Rattle.crash_fs.proofs.Decided.{Decided, both, is_true}
+use Rattle.crash_fs.proofs.InOrder.{contains_among, among_contains, passing, ordered, rises_pairs, equal_is, pairs_increase}
+use Rattle.crash_fs.proofs.NextNames.{some_of, names_after}
 use Rattle.disk_numbers.proofs.NumbersInUse.{some_part, far_or_not}
 
-some_of : (o : Option ℕ) → IsSome o → (n : ℕ) × (o ≡ Some n)
-some_of None there = absurd (cc)
-some_of (Some n) there = (n, refl)
-
--- what the texts have after a directory and a slash
-abbrev parts_of : List ℕ → List (List ℕ) → List (List ℕ)
-parts_of dir [] = []
-parts_of dir (text ∷ texts) = drop (suc (length dir)) text ∷ parts_of dir texts
-
-part_among : (dir part : List ℕ) (texts : List (List ℕ)) → Among (dir ++ 47 ∷ part) texts
-    → Among part (parts_of dir texts)
-part_among dir part [] here = here
-part_among dir part (text ∷ texts) here = ⊎_elim
-    (λ e. inl (sym (ap (drop (suc (length dir))) (sym e) ∙ behind dir part)))
-    (λ later. inr (part_among dir part texts later))
-    here
-  where
-    behind : (dir part : List ℕ) → drop (suc (length dir)) (dir ++ 47 ∷ part) ≡ part
-    behind [] part = refl
-    behind (b ∷ dir) part = behind dir part
-
--- a text is a part in this directory, or not
-is_later : (text : List ℕ) → Decided (IsLater [] text)
-is_later text = ⊎_elim
-    (λ h. inl (record { whole = h.0; short = h.1.0; later = h.1.1 }))
-    (λ fails. inr (λ h. fails (h.whole, (h.short, h.later))))
-    (both (neither (listed cases_eq text 47)) (both (up_to (length text) 255) (is_first text)))
-  where
-    is_first : (text : List ℕ) → Decided (slice_cmp nat_cmp [] text ≡ Less)
-    is_first [] = inr (λ e. absurd (cc))
-    is_first (b ∷ text) = inl refl
-
-stands : (d : Disk) (dir text : List ℕ) → Decided (StandsAfter d dir [] text)
-stands d dir text = both (is_some (d.names (dir ++ 47 ∷ text))) (is_later text)
-
 pub names_in : (d : Disk) → IsFinite d → (dir : List ℕ) → (names : List (List ℕ)) × AreNamesIn d dir names
-names_in d f dir =
-    let candidates = parts_of dir f.texts in
-    let some = passing (StandsAfter d dir []) (stands d dir) candidates in
-    let in_order = ordered (slice_cmp nat_cmp) nat_list_cmp_total same-text some.items in (
-      in_order.items,
-      record {
-        each = λ name. (
-          λ here. (some.on name (in_order.on name (contains_among in_order.items name here))).1,
-          λ behind.
-              let there = some_of (d.names (dir ++ 47 ∷ name)) behind.0 in
-              among_contains in_order.items name
-              (in_order.all name (some.all name
-              (part_among dir name f.texts (f.named (dir ++ 47 ∷ name) there.0 there.1)) behind)),
-        );
-        rising = rises_pairs (slice_cmp nat_cmp) nat_list_cmp_total same-text in_order.items in_order.rises;
-      },
-    )
+names_in d f dir = let found = names_after d f dir [] in (found.names, record { each = found.each; rising = found.rising })
 
 -- the numbers of names
 abbrev number_by : Option Name → ℕ

@@ -1,12 +1,7 @@
--- Lists in one strict order with the same members are one, and the least of some numbers is one.
-use Rattle.std.proofs.Common.{◌≡◌, ℕ, suc, zero, ◌<◌, List, [], ◌∷◌, Contains, refl, sym, ap, ◌∙◌, subst, ⊎_elim, ◌⊎◌, inl, inr, arith}
+-- Lists in one strict order with the same members are one.
+use Rattle.std.proofs.Common.{◌≡◌, suc, zero, List, [], ◌∷◌, Contains, refl, sym, ap, ◌∙◌, subst, ⊎_elim, ◌⊎◌, inl, inr, arith}
 use Rattle.std.specs.Prelude.{◌↔◌}
 use Rattle.std.specs.List.{AllPairs}
-use Rattle.std.proofs.lemmas.Bool.{cases_lt}
-
-pub one_least : (P : ℕ → Type 0) (m n : ℕ) → P m → P n → ((k : ℕ) → k < m → ¬ (P k)) → ((k : ℕ) → k < n → ¬ (P k)) → m ≡ n
-one_least P m n p q below_m below_n =
-    ⊎_elim (λ less. absurd (below_n m less p)) (λ more. ⊎_elim (λ less. absurd (below_m n less q)) (λ least. omega arith) (cases_lt n m)) (cases_lt m n)
 
 -- a member is the first one, or one of the rest
 split-member : {X : Type 0} (x : X) (xs : List X) (z : X) → Contains (x ∷ xs) z → (x ≡ z) ⊎ Contains xs z

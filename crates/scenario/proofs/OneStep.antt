@@ -9,21 +9,21 @@ use Rattle.call_fs.specs.declared.past.NeedData.TheVariants as needs
 use Rattle.queue_inject.specs.declared.injection.Arguments.{Arguments}
 use Rattle.mail_world.specs.History.{Event, Life, State, Actor, call_act, next_of, after}
 use Rattle.mail_world.specs.History.Life.{Alive, Over, Stopped}
-use Rattle.mail_world.specs.World.{input_ready}
+use Rattle.mail_world.specs.Readiness.{found_in}
 use Rattle.scenario.specs.Played.{Refusal, Outcome, DoesNext, DoesAlive, DoesStep, StepsTo, MailComesTo, AreSteps, plan_through, most_steps, Stops, IsRunOf, stop_text}
 use Rattle.scenario.specs.Played.Outcome.{Happens, Is}
-use Rattle.scenario.proofs.OneAnswer.{one_answer}
+use Rattle.crash_fs.proofs.OneAnswer.{one_answer}
 
 -- Steps
 
 does_one : (plan : Plan) (s : State) (a : List ℕ) (due : NeedData) (o p : Outcome) → DoesNext plan s a due o → DoesNext plan s a due p → o ≡ p
 does_one plan s a (needs.File call) o p h k =
-    h.2 ∙ ap (λ (t : Told). Happens (call_act a s.now input_ready call t 0)) (one_answer plan s.disk call h.0 k.0 h.1 k.1) ∙ sym k.2
+    h.2 ∙ ap (λ (t : Told). Happens (call_act a s.now (found_in s a) call t 0)) (one_answer plan s.disk call h.0 k.0 h.1 k.1) ∙ sym k.2
 does_one plan s a (needs.Ended status) o p h k = h ∙ sym k
 does_one plan s a due o p h k = h ∙ sym k
 
 alive_one : (plan : Plan) (s : State) (a : List ℕ) (x : Actor) (life : Life) (o p : Outcome) → DoesAlive plan s a x life o → DoesAlive plan s a x life p → o ≡ p
-alive_one plan s a x Alive o p h k = does_one plan s a (next_of x.program x.past s.now input_ready) o p h k
+alive_one plan s a x Alive o p h k = does_one plan s a (next_of x.program x.past s.now (found_in s a)) o p h k
 alive_one plan s a x (Over status) o p h k = h ∙ sym k
 alive_one plan s a x Stopped o p h k = h ∙ sym k
 

@@ -19,8 +19,9 @@ use Rattle.script_words.specs.declared.entry.Entry.TheVariants.{File as FileOf, 
 use Rattle.script_words.specs.Entries.{IsEntryPath, dirs_above, entry_dirs, path_of}
 use Rattle.play_lines.specs.Contents.{HaveEntryPaths}
 use Rattle.scenario.specs.FirstDisk.{IsBareDisk, HasMade, AreMade, Enters, EntersAll, IsFirstDisk}
-use Rattle.scenario.proofs.FiniteDisks.{IsFinite, finite_empty, finite_placed}
-use Rattle.scenario.proofs.InOrder.{contains_among}
+use Rattle.crash_fs.specs.Answers.{IsFinite}
+use Rattle.crash_fs.proofs.FiniteDisks.{finite_empty, finite_placed}
+use Rattle.crash_fs.proofs.InOrder.{contains_among}
 use Rattle.scenario.proofs.LastingFiles.{AreLasting, lasting_empty, lasting_put}
 
 -- Paths
@@ -101,7 +102,7 @@ ready_dir d dir is = record {
   lasting = is.lasting;
   finite =
       let f = is.finite in
-      record { texts = f.texts; named = f.named; numbers = f.numbers; below = f.below; behind = f.behind; descriptors = f.descriptors; within = f.within };
+      record { texts = f.texts; named = f.named; descriptors = f.descriptors; within = f.within };
 }
 
 ready_made : (old : Disk) (dir : List ℕ) (new : Disk) → HasMade old dir new → IsReady old → IsReady new
@@ -121,7 +122,7 @@ ready_file d m bytes is = record {
   lasting = lasting_put d.files m (settled_file bytes) is.lasting (lasts-settled bytes (empty_file 0));
   finite =
       let f = is.finite in
-      record { texts = f.texts; named = f.named; numbers = f.numbers; below = f.below; behind = f.behind; descriptors = f.descriptors; within = f.within };
+      record { texts = f.texts; named = f.named; descriptors = f.descriptors; within = f.within };
 }
 
 ready_new : (d : Disk) (name bytes : List ℕ) (m : ℕ) → IsEntryPath name → IsReady d

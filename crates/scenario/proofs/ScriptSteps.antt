@@ -15,15 +15,18 @@ use Rattle.call_fs.specs.Plan.{Plan, Takes, CallKeepsPlan}
 use Rattle.call_fs.specs.Apply.{effect}
 use Rattle.crash_fs.specs.Crash.{Crash, crash_disk, crash_plan}
 use Rattle.call_fs.proofs.Maps.{put_at_same}
-use Rattle.mail_world.specs.declared.event.Event.{Event as Kept}
-use Rattle.mail_world.specs.declared.event.Event.TheVariants as kept
-use Rattle.mail_world.specs.declared.event.Program.{Program}
+use Rattle.world_events.specs.declared.event.Event.{Event as Kept}
+use Rattle.world_events.specs.declared.event.Event.TheVariants as kept
+use Rattle.world_events.specs.declared.event.Program.{Program}
 use Rattle.mail_world.specs.History.{Event, call_act, Actor, Life, State, next_of, IsLiving, called, finished, after}
 use Rattle.mail_world.specs.History.Event.{Start, Act, Child, Generation, Report, End, Stop, Moment, Halt}
 use Rattle.mail_world.specs.History.Life.{Alive, Over, Stopped}
-use Rattle.mail_world.specs.World.{kept_call, Seen, Tells, IsHistory, GoesOn, IsStep, EndsAt, was_started, input_ready, GoesByPlan}
+use Rattle.mail_world.specs.Readiness.{found_in}
+use Rattle.mail_world.specs.Known.{known}
+use Rattle.mail_world.proofs.Readies.{known_found, whole_call}
+use Rattle.mail_world.specs.World.{kept_call, Seen, Tells, IsHistory, GoesOn, IsStep, EndsAt, was_started, GoesByPlan}
 use Rattle.mail_world.proofs.Lives.{started_is, ended_is}
-use Rattle.scenario.proofs.CountedCalls.{done_by}
+use Rattle.crash_fs.proofs.CountedCalls.{done_by}
 use Rattle.scenario.proofs.HalfWritten.{call_wrote_none}
 use Rattle.scenario.specs.Played.{Outcome, Refusal, plan_by, DoesNext, DoesAlive, DoesStep, StepsTo}
 use Rattle.scenario.specs.Played.Outcome.{Happens, Is}
@@ -101,11 +104,11 @@ moment_told m (Halt how contents) told = absurd (cc)
 -- What a living actor does next
 
 does : (plan : Plan) (s : State) (a : List ℕ) (p : ℕ) (x : Actor) (due : NeedData) (outcome : Outcome) → s.actors a ≡ Some x → x.life ≡ Alive → s.now ≡ p
-    → next_of x.program x.past p input_ready ≡ due → DoesNext plan s a due outcome → StepsTo plan s a outcome
+    → next_of x.program x.past p (found_in s a) ≡ due → DoesNext plan s a due outcome → StepsTo plan s a outcome
 does plan s a p x due outcome is alive now next h =
     subst (λ (o : Option Actor). DoesStep plan s a o outcome) (sym is)
     (subst (λ (life : Life). DoesAlive plan s a x life outcome) (sym alive)
-    (subst (λ (due : NeedData). DoesNext plan s a due outcome) (sym (ap (λ q. next_of x.program x.past q input_ready) now ∙ next)) h))
+    (subst (λ (due : NeedData). DoesNext plan s a due outcome) (sym (ap (λ q. next_of x.program x.past q (found_in s a)) now ∙ next)) h))
 
 -- a living one isn't refused as gone, or as unknown
 next_not : (plan : Plan) (s : State) (a : List ℕ) (due : NeedData) (why : Refusal) → DoesNext plan s a due (Is why) → why ≡ Refusal.NotWaiting
@@ -119,7 +122,7 @@ next_not plan s a (needs.Ended status) why h = absurd (cc)
 
 pub alive_waits : (plan : Plan) (s : State) (a : List ℕ) (x : Actor) (why : Refusal) → s.actors a ≡ Some x → x.life ≡ Alive → StepsTo plan s a (Is why) → why ≡ Refusal.NotWaiting
 alive_waits plan s a x why is alive h =
-    next_not plan s a (next_of x.program x.past s.now input_ready) why
+    next_not plan s a (next_of x.program x.past s.now (found_in s a)) why
     (subst (λ (life : Life). DoesAlive plan s a x life (Is why)) alive (subst (λ (o : Option Actor). DoesStep plan s a o (Is why)) is h))
 
 -- Calls
@@ -139,22 +142,22 @@ record Stepped (o d : Disk) (plan : Plan) (left : Option Plan) (events : List Ke
 
 call_steps : (o d d' : Disk) (plan : Plan) (left : Option Plan) (events : List Kept) (p : ℕ) (h : List Event) (a : List ℕ) (call : CallData) (got : Told) (e : Event)
     → IsHistory o d events p h → got.answer ≢ Refused Memory → CallKeepsPlan call (Some plan) left (Some d) (Some d') got.answer
-    → IsHistory o d' (events ++ kept_call a p input_ready call got ∷ []) p (e ∷ h)
-    → (done : Stepped o d' plan left (events ++ kept_call a p input_ready call got ∷ []) p a h) × IsLiving (after o (done.event ∷ h)) a
+    → IsHistory o d' (events ++ kept_call a p (found_in (after o h) a) call got ∷ []) p (e ∷ h)
+    → (done : Stepped o d' plan left (events ++ kept_call a p (found_in (after o h) a) call got ∷ []) p a h) × IsLiving (after o (done.event ∷ h)) a
 call_steps o d d' plan left events p h a call got e was memory keeps is =
     let s = after o h in
-    let k : Kept = kept_call a p input_ready call got in
-    let told = call_told a p input_ready call got e (last_told events k e h is.told) in
+    let k : Kept = kept_call a p (found_in (after o h) a) call got in
+    let told = call_told a p (found_in (after o h) a) call got e (last_told events k e h is.told) in
     let w = told.0 in
-    let at_w : IsHistory o d' (events ++ k ∷ []) p (call_act a p input_ready call got w ∷ h) = subst (λ (e : Event). IsHistory o d' (events ++ k ∷ []) p (e ∷ h)) told.1 is in
+    let at_w : IsHistory o d' (events ++ k ∷ []) p (call_act a p (found_in (after o h) a) call got w ∷ h) = subst (λ (e : Event). IsHistory o d' (events ++ k ∷ []) p (e ∷ h)) told.1 is in
     let made = at_w.legal.1 in
     let by = done_by call s.disk plan left d d' got.answer w made.came.0 keeps in
     let left_disk : effect s.disk p call got.answer w ≡ d' =
-    subst (λ (m : Option Actor). effect s.disk p call got.answer w ≡ (called s a p input_ready call got w m).disk) (sym made.reads.is) refl ∙ at_w.disk in
-    let zero = call_wrote_none s a p input_ready call got w (λ fault. left_disk ∙ by.nothing_done fault ∙ sym was.disk) made in
+    subst (λ (m : Option Actor). effect s.disk p call got.answer w ≡ (called s a p (found_in (after o h) a) call got w m).disk) (sym made.reads.is) refl ∙ at_w.disk in
+    let zero = call_wrote_none s a p (found_in (after o h) a) call got w (λ fault. left_disk ∙ by.nothing_done fault ∙ sym was.disk) made in
     let may = zero.0 in
-    let f : Event = call_act a p input_ready call got 0 in
-    let living = call_actor s a p input_ready call got 0 may.actor may.reads.is in (
+    let f : Event = call_act a p (found_in (after o h) a) call got 0 in
+    let living = call_actor s a p (found_in (after o h) a) call got 0 may.actor may.reads.is in (
       record {
         event = f;
         steps = does plan s a p may.actor (needs.File call) (Happens f) may.reads.is may.reads.alive was.moment may.due (
@@ -166,12 +169,12 @@ call_steps o d d' plan left events p h a call got e was memory keeps is =
             takes = subst (λ (d : Disk). Takes d plan.pick got.answer) (sym was.disk) by.takes;
             no_memory = memory;
           },
-          ap (λ q. Happens (call_act a q input_ready call got 0)) (sym was.moment),
+          ap (λ q. Happens (call_act a q (found_in (after o h) a) call got 0)) (sym was.moment),
         );
         planned = by.planned;
         is = record {
           legal = (was.legal, may);
-          told = told_by events k (call_act a p input_ready call got w) f h refl at_w.told;
+          told = told_by events k (call_act a p (found_in (after o h) a) call got w) f h refl at_w.told;
           named = (was.named, tt);
           disk = ap (λ (t : State). t.disk) (sym zero.1) ∙ at_w.disk;
           moment = ap (λ (t : State). t.now) (sym zero.1) ∙ at_w.moment;
@@ -197,19 +200,19 @@ over_gone plan s a x is over = subst (λ (o : Option Actor). DoesStep plan s a o
   by_life Stopped over = refl
 
 end_steps : (o d d' : Disk) (plan : Plan) (left : Option Plan) (events : List Kept) (p : ℕ) (h : List Event) (a : List ℕ) (status : ℕ) (e : Event)
-    → left ≡ Some plan → IsHistory o d events p h → IsHistory o d' (events ++ kept.End a p input_ready status ∷ []) p (e ∷ h)
-    → (done : Stepped o d' plan left (events ++ kept.End a p input_ready status ∷ []) p a h) × StepsTo (plan_by done.event plan) (after o (done.event ∷ h)) a (Is Gone)
+    → left ≡ Some plan → IsHistory o d events p h → IsHistory o d' (events ++ kept.End a p (found_in (after o h) a) status ∷ []) p (e ∷ h)
+    → (done : Stepped o d' plan left (events ++ kept.End a p (found_in (after o h) a) status ∷ []) p a h) × StepsTo (plan_by done.event plan) (after o (done.event ∷ h)) a (Is Gone)
 end_steps o d d' plan left events p h a status e planned was is =
     let s = after o h in
-    let k : Kept = kept.End a p input_ready status in
-    let same = end_told a p input_ready status e (last_told events k e h is.told) in
-    let f : Event = End a p input_ready status in
+    let k : Kept = kept.End a p (found_in (after o h) a) status in
+    let same = end_told a p (found_in (after o h) a) status e (last_told events k e h is.told) in
+    let f : Event = End a p (found_in (after o h) a) status in
     let now : IsHistory o d' (events ++ k ∷ []) p (f ∷ h) = subst (λ (e : Event). IsHistory o d' (events ++ k ∷ []) p (e ∷ h)) same is in
     let may = now.legal.1 in
     let over = end_actor s a (Over status) may.actor may.reads.is in (
       record {
         event = f;
-        steps = does plan s a p may.actor (needs.Ended status) (Happens f) may.reads.is may.reads.alive was.moment may.due (ap (λ q. Happens (End a q input_ready status)) (sym was.moment));
+        steps = does plan s a p may.actor (needs.Ended status) (Happens f) may.reads.is may.reads.alive was.moment may.due (ap (λ q. Happens (End a q (found_in (after o h) a) status)) (sym was.moment));
         planned = planned;
         is = now;
       },
@@ -264,33 +267,38 @@ pub stepped : (o : Disk) (old new : Seen Crash) (plan : Plan) (a : List ℕ) (en
     → ((before : List Kept) (newest : Kept) → new.events ≡ before ++ newest ∷ [] → false ≡ lacked_memory newest)
     → HasStepped o new a ended plan h
 stepped o old new plan a None h playing step same goes by memory =
-    let call = step.0 in
-    let got = step.1 in
-    let k : Kept = kept_call a old.present input_ready call got in
+    let one = whole_call (known old.events) old.present a step.0 step.1 in
+    let call = one.call in
+    let got = one.told in
+    let k : Kept = kept_call a old.present (found_in (after o h) a) call got in
+    let event : new.events ≡ old.events ++ k ∷ [] =
+    step.2 ∙ ap (λ own. old.events ++ kept.Act a own ∷ []) one.is ∙ ap (λ ready. old.events ++ kept_call a old.present ready call got ∷ []) (known_found o old.events h a playing.is.legal playing.is.told) in
     let next = goes o h playing.is in
-    let keeps = subst (λ (was : Option Plan). CallKeepsPlan call was (crash_plan new.disk) (Some (crash_disk old.disk)) (Some (crash_disk new.disk)) got.answer) playing.planned (by k step.2) in
+    let keeps = subst (λ (was : Option Plan). CallKeepsPlan call was (crash_plan new.disk) (Some (crash_disk old.disk)) (Some (crash_disk new.disk)) got.answer) playing.planned (by k event) in
     let done = call_steps o (crash_disk old.disk) (crash_disk new.disk) plan (crash_plan new.disk) old.events old.present h a call got next.0 playing.is
-    (not_memory got.answer (sym (memory old.events k step.2))) keeps
-    (moved o (crash_disk new.disk) new.events (old.events ++ k ∷ []) new.present old.present (next.0 ∷ h) step.2 same next.1) in
+    (not_memory got.answer (sym (memory old.events k event))) keeps
+    (moved o (crash_disk new.disk) new.events (old.events ++ k ∷ []) new.present old.present (next.0 ∷ h) event same next.1) in
     record {
       event = done.0.event;
       steps = done.0.steps;
       playing = record {
-        is = moved o (crash_disk new.disk) (old.events ++ k ∷ []) new.events old.present new.present (done.0.event ∷ h) (sym step.2) (sym same) done.0.is;
+        is = moved o (crash_disk new.disk) (old.events ++ k ∷ []) new.events old.present new.present (done.0.event ∷ h) (sym event) (sym same) done.0.is;
         planned = done.0.planned;
       };
       over = done.1;
     }
 stepped o old new plan a (Some status) h playing step same goes by memory =
-    let k : Kept = kept.End a old.present input_ready status in
+    let k : Kept = kept.End a old.present (found_in (after o h) a) status in
+    let event : new.events ≡ old.events ++ k ∷ [] =
+    step ∙ ap (λ ready. old.events ++ kept.End a old.present ready status ∷ []) (known_found o old.events h a playing.is.legal playing.is.told) in
     let next = goes o h playing.is in
-    let done = end_steps o (crash_disk old.disk) (crash_disk new.disk) plan (crash_plan new.disk) old.events old.present h a status next.0 (by k step ∙ playing.planned) playing.is
-    (moved o (crash_disk new.disk) new.events (old.events ++ k ∷ []) new.present old.present (next.0 ∷ h) step same next.1) in
+    let done = end_steps o (crash_disk old.disk) (crash_disk new.disk) plan (crash_plan new.disk) old.events old.present h a status next.0 (by k event ∙ playing.planned) playing.is
+    (moved o (crash_disk new.disk) new.events (old.events ++ k ∷ []) new.present old.present (next.0 ∷ h) event same next.1) in
     record {
       event = done.0.event;
       steps = done.0.steps;
       playing = record {
-        is = moved o (crash_disk new.disk) (old.events ++ k ∷ []) new.events old.present new.present (done.0.event ∷ h) (sym step) (sym same) done.0.is;
+        is = moved o (crash_disk new.disk) (old.events ++ k ∷ []) new.events old.present new.present (done.0.event ∷ h) (sym event) (sym same) done.0.is;
         planned = done.0.planned;
       };
       over = done.1;

@@ -4,14 +4,14 @@ use Rattle.std.specs.Prelude.{flat_map, codes, if◌then◌else◌, IsSome}
 use Rattle.queue_inject.specs.declared.injection.Arguments.{Arguments}
 use Rattle.queue_inject.specs.Texts.{recipients_of}
 use Rattle.call_fs.specs.Disk.{Disk}
-use Rattle.mail_world.specs.declared.event.Event.{Event as Kept}
+use Rattle.world_events.specs.declared.event.Event.{Event as Kept}
 use Rattle.mail_world.specs.History.{Event, Actor, Life, Injection, State, after}
 use Rattle.mail_world.specs.History.Life.{Alive, Over, Stopped}
 use Rattle.mail_world.specs.Headline.{Accounted, Safe}
 use Rattle.mail_world.specs.Headline.Accounted.{Pending}
 use Rattle.mail_world.specs.World.{IsHistory}
 use Rattle.mail_world.specs.Books.{is_accepted, mails_of, told_life, life_in, entry_in, books_in}
-use Rattle.mail_world.specs.declared.books.Entry.{Entry}
+use Rattle.world_events.specs.declared.books.Entry.{Entry}
 use Rattle.mail_world.proofs.ModelBooks.{AreThere, mails_there}
 use Rattle.queue_states.specs.States.{is_there}
 use Rattle.queue_paths.specs.Names.Part.{Todo}

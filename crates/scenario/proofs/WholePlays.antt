@@ -9,12 +9,13 @@ use Rattle.call_fs.specs.declared.past.NeedData.{NeedData}
 use Rattle.call_fs.specs.declared.past.NeedData.TheVariants as needs
 use Rattle.mem_fs.specs.MemDisk.{bytes_at}
 use Rattle.queue_inject.specs.declared.injection.Arguments.{Arguments}
-use Rattle.mail_world.specs.declared.event.Program.TheVariants.{Injector}
+use Rattle.world_events.specs.declared.event.Program.TheVariants.{Injector}
 use Rattle.mail_world.specs.History.{Event, call_act, Actor, Life, State, Legal, next_of, after}
 use Rattle.mail_world.specs.History.Event.{Start, End, Stop, Moment, Halt}
 use Rattle.mail_world.specs.History.Life.{Alive, Over, Stopped}
 use Rattle.actor_names.specs.MailNames.{IsMailName, IsLetter, IsLetterOrDigit, members}
-use Rattle.mail_world.specs.World.{input_ready, mail}
+use Rattle.mail_world.specs.Readiness.{found_in}
+use Rattle.mail_world.specs.World.{mail}
 use Rattle.mail_world.proofs.Headline.{headline}
 use Rattle.mail_world.specs.Acting.{MayMake}
 use Rattle.script_words.specs.declared.entry.Entry.{Entry}
@@ -37,14 +38,14 @@ use Rattle.scenario.specs.Shown.{IsShown, pid_line, number_line, all_mail_lines}
 use Rattle.scenario.specs.Traced.{traced_after, traced_text}
 use Rattle.scenario.specs.Text.{IsPlayed, IsBegun, Prints, BeginsToPrint, BeginsAtMost, IsPrefix, IsPrefixAtMost}
 use Rattle.scenario.proofs.Carried.{Carries, Goes, due_may, goes_on, goes_started, goes_stopped, goes_moment, goes_halted}
-use Rattle.scenario.proofs.FiniteDisks.{IsFinite}
+use Rattle.crash_fs.specs.Answers.{IsFinite}
 use Rattle.scenario.proofs.FirstDisks.{first_disk}
-use Rattle.scenario.proofs.Decided.{Decided, both, either, neither, each, up_to, listed, same_text, some_or_none}
-use Rattle.scenario.proofs.GivenAnswers.{IsGiven, next_given}
+use Rattle.crash_fs.proofs.Decided.{Decided, both, either, neither, each, up_to, listed, same_text, some_or_none}
+use Rattle.crash_fs.proofs.GivenAnswers.{has_answer}
 use Rattle.scenario.proofs.Listings.{names_in, numbers_in, numbers_named}
 use Rattle.call_fs.specs.Choices.{contents_by}
 use Rattle.call_fs.specs.Plan.{Plan, no_plan}
-use Rattle.scenario.proofs.LeastFree.{is_unused}
+use Rattle.crash_fs.proofs.LeastFree.{is_unused}
 use Rattle.scenario.proofs.Openings.{first_opens, is_ready}
 use Rattle.play_lines.proofs.SaidContents.{said_paths, said_few}
 use Rattle.scenario.proofs.ScriptSteps.{alive_waits}
@@ -52,24 +53,24 @@ use Rattle.scenario.proofs.Showings.{safe_pending}
 
 -- Steps
 
-step_due : (plan : Plan) (s : State) (a : List ℕ) (due : NeedData) → MayMake s.disk due → IsGiven plan s.disk due
+step_due : (plan : Plan) (s : State) (a : List ℕ) (due : NeedData) → MayMake s.disk due → IsFinite s.disk
     → (outcome : Outcome) × DoesNext plan s a due outcome
-step_due plan s a (needs.File c) may given =
-    let got = given may in
-    (Happens (call_act a s.now input_ready c got.0 0), (got.0, got.1, refl))
-step_due plan s a (needs.Ended status) may given = (Happens (End a s.now input_ready status), refl)
-step_due plan s a (needs.Take port) may given = (Is NotWaiting, refl)
-step_due plan s a (needs.Give port bytes) may given = (Is NotWaiting, refl)
-step_due plan s a (needs.Start child) may given = (Is NotWaiting, refl)
-step_due plan s a (needs.Command bytes) may given = (Is NotWaiting, refl)
-step_due plan s a needs.Wait may given = (Is NotWaiting, refl)
+step_due plan s a (needs.File c) may finite =
+    let got = has_answer plan s.disk c finite may in
+    (Happens (call_act a s.now (found_in s a) c got.0 0), (got.0, got.1, refl))
+step_due plan s a (needs.Ended status) may finite = (Happens (End a s.now (found_in s a) status), refl)
+step_due plan s a (needs.Take port) may finite = (Is NotWaiting, refl)
+step_due plan s a (needs.Give port bytes) may finite = (Is NotWaiting, refl)
+step_due plan s a (needs.Start child) may finite = (Is NotWaiting, refl)
+step_due plan s a (needs.Command bytes) may finite = (Is NotWaiting, refl)
+step_due plan s a needs.Wait may finite = (Is NotWaiting, refl)
 
 step_life : (plan : Plan) (s : State) (a : List ℕ) (x : Actor) (life : Life) → Carries s → s.actors a ≡ Some x → x.life ≡ life
     → (outcome : Outcome) × DoesAlive plan s a x life outcome
 step_life plan s a x Alive carries is alive =
-    step_due plan s a (next_of x.program x.past s.now input_ready)
+    step_due plan s a (next_of x.program x.past s.now (found_in s a))
     (due_may s a x carries is alive)
-    (next_given plan s.disk x.program (carries.mails a x is) x.past s.now input_ready carries.finite)
+    carries.finite
 step_life plan s a x (Over status) carries is over = (Is Gone, refl)
 step_life plan s a x Stopped carries is over = (Is Gone, refl)
 

@@ -1,16 +1,11 @@
 -- The history that a script plays, and what each of its lines prints. A call fails if the script says so, and only then.
-use Rattle.std.specs.Prelude.{◌≡◌, ◌≢◌, ◌⊎◌, ◌↔◌, ℕ, zero, suc, ◌<◌, ◌≤◌, List, [], ◌∷◌, ◌++◌, length, Bool, Option, Some, None, IsSome, codes}
+use Rattle.std.specs.Prelude.{◌≡◌, ◌⊎◌, ℕ, zero, suc, ◌<◌, ◌≤◌, List, [], ◌∷◌, ◌++◌, length, Bool, Option, Some, None, IsSome, codes}
 use Rattle.mail_bytes.specs.Decimal.{digits}
 use Rattle.mail_bytes.specs.Escape.{escaped}
-use Rattle.call_fs.specs.declared.calls.CallData.{CallData}
-use Rattle.call_fs.specs.declared.calls.CallData.TheVariants.{Close}
-use Rattle.call_fs.specs.declared.calls.Answer.{Answer}
-use Rattle.call_fs.specs.declared.calls.Answer.TheVariants.{Refused}
-use Rattle.call_fs.specs.declared.calls.FsError.TheVariants.{Fault, Memory}
 use Rattle.call_fs.specs.declared.calls.Told.{Told}
-use Rattle.call_fs.specs.Apply.{Fits, IsReadBy}
 use Rattle.call_fs.specs.Disk.{Disk, IsUnused}
-use Rattle.call_fs.specs.Plan.{Plan, Takes, plan_left, with_fault, with_pick}
+use Rattle.call_fs.specs.Plan.{Plan, with_fault, with_pick}
+use Rattle.crash_fs.specs.Answers.{Answers, plan_left_by}
 use Rattle.call_fs.specs.Choices.{AreNamed, contents_by}
 use Rattle.call_fs.specs.declared.past.NeedData.{NeedData}
 use Rattle.call_fs.specs.declared.past.NeedData.TheVariants as needs
@@ -21,12 +16,13 @@ use Rattle.mem_fs.specs.MemDisk.{bytes_at}
 use Rattle.queue_inject.specs.declared.injection.Arguments.{Arguments}
 use Rattle.mail_world.specs.declared.error.WorldError.{WorldError}
 use Rattle.mail_world.specs.declared.error.WorldError.TheVariants as error
-use Rattle.mail_world.specs.declared.event.Program.TheVariants.{Injector}
+use Rattle.world_events.specs.declared.event.Program.TheVariants.{Injector}
 use Rattle.mail_world.specs.History.{Event, Life, State, Actor, call_act, next_of, after, started_by}
 use Rattle.mail_world.specs.History.Event.{Start, Act, Child, Generation, Report, End, Stop, Moment, Halt}
 use Rattle.mail_world.specs.History.Life.{Alive, Over, Stopped}
 use Rattle.actor_names.specs.MailNames.{IsMailName}
-use Rattle.mail_world.specs.World.{input_ready, mail, pid_after}
+use Rattle.mail_world.specs.Readiness.{found_in}
+use Rattle.mail_world.specs.World.{mail, pid_after}
 use Rattle.play_lines.specs.declared.line.Line.{Line}
 use Rattle.play_lines.specs.declared.line.Line.TheVariants as line
 use Rattle.play_lines.specs.declared.keyword.Alone.TheVariants as alone
@@ -37,24 +33,6 @@ use Rattle.play_lines.specs.declared.keyword.OfSurvival.TheVariants as of_surviv
 use Rattle.play_lines.specs.declared.keyword.OfWord.TheVariants as of_word
 use Rattle.scenario.specs.Shown.{line_of, IsShown}
 use Rattle.scenario.specs.Traced.{traced_after, traced_text}
-
--- whether a call fails by this plan: `close` never does
-abbrev pub FailsBy : CallData → Plan → Answer → Type 0
-FailsBy (Close fd) plan answer = answer ≢ Refused Fault
-FailsBy call plan answer = (answer ≡ Refused Fault) ↔ (plan.fault ≡ Some 1)
-
--- what is left of a plan after a call: `close` isn't counted
-abbrev pub plan_left_by : CallData → Plan → Answer → Plan
-plan_left_by (Close fd) plan answer = plan
-plan_left_by call plan answer = plan_left plan answer
-
--- What a disk answers by this plan, which has memory. A failed write has written nothing.
-pub record Answers (plan : Plan) (d : Disk) (call : CallData) (told : Told) : Type 0 where
-  pub fits : Fits d call told.answer 0
-  pub bytes : IsReadBy d call told
-  pub fails : FailsBy call plan told.answer
-  pub takes : Takes d plan.pick told.answer
-  pub no_memory : told.answer ≢ Refused Memory
 
 -- why a line is refused
 pub data Refusal : Type 0 where
@@ -93,12 +71,12 @@ pub data Outcome : Type 0 where
 
 -- by what the actor must do next, whether it lives, and whether it was started
 abbrev pub DoesNext : Plan → State → List ℕ → NeedData → Outcome → Type 0
-DoesNext plan s a (needs.File call) outcome = (told : Told) × Answers plan s.disk call told × (outcome ≡ Happens (call_act a s.now input_ready call told 0))
-DoesNext plan s a (needs.Ended status) outcome = outcome ≡ Happens (End a s.now input_ready status)
+DoesNext plan s a (needs.File call) outcome = (told : Told) × Answers plan s.disk call told × (outcome ≡ Happens (call_act a s.now (found_in s a) call told 0))
+DoesNext plan s a (needs.Ended status) outcome = outcome ≡ Happens (End a s.now (found_in s a) status)
 DoesNext plan s a due outcome = outcome ≡ Is NotWaiting
 
 abbrev pub DoesAlive : Plan → State → List ℕ → Actor → Life → Outcome → Type 0
-DoesAlive plan s a x Alive outcome = DoesNext plan s a (next_of x.program x.past s.now input_ready) outcome
+DoesAlive plan s a x Alive outcome = DoesNext plan s a (next_of x.program x.past s.now (found_in s a)) outcome
 DoesAlive plan s a x life outcome = outcome ≡ Is Gone
 
 abbrev pub DoesStep : Plan → State → List ℕ → Option Actor → Outcome → Type 0

@@ -10,8 +10,8 @@ use Rattle.crash_fs.specs.Crash.{Crash, crash_disk, crash_plan}
 use Rattle.call_fs.specs.Plan.{Plan}
 use Rattle.mail_world.specs.declared.error.WorldError.{WorldError}
 use Rattle.mail_world.specs.declared.error.WorldError.TheVariants as error
-use Rattle.mail_world.specs.declared.event.Event.{Event as Kept}
-use Rattle.mail_world.specs.declared.event.Event.TheVariants as kept
+use Rattle.world_events.specs.declared.event.Event.{Event as Kept}
+use Rattle.world_events.specs.declared.event.Event.TheVariants as kept
 use Rattle.mail_world.specs.History.{Event, IsLiving, after}
 use Rattle.mail_world.specs.World.{Seen, IsHistory}
 use Rattle.play_lines.specs.declared.line.Line.{Line}

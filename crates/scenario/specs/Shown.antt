@@ -1,11 +1,10 @@
 -- What `show` prints: how many names `pid/` has, the state of each number that isn't in S1, and how each mail fares.
-use Rattle.std.specs.Prelude.{◌≡◌, ◌≢◌, ◌↔◌, ℕ, zero, suc, ◌+◌, ◌^◌, ◌<◌, ◌≤◌, List, [], ◌∷◌, ◌++◌, length, Bool, true, false, ◌||◌, ◌&&◌, Option, Some, None, All, Contains, codes, flat_map, bytes_eq, if◌then◌else◌}
+use Rattle.std.specs.Prelude.{◌≡◌, ℕ, zero, suc, ◌+◌, ◌<◌, List, [], ◌∷◌, ◌++◌, length, true, Option, Some, None, codes, flat_map, if◌then◌else◌}
 use Rattle.mail_bytes.specs.Decimal.{digits}
 use Rattle.call_fs.specs.Disk.{Disk}
 use Rattle.queue_inject.specs.declared.injection.Arguments.{Arguments}
 use Rattle.queue_paths.specs.Names.Part.{Todo}
 use Rattle.queue_inject.specs.Texts.{recipients_of}
-use Rattle.queue_states.specs.declared.state.State.TheVariants.{S1}
 use Rattle.queue_states.specs.States.{state_of, is_there}
 pub use Rattle.queue_states.specs.Listing.{AreNamesIn}
 pub use Rattle.disk_numbers.specs.Numbers.{AreNumbersIn}
@@ -14,9 +13,9 @@ use Rattle.mail_world.specs.History.{Event, Life, State, Actor, Injection, after
 use Rattle.mail_world.specs.History.Life.{Alive, Over, Stopped}
 use Rattle.mail_world.specs.Headline.{IsInjected}
 use Rattle.mail_world.specs.Books.{is_accepted, mails_of}
-use Rattle.mail_world.specs.declared.books.Entry.{Entry}
-use Rattle.mail_world.specs.declared.books.Life.{Life as ToldLife}
-use Rattle.mail_world.specs.declared.books.Life.TheVariants as told
+use Rattle.world_events.specs.declared.books.Entry.{Entry}
+use Rattle.world_events.specs.declared.books.Life.{Life as ToldLife}
+use Rattle.world_events.specs.declared.books.Life.TheVariants as told
 
 -- `pid COUNT`
 abbrev pub pid_line : List (List ℕ) → List ℕ

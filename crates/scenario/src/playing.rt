@@ -4,7 +4,7 @@ ghost use Rattle.mail_bytes.specs.Decimal.{digits};
 ghost use Rattle.call_fs.specs.Disk.{Disk};
 ghost use Rattle.call_fs.specs.Plan.{Plan};
 ghost use Rattle.mail_bytes.specs.Told.{Rose, Meets};
-ghost use Rattle.mail_world.specs.declared.event.Event.{Event as Kept};
+ghost use Rattle.world_events.specs.declared.event.Event.{Event as Kept};
 ghost use Rattle.mail_world.specs.History.{Event as Happening};
 ghost use Rattle.mail_world.specs.Kept.{events_of};
 ghost use Rattle.play_lines.specs.declared.line.Line.TheVariants as LineOf;

@@ -1,3 +1,4 @@
+mod cuts;
 mod dues;
 mod remote_reports;
 mod reports;

@@ -70,15 +70,15 @@ fn read_recipients<'a>(
 {
     let mut rest = words;
     'words: loop {
-        let (word, behind) = cut(rest, b' ');
+        let (word, after) = cut(rest, b' ');
         if is_end(word) {
-            return Ok(behind.unwrap_or(b""));
+            return Ok(after.unwrap_or(b""));
         }
-        let Some(behind) = behind else {
+        let Some(after) = after else {
             return Err(WordError::Malformed);
         };
         put_record(alloc, word, envelope)?;
-        rest = behind;
+        rest = after;
     }
 }
 

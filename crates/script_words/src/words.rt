@@ -52,9 +52,9 @@ pub(crate) fn read_end(words: &[u8]) -> Result<&[u8], WordError>
     ensures ok { IfOk result (λ body. HasRecipients words.now [] body.now) }
     ensures err { OnErr result ((body : List ℕ) → ¬ (HasRecipients words.now [] body)) }
 {
-    let (word, behind) = cut(words, b' ');
+    let (word, after) = cut(words, b' ');
     if is_end(word) {
-        return Ok(behind.unwrap_or(b""));
+        return Ok(after.unwrap_or(b""));
     }
     Err(WordError::Malformed)
 }

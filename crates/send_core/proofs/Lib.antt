@@ -6,3 +6,35 @@ pub mod LastStep
 pub mod Sent
 -- the log goes on by the lines of each event
 pub mod Logged
+-- lists, slots and reports
+pub mod Lists
+-- what is known of messages
+pub mod Known
+-- requests, and what rows say of what was read
+pub mod Asked
+-- slots, what is to be given, and the room for marks
+pub mod Lanes
+-- what a channel keeps fits its account
+pub mod Fits
+-- how takings and requests change both
+pub mod Changes
+-- where a sender stands, and what fits there
+pub mod Standing
+-- what may come of a need
+pub mod Coming
+-- each step of the start keeps it so
+pub mod Early
+-- each step of a turn keeps it so
+pub mod Turns
+-- where each step leads, what it knows and asks
+pub mod Leads
+-- what the start has read
+pub mod StartSays
+-- what a todo pass has read
+pub mod PassSays
+-- each step keeps what was said of senders
+pub mod Says
+-- what follows for each run
+pub mod Runs
+-- what it keeps of a channel agrees with its account
+pub mod Agreed

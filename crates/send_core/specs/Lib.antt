@@ -10,9 +10,15 @@ pub mod Finish
 pub mod Table
 -- its log
 pub mod Log
--- worked runs
-pub mod Worked
 -- which sender stands for which past
 pub mod Stands
 -- what the fields of a sender keep
 pub mod Inside
+-- what a sender's past says of a channel
+pub mod Past
+-- which senders were said of a message
+pub mod Senders
+-- what its requests and its marks are
+pub mod Laws
+-- what it keeps of a channel is what its past says
+pub mod Agrees

@@ -44,7 +44,7 @@ fn from_sweep(desk: &Desk, now: u64, ready: &Ready) -> Row
     or_else(sweeping(desk, now), from_begin(desk, now, ready))
 }
 
-/// The row from the begin of a turn on, the taking from the local link.
+/// The row from the beginning of a turn on, the taking from the local link.
 fn from_begin(desk: &Desk, now: u64, ready: &Ready) -> Row
     ensures { result ≡ from_begin desk.now now ready.now }
 {
@@ -132,7 +132,7 @@ fn marking_by(channel: Channel, first: Option<&Mark>) -> Option<Row>
     }
 }
 
-/// The next step of the open pass while a slot is free, or the begin of one.
+/// The next step of the open pass while a slot is free, or the beginning of one.
 fn passing(channel: Channel, may: bool, desk: &Desk, now: u64) -> Option<Row>
     ensures { result ≡ passing channel may desk.now now }
 {

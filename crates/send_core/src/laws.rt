@@ -1,35 +1,32 @@
-// Worked rows, as laws.
-ghost use Rattle.std.specs.Prelude.{◌≡◌, None};
-ghost use Rattle.send_core.specs.Table.{begun};
-ghost use Rattle.send_core.specs.Worked.{asks, logs, remote_log, deferred_log, remote_run, remote_dues, deferred_run, deferred_dues, restarted_run, restarted_dues, swept_run, swept_dues, faulted_run, faulted_dues};
+// Laws of whole runs of a sender: contracts of functions that do nothing.
+ghost use Rattle.std.specs.Prelude.{List, ℕ, Option};
+ghost use Rattle.call_fs.specs.declared.program.Ready.{Ready};
+ghost use Rattle.call_fs.specs.declared.past.Own.{Own};
+ghost use Rattle.call_fs.specs.Past.{IsRunBy};
+ghost use Rattle.send_core.specs.Table.{Next};
+ghost use Rattle.send_core.specs.Agrees.{LanesAgree};
+ghost use Rattle.send_core.specs.Laws.{GivesRequests, MarksReports};
 
-/// One message to a remote recipient, from the start until its number is free.
-pub fn a_remote_message()
-    ensures { asks (begun None) remote_run ≡ remote_dues }
+/// Each request that is given is of the first record of the channel file read last that reads `T` and of which none was given
+/// since, for the lowest slot in which nothing is in flight, which is below the limit that the spawner's first byte says. Its
+/// sender is one that the message's info file or todo file said when it was read. No attempt at that record is in flight, and no
+/// record of the channel waits for its mark. What is in flight is counted from the past: in a slot, the request that was given
+/// last, until a report of that slot is taken.
+pub fn requests_are_of_records()
+    ensures { (turns : Option ℕ) (past : List Own) (now : ℕ) (ready : Ready) → IsRunBy (Next turns) past
+        → GivesRequests past (Next turns past now ready) }
 {}
 
-/// One of two recipients is deferred, and tried again 400 seconds later.
-pub fn a_deferred_message()
-    ensures { asks (begun None) deferred_run ≡ deferred_dues }
+/// A channel file is opened for writing only to mark the record of the first K report that was taken and not acted upon yet:
+/// so each mark is of one report, and of the attempt that was in flight in its slot. The only write is that of `D` at the
+/// place of that record, directly after the open; and after each open for writing that write is due.
+pub fn marks_are_of_reports()
+    ensures { (turns : Option ℕ) (past : List Own) (now : ℕ) (ready : Ready) → IsRunBy (Next turns) past
+        → MarksReports past (Next turns past now ready) }
 {}
 
-/// A sender that is stopped, and another one that finds the message by its start scan: its events alone.
-pub fn a_restarted_sender()
-    ensures { asks (begun None) restarted_run ≡ restarted_dues }
-{}
-
-/// A message file without an envelope, over 36 hours old.
-pub fn a_swept_message()
-    ensures { asks (begun None) swept_run ≡ swept_dues }
-{}
-
-/// Calls that fail in passes and marks.
-pub fn a_faulted_message()
-    ensures { asks (begun None) faulted_run ≡ faulted_dues }
-{}
-
-/// What the sender logs of one message to a remote recipient, and of one with a recipient that is deferred.
-pub fn logs_of_worked_runs()
-    ensures remote { logs (begun None) remote_run ≡ remote_log }
-    ensures deferred { logs (begun None) deferred_run ≡ deferred_log }
+/// What a sender keeps of a channel is what its past says of that, until it has ended: which attempts are in flight in which slots,
+/// which records are still to be given, and which are to be marked.
+pub fn lanes_are_accounts()
+    ensures { (turns : Option ℕ) (past : List Own) → IsRunBy (Next turns) past → LanesAgree turns past }
 {}

@@ -5,7 +5,9 @@
 //! came of that. Its contract: what it needs is what its table says of its own past, which it doesn't store, and its log is
 //! what the table says of the events since it was cleared. The table is in `specs/Table.antt`, over `specs/Start.antt` (the
 //! start), `specs/Turn.antt` (takings, reports, passes and preprocessing) and `specs/Finish.antt` (finish and sweep); the
-//! rows of start, finish and sweep stand in send_steps. The log is in `specs/Log.antt`.
+//! rows of start, finish and sweep stand in send_steps. The log is in `specs/Log.antt`. What follows for a whole run, from its
+//! past alone, is in `specs/Laws.antt`: which attempts are in flight, of which record each request is, and for which report each
+//! mark is made.
 #![tactic(auto)]
 
 mod act;
@@ -24,9 +26,6 @@ mod steps;
 mod todo;
 
 pub use desk::Desk;
-pub use laws::{
-    a_deferred_message, a_faulted_message, a_remote_message, a_restarted_sender, a_swept_message,
-    logs_of_worked_runs,
-};
+pub use laws::{lanes_are_accounts, marks_are_of_reports, requests_are_of_records};
 pub use row::{MarkRow, Marked, Point, Row};
 pub use sender::Sender;

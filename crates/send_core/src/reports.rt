@@ -128,7 +128,7 @@ fn tell(desk: &mut Desk, log: &mut Log, channel: Channel, report: &Report)
 fn settle(desk: &mut Desk, delivered: bool, channel: Channel, attempt: Attempt)
     ensures { desk.new ≡ settle delivered channel attempt desk.old }
 {
-    if delivered && desk.slots.marks(channel) < 120 {
+    if delivered && desk.slots.marks(channel).len() < 120 {
         let note = None;
         desk.slots.add_mark(channel, Mark { attempt, note });
     } else {

@@ -7,7 +7,7 @@ use send_steps::{FinishRow, Reading, Search, StartRow, SweepRow};
 /// A place in a turn between two steps: what comes next is decided by the moment and by what is ready.
 #[derive(Clone, Copy)]
 pub enum Point {
-    /// At the begin of a turn: the taking from the local spawner comes first.
+    /// At the beginning of a turn: the taking from the local spawner comes first.
     TakeLocal,
     /// The taking from the remote spawner comes first.
     TakeRemote,

@@ -1,20 +1,21 @@
 // The sender as a machine.
-ghost use Rattle.std.specs.Prelude.{◌≡◌, ◌∷◌, [], List, ℕ, Option, false, IfOk, IsOk, OnOk, OnErr, IsTrue};
+ghost use Rattle.std.specs.Prelude.{◌≡◌, ◌∷◌, [], ◌&&◌, not, List, ℕ, Option, false, IfOk, IsOk, OnOk, OnErr, IsTrue};
 ghost use Rattle.call_fs.specs.declared.past.Own.{Own};
 ghost use Rattle.call_fs.specs.Program.{due_of, came_of};
 ghost use Rattle.mail_bytes.specs.Moments.{IsMoment};
+ghost use Rattle.send_jobs.specs.Sending.{lane};
 ghost use Rattle.send_core.specs.Log.{log_since};
-ghost use Rattle.send_core.specs.Stands.{Logs, Stands, due_now, gone_on, looked_at, row_of};
+ghost use Rattle.send_core.specs.Stands.{Logs, Stands, due_now, gone_on, is_between, is_search, looked_at, row_of};
 ghost use Rattle.send_core.specs.Table.{Next, begun, due_at, takes_memory};
 
 use crate::act::go_on;
 use crate::arrive::row_now;
 use crate::steps::{step_of, words_of};
-use crate::{Desk, Row};
+use crate::{Desk, Point, Row};
 use address_rules::ControlFile;
 use call_fs::{Got, Need, Ready};
 use mail_bytes::{Memory, NameBuf};
-use send_jobs::Slots;
+use send_jobs::{Channel, Marks, Slots};
 use send_log::Log;
 use send_steps::{Book, Link, NamedStep, Reading, StartRow};
 use std::alloc::Global;
@@ -128,6 +129,28 @@ impl Sender {
         ensures err { OnErr result (self.new ≡ self.old) }
     {
         self.take_in(alloc, &got)
+    }
+
+    /// Whether its next step is the search of `todo`, and it has done nothing else in this turn. The condition: it has looked.
+    pub fn is_searching(&self) -> bool
+        requires { IsTrue self.now.looked }
+        ensures { result ≡ (is_search (row_of self.now) && not self.now.desk.busy) }
+    {
+        matches!(self.row, Row::FindTodo(_)) && !self.desk.busy
+    }
+
+    /// Whether it stands between two turns, or has ended.
+    pub fn is_between(&self) -> bool
+        ensures { result ≡ is_between self.now.desk.row }
+    {
+        matches!(self.desk.row, Row::Turn(Point::TakeLocal) | Row::Ended(_))
+    }
+
+    /// The marks that are to be made on a channel, in order: those of the K reports that were taken and not acted upon yet.
+    pub fn marks(&self, channel: Channel) -> &Marks
+        ensures { result.now ≡ (lane channel self.now.desk.slots).marks }
+    {
+        self.desk.slots.marks(channel)
     }
 
     /// The lines of its log (qmail-log(5)) since that was cleared last: those of the events since then. Takes no memory.

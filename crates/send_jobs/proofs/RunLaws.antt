@@ -12,7 +12,7 @@ use Rattle.send_jobs.specs.declared.attempts.Attempt.{Attempt}
 use Rattle.send_jobs.specs.declared.lane.Lane.{Lane}
 use Rattle.send_jobs.specs.Lanes.{empty, next, numbered, sent_in, is_open_on, is_in_flight, finished}
 use Rattle.send_jobs.specs.Passes.{attempt_at, attempts_of}
-use Rattle.send_jobs.specs.Runs.{Act, after, IsRun, IsSound, pass_of, with_place, reported_of}
+use Rattle.send_jobs.specs.Runs.{Act, after, IsRun, IsSoundRun, pass_of, with_place, reported_of}
 use Rattle.send_jobs.specs.Runs.Act.{Begin, Send, Report, AddMark, SettleMark, LeaveUnmarked, EndJob}
 use Rattle.send_jobs.specs.Slots.{attempt_in, is_on, lowest, IsLeastFree}
 use Rattle.send_jobs.proofs.SlotLemmas.{lowest_is_least, set_free}
@@ -429,7 +429,7 @@ finished_where limit acts run n all =
     (not_from_false (is_open_on n lane) (false_from_ne_true (is_open_on n lane) (not_open limit acts run n all (next lane) refl)))
     (not_from_false (is_in_flight n lane) (false_from_ne_true (is_in_flight n lane) (not_out limit acts run n all)))
 
-pub sound : (limit : ℕ) (acts : List Act) → IsRun limit acts → IsSound limit acts
+pub sound : (limit : ℕ) (acts : List Act) → IsRun limit acts → IsSoundRun limit acts
 sound limit acts run = record {
   apart = apart_by limit acts run;
   read = (all_hold limit acts run).read;

@@ -78,7 +78,7 @@ reported_of limit n (EndJob m ∷ before) = reported_of limit n before
 -- What holds after a run: two attempts in flight aren't at one place of one message; each attempt in flight, and the next of
 -- the open pass, is one that the last pass over its message had to give; and a message is finished exactly when each place of
 -- its last pass was reported.
-pub record IsSound (limit : ℕ) (acts : List Act) : Type 0 where
+pub record IsSoundRun (limit : ℕ) (acts : List Act) : Type 0 where
   pub apart : (i j : ℕ) (a b : Attempt) → i < j → attempt_in (after limit acts).slots i ≡ Some a → attempt_in (after limit acts).slots j ≡ Some b
       → a.n ≡ b.n → a.place ≢ b.place
   pub read : (i : ℕ) (a : Attempt) → attempt_in (after limit acts).slots i ≡ Some a → Contains (pass_of a.n acts) (numbered 0 a)

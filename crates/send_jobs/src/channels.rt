@@ -26,7 +26,7 @@ fn skip_of(channel: Channel) -> u64
     }
 }
 
-/// When a message is due again after a pass that left a place `T`: the next retry, reckoned at the begin of that pass, by
+/// When a message is due again after a pass that left a place `T`: the next retry, reckoned at the beginning of that pass, by
 /// the schedule of qmail-send(8). The conditions: a clock may tell both moments. Takes no memory.
 pub fn retry_at(channel: Channel, birth: u64, begun: u64) -> u64
     requires birth { IsMoment birth }

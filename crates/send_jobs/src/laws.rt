@@ -8,13 +8,13 @@ ghost use Rattle.send_jobs.specs.declared.jobs.Job.{Job};
 ghost use Rattle.send_jobs.specs.declared.lane.Lane.{Lane};
 ghost use Rattle.send_jobs.specs.Jobs.{job_of, put, unmark, unmarked_if, without};
 ghost use Rattle.send_jobs.specs.Lanes.{begun_by, sent, reported, owes, mark_settled, IsRoomy};
-ghost use Rattle.send_jobs.specs.Runs.{Act, IsRun, IsSound};
+ghost use Rattle.send_jobs.specs.Runs.{Act, IsRun, IsSoundRun};
 ghost use Rattle.send_jobs.specs.Slots.{attempt_in, lowest, IsLeastFree};
 
 /// After every run of calls the attempts in flight are at distinct places, each of which was read as `T`, and what is
 /// finished was reported. There is one lowest free slot, or none.
 pub fn slots_are_sound()
-    ensures sound { (limit : ℕ) (acts : List Act) → IsRun limit acts → IsSound limit acts }
+    ensures sound { (limit : ℕ) (acts : List Act) → IsRun limit acts → IsSoundRun limit acts }
     ensures lowest { (slots : List (Option Attempt)) → IsLeastFree slots (lowest slots) }
     ensures one { (slots : List (Option Attempt)) (a b : Option ℕ) →
         IsLeastFree slots a → IsLeastFree slots b → a ≡ b }

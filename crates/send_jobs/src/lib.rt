@@ -23,5 +23,6 @@ pub use channels::{Channel, retry_at};
 pub use jobs::Job;
 pub use laws::{jobs_are_a_map, marks_have_room, slots_are_sound};
 pub use lines::{put_settled, put_starting, put_status};
+pub use marks::Marks;
 pub use slot_table::MAX_SLOTS;
 pub use slots::{OutOfRange, Slots};

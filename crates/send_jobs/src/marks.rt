@@ -33,7 +33,7 @@ impl Model for Marks {
 
 impl Marks {
     /// None, with room for `MAX_SLOTS`.
-    pub fn new(alloc: Global) -> Result<Self, Memory>
+    pub(crate) fn new(alloc: Global) -> Result<Self, Memory>
         ensures { IfOk result (λ marks. marks ≡ []) }
     {
         let marks = VecDeque::with_capacity(alloc, usize::from(MAX_SLOTS))?;
@@ -48,29 +48,29 @@ impl Marks {
     }
 
     /// One more, after the others. The condition: there are fewer than `MAX_SLOTS`. Takes no memory.
-    pub fn push(&mut self, mark: Mark)
+    pub(crate) fn push(&mut self, mark: Mark)
         requires { length self.old < MAX_SLOTS }
         ensures { self.new ≡ self.old ++ mark ∷ [] }
     {
         self.marks.push_back_reserved(mark);
     }
 
-    /// The first.
-    pub fn first(&self) -> Option<&Mark>
-        ensures { option_copied result ≡ slice_get self.now 0 }
+    /// The one that is made after so many others; `None` if there is none.
+    pub fn get(&self, ahead: usize) -> Option<&Mark>
+        ensures { option_copied result ≡ slice_get self.now ahead }
     {
-        self.marks.front()
+        self.marks.get(ahead)
     }
 
     /// The first is over.
-    pub fn drop_first(&mut self)
+    pub(crate) fn drop_first(&mut self)
         ensures { self.new ≡ drop 1 self.old }
     {
         self.marks.pop_front();
     }
 
     /// Whether one is of this message.
-    pub fn hold(&self, n: u64) -> bool
+    pub(crate) fn hold(&self, n: u64) -> bool
         ensures { result ≡ list_any (is_mark_on n) self.now }
     {
         self.marks.iter().any(|mark| mark.attempt.n == n)

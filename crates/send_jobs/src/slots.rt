@@ -4,6 +4,7 @@ use crate::attempts::{Attempt, Mark};
 use crate::channels::Channel;
 use crate::jobs::Job;
 use crate::lane::Lane;
+use crate::marks::Marks;
 use crate::slot_table::MAX_SLOTS;
 use envelope_records::Record;
 use mail_bytes::Memory;
@@ -194,11 +195,11 @@ impl Slots {
         self.lane(channel).is_finished(n)
     }
 
-    /// How many marks are to be made.
-    pub fn marks(&self, channel: Channel) -> usize
-        ensures { result ≡ length (lane channel self.now).marks }
+    /// The marks that are to be made.
+    pub fn marks(&self, channel: Channel) -> &Marks
+        ensures { result.now ≡ (lane channel self.now).marks }
     {
-        self.lane(channel).marks.len()
+        &self.lane(channel).marks
     }
 
     /// A mark is to be made, after those that are to be made already. The condition: these are fewer than `MAX_SLOTS`. Takes
@@ -217,7 +218,7 @@ impl Slots {
     pub fn first_mark(&self, channel: Channel) -> Option<&Mark>
         ensures { option_copied result ≡ slice_get (lane channel self.now).marks 0 }
     {
-        self.lane(channel).marks.first()
+        self.lane(channel).marks.get(0)
     }
 
     /// The first mark was made, or was given up.

@@ -1,4 +1,2 @@
--- what a sender's past says of a channel
-pub mod Past
--- what its requests and its marks are
-pub mod Laws
+-- worked runs
+pub mod Worked

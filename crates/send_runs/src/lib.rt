@@ -1,8 +1,10 @@
-//! What a whole run of the sender gives and writes, qmail-send(8), by its past alone: which attempts are in flight, of which
-//! record each request is, and for which report each mark is made. It follows from the sender's table (send_core
-//! `specs/Table.antt`). The laws are the contracts of functions that do nothing.
+//! Worked runs of the sender, qmail-send(8): what its table (send_core `specs/Table.antt`) asks for at each event of a run that was
+//! worked out by hand, and which lines it logs. The laws are the contracts of functions that do nothing.
 #![tactic(auto)]
 
 mod laws;
 
-pub use laws::{marks_are_of_reports, requests_are_of_records};
+pub use laws::{
+    a_deferred_message, a_faulted_message, a_remote_message, a_restarted_sender, a_swept_message,
+    logs_of_worked_runs,
+};

@@ -119,11 +119,11 @@ pub bad_letter : (bytes : List ℕ) (at : ℕ) → IsBadLetter bytes at → reco
 bad_letter bytes at w =
     let none : begin_at w.letter (width w.before) ≡ None =
     pick_other w.letter 84 _ _ (w.bad false) ∙ pick_other w.letter 68 _ _ (w.bad true) in
-    ap records_of w.split ∙ whole w.front w.before w.whole (w.letter ∷ w.rest)
+    ap records_of w.split ∙ whole w.prefix w.before w.whole (w.letter ∷ w.rest)
     ∙ ap (λ o. option_map (λ more. w.before ++ more) (and_then o (records_from w.rest (width w.before + 1)))) none
 
 pub no_end : (bytes : List ℕ) (at : ℕ) → IsUnended bytes at → records_of bytes ≡ None
 no_end bytes at w =
-    ap records_of w.split ∙ whole w.front w.before w.whole (letter_of w.done ∷ w.rest)
+    ap records_of w.split ∙ whole w.prefix w.before w.whole (letter_of w.done ∷ w.rest)
     ∙ ap (λ o. option_map (λ more. w.before ++ more) (and_then o (records_from w.rest (width w.before + 1)))) (begins_so w.done (width w.before))
     ∙ ap (λ o. option_map (λ more. w.before ++ more) o) (unended w.rest (width w.before + 1) w.done (width w.before) [] w.bad)

@@ -1,6 +1,7 @@
 -- The sweep: of each message file that isn't known and was last written more than 36 hours ago it has the cleaner remove the
 -- message, if it has neither an info file nor a todo file. A name that is no number is passed over, and a number at a failure.
 use Rattle.std.specs.Prelude.{ℕ, ◌+◌, List, [], take, Bool, true, false, Option, Some, None, if◌then◌else◌, nat_lt}
+use Rattle.queue_limits.specs.declared.times.TheConstants.{PID_NAME_AGE}
 use Rattle.send_known.specs.declared.known.Known.{Known}
 use Rattle.send_known.specs.Known.{is_known}
 use Rattle.send_steps.specs.declared.book.Book.{Book}
@@ -26,7 +27,7 @@ mess_stated w split n moment = sweep.Next split
 
 -- a message file that was last written more than 36 hours ago is looked at closer
 abbrev pub judged : ℕ → ℕ → ℕ → ℕ → SweepRow
-judged split n moment now = if nat_lt (moment + 129600) now then sweep.StatInfo split n else sweep.Next split
+judged split n moment now = if nat_lt (moment + PID_NAME_AGE) now then sweep.StatInfo split n else sweep.Next split
 
 -- both stats are made, but after one that failed the number is passed over
 abbrev pub info_stated : Way → ℕ → ℕ → SweepRow

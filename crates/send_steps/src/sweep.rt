@@ -4,6 +4,7 @@ ghost use Rattle.send_steps.specs.Replies.{said_of};
 ghost use Rattle.send_steps.specs.Sweep.{info_stated, judged, mess_stated, searched, sweep_given, sweep_row, sweep_taken, sweep_to, swept, todo_stated};
 
 use crate::{Book, Reply, SweepRow, Way, hold, message_number};
+use queue_limits::PID_NAME_AGE;
 use send_known::KnownList;
 
 /// What came at a row of the sweep, and where that leads. Takes no memory.
@@ -69,7 +70,7 @@ fn mess_stated(way: Way, split: u64, n: u64, moment: u64) -> SweepRow
 pub fn judged(split: u64, n: u64, moment: u64, now: u64) -> SweepRow
     ensures { result ≡ judged split n moment now }
 {
-    if now.saturating_sub(moment) > 129_600 {
+    if now.saturating_sub(moment) > PID_NAME_AGE {
         SweepRow::StatInfo { split, n }
     } else {
         SweepRow::Next { split }

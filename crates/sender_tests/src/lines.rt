@@ -1,7 +1,8 @@
 // The lines of a run.
 
-use call_fs::{Answer, Fd, FsError, Got, Ready, Stat};
-use mail_bytes::NameBuf;
+use call_fs::{Answer, Fd, FsError, Got, PIECE, Ready, Stat};
+use mail_bytes::{Memory, NameBuf};
+use std::alloc::Global;
 
 /// A line of a run that is a step: the moment, what is ready, what is needed, and what comes of it.
 #[derive(Clone, Copy)]
@@ -54,13 +55,25 @@ pub(crate) fn got_of<'a>(word: &str, text: &str, bytes: &'a [u8]) -> Option<Got<
         "gave" => Some(Got::Gave),
         "end" => Some(Got::End),
         "failed" => Some(Got::Failed),
-        "read" => Some(Got::File(Answer::Count(bytes.len() as u64), bytes)),
+        "read" | "full" => Some(Got::File(Answer::Count(bytes.len() as u64), bytes)),
         "name" => Some(Got::File(name_of(bytes)?, b"")),
         "stat" => Some(Got::File(stat_of(text)?, b"")),
         "opened" => Some(Got::File(Answer::Opened(fd_of(text)?), b"")),
         "created" => Some(Got::File(Answer::Created(fd_of(text)?, 9), b"")),
         _ => Some(Got::File(answer_of(word)?, b"")),
     }
+}
+
+/// A piece that is read: this text, its second byte as often as that takes.
+pub(crate) fn piece_of(alloc: Global, text: &[u8]) -> Result<Vec<u8>, Memory> {
+    let again = text.get(1).copied().unwrap_or(0);
+    let (first, rest) = text.split_at(text.len().min(1));
+    let mut piece = Vec::from_slice(alloc, first)?;
+    for _ in text.len()..PIECE {
+        piece.push(again)?;
+    }
+    piece.extend_from_slice(rest)?;
+    Ok(piece)
 }
 
 /// The name that a search found.

@@ -5,7 +5,14 @@
 //! starts a new sender. Its other lines are empty, comments that begin with `#`, or
 //!
 //! - `MOMENT READY NEED = CAME`: at this moment, with these links ready (`l` to the local spawner, `r` to the remote one, `lr`
-//!   both, `-` none), the sender needs just this, and that comes of it. Without ` = CAME` nothing is handed in.
+//!   both, `-` none), the sender needs just this, and that comes of it. Without ` = CAME` nothing is handed in. A need to read
+//!   shows the descriptor and the place, and the length if that isn't 8192. Of a read comes `read TEXT`, or `full TEXT` for 8192
+//!   bytes: this text, its second byte as often as that takes.
+//! - `MOMENT READY idle`, or `MOMENT READY busy`: then its next step is the search of `todo`, and it has done nothing else in
+//!   this turn; or that isn't so.
+//! - `between`, or `within`: it stands between two turns or has ended; or it doesn't.
+//! - `marks CHANNEL N PLACE ..`: the marks that are to be made on this channel, `local` or `remote`, are at these places of these
+//!   messages.
 //! - `MOMENT READY searched DIR FROM`: each of the directories of this name from that one to the last, 22, is searched from
 //!   its start, and has no name.
 //! - `MOMENT READY missing FROM TO`: the control files from that one to the one before `TO`, counted from 0 in the order in
@@ -14,30 +21,78 @@
 //! - `clear`: the log is cleared.
 //! - `as in NAME`: the lines of the run of that name in this file, which has no such line itself.
 //!
+//! Then it plays each run over a disk in the files `NAME.disk`: a new sender runs over a disk in memory on which message 1 is
+//! queued, a step a second, with what plays the cleaner and the spawners; each delivery is reported in the turn after its
+//! request. A run begins with a line `run NAME: LETTER TURNS FIRST LAST = END`: each report has this letter, the sender ends
+//! after so many turns, and what it needs at the end is this. The run is played once for each call of the disk from that one
+//! to that one, counted from 1 over every call but `close`, which fails; of 0 none does. Its other lines are empty, comments,
+//! or
+//!
+//! - `log TEXT`: the sender logs this line, after those of the `log` lines before it. It logs no others.
+//! - `left NAME=BYTES`: this file is left at the end, and no other one of the message.
+//!
 //! In texts `%` and two hexadecimal digits stand for a byte.
+//!
+//! At last a sender runs over a table of answers that knows many messages, as many as the first word says, or else 300, each
+//! with one recipient. How many of these it has removed is printed.
 #![tactic(auto)]
 
+mod crowd;
+mod disk_lines;
+mod disk_player;
+mod disk_runs;
 mod lines;
 mod needs;
 mod player;
+mod queued;
 mod trouble;
 
+use crowd::removed;
+use disk_player::play_disk;
 use player::play;
 use std::alloc::Global;
-use std::{fs, io};
+use std::{env, fs, io};
+
+/// How many messages a crowd has.
+const CROWD: u64 = 300;
 
 fn main(rt: HostRuntime) -> io::Result<()> {
-    for name in &run_names(&rt)? {
-        play_file(&rt, name)?;
+    let crowd = crowd_of(&rt)?;
+    play_files(&rt)?;
+    play_disk_files(&rt)?;
+    let count = removed(rt.alloc(), crowd);
+    println!(rt; "crowd: {count} of {crowd} messages removed")
+}
+
+/// How many messages the crowd has, by the first word.
+fn crowd_of(rt: &HostRuntime) -> io::Result<u64> {
+    let Some(word) = env::args(rt)?.nth(1) else {
+        return Ok(CROWD);
+    };
+    Ok(word.parse::<u64>().unwrap_or(CROWD))
+}
+
+/// Plays the files of runs.
+fn play_files(rt: &HostRuntime) -> io::Result<()> {
+    for name in &names_of(rt, ".run")? {
+        play_file(rt, name)?;
     }
     Ok(())
 }
 
-/// The names of the files of runs, in byte order.
-fn run_names(rt: &HostRuntime) -> io::Result<Vec<String>> {
+/// Plays the files of runs over a disk.
+fn play_disk_files(rt: &HostRuntime) -> io::Result<()> {
+    for name in &names_of(rt, ".disk")? {
+        play_disk_file(rt, name)?;
+    }
+    Ok(())
+}
+
+/// The names of the files with this ending, without it, in byte order.
+fn names_of(rt: &HostRuntime, ending: &str) -> io::Result<Vec<String>> {
     let mut names = Vec::new(rt.alloc());
     for entry in fs::read_dir(rt, ".")? {
-        if let Some(name) = entry?.file_name().strip_suffix(".run") {
+        if let Some(name) = entry?.file_name().strip_suffix(ending) {
             names.push(String::from_str(rt.alloc(), name)?)?;
         }
     }
@@ -66,6 +121,28 @@ fn play_run(alloc: Global, file: &str, run: &str) -> io::Result<String> {
     let verdict = match play(alloc, file, turns, lines) {
         Ok(()) => format!(in alloc; "{name} ok")?,
         Err((line, trouble)) => format!(in alloc; "{name}: line {line}: {trouble}")?,
+    };
+    Ok(verdict)
+}
+
+/// Plays the runs over a disk of the file `NAME.disk`.
+fn play_disk_file(rt: &HostRuntime, name: &str) -> io::Result<()> {
+    let path = format!(in rt.alloc(); "{name}.disk")?;
+    let text = fs::read_to_string(rt, path.as_str())?;
+    for run in text.split("\nrun ").skip(1) {
+        let verdict = play_disk_run(rt.alloc(), run)?;
+        println!(rt; "{name}: {verdict}")?;
+    }
+    Ok(())
+}
+
+/// Plays a run over a disk, and says what came of it.
+fn play_disk_run(alloc: Global, run: &str) -> io::Result<String> {
+    let (head, lines) = run.split_once('\n').unwrap_or((run, ""));
+    let (name, setting) = head.split_once(": ").unwrap_or((head, ""));
+    let verdict = match play_disk(alloc, setting, lines) {
+        Ok(()) => format!(in alloc; "{name} ok")?,
+        Err((call, trouble)) => format!(in alloc; "{name}: call {call}: {trouble}")?,
     };
     Ok(verdict)
 }

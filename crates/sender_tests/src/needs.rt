@@ -1,7 +1,8 @@
 // What a sender needs, as a text.
 
-use call_fs::{Call, How, Need, Port};
+use call_fs::{Call, How, Need, PIECE, Port};
 use mail_bytes::{Memory, dec, escape};
+use send_jobs::{Mark, Marks};
 use std::alloc::Global;
 
 /// Words that are put together, each after a space.
@@ -34,6 +35,15 @@ impl Words {
         let len = dec(n, &mut digits);
         self.text(&digits[..len])
     }
+
+    /// A length as a word, if it isn't that of a piece.
+    fn length(self, len: u64) -> Result<Words, Memory> {
+        if len == PIECE as u64 {
+            Ok(self)
+        } else {
+            self.number(len)
+        }
+    }
 }
 
 /// What is needed, as a text.
@@ -50,6 +60,23 @@ pub(crate) fn need_text(alloc: Global, need: Need<'_>) -> Result<Vec<u8>, Memory
         Need::Command(_) => Words::of(alloc, b"command")?,
     };
     Ok(words.text)
+}
+
+/// The marks that are to be made on a channel of this name, each as its message and its place.
+pub(crate) fn marks_text(alloc: Global, name: &str, marks: &Marks) -> Result<Vec<u8>, Memory> {
+    let mut words = Words::of(alloc, name.as_bytes())?;
+    for ahead in 0..marks.len() {
+        words = mark_words(words, marks.get(ahead))?;
+    }
+    Ok(words.text)
+}
+
+/// One mark more.
+fn mark_words(words: Words, mark: Option<&Mark>) -> Result<Words, Memory> {
+    match mark {
+        Some(mark) => words.number(mark.attempt.n)?.number(mark.attempt.place),
+        None => Ok(words),
+    }
 }
 
 /// What a pipe of the sender is called.
@@ -87,7 +114,10 @@ fn how_word(how: How) -> &'static [u8] {
 /// A call on a file that is open as words.
 fn held_words(alloc: Global, call: Call<'_>) -> Result<Words, Memory> {
     match call {
-        Call::ReadAt(fd, at, _) => Words::of(alloc, b"read")?.number(fd.0)?.number(at),
+        Call::ReadAt(fd, at, len) => Words::of(alloc, b"read")?
+            .number(fd.0)?
+            .number(at)?
+            .length(len),
         Call::WriteAt(fd, at, bytes) => Words::of(alloc, b"write")?
             .number(fd.0)?
             .number(at)?

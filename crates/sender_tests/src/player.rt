@@ -1,12 +1,13 @@
 // Plays a run.
 ghost use Rattle.std.specs.Prelude.{◌≡◌, true};
 
-use crate::lines::{Line, control_file, got_of, read_line};
-use crate::needs::need_text;
+use crate::lines::{Line, control_file, got_of, piece_of, read_line};
+use crate::needs::{marks_text, need_text};
 use crate::trouble::Trouble;
 use call_fs::{Answer, FsError, Got, Ready};
 use mail_bytes::{LAST_MOMENT, escape, unescape};
 use send_core::Sender;
+use send_jobs::Channel;
 use std::alloc::Global;
 
 /// Plays the lines of a run by a new sender of so many turns; the file has other runs that they may name. If one goes wrong,
@@ -97,11 +98,44 @@ fn play_line(
         log.clear();
         return Ok(());
     }
+    if let Some(told) = told_of(sender, line) {
+        return stands(told);
+    }
+    if let Some(text) = line.strip_prefix("marks ") {
+        return waits(alloc, sender, text);
+    }
     play_step(alloc, sender, line)
 }
 
+/// Whether what a line tells of where the sender stands is so; `None` if it tells nothing of that.
+fn told_of(sender: &Sender, line: &str) -> Option<bool> {
+    match line {
+        "between" => Some(sender.is_between()),
+        "within" => Some(!sender.is_between()),
+        _ => None,
+    }
+}
+
+/// Refuses what isn't so.
+fn stands(is_so: bool) -> Result<(), Trouble> {
+    if is_so { Ok(()) } else { Err(Trouble::Stands) }
+}
+
+/// Refuses other marks that are to be made than those of a line.
+fn waits(alloc: Global, sender: &Sender, wanted: &str) -> Result<(), Trouble> {
+    let (channel, name) = match wanted.as_bytes().first() {
+        Some(b'l') => (Channel::Local, "local"),
+        _ => (Channel::Remote, "remote"),
+    };
+    let text = marks_text(alloc, name, sender.marks(channel))?;
+    if text.as_slice() == wanted.as_bytes() {
+        return Ok(());
+    }
+    Err(Trouble::Marks(text))
+}
+
 /// Refuses a log that isn't this text.
-fn logs(alloc: Global, sender: &Sender, wanted: &[u8]) -> Result<(), Trouble> {
+pub(crate) fn logs(alloc: Global, sender: &Sender, wanted: &[u8]) -> Result<(), Trouble> {
     let log = sender.log();
     if log == wanted {
         return Ok(());
@@ -120,7 +154,18 @@ fn play_step(alloc: Global, sender: &mut Sender, line: &str) -> Result<(), Troub
     if let Some(what) = step.need.strip_prefix("missing ") {
         return miss(alloc, sender, step, what);
     }
-    makes_step(alloc, sender, step)
+    match step.need {
+        "idle" => searches(sender, step, true),
+        "busy" => searches(sender, step, false),
+        _ => makes_step(alloc, sender, step),
+    }
+}
+
+/// Tells the sender the moment and what is ready. Refuses a sender whose next step is the search of `todo` in a turn in which
+/// nothing else was done, or isn't, if that is otherwise.
+fn searches(sender: &mut Sender, step: Line<'_>, wanted: bool) -> Result<(), Trouble> {
+    sender.look(step.now.min(LAST_MOMENT), step.ready);
+    stands(sender.is_searching() == wanted)
 }
 
 /// A word and a number.
@@ -181,14 +226,24 @@ fn makes_step(alloc: Global, sender: &mut Sender, step: Line<'_>) -> Result<(), 
         return Ok(());
     };
     let (word, text) = came.split_once(' ').unwrap_or((came, ""));
-    let Ok(bytes) = unescape(alloc, text.as_bytes()) else {
-        return Err(Trouble::Malformed);
-    };
+    let bytes = bytes_of(alloc, word, text)?;
     let Some(got) = got_of(word, text, &bytes) else {
         return Err(Trouble::Malformed);
     };
     sender.done(alloc, got)?;
     Ok(())
+}
+
+/// The bytes that come of a step, by the word for it and the text after that.
+fn bytes_of(alloc: Global, word: &str, text: &str) -> Result<Vec<u8>, Trouble> {
+    let Ok(bytes) = unescape(alloc, text.as_bytes()) else {
+        return Err(Trouble::Malformed);
+    };
+    if word == "full" {
+        Ok(piece_of(alloc, bytes.as_slice())?)
+    } else {
+        Ok(bytes)
+    }
 }
 
 /// Makes a step at the moment that a line says, of which that is needed and this comes.
@@ -205,7 +260,7 @@ fn refused_step(
 }
 
 /// Tells the sender the moment and what is ready, and refuses what it needs if that isn't this.
-fn looks(
+pub(crate) fn looks(
     alloc: Global,
     sender: &mut Sender,
     now: u64,

@@ -12,6 +12,12 @@ pub(crate) enum Trouble {
     Needs(Vec<u8>),
     /// The log is another one, this, with escapes.
     Log(Vec<u8>),
+    /// It stands elsewhere, or its next step is another one.
+    Stands,
+    /// Other marks are to be made, these.
+    Marks(Vec<u8>),
+    /// Other files are left, these.
+    Left(Vec<u8>),
     /// Out of memory.
     Memory,
 }
@@ -22,6 +28,9 @@ impl fmt::Display for Trouble {
             Trouble::Malformed => write!(f, "malformed"),
             Trouble::Needs(text) => write!(f, "needs {}", str::from_utf8(text).unwrap_or("")),
             Trouble::Log(text) => write!(f, "its log is '{}'", str::from_utf8(text).unwrap_or("")),
+            Trouble::Stands => write!(f, "stands elsewhere"),
+            Trouble::Marks(text) => write!(f, "marks are {}", str::from_utf8(text).unwrap_or("")),
+            Trouble::Left(text) => write!(f, "left is '{}'", str::from_utf8(text).unwrap_or("")),
             Trouble::Memory => write!(f, "out of memory"),
         }
     }

@@ -10,6 +10,10 @@ use Rattle.spawn_protocol.specs.declared.report.Place.TheVariants as place
 abbrev pub report_text : Report → List ℕ
 report_text r = r.slot ∷ (if r.letter == 0 then 0 ∷ [] else r.letter ∷ (r.text ++ 0 ∷ []))
 
+-- the same with its letter and text as one: `Kok` of delivery 3 is byte 3, `Kok`, NUL
+abbrev pub numbered : ℕ → List ℕ → List ℕ
+numbered slot report = slot ∷ (report ++ 0 ∷ [])
+
 -- K for success, D for failure; any other letter, and none, counts as Z, for a later try
 abbrev pub counted : ℕ → ℕ
 counted letter = if letter == 75 || letter == 68 then letter else 90

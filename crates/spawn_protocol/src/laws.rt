@@ -1,5 +1,6 @@
 // Laws of the texts of requests and of reports: contracts of functions that do nothing.
-ghost use Rattle.std.specs.Prelude.{◌≡◌, ◌++◌, ◌∷◌, ℕ, List, All};
+ghost use Rattle.std.specs.Prelude.{◌≡◌, ◌↔◌, ◌++◌, ◌∷◌, [], ℕ, List, All};
+ghost use Rattle.spawn_protocol.specs.Cut as cut;
 ghost use Rattle.spawn_protocol.specs.Request as request;
 ghost use Rattle.spawn_protocol.specs.Report as report;
 ghost use Rattle.spawn_protocol.specs.declared.request.Request.{Request};
@@ -19,6 +20,15 @@ pub fn requests_are_exact()
     // The text of a request that a reader can give is read back, whatever follows it.
     ensures back { (r : Request) (more : List ℕ) (requests : List Request) (reader : request.Reader) →
         request.IsRequest r → request.HasRead more requests reader → request.HasRead (request.request_text r ++ more) (r ∷ requests) reader }
+{}
+
+/// The first request of some bytes is found exactly if it is whole.
+pub fn cuts_are_requests()
+    ensures whole { (bytes rest : List ℕ) (r : Request) →
+        cut.cut bytes ≡ cut.Cut.Whole r rest ↔ (request.IsRequest r × (bytes ≡ request.request_text r ++ rest)) }
+    // Else they are the start of one at most, or one with a field that is too long.
+    ensures more { (bytes : List ℕ) → cut.cut bytes ≡ cut.Cut.More ↔ ((start : request.Start) × request.IsText bytes [] start) }
+    ensures long { (bytes : List ℕ) → cut.cut bytes ≡ cut.Cut.TooLong ↔ request.IsTooLong bytes [] }
 {}
 
 /// Bytes are reports in one way alone.

@@ -1,6 +1,6 @@
 // Reports, byte by byte.
 ghost use Rattle.std.specs.Prelude.{◌≡◌, ◌++◌, ◌∷◌, [], ℕ, List, All, IfOk, OnOk, OnErr};
-ghost use Rattle.spawn_protocol.specs.Report.{Reader, HasRead, IsReport, IsKept, kept, more_text, read_on, report_text, step};
+ghost use Rattle.spawn_protocol.specs.Report.{Reader, HasRead, IsReport, IsKept, kept, more_text, numbered, read_on, report_text, step};
 ghost use Rattle.spawn_protocol.specs.Report.Reader.{AtBegin};
 ghost use Rattle.spawn_protocol.specs.declared.report.Report.{Report};
 
@@ -204,5 +204,15 @@ pub fn report_text(alloc: Global, report: &Report) -> Result<Vec<u8>, Memory>
         text.extend_from_slice(report.text.as_slice())?;
     }
     text.push(0)?;
+    Ok(text)
+}
+
+/// The bytes of a delivery's report whose letter and text are given as one. Fails only when out of memory.
+pub fn numbered(alloc: Global, slot: u8, report: &[u8]) -> Result<ByteText, Memory>
+    ensures { IfOk result (λ text. text ≡ numbered slot report.now) }
+{
+    let mut text = ByteText::from_slice(alloc, &[slot])?;
+    text.extend(report)?;
+    text.extend(&[0])?;
     Ok(text)
 }

@@ -82,7 +82,8 @@ impl RequestReader {
 
     /// A reader of no bytes yet. Takes no memory.
     pub fn new(alloc: Global) -> Self
-        ensures { HasRead [] [] result }
+        ensures read { HasRead [] [] result }
+        ensures begins { result ≡ Reading NoByte }
     {
         RequestReader {
             place: Place::Begin,
@@ -98,6 +99,7 @@ impl RequestReader {
     pub fn feed(&mut self, alloc: Global, byte: u8) -> Result<Option<Request>, CodecError>
         ensures read { (bytes : List ℕ) (requests : List Request) → HasRead bytes requests self.old
             → HasRead (bytes ++ eaten result byte) (requests ++ given result) self.new }
+        ensures takes { Takes self.old byte result self.new }
         ensures too_long { (result ≡ Err TooLong) ↔ (self.new ≡ Refused) }
         ensures stays { self.old ≡ Refused → result ≡ Err TooLong }
         ensures memory { result ≡ Err Memory → self.new ≡ self.old }

@@ -7,7 +7,7 @@ use std::alloc::Global;
 /// How a program ended, its output, and the report of that.
 type Row = (Status, &'static [u8], &'static [u8]);
 
-const ROWS: [Row; 14] = [
+const ROWS: [Row; 19] = [
     // Programs that told nothing, whatever they printed.
     (Status::Crashed, b"r\0Kok\0", b"Zqmail-remote crashed.\n"),
     (
@@ -35,10 +35,15 @@ const ROWS: [Row; 14] = [
     (Status::Ended(0), b"hno\0Zx\0", b"Dno"),
     // Without a message report.
     (Status::Ended(0), b"rno\0", b"Dno"),
+    (Status::Ended(0), b"rto\0", b"Dto"),
     // Parts that begin otherwise are passed over, and later message reports don't count.
     (Status::Ended(0), b"r\0x\0\0kno\0Kok\0Dno\0", b"Kok"),
-    // The first part is the recipient report, whatever it begins with.
-    (Status::Ended(0), b"Kok\0", b"Dok"),
+    // Without a recipient report: the first part is the message report, and its text stands once.
+    (Status::Ended(0), b"Zno connection\0", b"Zno connection"),
+    (Status::Ended(0), b"Zx\0", b"Zx"),
+    (Status::Ended(0), b"Dx\0", b"Dx"),
+    (Status::Ended(0), b"Kok\0", b"Kok"),
+    (Status::Ended(0), b"Zx\0Kok\0", b"Zx"),
     // What isn't ended is no part.
     (Status::Ended(0), b"r\0Kok", b"D"),
 ];

@@ -122,7 +122,7 @@ fn owes(alloc: Global, slots: &mut Slots, channel: Channel, slot: u8, note: Opti
     let Ok(attempt) = slots.report(channel, slot) else {
         return false;
     };
-    if slots.marks(channel) >= usize::from(MAX_SLOTS) {
+    if slots.marks(channel).len() >= usize::from(MAX_SLOTS) {
         return false;
     }
     let note = note_of(alloc, note);

@@ -1,6 +1,6 @@
 use Rattle.std.proofs.Common.{inl, inr, refl, subst, [], Option, ℕ}
 use Rattle.program_runner.specs.Runs.{RunsTo}
-use Rattle.program_runner.specs.declared.one_turn.TheConstants.{INPUT_READY}
+use Rattle.call_fs.specs.declared.program.TheConstants.{INPUT_READY}
 use Rattle.queue_clean.specs.Table.{Next}
 use Rattle.queue_clean.specs.Stands.{Stands}
 use Rattle.clean_command.proofs.Ends.{cleaned, still_runs}

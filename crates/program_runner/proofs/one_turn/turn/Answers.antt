@@ -1,4 +1,4 @@
-use Rattle.std.proofs.Common.{◌≡◌, take, refl, sym, ap, ◌∙◌, subst}
+use Rattle.std.proofs.Common.{take, refl, ap, ◌∙◌}
 use Rattle.call_fs.specs.Calls.{data_of}
 use Rattle.call_fs.specs.Past.{held}
 use Rattle.call_fs.specs.declared.past.NeedData.TheVariants as needs

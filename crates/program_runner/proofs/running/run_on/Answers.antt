@@ -1,5 +1,5 @@
 use Rattle.std.proofs.Common.{[], arith, refl}
-use Rattle.program_runner.specs.declared.one_turn.TheConstants.{INPUT_READY}
+use Rattle.call_fs.specs.declared.program.TheConstants.{INPUT_READY}
 use Rattle.program_runner.specs.Runs.{most_turns}
 use Rattle.program_runner.proofs.Runs.{as_long, begins, may_turn, turned_on, turned_to_end}
 use Rattle.program_runner.proofs.running.run_on.Goals as goal

@@ -1,7 +1,6 @@
 use Rattle.std.proofs.Common.{[]}
-use Rattle.program_runner.specs.Outside.{Outside}
 use Rattle.program_runner.specs.Runs.{IsRunning}
-use Rattle.program_runner.specs.declared.one_turn.TheConstants.{INPUT_READY}
+use Rattle.call_fs.specs.declared.program.TheConstants.{INPUT_READY}
 use Rattle.program_runner.proofs.running.run_on.Given as goal
 
 -- it has run so far as its table says

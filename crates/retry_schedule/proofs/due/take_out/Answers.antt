@@ -1,6 +1,6 @@
 use Rattle.std.proofs.Common.{◌≡◌, ◌<◌, length, vec_len, rules, eqb, not, sym, ap, ◌∙◌, subst, arith}
 use Rattle.std.proofs.lemmas.Fn.{filter_same}
-use Rattle.retry_schedule.specs.Due.{IsSchedule, IsFree, removed}
+use Rattle.retry_schedule.specs.Due.{IsSchedule, HasNoEntry, removed}
 use Rattle.retry_schedule.proofs.Entries.{schedule_removed, free_removed, fewer}
 use Rattle.retry_schedule.proofs.due.take_out.Goals as goal
 
@@ -15,7 +15,7 @@ returns-clause-schedule c =
 pub returns-clause-free : goal.returns-clause-free
 returns-clause-free c =
     let is : c.retain.new.self.items ≡ removed c.args.n c.args.entries.now.items = filter_same _ (λ e. not (eqb e.1 c.args.n)) _ (λ x b f' k. search rules) c.args.entries.now.items _ c.retain.ensures.filtered in
-    subst (IsFree c.args.n) (sym is) (free_removed c.args.n c.args.entries.now.items)
+    subst (HasNoEntry c.args.n) (sym is) (free_removed c.args.n c.args.entries.now.items)
 
 pub returns-clause-less : goal.returns-clause-less
 returns-clause-less c = λ h.

@@ -5,7 +5,7 @@ use Rattle.std.proofs.lemmas.Result.{on_ok_weaker}
 use Rattle.mail_bytes.specs.Decimal.{digits}
 use Rattle.call_fs.specs.Disk.{Disk}
 use Rattle.crash_fs.specs.Crash.{crash_disk}
-use Rattle.mail_world.specs.declared.books.Entry.{Entry}
+use Rattle.world_events.specs.declared.books.Entry.{Entry}
 use Rattle.scenario.specs.Shown.{AreNamesIn, AreNumbersIn, line_of, entry_lines, pid_line, number_line}
 use Rattle.scenario.proofs.Showings.{joined, is_shown}
 use Rattle.scenario.proofs.showing.show.Goals as goal

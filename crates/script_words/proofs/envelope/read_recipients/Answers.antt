@@ -13,7 +13,7 @@ pub words-preserved : goal.words-preserved
 words-preserved c =
     let cut = rw c.in-Some.is at c.cut.ensures in
     let ok = c.in_ok-put_record.ensures.ok in
-    passed-more c.args.words.now c.words.rest.now c.args.envelope.now.items c.words.envelope.items c.cut.result.0.now c.in-Some.behind.now ok.0 c.put_record.new.envelope.items
+    passed-more c.args.words.now c.words.rest.now c.args.envelope.now.items c.words.envelope.items c.cut.result.0.now c.in-Some.after.now ok.0 c.put_record.new.envelope.items
     c.words.invariant cut (λ end. false≢true (sym c.if-is_end.false ∙ c.is_end.ensures.1 end)) ok.1 ok.2
 
 pub returns-then-is_end-clause-ok : goal.returns-then-is_end-clause-ok
@@ -33,7 +33,7 @@ returns-in_err-put_record-clause-err c =
     let cut = rw c.in-Some.is at c.cut.ensures in
     let p = err_from_is_err_and c.from_residual.result c.from_residual.ensures.1 in
     rw p.1 (λ malformed recipients body h.
-    let first = first_word c.args.words.now c.words.rest.now c.args.envelope.now.items c.words.envelope.items body c.cut.result.0.now recipients (Some c.in-Some.behind.now) c.words.invariant h cut in
+    let first = first_word c.args.words.now c.words.rest.now c.args.envelope.now.items c.words.envelope.items body c.cut.result.0.now recipients (Some c.in-Some.after.now) c.words.invariant h cut in
     ⊎_elim
     (λ end. false≢true (sym c.if-is_end.false ∙ c.is_end.ensures.1 end))
     (λ written. c.in_err-put_record.ensures.err (sym p.2 ∙ malformed) written.0 written.1)

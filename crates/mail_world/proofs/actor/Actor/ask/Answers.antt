@@ -6,7 +6,6 @@ use Rattle.call_fs.specs.Past.{UsesHeld, held}
 use Rattle.call_fs.proofs.Held.{has_room}
 use Rattle.mail_bytes.specs.Told.{OnTold}
 use Rattle.mail_world.specs.History.{next_of}
-use Rattle.mail_world.specs.World.{input_ready}
 use Rattle.mail_world.specs.ByKind.{found_of}
 use Rattle.mail_world.specs.Acting.{MayMake}
 use Rattle.mail_world.proofs.Programs.{program_uses, machine_finds}
@@ -15,7 +14,7 @@ use Rattle.mail_world.proofs.actor.Actor.ask.Goals as goal
 use Rattle.mail_world.proofs.actor.Actor.ask.Goals.{After-need}
 
 -- what it asks for is next
-asks_next : (g : _) (c : After-need g) → due_of c.need.result ≡ next_of c.requires.may.program c.requires.may.past c.args.now input_ready
+asks_next : (g : _) (c : After-need g) → due_of c.need.result ≡ next_of c.requires.may.program c.requires.may.past c.args.now c.args.ready
 asks_next g c =
     let may = c.requires.may in
     c.need.ensures.next may.program may.past c.look.ensures.looked (c.look.ensures.stands may.program may.past may.follows)
@@ -25,10 +24,10 @@ asks_next g c =
 asks_held : (g : _) (c : After-need g) → UsesHeld (held c.requires.may.past) (due_of c.need.result)
 asks_held g c =
     let may = c.requires.may in
-    subst (UsesHeld (held may.past)) (sym (asks_next g c)) (program_uses may.program may.past c.args.now input_ready may.run)
+    subst (UsesHeld (held may.past)) (sym (asks_next g c)) (program_uses may.program may.past c.args.now c.args.ready may.run)
 
 pub look-requires-clause-given : goal.look-requires-clause-given
-look-requires-clause-given g c = machine_finds c.args.self.now.machine
+look-requires-clause-given g c = machine_finds c.args.self.now.machine c.args.ready
 
 pub perform-answer-requires-clause-fits : goal.perform-answer-requires-clause-fits
 perform-answer-requires-clause-fits g c =
@@ -51,7 +50,7 @@ pub unreachable-requires : goal.unreachable-requires
 unreachable-requires g c =
     let may = c.requires.may in
     let at = (goal.at.unreachable-requires g c).After-need in
-    calls_or_ends c.need.result may.program may.mail may.past c.args.now (asks_next g at) c.in_default.not-File c.in_default.not-Ended
+    calls_or_ends c.need.result (next_of may.program may.past c.args.now c.args.ready) may.acts (asks_next g at) c.in_default.not-File c.in_default.not-Ended
 
 pub returns-in_ok-room-in-File-clause-made : goal.returns-in_ok-room-in-File-clause-made
 returns-in_ok-room-in-File-clause-made g c =

@@ -2,8 +2,8 @@ use Rattle.std.proofs.Common.{◌≡◌, ◌+◌, List, [], ◌∷◌, ◌++◌,
 use Rattle.mail_bytes.specs.Told.{Meets}
 use Rattle.call_fs.specs.Choices.{Halts}
 use Rattle.mail_world.specs.declared.actor.Actor.{Actor as Held}
-use Rattle.mail_world.specs.declared.event.Event.{Event as Kept}
-use Rattle.mail_world.specs.declared.event.Event.TheVariants as kept
+use Rattle.world_events.specs.declared.event.Event.{Event as Kept}
+use Rattle.world_events.specs.declared.event.Event.TheVariants as kept
 use Rattle.mail_world.specs.Places.{place_of}
 use Rattle.mail_world.specs.Inside.{known, living}
 use Rattle.mail_world.specs.Acting.{AreCutOff}

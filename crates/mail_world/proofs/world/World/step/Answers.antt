@@ -3,13 +3,13 @@ use Rattle.std.proofs.lemmas.Result.{err_from_is_err_and}
 use Rattle.std.specs.List.{slice_get}
 use Rattle.mail_world.specs.declared.actor.Actor.{Actor as Held}
 use Rattle.mail_world.specs.declared.error.WorldError.{WorldError}
-use Rattle.mail_world.specs.declared.event.Event.{Event as Kept}
-use Rattle.mail_world.specs.declared.event.History.{History}
+use Rattle.world_events.specs.declared.event.Event.{Event as Kept}
+use Rattle.world_events.specs.declared.event.History.{History}
 use Rattle.mail_world.specs.Places.{place_of}
 use Rattle.mail_world.specs.Inside.{known, living}
 use Rattle.mail_world.specs.Acting.{IsNoLiving, HasActed}
 use Rattle.mail_world.proofs.Booked.{entry_within, look_booked, step_booked}
-use Rattle.mail_world.proofs.Worlds.{StandsAt, acted_keeps, acted_leads_on, acted_step, stands_at, in_range, look_keeps, may_act, may_end}
+use Rattle.mail_world.proofs.Worlds.{StandsAt, acted_keeps, acted_leads_on, acted_step, stands_at, in_range, look_keeps, may_act, may_end, member_found, member_finds, member_alone}
 use Rattle.mail_world.proofs.Histories.{goes_on}
 use Rattle.mail_world.proofs.Living.{living_still, living_set, room_less}
 use Rattle.mail_world.proofs.Refusals.{no_end, not_gone, gone_exactly, memory_other, ok_other}
@@ -52,7 +52,8 @@ pub act-requires-clause-may : goal.act-requires-clause-may
 act-requires-clause-may g c =
     let i = c.self.inside in
     let at = acting g (goal.at.act-requires-clause-may g c).After-index_mut-acting in
-    may_act (g.D.CallFs.disk i.disk) (place_of i.places) i.actors.items (known i.history.events.items) i.history.events.items i.present i.next_pid c.in_ok-place.place c.index_mut-acting.result.now c.self.invariant.0 at.0
+    may_act (g.D.CallFs.disk i.disk) (place_of i.places) i.actors.items (known i.history.events.items) i.history.events.items i.present i.next_pid c.in_ok-place.place c.index_mut-acting.result.now c.finds-ready.result c.self.invariant.0 at.0
+    (member_found (known i.history.events.items) i.history.events.items i.present c.index_mut-acting.result.now c.finds-ready.result at.0.member c.finds-ready.ensures)
 
 pub act-requires-clause-opens : goal.act-requires-clause-opens
 act-requires-clause-opens g c =
@@ -88,10 +89,10 @@ invariant_of-self-in_err-did g c =
 
 -- what a step left, of the events that there were before room was made
 acted_of : (g : _) (c : In_ok-did g) → HasActed c.in_ok-did.did.ended (g.D.CallFs.disk c.self.inside.disk) (g.D.CallFs.disk c.act.new.disk)
-    c.index_mut-acting.result.now c.act.new.self c.self.inside.history.events.items c.act.new.history.events.items c.self.inside.present
+    c.index_mut-acting.result.now c.act.new.self c.self.inside.history.events.items c.act.new.history.events.items c.self.inside.present c.finds-ready.result
 acted_of g c =
     subst (λ (l : List Kept). HasActed c.in_ok-did.did.ended (g.D.CallFs.disk c.self.inside.disk) (g.D.CallFs.disk c.act.new.disk)
-    c.index_mut-acting.result.now c.act.new.self l c.act.new.history.events.items c.self.inside.present) c.in_ok-reserve.ensures.same c.in_ok-did.ensures.acted
+    c.index_mut-acting.result.now c.act.new.self l c.act.new.history.events.items c.self.inside.present c.finds-ready.result) c.in_ok-reserve.ensures.same c.in_ok-did.ensures.acted
 
 pub returns-in_err-reserve-clause-gone : goal.returns-in_err-reserve-clause-gone
 returns-in_err-reserve-clause-gone g c =
@@ -119,11 +120,11 @@ invariant_of-self-2 g c =
     let len : c.len.result ≡ length i.actors.items = c.len.ensures ∙ i.actors.ok.0 in
     let bound = living_set i.actors.items c.in_ok-place.place c.act.new.self in (
       acted_keeps c.in_ok-did.did.ended (g.D.CallFs.disk i.disk) (g.D.CallFs.disk c.act.new.disk) (place_of i.places) i.actors.items i.history.events.items c.act.new.history.events.items i.present i.next_pid
-          c.in_ok-place.place c.index_mut-acting.result.now c.act.new.self c.self.invariant.0 at.0 acted,
+          c.in_ok-place.place c.index_mut-acting.result.now c.act.new.self c.finds-ready.result c.self.invariant.0 at.0 (member_alone (known i.history.events.items) i.history.events.items i.present c.index_mut-acting.result.now c.finds-ready.result at.0.member (member_found (known i.history.events.items) i.history.events.items i.present c.index_mut-acting.result.now c.finds-ready.result at.0.member c.finds-ready.ensures)) acted,
       c.in_ok-did.ensures.room (living (set i.actors.items c.in_ok-place.place c.act.new.self)) (room_less c.reserve.new.self (c.len.result + 1) (living (set i.actors.items c.in_ok-place.place c.act.new.self) + 1)
           (omega (arith, len, bound)) c.in_ok-reserve.ensures.room),
       step_booked c.in_ok-did.did.ended (g.D.CallFs.disk i.disk) (g.D.CallFs.disk c.act.new.disk) (place_of i.places) i.actors.items (known i.history.events.items) i.history.events.items c.act.new.history.events.items
-          i.present c.in_ok-place.place c.index_mut-acting.result.now c.act.new.self i.books.entries.items c.note.new.self.entries.items c.newest.result.now c.self.invariant.0.kept c.self.invariant.2 at.0.is acted c.newest.ensures c.note.ensures,
+          i.present c.in_ok-place.place c.index_mut-acting.result.now c.act.new.self c.finds-ready.result i.books.entries.items c.note.new.self.entries.items c.newest.result.now c.self.invariant.0.kept c.self.invariant.2 at.0.is acted c.newest.ensures c.note.ensures,
     )
 
 pub note-requires : goal.note-requires
@@ -138,7 +139,7 @@ returns-clause-event g c =
     let at = acting g (goal.at.returns-clause-event g c).After-index_mut-acting in
     let acted = acted_of g (goal.at.returns-clause-event g c).In_ok-did in
     rw (← c.self.view_is) (acted_step i.disk c.act.new.disk c.in_ok-did.did.ended (g.D.CallFs.disk i.disk) (g.D.CallFs.disk c.act.new.disk) i.history.events.items c.act.new.history.events.items i.present c.args.actor.now
-    c.index_mut-acting.result.now c.act.new.self at.1 acted)
+    c.index_mut-acting.result.now c.act.new.self c.finds-ready.result at.1 at.0.member (member_finds (known i.history.events.items) i.history.events.items i.present c.index_mut-acting.result.now c.finds-ready.result at.0.member (member_found (known i.history.events.items) i.history.events.items i.present c.index_mut-acting.result.now c.finds-ready.result at.0.member c.finds-ready.ensures)) acted)
 
 pub returns-clause-goes_on : goal.returns-clause-goes_on
 returns-clause-goes_on g c =
@@ -151,7 +152,7 @@ returns-clause-goes_on g c =
     let now_kept = c.act.new.history.events.items in
     rw (← c.self.view_is) (goes_on old new before now_kept i.present i.present
     (acted_leads_on c.in_ok-did.did.ended old new (place_of i.places) i.actors.items before now_kept i.present i.next_pid
-    c.in_ok-place.place c.index_mut-acting.result.now c.act.new.self c.self.invariant.0 at.0 acted))
+    c.in_ok-place.place c.index_mut-acting.result.now c.act.new.self c.finds-ready.result c.self.invariant.0 at.0 (member_alone (known i.history.events.items) i.history.events.items i.present c.index_mut-acting.result.now c.finds-ready.result at.0.member (member_found (known i.history.events.items) i.history.events.items i.present c.index_mut-acting.result.now c.finds-ready.result at.0.member c.finds-ready.ensures)) acted))
 
 pub returns-clause-gone : goal.returns-clause-gone
 returns-clause-gone g c =

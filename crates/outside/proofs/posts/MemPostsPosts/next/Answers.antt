@@ -17,10 +17,10 @@ returns-in-Bytes-clause-came c =
     let held = ap (λ (s : PostsForm). s.waiting) c.self.view_is in
     sent_from posts c.as_slice.result.now at given c.self.inside.at c.self.inside.given c.args.self.now.waiting value held
     c.next_waiting-at.ensures.same
-    ∙ sent_bytes posts at given c.copy_front-len.result (length c.args.into.now) c.in-Bytes.chan c.index.result.now
-    c.as_slice-in-Bytes.result.now c.copy_front-len.new.into inside c.index.ensures
+    ∙ sent_bytes posts at given c.copy_prefix-len.result (length c.args.into.now) c.in-Bytes.chan c.index.result.now
+    c.as_slice-in-Bytes.result.now c.copy_prefix-len.new.into inside c.index.ensures
     (ap arrivals c.in-Bytes.is ∙ ap (map (Byte c.in-Bytes.chan)) (sym c.as_slice-in-Bytes.ensures))
-    within c.copy_front-len.ensures.count c.copy_front-len.ensures.copied
+    within c.copy_prefix-len.ensures.count c.copy_prefix-len.ensures.copied
 
 pub returns-in-End-clause-came : goal.returns-in-End-clause-came
 returns-in-End-clause-came c =

@@ -16,5 +16,5 @@ returns-clause-told c =
     ∙ ap (λ t. rest_from t c.self.inside.at c.self.inside.given) (sym value)
     ∙ sym c.next_place-at.ensures.same
     ∙ ap (λ t. rest_from t at given) value
-    ∙ rest_given pieces at given c.copy_front-count.result (length c.args.into.now) piece c.copy_front-count.new.into
-    (omega arith) within read c.copy_front-count.ensures.count c.copy_front-count.ensures.copied
+    ∙ rest_given pieces at given c.copy_prefix-count.result (length c.args.into.now) piece c.copy_prefix-count.new.into
+    (omega arith) within read c.copy_prefix-count.ensures.count c.copy_prefix-count.ensures.copied

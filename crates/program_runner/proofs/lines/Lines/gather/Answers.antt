@@ -1,4 +1,3 @@
-use Rattle.std.proofs.Common.{Ok, ap, false, true, ◌∙◌}
 use Rattle.program_runner.proofs.Heard.{kept_all, kept_lost, kept_more, kept_nothing, kept_on}
 use Rattle.program_runner.proofs.lines.Lines.gather.Goals as goal
 

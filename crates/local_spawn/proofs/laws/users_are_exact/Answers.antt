@@ -1,0 +1,5 @@
+use Rattle.local_spawn.proofs.FindingLemmas.{one_user, no_user}
+use Rattle.local_spawn.proofs.laws.users_are_exact.Goals as goal
+
+pub returns : goal.returns
+returns c = record { one = one_user; none = no_user }

@@ -1,0 +1,10 @@
+// Kinds of lines.
+
+/// Which local parts a line is for.
+#[derive(Clone, Copy, Debug, PartialEq, Eq)]
+pub enum Kind {
+    /// `=LOCAL:`: this one.
+    Simple,
+    /// `+LOC:`: all that begin with this.
+    Wildcard,
+}

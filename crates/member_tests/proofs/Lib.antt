@@ -1,0 +1,2 @@
+-- what programs may ask for that are run so
+pub mod Asked

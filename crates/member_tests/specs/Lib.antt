@@ -1,0 +1,2 @@
+-- the table of an errand
+pub mod Errands

@@ -1,0 +1,57 @@
+-- When a number rests.
+use Rattle.std.proofs.Common.{◌≡◌, inl, inr, ℕ, ◌+◌, ◌<◌, ◌≤◌, Some, None, sym, subst, arith}
+use Rattle.address_rules.specs.declared.controls.Controls.{Controls}
+use Rattle.queue_paths.specs.Names.Name.{Of}
+use Rattle.queue_paths.specs.Names.Part.{Mess, Todo, Info}
+use Rattle.queue_law.specs.Numbers.{Queue, Entry, look, About, about, IsRecent, IsQueued, Phase, Sound}
+use Rattle.queue_law.specs.Numbers.Phase.{Free, Queued, Sorted, Finished}
+use Rattle.queue_law.specs.Ready.{IsSpent}
+use Rattle.queue_law.specs.Rests.{IsOverdue, IsClosed, RestsAs}
+use Rattle.queue_law.specs.Begins.{RestsBegin}
+
+queued_phase : (controls : Controls) (w : About) (y : Entry) → w.parts Todo ≡ Some y → Phase controls w → IsQueued controls w
+queued_phase controls w y there (Free h) = let none = h.no_todo in absurd (cc)
+queued_phase controls w y there (Queued h) = h
+queued_phase controls w y there (Sorted h) = let none = h.no_todo in absurd (cc)
+queued_phase controls w y there (Finished h) = let none = h.no_todo in absurd (cc)
+
+begins_queued : (controls : Controls) (now : ℕ) (q : Queue) (n : ℕ) (y : Entry) → Sound controls q → look q (Of Todo n) ≡ Some y
+    → RestsAs now q n (IsQueued controls)
+begins_queued controls now q n y G there =
+    let h = queued_phase controls (about q n) y there (G.fine n) in
+    record {
+      closed = record {
+        mess = h.taken.mess;
+        there = h.taken.mess_there;
+        shut = inr (record { injection = h.taken.injection; lives = h.taken.lives; accepted = h.taken.accepted });
+      };
+      rest = h;
+    }
+
+begins_old : (controls : Controls) (now : ℕ) (q : Queue) (n : ℕ) (y : Entry) → Sound controls q → look q (Of Mess n) ≡ Some y
+    → y.file.moment + 129600 < now → IsClosed now q n
+begins_old controls now q n y G there old =
+    let right = G.suits (Of Mess n) y there in
+    let number = right.0.0 in
+    let args = right.0.1.1 in
+    let role = right.0.1.2 in
+    let recent : args.start ≤ y.file.moment = subst (IsRecent y.file) role right.1 in
+    let over : args.start + 129600 < now = omega (arith, recent, old) in
+    record {
+      mess = y;
+      there = there;
+      shut = inl (subst (λ k. IsOverdue now (q.role k)) number (subst (IsOverdue now) (sym role) over));
+    }
+
+spent_phase : (controls : Controls) (w : About) → w.parts Todo ≡ None → w.parts Info ≡ None → Phase controls w → IsSpent w
+spent_phase controls w todo info (Free h) = record { unsorted = h.unsorted; no_todo = todo }
+spent_phase controls w todo info (Queued h) = let there = h.todo_there in absurd (cc)
+spent_phase controls w todo info (Sorted h) = let there = h.info_there in absurd (cc)
+spent_phase controls w todo info (Finished h) = record { unsorted = h.unsorted; no_todo = todo }
+
+pub rests_begin : RestsBegin
+rests_begin = record {
+  queued = begins_queued;
+  old = begins_old;
+  spent = λ controls now q n G closed todo info. record { closed = closed; rest = spent_phase controls (about q n) todo info (G.fine n) };
+}

@@ -1,0 +1,182 @@
+-- Channel files: through machine stops, marks, and as ledgers grow.
+use Rattle.std.proofs.Common.{◌≡◌, ◌⊎◌, inl, inr, ℕ, zero, suc, ◌+◌, ◌-◌, ◌<◌, ◌≤◌, List, [], ◌∷◌, ◌++◌, length, take, drop, Option, Some, refl, sym, ap, ◌∙◌, subst, ⊎_elim, arith, slice_get, le_antisymm, append_assoc}
+use Rattle.std.specs.List.{enumerate_from}
+use Rattle.address_rules.specs.declared.controls.Controls.{Controls}
+use Rattle.call_fs.specs.Disk.{File, Among, IsSynced}
+use Rattle.call_fs.specs.Survival.{HadAt, Survives, settled}
+use Rattle.call_fs.specs.Apply.{lying, put_over, overwritten, overwritten_part}
+use Rattle.send_jobs.specs.declared.channels.Channel.{Channel}
+use Rattle.queue_law.specs.Ledgers.{Spot}
+use Rattle.queue_law.specs.Books.{Injection, with_delivered}
+use Rattle.queue_law.specs.Routes.{lane_text}
+use Rattle.queue_law.specs.Marks.{IsDelivered, IsMarked, AllMarked}
+
+-- a machine stop: a mark may be lost, and none is made up
+pub marked_survives : (controls : Controls) (i : Injection) (ch : Channel) (f : File) (bytes : List ℕ) → AllMarked controls i ch f → Survives f bytes
+    → AllMarked controls i ch (settled bytes f)
+marked_survives controls i ch f bytes m s = record { present = here; synced = here; since = λ place value h. absurd h; no_shorter = long; no_longer = long }
+  where
+    long : length bytes ≡ length (lane_text controls i.args ch)
+    long = le_antisymm (omega (arith, s.no_longer, m.no_longer)) (omega (arith, s.no_shorter, m.no_shorter))
+
+    had : (k : ℕ) (value : Option ℕ) → k < length (lane_text controls i.args ch) → HadAt f k value
+        → (value ≡ slice_get (lane_text controls i.args ch) k) ⊎ (IsDelivered i.ledger ch k × (value ≡ Some 68))
+    had k value lt w = ⊎_elim
+        (λ (kept : value ≡ slice_get f.kept k). ⊎_elim
+        (λ (e : slice_get f.kept k ≡ slice_get (lane_text controls i.args ch) k). inl (kept ∙ e))
+        (λ (e : IsDelivered i.ledger ch k × (slice_get f.kept k ≡ Some 68)). inr (e.0, kept ∙ e.1))
+        (m.synced.each k lt))
+        (λ given. let e = m.since k given.0 given.1 in inr (e.1, given.2 ∙ ap Some e.0))
+        w
+
+    here : IsMarked (lane_text controls i.args ch) i.ledger ch bytes
+    here = record {
+      long = long;
+      each = λ k lt. let size = m.synced.long in had k (slice_get bytes k) lt (s.below k (omega arith) (omega arith));
+    }
+
+-- the byte of a mark
+abbrev pub mark : List ℕ
+mark = 68 ∷ []
+
+-- a `D` over what stood at a place, if the place is there
+pub record IsOver (at : ℕ) (old new : List ℕ) : Type 0 where
+  pub long : length new ≡ length old
+  pub here : at < length old → slice_get new at ≡ Some 68
+  pub each : (k : ℕ) → (slice_get new k ≡ slice_get old k) ⊎ ((k ≡ at) × (slice_get new k ≡ Some 68))
+
+over_first : (x : ℕ) (xs : List ℕ) → IsOver zero (x ∷ xs) (68 ∷ xs)
+over_first x xs = record { long = refl; here = λ lt. refl; each = each }
+  where
+    each : (k : ℕ) → (slice_get {X = ℕ} (68 ∷ xs) k ≡ slice_get (x ∷ xs) k) ⊎ ((k ≡ zero) × (slice_get {X = ℕ} (68 ∷ xs) k ≡ Some 68))
+    each zero = inr (refl, refl)
+    each (suc k) = inl refl
+
+over_later : (at x : ℕ) (xs new : List ℕ) → IsOver at xs new → IsOver (suc at) (x ∷ xs) (x ∷ new)
+over_later at x xs new h = record { long = ap suc h.long; here = λ lt. h.here (omega arith); each = each }
+  where
+    each : (k : ℕ) → (slice_get (x ∷ new) k ≡ slice_get (x ∷ xs) k) ⊎ ((k ≡ suc at) × (slice_get (x ∷ new) k ≡ Some 68))
+    each zero = inl refl
+    each (suc k) = ⊎_elim (λ (e : slice_get new k ≡ slice_get xs k). inl e) (λ (e : (k ≡ at) × (slice_get new k ≡ Some 68)). inr (ap suc e.0, e.1)) (h.each k)
+
+over_here : (at : ℕ) (old : List ℕ) → at < length old → IsOver at old (take at old ++ 68 ∷ drop (suc at) old)
+over_here at [] lt = absurd (omega arith)
+over_here zero (x ∷ xs) lt = over_first x xs
+over_here (suc at) (x ∷ xs) lt = over_later at x xs (take at xs ++ 68 ∷ drop (suc at) xs) (over_here at xs (omega arith))
+
+whole : (n : ℕ) (xs : List ℕ) → take n xs ++ drop n xs ≡ xs
+whole zero xs = refl
+whole (suc n) [] = refl
+whole (suc n) (x ∷ xs) = ap (λ ys. x ∷ ys) (whole n xs)
+
+-- of one byte there is none, or one
+few : (n : ℕ) → ((take n mark ≡ []) × (n ≡ 0)) ⊎ ((take n mark ≡ mark) × (1 ≤ n))
+few zero = inl (refl, refl)
+few (suc zero) = inr (refl, omega arith)
+few (suc (suc n)) = inr (refl, omega arith)
+
+abbrev pub over : ℕ → List ℕ → List ℕ
+over at old = put_over at (lying (length old) at mark) old
+
+pub is_over : (at : ℕ) (old : List ℕ) → IsOver at old (over at old)
+is_over at old = ⊎_elim
+    (λ (e : (take (length old - at) mark ≡ []) × (length old - at ≡ 0)).
+    let none = e.1 in
+    let next : at + 0 ≡ at = omega arith in
+    let same : put_over at [] old ≡ old = append_assoc (take at old) [] (drop (at + 0) old) ∙ ap (λ n. take at old ++ drop n old) next ∙ whole at old in
+    subst (λ bytes. IsOver at old (put_over at bytes old)) (sym e.0) (subst (IsOver at old) (sym same) (record { long = refl; here = λ lt. absurd (omega (arith, none, lt)); each = λ k. inl refl })))
+    (λ (e : (take (length old - at) mark ≡ mark) × (1 ≤ length old - at)).
+    let some = e.1 in
+    let next : suc at ≡ at + 1 = omega arith in
+    let here = over_here at old (omega arith) in
+    let joined : put_over at mark old ≡ take at old ++ 68 ∷ drop (at + 1) old = append_assoc (take at old) mark (drop (at + 1) old) in
+    subst (λ bytes. IsOver at old (put_over at bytes old)) (sym e.0) (subst (IsOver at old) (sym joined)
+    (subst (λ n. IsOver at old (take at old ++ 68 ∷ drop n old)) next here)))
+    (few (length old - at))
+
+among_append : {A : Type 0} (x : A) (xs ys : List A) → Among x (xs ++ ys) → Among x xs ⊎ Among x ys
+among_append x [] ys h = inr h
+among_append x (y ∷ xs) ys h = ⊎_elim
+    (λ (e : x ≡ y). inl (inl e))
+    (λ (w : Among x (xs ++ ys)). ⊎_elim (λ (v : Among x xs). inl (inr v)) (λ (v : Among x ys). inr v) (among_append x xs ys w))
+    h
+
+none_given : (m at place value : ℕ) → Among (place, value) (enumerate_from at (take m [])) → (place ≡ at) × (value ≡ 68)
+none_given zero at place value h = absurd h
+none_given (suc m) at place value h = absurd h
+
+one_given : (at place value : ℕ) → Among (place, value) (enumerate_from at mark) → (place ≡ at) × (value ≡ 68)
+one_given at place value h = ⊎_elim (λ (e : (place, value) ≡ (at, 68)). (ap (λ (z : ℕ × ℕ). z.0) e, ap (λ (z : ℕ × ℕ). z.1) e)) (λ (w : ⊥). absurd w) h
+
+-- what a mark gives a value
+marks_given : (m n at place value : ℕ) → Among (place, value) (enumerate_from at (take m (take n mark))) → (place ≡ at) × (value ≡ 68)
+marks_given m n at place value h = ⊎_elim
+    (λ (e : (take n mark ≡ []) × (n ≡ 0)). none_given m at place value (subst (λ (bytes : List ℕ). Among (place, value) (enumerate_from at (take m bytes))) e.0 h))
+    (λ (e : (take n mark ≡ mark) × (1 ≤ n)).
+    let g = subst (λ (bytes : List ℕ). Among (place, value) (enumerate_from at (take m bytes))) e.0 h in
+    ⊎_elim
+    (λ (v : (take m mark ≡ []) × (m ≡ 0)). absurd (subst (λ (bytes : List ℕ). Among (place, value) (enumerate_from at bytes)) v.0 g))
+    (λ (v : (take m mark ≡ mark) × (1 ≤ m)). one_given at place value (subst (λ (bytes : List ℕ). Among (place, value) (enumerate_from at bytes)) v.0 g))
+    (few m))
+    (few n)
+
+-- a mark at the place of a recipient that was delivered
+pub marked_over : (controls : Controls) (i : Injection) (ch : Channel) (f : File) (now at : ℕ) → IsDelivered i.ledger ch at → AllMarked controls i ch f
+    → AllMarked controls i ch (overwritten now at (68 ∷ []) f)
+marked_over controls i ch f now at delivered m =
+    let w = is_over at f.bytes in
+    record {
+      present = record {
+        long = w.long ∙ m.present.long;
+        each = λ k lt. ⊎_elim
+            (λ (e : slice_get (over at f.bytes) k ≡ slice_get f.bytes k). ⊎_elim
+            (λ (v : slice_get f.bytes k ≡ slice_get (lane_text controls i.args ch) k). inl (e ∙ v))
+            (λ (v : IsDelivered i.ledger ch k × (slice_get f.bytes k ≡ Some 68)). inr (v.0, e ∙ v.1))
+            (m.present.each k lt))
+            (λ (e : (k ≡ at) × (slice_get (over at f.bytes) k ≡ Some 68)). inr (subst (IsDelivered i.ledger ch) (sym e.0) delivered, e.1))
+            (w.each k);
+      };
+      synced = m.synced;
+      since = λ place value h. ⊎_elim
+          (λ (v : Among (place, value) f.given). m.since place value v)
+          (λ v. let g = marks_given _ _ at place value v in (g.1, subst (IsDelivered i.ledger ch) (sym g.0) delivered))
+          (among_append (place, value) f.given _ h);
+      no_shorter = m.no_shorter;
+      no_longer = m.no_longer;
+    }
+
+-- so of one that failed, after however many bytes
+pub marked_part : (controls : Controls) (i : Injection) (ch : Channel) (f : File) (now at wrote : ℕ) → IsDelivered i.ledger ch at → AllMarked controls i ch f
+    → AllMarked controls i ch (overwritten_part now at (68 ∷ []) wrote f)
+marked_part controls i ch f now at zero delivered m = m
+marked_part controls i ch f now at (suc zero) delivered m = marked_over controls i ch f now at delivered m
+marked_part controls i ch f now at (suc (suc k)) delivered m = marked_over controls i ch f now at delivered m
+
+grown_bytes : (text bytes : List ℕ) (i : Injection) (s : Spot) (ch : Channel) → IsMarked text i.ledger ch bytes → IsMarked text (with_delivered s i).ledger ch bytes
+grown_bytes text bytes i s ch m = record {
+  long = m.long;
+  each = λ k lt. ⊎_elim
+      (λ (e : slice_get bytes k ≡ slice_get text k). inl e)
+      (λ (e : IsDelivered i.ledger ch k × (slice_get bytes k ≡ Some 68)). inr (inr e.0, e.1))
+      (m.each k lt);
+}
+
+-- a ledger that grows
+pub marked_grown : (controls : Controls) (i : Injection) (s : Spot) (ch : Channel) (f : File) → AllMarked controls i ch f → AllMarked controls (with_delivered s i) ch f
+marked_grown controls i s ch f m = record {
+  present = grown_bytes (lane_text controls i.args ch) f.bytes i s ch m.present;
+  synced = grown_bytes (lane_text controls i.args ch) f.kept i s ch m.synced;
+  since = λ place value h. let w = m.since place value h in (w.0, inr w.1);
+  no_shorter = m.no_shorter;
+  no_longer = m.no_longer;
+}
+
+-- as preprocessing wrote it, no record is marked
+pub marked_new : (controls : Controls) (i : Injection) (ch : Channel) (f : File) → IsSynced f (lane_text controls i.args ch) → AllMarked controls i ch f
+marked_new controls i ch f s = record {
+  present = record { long = ap length s.holds; each = λ k lt. inl (ap (λ (bytes : List ℕ). slice_get bytes k) s.holds) };
+  synced = record { long = ap length s.all; each = λ k lt. inl (ap (λ (bytes : List ℕ). slice_get bytes k) s.all) };
+  since = λ place value h. absurd (subst (λ (given : List (ℕ × ℕ)). Among (place, value) given) s.none_given h);
+  no_shorter = s.no_shorter;
+  no_longer = s.no_longer;
+}

@@ -1,0 +1,31 @@
+-- What of a number is there before its last names go: nothing that is wanted, or all that preprocessing makes.
+use Rattle.std.specs.Prelude.{◌≡◌, List, [], ℕ, Some, None}
+use Rattle.address_rules.specs.declared.controls.Controls.{Controls}
+use Rattle.call_fs.specs.Disk.{IsSynced}
+use Rattle.queue_paths.specs.Names.{Part}
+use Rattle.queue_paths.specs.Names.Part.{Todo, Info}
+use Rattle.send_jobs.specs.declared.channels.Channel.{Channel}
+use Rattle.queue_law.specs.Routes.{info_of, lane_text, lane_part}
+use Rattle.queue_law.specs.Numbers.{Entry, About, IsUnsorted, IsQueued}
+
+-- Nothing of the message is wanted: it doesn't wait in todo, and preprocessing left nothing.
+pub record IsSpent (w : About) : Type 0 where
+  pub unsorted : IsUnsorted w
+  pub no_todo : w.parts Todo ≡ None
+
+-- the file of a part is there, with just this text, and all of it is on the disk
+pub record HasSynced (w : About) (part : Part) (text : List ℕ) : Type 0 where
+  pub file : Entry
+  pub there : w.parts part ≡ Some file
+  pub synced : IsSynced file.file text
+
+-- The file of a channel is made; one that has no records isn't.
+pub data IsMade (w : About) (part : Part) (text : List ℕ) : Type 0 where
+  NotNeeded : text ≡ [] → w.parts part ≡ None → IsMade w part text
+  IsThere : HasSynced w part text → IsMade w part text
+
+-- Preprocessing is done except that todo is still there: info and the files of the channels are whole, and on the disk.
+pub record IsReady (controls : Controls) (w : About) : Type 0 where
+  pub queued : IsQueued controls w
+  pub info : HasSynced w Info (info_of queued.taken.injection.args)
+  pub lanes : (ch : Channel) → IsMade w (lane_part ch) (lane_text controls queued.taken.injection.args ch)

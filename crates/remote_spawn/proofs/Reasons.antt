@@ -1,0 +1,322 @@
+-- Why a remote spawner has ended.
+use Rattle.std.proofs.Common.{◌≡◌, inl, inr, ℕ, List, [], ◌∷◌, ◌++◌, length, Bool, true, false, ◌&&◌, if◌then◌else◌, nat_lt, set, Option, Some, None, refl, sym, ap, ◌∙◌, subst}
+use Rattle.std.specs.Prelude.{slice_index_or}
+use Rattle.std.proofs.lemmas.List.Elements.{All-nil}
+use Rattle.call_fs.specs.declared.calls.Answer.{Answer}
+use Rattle.call_fs.specs.declared.calls.Answer.TheVariants as answer
+use Rattle.call_fs.specs.declared.calls.CallData.TheVariants as call
+use Rattle.call_fs.specs.declared.calls.Fd.{Fd}
+use Rattle.call_fs.specs.declared.calls.FsError.TheVariants as why
+use Rattle.call_fs.specs.declared.calls.How.TheVariants as how
+use Rattle.call_fs.specs.declared.past.GotData.{GotData}
+use Rattle.call_fs.specs.declared.past.GotData.TheVariants as came
+use Rattle.call_fs.specs.declared.past.NeedData.{NeedData}
+use Rattle.call_fs.specs.declared.past.NeedData.TheVariants as needs
+use Rattle.call_fs.specs.declared.past.ChildData.{ChildData}
+use Rattle.call_fs.specs.declared.past.ChildData.TheVariants as child
+use Rattle.call_fs.specs.declared.past.Own.{Own}
+use Rattle.call_fs.specs.declared.program.Port.{Port}
+use Rattle.call_fs.specs.declared.program.Port.TheVariants as port
+use Rattle.call_fs.specs.declared.program.Ready.{Ready}
+use Rattle.call_fs.specs.Past.{IsRunBy}
+use Rattle.call_fs.specs.Program.{MayCome}
+use Rattle.spawn_protocol.specs.Inbox.{pull, with_more}
+use Rattle.spawn_protocol.specs.Request.{IsRequest}
+use Rattle.spawn_protocol.specs.declared.inbox.Intake.{Intake}
+use Rattle.spawn_protocol.specs.declared.inbox.Intake.TheVariants as intake
+use Rattle.spawn_protocol.specs.declared.request.Request.{Request}
+use Rattle.remote_spawn.specs.declared.place.Place.{Place}
+use Rattle.remote_spawn.specs.declared.row.Row.{Row}
+use Rattle.remote_spawn.specs.declared.row.Row.TheVariants as at
+use Rattle.remote_spawn.specs.Asked.{domain_of, is_bad, runs_in}
+use Rattle.remote_spawn.specs.Causes.{EndsWith, IsEnded, IsFailed, end_by, has_end, programs, programs_by, taken, taken_by}
+use Rattle.remote_spawn.specs.Causes.EndsWith.{GiveFailed, RequestsFailed, ProgramFailed}
+use Rattle.remote_spawn.specs.Causes.IsOver.{RequestsEnded, FieldTooLong}
+use Rattle.remote_spawn.specs.Table.{Next, act, arrive, bad_request, closed, due_at, ended_by, gave, heeded, is_asked, is_open, next_request, none_runs, opened_by, opens, place_after, read_by, reports, resting, row_now, took, turning}
+use Rattle.remote_spawn.proofs.Coming.{by_fit}
+use Rattle.remote_spawn.proofs.Hears.{Heard, Hears, HearsIn, more_heard, pull_hears}
+
+-- What may come of gives, takings and starts
+
+by_give : (to : Port) (bytes : List ℕ) (P : GotData → Type 0) → P came.Gave → P came.Failed → (got : GotData) → MayCome (needs.Give to bytes) got → P got
+by_give to bytes P well ill came.Gave may = well
+by_give to bytes P well ill came.Failed may = ill
+by_give to bytes P well ill (came.Answered told) may = absurd may
+by_give to bytes P well ill (came.Took more) may = absurd may
+by_give to bytes P well ill came.End may = absurd may
+by_give to bytes P well ill (came.Ended status) may = absurd may
+by_give to bytes P well ill came.Crashed may = absurd may
+by_give to bytes P well ill (came.Started pid) may = absurd may
+by_give to bytes P well ill came.Memory may = absurd may
+
+by_input : (P : GotData → Type 0) → ((bytes : List ℕ) → P (came.Took bytes)) → P came.End → P came.Failed → (got : GotData) → MayCome (needs.Take port.Input) got → P got
+by_input P more end ill (came.Took bytes) may = more bytes
+by_input P more end ill came.End may = end
+by_input P more end ill came.Failed may = ill
+by_input P more end ill came.Gave may = absurd may
+by_input P more end ill (came.Answered told) may = absurd may
+by_input P more end ill (came.Ended status) may = absurd may
+by_input P more end ill came.Crashed may = absurd may
+by_input P more end ill (came.Started pid) may = absurd may
+by_input P more end ill came.Memory may = absurd may
+
+by_program : (slot : ℕ) (P : GotData → Type 0) → ((bytes : List ℕ) → P (came.Took bytes)) → P came.End → P came.Failed → (got : GotData) → MayCome (needs.Take (port.Program slot)) got → P got
+by_program slot P more end ill (came.Took bytes) may = more bytes
+by_program slot P more end ill came.End may = end
+by_program slot P more end ill came.Failed may = ill
+by_program slot P more end ill came.Gave may = absurd may
+by_program slot P more end ill (came.Answered told) may = absurd may
+by_program slot P more end ill (came.Ended status) may = absurd may
+by_program slot P more end ill came.Crashed may = absurd may
+by_program slot P more end ill (came.Started pid) may = absurd may
+by_program slot P more end ill came.Memory may = absurd may
+
+by_start : (program : ChildData) (P : GotData → Type 0) → ((pid : ℕ) → P (came.Started pid)) → P came.Failed → P came.Memory → (got : GotData) → MayCome (needs.Start program) got → P got
+by_start program P well ill memory (came.Started pid) may = well pid
+by_start program P well ill memory came.Failed may = ill
+by_start program P well ill memory came.Memory may = memory
+by_start program P well ill memory came.Gave may = absurd may
+by_start program P well ill memory (came.Answered told) may = absurd may
+by_start program P well ill memory (came.Took bytes) may = absurd may
+by_start program P well ill memory came.End may = absurd may
+by_start program P well ill memory (came.Ended status) may = absurd may
+by_start program P well ill memory came.Crashed may = absurd may
+
+-- What is known after an event
+
+-- a row that is kept between two events: it is never a taking of requests, and an end has its cause
+abbrev KeptBy : NeedData → GotData → Row → Type 0
+KeptBy due got at.TakeInput = ⊥
+KeptBy due got (at.Ended status) = EndsWith status due got
+KeptBy due got row = Unit {0}
+
+record After (runs : List Bool) (bytes : List ℕ) (ended : Bool) (due : NeedData) (got : GotData) (p : Place) : Type 0 where
+  kept : KeptBy due got p.row
+  running : p.running ≡ programs_by runs due got
+  hears : HearsIn p.inbox (taken_by bytes due got) (end_by ended due got)
+
+heeded_after : (runs : List Bool) (bytes : List ℕ) (ended : Bool) (due : NeedData) (got : GotData) (o : Option Request) (p : Place)
+    → p.running ≡ programs_by runs due got → HearsIn p.inbox (taken_by bytes due got) (end_by ended due got) → After runs bytes ended due got (heeded o p)
+heeded_after runs bytes ended due got None p same h = record { kept = tt; running = same; hears = h }
+heeded_after runs bytes ended due got (Some r) p same h = by (is_bad p.running r) where
+  by : (b : Bool) → After runs bytes ended due got (if b then reports bad_request r.slot p else opens r p)
+  by true = record { kept = tt; running = same; hears = h }
+  by false = record { kept = tt; running = same; hears = h }
+
+next_after : (runs : List Bool) (bytes : List ℕ) (ended : Bool) (due : NeedData) (got : GotData) (p : Place)
+    → p.running ≡ programs_by runs due got → HearsIn p.inbox (taken_by bytes due got) (end_by ended due got) → After runs bytes ended due got (next_request p)
+next_after runs bytes ended due got p same h =
+    heeded_after runs bytes ended due got (pull p.inbox).request (record p { inbox = (pull p.inbox).inbox }) same
+    (pull_hears p.inbox.intake p.inbox.ahead (taken_by bytes due got) (end_by ended due got) h)
+
+-- each row, with what it is known to be at: a taking of requests only while it takes any
+abbrev Open : Row → Place → Type 0
+Open at.TakeInput p = p.inbox.intake ≡ intake.Open
+Open row p = Unit {0}
+
+module _ (runs : List Bool) (bytes : List ℕ) (ended : Bool) (p : Place) (same : p.running ≡ runs) (h : HearsIn p.inbox bytes ended) where
+  abbrev Step : Row → GotData → Type 0
+  Step row got = After runs bytes ended (due_at row p) got (act row got p)
+
+  opening : (told : Answer) (got : GotData) → After runs bytes ended (needs.File (call.Open p.name how.Read)) got (opened_by told p)
+  opening (answer.Created fd number) got = record { kept = tt; running = same; hears = h }
+  opening (answer.Opened fd) got = record { kept = tt; running = same; hears = h }
+  opening (answer.Count count) got = record { kept = tt; running = same; hears = h }
+  opening answer.Done got = record { kept = tt; running = same; hears = h }
+  opening (answer.Stat stat) got = record { kept = tt; running = same; hears = h }
+  opening (answer.Name name) got = record { kept = tt; running = same; hears = h }
+  opening answer.NoName got = record { kept = tt; running = same; hears = h }
+  opening (answer.Refused why.NotThere) got = record { kept = tt; running = same; hears = h }
+  opening (answer.Refused why.Exists) got = record { kept = tt; running = same; hears = h }
+  opening (answer.Refused why.Fault) got = record { kept = tt; running = same; hears = h }
+  opening (answer.Refused why.Memory) got = record { kept = tt; running = same; hears = h }
+
+  reading : (fd : Fd) (told : Answer) (read : List ℕ) (got : GotData) → After runs bytes ended (needs.File (call.ReadAt fd (length p.message) 8192)) got (read_by fd told read p)
+  reading fd (answer.Count count) read got = record { kept = by (nat_lt (length read) 8192); running = same; hears = h } where
+    by : (b : Bool) → KeptBy (needs.File (call.ReadAt fd (length p.message) 8192)) got (if b then at.CloseMess fd true else at.ReadMess fd)
+    by true = tt
+    by false = tt
+  reading fd (answer.Created to number) read got = record { kept = tt; running = same; hears = h }
+  reading fd (answer.Opened to) read got = record { kept = tt; running = same; hears = h }
+  reading fd answer.Done read got = record { kept = tt; running = same; hears = h }
+  reading fd (answer.Stat stat) read got = record { kept = tt; running = same; hears = h }
+  reading fd (answer.Name name) read got = record { kept = tt; running = same; hears = h }
+  reading fd answer.NoName read got = record { kept = tt; running = same; hears = h }
+  reading fd (answer.Refused why) read got = record { kept = tt; running = same; hears = h }
+
+  closing : (fd : Fd) (whole : Bool) (got : GotData) → After runs bytes ended (needs.File (call.Close fd)) got (closed whole p)
+  closing fd true got = record { kept = tt; running = same; hears = h }
+  closing fd false got = record { kept = tt; running = same; hears = h }
+
+  giving : (text : List ℕ) (got : GotData) → MayCome (needs.Give port.Output text) got → After runs bytes ended (needs.Give port.Output text) got (gave got p)
+  giving text got may = by_give port.Output text (λ g. After runs bytes ended (needs.Give port.Output text) g (gave g p))
+      (next_after runs bytes ended (needs.Give port.Output text) came.Gave p same h)
+      (record { kept = GiveFailed text; running = same; hears = h }) got may
+
+  more_hears : (more : List ℕ) → p.inbox.intake ≡ intake.Open → HearsIn (with_more more p.inbox) (bytes ++ more) ended
+  more_hears more free = subst (λ i. Hears i (p.inbox.ahead ++ more) (bytes ++ more) ended) (sym free)
+      (more_heard p.inbox.ahead bytes more (subst (λ i. Hears i p.inbox.ahead bytes ended) free h))
+
+  taking : p.inbox.intake ≡ intake.Open → (got : GotData) → MayCome (needs.Take port.Input) got → After runs bytes ended (needs.Take port.Input) got (took got p)
+  taking free got may = by_input (λ g. After runs bytes ended (needs.Take port.Input) g (took g p))
+      (λ more. next_after runs bytes ended (needs.Take port.Input) (came.Took more) (record p { inbox = with_more more p.inbox }) same (more_hears more free))
+      (record { kept = tt; running = same; hears = (refl, refl) })
+      (record { kept = RequestsFailed; running = same; hears = h }) got may
+
+  starting : (got : GotData) → MayCome (due_at at.Start p) got → Step at.Start got
+  starting got may = by_start (child.Remote p.request.slot (domain_of p.request.recipient) p.request.sender p.request.recipient) (Step at.Start)
+      (λ pid. record { kept = tt; running = ap (λ r. set r p.request.slot true) same; hears = h })
+      (record { kept = tt; running = same; hears = h })
+      (record { kept = tt; running = same; hears = h }) got may
+
+  feeding : (got : GotData) → Step at.Feed got
+  feeding got =
+      let n = next_after runs bytes ended (due_at at.Feed p) got p same h in
+      record { kept = n.kept; running = n.running; hears = n.hears }
+
+  printing : (slot : ℕ) (got : GotData) → MayCome (needs.Take (port.Program slot)) got → Step (at.TakeOutput slot) got
+  printing slot got may = by_program slot (Step (at.TakeOutput slot))
+      (λ more. record { kept = tt; running = same; hears = h })
+      (record { kept = tt; running = same; hears = h })
+      (record { kept = ProgramFailed slot; running = same; hears = h }) got may
+
+  step : (row : Row) (got : GotData) → Open row p → MayCome (due_at row p) got → Step row got
+  step at.Greet got free may = giving (120 ∷ []) got may
+  step at.Idle got free may = absurd may
+  step at.TakeInput got free may = taking free got may
+  step at.OpenMess got free may = by_fit (call.Open p.name how.Read) (Step at.OpenMess) got may (λ told fit. opening told.answer (came.Answered told))
+  step (at.ReadMess fd) got free may =
+      by_fit (call.ReadAt fd (length p.message) 8192) (Step (at.ReadMess fd)) got may (λ told fit. reading fd told.answer told.bytes (came.Answered told))
+  step (at.CloseMess fd whole) got free may = closing fd whole got
+  step at.Start got free may = starting got may
+  step at.Feed got free may = feeding got
+  step (at.TakeOutput slot) got free may = printing slot got may
+  step (at.TakeStatus slot) got free may = record { kept = tt; running = ap (λ r. set r slot false) same; hears = h }
+  step at.Report got free may = giving p.report got may
+  step (at.Ended code) got free may = absurd may
+
+-- What is known after a past
+
+abbrev Kept : List Own → Row → Type 0
+Kept past at.TakeInput = ⊥
+Kept past (at.Ended status) = IsFailed past status
+Kept past row = Unit {0}
+
+record Knows (past : List Own) (p : Place) : Type 0 where
+  kept : Kept past p.row
+  running : p.running ≡ programs past
+  hears : HearsIn p.inbox (taken past) (has_end past)
+
+-- where a step comes from
+abbrev Comes : List Own → Place → Row → Type 0
+Comes past p at.TakeInput = p.inbox.intake ≡ intake.Open
+Comes past p (at.Ended status) = IsEnded past status
+Comes past p row = Unit {0}
+
+ending_comes : (past : List Own) (p : Place) (state : Intake) (ahead : List ℕ) → Hears state ahead (taken past) (has_end past) → none_runs (programs past) ≡ true → Comes past p (ended_by state)
+ending_comes past p intake.Open ahead h none = tt
+ending_comes past p intake.Ended ahead h none = inr (RequestsEnded h.1 none)
+ending_comes past p intake.TooLong ahead h none = inr (FieldTooLong h.1.0 h.1.1 none)
+
+module _ (past : List Own) (p : Place) (k : Knows past p) where
+  resting_comes : Comes past p (resting p)
+  resting_comes = by (none_runs p.running) refl where
+    by : (b : Bool) → none_runs p.running ≡ b → Comes past p (if b then ended_by p.inbox.intake else at.Idle)
+    by true is = ending_comes past p p.inbox.intake p.inbox.ahead k.hears (ap none_runs (sym k.running) ∙ is)
+    by false is = tt
+
+  turning_comes : (child : Option ℕ) → Comes past p (turning p child)
+  turning_comes None = resting_comes
+  turning_comes (Some slot) = by (runs_in p.running slot) where
+    by : (b : Bool) → Comes past p (if b then at.TakeOutput slot else resting p)
+    by true = tt
+    by false = resting_comes
+
+  open_by : (state : Intake) (links : Bool) → is_open state && links ≡ true → state ≡ intake.Open
+  open_by intake.Open links is = refl
+  open_by intake.Ended links is = absurd (cc)
+  open_by intake.TooLong links is = absurd (cc)
+
+  idle_comes : (ready : Ready) → Comes past p (arrive at.Idle p ready)
+  idle_comes ready = by (is_asked p ready) refl where
+    by : (b : Bool) → is_asked p ready ≡ b → Comes past p (if b then at.TakeInput else turning p ready.child)
+    by true is = open_by p.inbox.intake (slice_index_or ready.links 0 false) is
+    by false is = turning_comes ready.child
+
+  comes : (row : Row) (ready : Ready) → Kept past row → Comes past p (arrive row p ready)
+  comes at.Idle ready kept = idle_comes ready
+  comes at.Greet ready kept = tt
+  comes at.TakeInput ready kept = absurd kept
+  comes at.OpenMess ready kept = tt
+  comes (at.ReadMess fd) ready kept = tt
+  comes (at.CloseMess fd whole) ready kept = tt
+  comes at.Start ready kept = tt
+  comes at.Feed ready kept = tt
+  comes (at.TakeOutput slot) ready kept = tt
+  comes (at.TakeStatus slot) ready kept = tt
+  comes at.Report ready kept = tt
+  comes (at.Ended code) ready kept = inl kept
+
+  is_at : (row : Row) → Comes past p row → Open row p
+  is_at at.TakeInput c = c
+  is_at at.Greet c = tt
+  is_at at.Idle c = tt
+  is_at at.OpenMess c = tt
+  is_at (at.ReadMess fd) c = tt
+  is_at (at.CloseMess fd whole) c = tt
+  is_at at.Start c = tt
+  is_at at.Feed c = tt
+  is_at (at.TakeOutput slot) c = tt
+  is_at (at.TakeStatus slot) c = tt
+  is_at at.Report c = tt
+  is_at (at.Ended code) c = tt
+
+kept_of : (event : Own) (before : List Own) (row : Row) → KeptBy event.due event.came row → Kept (event ∷ before) row
+kept_of event before at.TakeInput k = k
+kept_of event before at.Greet k = tt
+kept_of event before at.Idle k = tt
+kept_of event before at.OpenMess k = tt
+kept_of event before (at.ReadMess fd) k = tt
+kept_of event before (at.CloseMess fd whole) k = tt
+kept_of event before at.Start k = tt
+kept_of event before at.Feed k = tt
+kept_of event before (at.TakeOutput slot) k = tt
+kept_of event before (at.TakeStatus slot) k = tt
+kept_of event before at.Report k = tt
+kept_of event before (at.Ended code) k = k
+
+none_heard : Heard [] []
+none_heard = record { requests = []; whole = All-nil IsRequest; text = refl }
+
+knows : (args : Unit {0}) (past : List Own) → IsRunBy (Next args) past → Knows past (place_after past)
+knows args [] run = record { kept = tt; running = refl; hears = none_heard }
+knows args (event ∷ before) run =
+    let p : Place = place_after before in
+    let k = knows args before run.0 in
+    let row : Row = row_now p event.ready in
+    let free = is_at before p k row (comes before p k p.row event.ready k.kept) in
+    let may = subst (λ x. MayCome x event.came) (sym run.1.0) run.1.1 in
+    let a = subst (λ x. After (programs before) (taken before) (has_end before) x event.came (act row event.came p)) run.1.0
+    (step (programs before) (taken before) (has_end before) p k.running k.hears row event.came free may) in
+    record { kept = kept_of event before (act row event.came p).row a.kept; running = a.running; hears = a.hears }
+
+-- an end is due only at its row
+at_end : (past : List Own) (p : Place) (row : Row) (status : ℕ) → Comes past p row → due_at row p ≡ needs.Ended status → IsEnded past status
+at_end past p (at.Ended code) status c due = let same : code ≡ status = cc in subst (IsEnded past) same c
+at_end past p at.Greet status c due = absurd (cc)
+at_end past p at.Idle status c due = absurd (cc)
+at_end past p at.TakeInput status c due = absurd (cc)
+at_end past p at.OpenMess status c due = absurd (cc)
+at_end past p (at.ReadMess fd) status c due = absurd (cc)
+at_end past p (at.CloseMess fd whole) status c due = absurd (cc)
+at_end past p at.Start status c due = absurd (cc)
+at_end past p at.Feed status c due = absurd (cc)
+at_end past p (at.TakeOutput slot) status c due = absurd (cc)
+at_end past p (at.TakeStatus slot) status c due = absurd (cc)
+at_end past p at.Report status c due = absurd (cc)
+
+pub ends : (args : Unit {0}) (past : List Own) (now : ℕ) (ready : Ready) (status : ℕ) → IsRunBy (Next args) past → Next args past now ready ≡ needs.Ended status → IsEnded past status
+ends args past now ready status run due =
+    let p : Place = place_after past in
+    let k = knows args past run in
+    at_end past p (row_now p ready) status (comes past p k p.row ready k.kept) due

@@ -1,0 +1,9 @@
+use Rattle.remote_spawn.proofs.Failures.{failed}
+use Rattle.remote_spawn.proofs.Reasons.{ends}
+use Rattle.remote_spawn.proofs.laws.statuses_have_causes.Goals as goal
+
+pub returns-clause-ends : goal.returns-clause-ends
+returns-clause-ends c = ends
+
+pub returns-clause-fails : goal.returns-clause-fails
+returns-clause-fails c = failed

@@ -1,0 +1,2 @@
+-- a sender that runs over a disk
+pub mod Runs

@@ -1,0 +1,2 @@
+mod local_letters;
+mod users_files;

@@ -1,0 +1,2 @@
+-- the recipients of an envelope, counted
+pub mod Recipients

@@ -1,0 +1,139 @@
+// What happened, and the list of it.
+ghost use Rattle.std.specs.Prelude.{◌≡◌, ◌∷◌, ◌++◌, ◌+◌, ◌-◌, ◌≤◌, [], List, ℕ, length, get_or, OnOk};
+
+use actor_names::ActorName;
+use call_fs::{Own, Ready, Survival};
+use mail_bytes::Memory;
+use queue_inject::Arguments;
+use std::alloc::Global;
+
+/// A program, and what it is started with.
+#[derive(Drop)]
+pub enum Program {
+    /// An injector.
+    Injector(Arguments),
+    /// A cleaner, which was started at this moment. No history starts one yet.
+    Cleaner {
+        /// The moment of its start.
+        start: u64,
+    },
+}
+
+impl Program {
+    ghost use Rattle.std.specs.Prelude.{◌≡◌, option_map};
+    ghost use Rattle.world_events.specs.Programs.{injection_of};
+
+    /// What an injector was started with; `None` for every other program.
+    pub fn injection(&self) -> Option<&Arguments>
+        ensures { option_map (λ args. args.now) result ≡ injection_of self.now }
+    {
+        match self {
+            Program::Injector(arguments) => Some(arguments),
+            Program::Cleaner { .. } => None,
+        }
+    }
+}
+
+/// One event of a history. An actor's event also tells the moment that it read and what it found ready.
+#[derive(Drop)]
+pub enum Event {
+    /// An actor was started.
+    Start {
+        /// Its name.
+        actor: ActorName,
+        /// What it runs.
+        program: Program,
+    },
+    /// An actor did what was due.
+    Act {
+        /// The actor.
+        actor: ActorName,
+        /// What it did, and what came of it.
+        own: Own,
+    },
+    /// An actor ended, and its descriptors were closed.
+    End {
+        /// The actor.
+        actor: ActorName,
+        /// The moment that it read.
+        read: u64,
+        /// What it found ready.
+        ready: Ready,
+        /// Its exit status.
+        status: u8,
+    },
+    /// An actor was stopped from outside, and its descriptors were closed.
+    Stop {
+        /// The actor.
+        actor: ActorName,
+    },
+    /// A moment came.
+    Moment {
+        /// The moment, the present one from then on.
+        moment: u64,
+    },
+    /// The machine stopped and started again. Each actor that lived was stopped with it, and no descriptor is open.
+    Halt {
+        /// What survived of the files.
+        how: Survival,
+    },
+}
+
+/// A history, the oldest event first.
+#[derive(Drop)]
+pub struct History {
+    events: Vec<Event>,
+}
+
+impl History {
+    ghost use Rattle.world_events.specs.Kept.{events_of, HasRoom};
+
+    /// The empty history. Takes no memory.
+    pub fn new(alloc: Global) -> History
+        ensures { events_of result ≡ [] }
+    {
+        History {
+            events: Vec::new(alloc),
+        }
+    }
+
+    /// How many events it has.
+    pub fn len(&self) -> usize
+        ensures { result ≡ length (events_of self.now) }
+    {
+        self.events.len()
+    }
+
+    /// Its events, the oldest first.
+    pub fn events(&self) -> &[Event]
+        ensures { result.now ≡ events_of self.now }
+    {
+        self.events.as_slice()
+    }
+
+    /// The newest event. The condition: there is one.
+    pub fn newest(&self) -> &Event
+        requires { 1 ≤ length (events_of self.now) }
+        ensures { result.now ≡ get_or (events_of self.now) (length (events_of self.now) - 1) result.now }
+    {
+        &self.events[self.events.len() - 1]
+    }
+
+    /// Makes room for this many events. The room that it has stays.
+    pub fn reserve(&mut self, events: usize) -> Result<(), Memory>
+        ensures same { events_of self.new ≡ events_of self.old }
+        ensures room { OnOk result (HasRoom self.new events) }
+        ensures stays { (more : ℕ) → HasRoom self.old more → HasRoom self.new more }
+    {
+        self.events.reserve(events)
+    }
+
+    /// Appends an event. Takes no memory. The condition: there is room for it.
+    pub fn put(&mut self, event: Event)
+        requires { HasRoom self.old 1 }
+        ensures event { events_of self.new ≡ events_of self.old ++ event ∷ [] }
+        ensures room { (more : ℕ) → HasRoom self.old (more + 1) → HasRoom self.new more }
+    {
+        self.events.push(event).unwrap();
+    }
+}

@@ -1,0 +1,63 @@
+-- The pipes that one actor takes from, by its ports, and the remote programs in its slots.
+use Rattle.std.specs.Prelude.{◌≡◌, ℕ, ◌<◌, length, Option, Some, None, option_map, if◌then◌else◌}
+use Rattle.std.specs.List.{slice_get}
+use Rattle.call_fs.specs.declared.program.Port.{Port}
+use Rattle.call_fs.specs.declared.program.Port.TheVariants as port
+use Rattle.world_pipes.specs.declared.mouths.Mouths.{Mouths}
+use Rattle.world_pipes.specs.declared.mouths.Slot.{Slot}
+use Rattle.world_pipes.specs.Pipework.{Pipe, Tenant, fresh, is_port}
+use Rattle.world_pipes.specs.Pipework.Tenant.{Remote}
+use Rattle.world_pipes.specs.Pipes.{lies, HasRoom}
+
+-- a slot without a program, into whose output nothing was given
+pub record IsVacant (slot : Slot) : Type 0 where
+  pub free : slot.reported ≡ None
+  pub empty : lies slot.output ≡ fresh
+
+-- what lies in the output of a slot; where there is no such slot, nothing
+abbrev pub output_of : Option Slot → Pipe
+output_of None = fresh
+output_of (Some slot) = lies slot.output
+
+-- the pipe of the model by each port
+abbrev pub pipe_of : Mouths → Port → Pipe
+pipe_of m port.Input = lies m.input
+pipe_of m port.Clean = lies m.clean
+pipe_of m port.Lspawn = lies m.lspawn
+pipe_of m port.Rspawn = lies m.rspawn
+pipe_of m (port.Program d) = output_of (slice_get m.slots.items d)
+pipe_of m other = fresh
+
+-- the program in a slot
+abbrev pub runs_in : Option Slot → Option Tenant
+runs_in None = None
+runs_in (Some slot) = option_map Remote slot.reported
+
+abbrev pub tenant_of : Mouths → ℕ → Option Tenant
+tenant_of m d = runs_in (slice_get m.slots.items d)
+
+-- it has a pipe for this port
+abbrev pub HasPipe : Mouths → Port → Type 0
+HasPipe m port.Input = Unit {0}
+HasPipe m port.Clean = Unit {0}
+HasPipe m port.Lspawn = Unit {0}
+HasPipe m port.Rspawn = Unit {0}
+HasPipe m (port.Program d) = d < length m.slots.items
+HasPipe m other = ⊥
+
+-- it has one with room for so many bytes more
+abbrev pub OutputHasRoom : Option Slot → ℕ → Type 0
+OutputHasRoom None more = ⊥
+OutputHasRoom (Some slot) more = HasRoom slot.output more
+
+abbrev pub HasRoomAt : Mouths → Port → ℕ → Type 0
+HasRoomAt m port.Input more = HasRoom m.input more
+HasRoomAt m port.Clean more = HasRoom m.clean more
+HasRoomAt m port.Lspawn more = HasRoom m.lspawn more
+HasRoomAt m port.Rspawn more = HasRoom m.rspawn more
+HasRoomAt m (port.Program d) more = OutputHasRoom (slice_get m.slots.items d) more
+HasRoomAt m other more = ⊥
+
+-- another content of the pipe by one port
+abbrev pub change_at : Port → (Pipe → Pipe) → (Port → Pipe) → Port → Pipe
+change_at at change pipes port = if is_port port at then change (pipes port) else pipes port

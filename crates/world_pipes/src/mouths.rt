@@ -1,0 +1,212 @@
+// The pipes that one actor takes from.
+ghost use Rattle.std.specs.Prelude.{◌≡◌, ◌==◌, ◌≤◌, ◌<◌, ℕ, true, false, if◌then◌else◌, Some, None, IfOk, IsOk, OnOk, OnErr, All, length};
+ghost use Rattle.call_fs.specs.declared.program.Port.{Port as Gate};
+ghost use Rattle.call_fs.specs.declared.program.Port.TheVariants.{Program};
+ghost use Rattle.world_pipes.specs.Pipework.{fresh, given, closed};
+ghost use Rattle.world_pipes.specs.Pipework.Tenant.{Remote};
+ghost use Rattle.world_pipes.specs.Pipes.{lies, told, offered, left_by};
+ghost use Rattle.world_pipes.specs.Mouths.{IsVacant, pipe_of, tenant_of, HasPipe, HasRoomAt, change_at};
+
+use crate::{Pipe, Taken};
+use call_fs::Port;
+use mail_bytes::Memory;
+use std::alloc::Global;
+
+/// A slot of an actor.
+#[derive(Drop)]
+pub struct Slot {
+    /// Whether the report of the remote program in it came; `None` if there is no program.
+    reported: Option<bool>,
+    /// The output of its program, which stays when the slot is freed.
+    output: Pipe,
+}
+
+impl Slot {
+    /// A slot without a program. Takes no memory.
+    fn new(alloc: Global) -> Slot
+        ensures { IsVacant result }
+    {
+        Slot {
+            reported: None,
+            output: Pipe::new(alloc),
+        }
+    }
+
+    /// A program starts in it.
+    fn start(&mut self)
+        ensures runs { self.new.reported ≡ Some false }
+        ensures empty { lies self.new.output ≡ fresh }
+    {
+        self.reported = Some(false);
+        self.output.clear();
+    }
+
+    /// No program is in it any more, and nothing lies in its output.
+    fn clear(&mut self)
+        ensures { IsVacant self.new }
+    {
+        self.reported = None;
+        self.output.clear();
+    }
+}
+
+/// The pipes that one actor takes from: its input, the links of a sender, and the outputs of the programs in its slots.
+#[derive(Drop)]
+pub struct Mouths {
+    input: Pipe,
+    clean: Pipe,
+    lspawn: Pipe,
+    rspawn: Pipe,
+    slots: Vec<Slot>,
+}
+
+impl Mouths {
+    /// Of an actor with so many slots: nothing lies in any pipe, and no program is in a slot.
+    pub fn new(alloc: Global, slots: u16) -> Result<Mouths, Memory>
+        ensures pipes { IfOk result (λ m. (port : Gate) → pipe_of m port ≡ fresh) }
+        ensures tenants { IfOk result (λ m. (d : ℕ) → tenant_of m d ≡ None) }
+        ensures slots { IfOk result (λ m. length m.slots.items ≡ slots) }
+    {
+        Ok(Mouths {
+            input: Pipe::new(alloc),
+            clean: Pipe::new(alloc),
+            lspawn: Pipe::new(alloc),
+            rspawn: Pipe::new(alloc),
+            slots: vacant(alloc, slots)?,
+        })
+    }
+
+    /// Makes room for so many bytes more in the pipe by this port. The condition: there is one.
+    pub fn make_room(&mut self, port: Port, more: usize) -> Result<(), Memory>
+        requires { HasPipe self.old port }
+        ensures pipes { (at : Gate) → pipe_of self.new at ≡ pipe_of self.old at }
+        ensures tenants { (d : ℕ) → tenant_of self.new d ≡ tenant_of self.old d }
+        ensures room { OnOk result (HasRoomAt self.new port more) }
+    {
+        match port {
+            Port::Input => self.input.make_room(more),
+            Port::Clean => self.clean.make_room(more),
+            Port::Lspawn => self.lspawn.make_room(more),
+            Port::Rspawn => self.rspawn.make_room(more),
+            Port::Program(slot) => self.slots[slot as usize].output.make_room(more),
+            Port::Output | Port::Todo | Port::Status(_) => unreachable!(),
+        }
+    }
+
+    /// Bytes are given to the pipe by this port. Takes no memory. The condition: there is one, with room for them.
+    pub fn give(&mut self, port: Port, bytes: &[u8])
+        requires { HasRoomAt self.old port (length bytes.now) }
+        ensures pipes { (at : Gate) → pipe_of self.new at ≡ change_at port (given bytes.now) (pipe_of self.old) at }
+        ensures tenants { (d : ℕ) → tenant_of self.new d ≡ tenant_of self.old d }
+    {
+        match port {
+            Port::Input => self.input.give(bytes),
+            Port::Clean => self.clean.give(bytes),
+            Port::Lspawn => self.lspawn.give(bytes),
+            Port::Rspawn => self.rspawn.give(bytes),
+            Port::Program(slot) => self.slots[slot as usize].output.give(bytes),
+            Port::Output | Port::Todo | Port::Status(_) => unreachable!(),
+        }
+    }
+
+    /// Takes what lies in the pipe by this port, at most so many bytes, or else its end; `None` if neither is there, or
+    /// there is no such pipe. If that is all, it takes no memory.
+    pub fn take(&mut self, alloc: Global, port: Port, most: usize) -> Result<Option<Taken>, Memory>
+        ensures came { IfOk result (λ what. told what ≡ offered most (pipe_of self.old port)) }
+        ensures pipes { IfOk result (λ what. (at : Gate)
+            → pipe_of self.new at ≡ change_at port (left_by (told what)) (pipe_of self.old) at) }
+        ensures tenants { (d : ℕ) → tenant_of self.new d ≡ tenant_of self.old d }
+        ensures ok { length (pipe_of self.old port).bytes ≤ most → IsOk result }
+        ensures err { OnErr result ((at : Gate) → pipe_of self.new at ≡ pipe_of self.old at) }
+    {
+        match port {
+            Port::Input => self.input.take(alloc, most),
+            Port::Clean => self.clean.take(alloc, most),
+            Port::Lspawn => self.lspawn.take(alloc, most),
+            Port::Rspawn => self.rspawn.take(alloc, most),
+            Port::Program(slot) => match self.slots.get_mut(slot as usize) {
+                Some(slot) => slot.output.take(alloc, most),
+                None => Ok(None),
+            },
+            Port::Output | Port::Todo | Port::Status(_) => Ok(None),
+        }
+    }
+
+    /// Nothing more will come by this port. Takes no memory. The condition: there is such a pipe.
+    pub fn close(&mut self, port: Port)
+        requires { HasPipe self.old port }
+        ensures pipes { (at : Gate) → pipe_of self.new at ≡ change_at port closed (pipe_of self.old) at }
+        ensures tenants { (d : ℕ) → tenant_of self.new d ≡ tenant_of self.old d }
+    {
+        match port {
+            Port::Input => self.input.close(),
+            Port::Clean => self.clean.close(),
+            Port::Lspawn => self.lspawn.close(),
+            Port::Rspawn => self.rspawn.close(),
+            Port::Program(slot) => self.slots[slot as usize].output.close(),
+            Port::Output | Port::Todo | Port::Status(_) => unreachable!(),
+        }
+    }
+
+    /// Nothing lies in any pipe, and no program is in a slot. Takes no memory.
+    pub fn clear(&mut self)
+        ensures pipes { (at : Gate) → pipe_of self.new at ≡ fresh }
+        ensures tenants { (d : ℕ) → tenant_of self.new d ≡ None }
+        ensures slots { length self.new.slots.items ≡ length self.old.slots.items }
+    {
+        self.input.clear();
+        self.clean.clear();
+        self.lspawn.clear();
+        self.rspawn.clear();
+        clear_all(&mut self.slots);
+    }
+
+    /// A remote program starts in this slot, and has given nothing. Takes no memory. The condition: there is such a slot.
+    pub fn start(&mut self, slot: u8)
+        requires { slot < length self.old.slots.items }
+        ensures pipes { (at : Gate) → pipe_of self.new at ≡ change_at (Program slot) (λ _. fresh) (pipe_of self.old) at }
+        ensures tenants { (d : ℕ) → tenant_of self.new d ≡ (if d == slot then Some (Remote false) else tenant_of self.old d) }
+    {
+        self.slots[slot as usize].start();
+    }
+
+    /// The remote program in this slot has ended: its report came. Takes no memory. The condition: there is such a slot.
+    pub fn end(&mut self, slot: u8)
+        requires { slot < length self.old.slots.items }
+        ensures pipes { (at : Gate) → pipe_of self.new at ≡ pipe_of self.old at }
+        ensures tenants { (d : ℕ) → tenant_of self.new d ≡ (if d == slot then Some (Remote true) else tenant_of self.old d) }
+    {
+        self.slots[slot as usize].reported = Some(true);
+    }
+
+    /// No program is in this slot any more; what it gave stays. Takes no memory. The condition: there is such a slot.
+    pub fn free(&mut self, slot: u8)
+        requires { slot < length self.old.slots.items }
+        ensures pipes { (at : Gate) → pipe_of self.new at ≡ pipe_of self.old at }
+        ensures tenants { (d : ℕ) → tenant_of self.new d ≡ (if d == slot then None else tenant_of self.old d) }
+    {
+        self.slots[slot as usize].reported = None;
+    }
+}
+
+/// No program is in any slot, and nothing lies in any output.
+fn clear_all(slots: &mut [Slot])
+    ensures each { All IsVacant slots.new }
+    ensures many { length slots.new ≡ length slots.old }
+{
+    for slot in slots.iter_mut() {
+        slot.clear();
+    }
+}
+
+/// So many slots without programs.
+fn vacant(alloc: Global, count: u16) -> Result<Vec<Slot>, Memory>
+    ensures each { IfOk result (λ slots. All IsVacant slots.items) }
+    ensures many { IfOk result (λ slots. length slots.items ≡ count) }
+{
+    let mut slots = Vec::new(alloc);
+    for _ in 0..count {
+        slots.push(Slot::new(alloc))?;
+    }
+    Ok(slots)
+}
