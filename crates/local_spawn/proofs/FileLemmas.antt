@@ -1,7 +1,7 @@
 -- A file, line by line.
-use Rattle.std.proofs.Common.{◌≡◌, ◌≢◌, ◌⊎◌, ℕ, ◌+◌, ◌-◌, ◌<◌, ◌≤◌, List, [], ◌∷◌, ◌++◌, length, get_or, take, drop, Bool, true, false, Option, Some, None, eqb, ltb, refl, sym, ap, ◌∙◌, subst, inl, inr, ⊎_elim, arith, add-one, append_assoc, append-nil, length-append}
-use Rattle.std.specs.Prelude.{All, MatchOption}
-use Rattle.std.specs.List.{flat_map, position, position_or_len}
+use Rattle.std.proofs.Common.{◌≡◌, ◌≢◌, ℕ, ◌+◌, ◌-◌, ◌<◌, ◌≤◌, List, [], ◌∷◌, ◌++◌, length, get_or, take, drop, false, Option, Some, None, eqb, ltb, refl, sym, ap, ◌∙◌, subst, inl, inr, ⊎_elim, arith, add-one, append_assoc, append-nil}
+use Rattle.std.specs.Prelude.{All}
+use Rattle.std.specs.List.{position, position_or_len}
 use Rattle.std.proofs.Math.Seq.{split_at}
 use Rattle.std.proofs.lemmas.Bool.{cases_Bool, cond-true, eqb-true, eqb-false, ltb-false}
 use Rattle.std.proofs.lemmas.List.{get_or-take, length-drop, length-take, take_all, flat_map_more}

@@ -1,11 +1,11 @@
 -- The best line so far, and that a local part belongs to one line.
-use Rattle.std.proofs.Common.{◌≡◌, ◌≢◌, ◌⊎◌, ℕ, ◌+◌, ◌<◌, ◌≤◌, List, length, Option, Some, None, refl, sym, ap, ◌∙◌, subst, inl, inr, ⊎_elim, arith}
+use Rattle.std.proofs.Common.{◌≡◌, ◌≢◌, ℕ, ◌+◌, ◌<◌, ◌≤◌, List, length, Option, Some, None, refl, sym, ap, ◌∙◌, subst, ⊎_elim, arith}
 use Rattle.std.specs.Prelude.{MatchOption, slice_get}
 use Rattle.std.proofs.lemmas.Bool.{cases_lt, cases_eq}
 use Rattle.std.proofs.lemmas.Option.{slice_get_within}
 use Rattle.local_spawn.specs.declared.assign.Assignment.{Assignment}
 use Rattle.local_spawn.specs.declared.finding.Found.{Found}
-use Rattle.local_spawn.specs.Finding.{Becomes, BeginsFor, IsBest, IsFirstFor, IsFor, IsForNobody, IsFound, IsLongestFor, NoneBegins, NoneIsFor}
+use Rattle.local_spawn.specs.Finding.{Becomes, BeginsFor, IsBest, IsFirstFor, IsFor, IsForNobody, IsFound, IsLongestFor, NoneIsFor}
 use Rattle.local_spawn.specs.Finding.Becomes.{Stays, IsAsLong, IsLonger}
 use Rattle.local_spawn.specs.Finding.IsFound.{ByName, ByBeginning}
 

@@ -10,3 +10,7 @@ pub mod FileLaws
 pub mod FindingLemmas
 -- what a local spawner can ask for
 pub mod Asks
+-- each request has its report, or its report is due
+pub mod Reports
+-- why it has ended
+pub mod Ends

@@ -1,5 +1,5 @@
 -- A line of users/assign (qmail-users(5)): `=LOCAL:USER:UID:GID:HOME:DASH:EXT:`, or with `+` and how local parts begin.
-use Rattle.std.specs.Prelude.{◌≡◌, ◌≢◌, ℕ, ◌<◌, ◌^◌, List, [], ◌∷◌, ◌++◌, All, Option, Some, None, if◌then◌else◌, ◌==◌, nat_lt}
+use Rattle.std.specs.Prelude.{◌≢◌, ℕ, ◌<◌, ◌^◌, List, [], ◌∷◌, ◌++◌, All, Option, Some, None, if◌then◌else◌, ◌==◌, nat_lt}
 use Rattle.std.specs.List.{slice_split}
 use Rattle.std.specs.Option.{option_and_then}
 use Rattle.mail_bytes.specs.Decimal.{digits, number_of}

@@ -10,3 +10,7 @@ pub mod Finding
 pub mod Table
 -- which local spawner stands for which past
 pub mod Stands
+-- why a local spawner has ended, and what it tells of its requests
+pub mod Causes
+-- worked runs
+pub mod Worked

@@ -9,6 +9,9 @@
 //! The contract of the rules: `Assign::read` reads exactly the files of the grammar, and names the first line that isn't of it;
 //! `find` finds the line that a local part belongs to, in one walk over the lines and without memory; `letter_of_status` gives the
 //! letter of each status. `files_are_exact` and `users_are_exact` say that a file has one reading, and a local part one line.
+//!
+//! `statuses_have_causes` says with which exit status the program ends and why, and `requests_have_reports` that it gives one report
+//! for each request, in their order.
 #![tactic(auto)]
 
 mod assign;
@@ -25,7 +28,9 @@ mod steps;
 pub use assign::{Assign, Assignment};
 pub use finding::{Found, find};
 pub use kinds::Kind;
-pub use laws::{files_are_exact, users_are_exact};
+pub use laws::{
+    files_are_exact, requests_have_reports, statuses_have_causes, users_are_exact, worked_runs,
+};
 pub use letters::letter_of_status;
 pub use machine::LocalSpawn;
 pub use place::Place;

@@ -16,3 +16,9 @@ pub mod Hears
 pub mod Reasons
 -- a failed give or taking ends it
 pub mod Failures
+-- how often slots are asked for and run
+pub mod Tallies
+-- each request has its report, a program, or is at work
+pub mod Balance
+-- what became of the requests of a past
+pub mod Settled

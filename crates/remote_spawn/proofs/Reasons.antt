@@ -38,7 +38,7 @@ use Rattle.remote_spawn.proofs.Hears.{Heard, Hears, HearsIn, more_heard, pull_he
 
 -- What may come of gives, takings and starts
 
-by_give : (to : Port) (bytes : List ℕ) (P : GotData → Type 0) → P came.Gave → P came.Failed → (got : GotData) → MayCome (needs.Give to bytes) got → P got
+pub by_give : (to : Port) (bytes : List ℕ) (P : GotData → Type 0) → P came.Gave → P came.Failed → (got : GotData) → MayCome (needs.Give to bytes) got → P got
 by_give to bytes P well ill came.Gave may = well
 by_give to bytes P well ill came.Failed may = ill
 by_give to bytes P well ill (came.Answered told) may = absurd may
@@ -49,7 +49,7 @@ by_give to bytes P well ill came.Crashed may = absurd may
 by_give to bytes P well ill (came.Started pid) may = absurd may
 by_give to bytes P well ill came.Memory may = absurd may
 
-by_input : (P : GotData → Type 0) → ((bytes : List ℕ) → P (came.Took bytes)) → P came.End → P came.Failed → (got : GotData) → MayCome (needs.Take port.Input) got → P got
+pub by_input : (P : GotData → Type 0) → ((bytes : List ℕ) → P (came.Took bytes)) → P came.End → P came.Failed → (got : GotData) → MayCome (needs.Take port.Input) got → P got
 by_input P more end ill (came.Took bytes) may = more bytes
 by_input P more end ill came.End may = end
 by_input P more end ill came.Failed may = ill
@@ -60,7 +60,7 @@ by_input P more end ill came.Crashed may = absurd may
 by_input P more end ill (came.Started pid) may = absurd may
 by_input P more end ill came.Memory may = absurd may
 
-by_program : (slot : ℕ) (P : GotData → Type 0) → ((bytes : List ℕ) → P (came.Took bytes)) → P came.End → P came.Failed → (got : GotData) → MayCome (needs.Take (port.Program slot)) got → P got
+pub by_program : (slot : ℕ) (P : GotData → Type 0) → ((bytes : List ℕ) → P (came.Took bytes)) → P came.End → P came.Failed → (got : GotData) → MayCome (needs.Take (port.Program slot)) got → P got
 by_program slot P more end ill (came.Took bytes) may = more bytes
 by_program slot P more end ill came.End may = end
 by_program slot P more end ill came.Failed may = ill
@@ -71,7 +71,7 @@ by_program slot P more end ill came.Crashed may = absurd may
 by_program slot P more end ill (came.Started pid) may = absurd may
 by_program slot P more end ill came.Memory may = absurd may
 
-by_start : (program : ChildData) (P : GotData → Type 0) → ((pid : ℕ) → P (came.Started pid)) → P came.Failed → P came.Memory → (got : GotData) → MayCome (needs.Start program) got → P got
+pub by_start : (program : ChildData) (P : GotData → Type 0) → ((pid : ℕ) → P (came.Started pid)) → P came.Failed → P came.Memory → (got : GotData) → MayCome (needs.Start program) got → P got
 by_start program P well ill memory (came.Started pid) may = well pid
 by_start program P well ill memory came.Failed may = ill
 by_start program P well ill memory came.Memory may = memory
@@ -197,15 +197,15 @@ module _ (runs : List Bool) (bytes : List ℕ) (ended : Bool) (p : Place) (same 
 
 -- What is known after a past
 
-abbrev Kept : List Own → Row → Type 0
+abbrev pub Kept : List Own → Row → Type 0
 Kept past at.TakeInput = ⊥
 Kept past (at.Ended status) = IsFailed past status
 Kept past row = Unit {0}
 
-record Knows (past : List Own) (p : Place) : Type 0 where
-  kept : Kept past p.row
-  running : p.running ≡ programs past
-  hears : HearsIn p.inbox (taken past) (has_end past)
+pub record Knows (past : List Own) (p : Place) : Type 0 where
+  pub kept : Kept past p.row
+  pub running : p.running ≡ programs past
+  pub hears : HearsIn p.inbox (taken past) (has_end past)
 
 -- where a step comes from
 abbrev Comes : List Own → Place → Row → Type 0
@@ -288,7 +288,7 @@ kept_of event before (at.Ended code) k = k
 none_heard : Heard [] []
 none_heard = record { requests = []; whole = All-nil IsRequest; text = refl }
 
-knows : (args : Unit {0}) (past : List Own) → IsRunBy (Next args) past → Knows past (place_after past)
+pub knows : (args : Unit {0}) (past : List Own) → IsRunBy (Next args) past → Knows past (place_after past)
 knows args [] run = record { kept = tt; running = refl; hears = none_heard }
 knows args (event ∷ before) run =
     let p : Place = place_after before in

@@ -12,3 +12,5 @@ pub mod Stands
 pub mod Worked
 -- why a remote spawner has ended
 pub mod Causes
+-- how many requests there were, and what became of them
+pub mod Counts

@@ -8,6 +8,9 @@
 //! `letter_of` and `report_of` give exactly the report of a program's end. `reports_are_exact` says which one that is, and
 //! `successes_are_told` that a success is told only if the program told it: it exited with 0, its message report begins
 //! with `K`, and its output with neither `s` nor `h`.
+//!
+//! `statuses_have_causes` says with which exit status it ends and why, and `requests_have_reports` that each request has one report,
+//! and a bad one no program.
 #![tactic(auto)]
 
 mod asked;
@@ -19,7 +22,9 @@ mod reports;
 mod row;
 mod steps;
 
-pub use laws::{reports_are_exact, statuses_have_causes, successes_are_told, worked_runs};
+pub use laws::{
+    reports_are_exact, requests_have_reports, statuses_have_causes, successes_are_told, worked_runs,
+};
 pub use machine::RemoteSpawn;
 pub use place::{Place, SLOTS};
 pub use reports::{letter_of, report_of};

@@ -1,5 +1,6 @@
 use Rattle.remote_spawn.proofs.Failures.{failed}
 use Rattle.remote_spawn.proofs.Reasons.{ends}
+use Rattle.remote_spawn.proofs.Settled.{settles}
 use Rattle.remote_spawn.proofs.laws.statuses_have_causes.Goals as goal
 
 pub returns-clause-ends : goal.returns-clause-ends
@@ -7,3 +8,6 @@ returns-clause-ends c = ends
 
 pub returns-clause-fails : goal.returns-clause-fails
 returns-clause-fails c = failed
+
+pub returns-clause-settles : goal.returns-clause-settles
+returns-clause-settles c = settles

@@ -1,0 +1,2 @@
+-- a drop that runs over a disk
+pub mod Running

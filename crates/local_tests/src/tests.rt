@@ -1,0 +1,4 @@
+mod choices;
+mod drops;
+mod paths;
+mod plans;

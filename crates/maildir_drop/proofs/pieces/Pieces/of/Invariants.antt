@@ -1,0 +1,6 @@
+use Rattle.std.proofs.Common.{◌≡◌, take}
+use Rattle.maildir_drop.specs.Pieces.{joined}
+use Rattle.maildir_drop.proofs.pieces.Pieces.of.Given as goal
+
+abbrev pub invariant-loop-block : goal.invariant-loop-block
+invariant-loop-block l = l.cutter ≡ joined (take l.block-index l.blocks)

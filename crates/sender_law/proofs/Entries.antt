@@ -1,0 +1,285 @@
+-- A taking: each report enters its recipient, or nothing.
+use Rattle.std.proofs.Common.{◌≡◌, ◌⊎◌, inl, inr, ℕ, ◌≤◌, ◌<◌, List, [], ◌∷◌, length, Bool, true, false, Option, Some, None, refl, sym, ap, ◌∙◌, subst, ⊎_elim, arith}
+use Rattle.std.specs.Prelude.{◌==◌, if◌then◌else◌, nat_lt, All, Contains, IfSome}
+use Rattle.std.specs.Option.{option_map}
+use Rattle.std.proofs.lemmas.Bool.{cases_lt}
+use Rattle.std.proofs.lemmas.List.{get_or_default, get_or_past}
+use Rattle.std.proofs.lemmas.List.Elements.{All-weaker}
+use Rattle.address_rules.specs.declared.controls.Controls.{Controls}
+use Rattle.address_rules.specs.Nuls.{HaveNoNul}
+use Rattle.call_fs.specs.declared.past.GotData.{GotData}
+use Rattle.call_fs.specs.Disk.{Among}
+use Rattle.call_fs.proofs.Maps.{put_cases, put_same}
+use Rattle.envelope_records.specs.declared.channel.Record.{Record}
+use Rattle.queue_paths.specs.Names.{Part}
+use Rattle.queue_paths.specs.Names.Name.{Of}
+use Rattle.queue_paths.specs.Names.Part.{Todo, Info}
+use Rattle.send_core.specs.declared.desk.Desk.{Desk}
+use Rattle.send_core.specs.declared.row.Row.TheVariants as at
+use Rattle.send_core.specs.Desk.{deferred, due_on, link, settle, told, told_all, told_by, waits, with_reader}
+use Rattle.send_core.specs.Turn.{after_take, lost, took}
+use Rattle.send_jobs.specs.declared.attempts.Attempt.{Attempt}
+use Rattle.send_jobs.specs.declared.attempts.Mark.{Mark}
+use Rattle.send_jobs.specs.declared.channels.Channel.{Channel}
+use Rattle.send_jobs.specs.declared.channels.Channel.TheVariants.{Local, Remote}
+use Rattle.send_jobs.specs.declared.lane.Lane.{Lane}
+use Rattle.send_jobs.specs.Jobs.{job_of}
+use Rattle.send_jobs.specs.Lanes.{job_over, left_unmarked, owes, reported}
+use Rattle.send_jobs.specs.Sending.{at_lane, lane}
+use Rattle.send_jobs.specs.Slots.{attempt_in}
+use Rattle.send_known.specs.declared.known.Known.{Known}
+use Rattle.send_known.specs.declared.messages.Messages.{Messages}
+use Rattle.send_steps.specs.declared.reply.Way.{Way}
+use Rattle.send_steps.specs.declared.reply.Way.TheVariants as way
+use Rattle.send_steps.specs.Replies.{said}
+use Rattle.spawn_protocol.specs.declared.report.Report.{Report}
+use Rattle.spawn_protocol.specs.Report.{Reader, counted, read_on}
+use Rattle.channel_law.specs.Files.{IsOpen}
+use Rattle.channel_law.specs.Tied.{in_hand, is_slot_at}
+use Rattle.channel_law.specs.Tied.First.{Unwritten}
+use Rattle.channel_law.proofs.Counts.{contained_counts, head_or_tail, not_in_none}
+use Rattle.channel_law.proofs.Ties.{at_itself, others_kept}
+use Rattle.queue_law.specs.Ledgers.{Spot}
+use Rattle.queue_law.specs.Books.{Injection, with_delivered}
+use Rattle.queue_law.specs.Routes.{lane_part, sender_of, spot_of}
+use Rattle.queue_law.specs.Numbers.{Queue, look, about, IsPreprocessed, Sound}
+use Rattle.queue_law.specs.Senders.{HasLane, LeadsOn, MayEnter, entered_queue}
+use Rattle.queue_law.proofs.Readings.{records_are}
+use Rattle.queue_law.proofs.Sends.{entries_keep, lane_there, sorted_of_lane}
+use Rattle.sender_law.specs.Views.{files_of, records_at}
+use Rattle.sender_law.specs.Knows.{IsEntered, IsKnown, IsSettledIn, Serves}
+use Rattle.sender_law.specs.Rows.{RowStands}
+use Rattle.sender_law.specs.Stands.{Stands, StandsAt, SenderStands}
+use Rattle.sender_law.specs.Takings.{AllLead, LeadBy, TakingLeads, entered_all, entered_by, entered_if, entered_one, taken_by}
+use Rattle.sender_law.proofs.Desks.{OnDesk, on_of, retried_on, stand}
+use Rattle.sender_law.proofs.Lanes.{AllServe, OnLane, lane_on, left_on, owed_on}
+use Rattle.sender_law.proofs.Others.{the_job}
+use Rattle.sender_law.proofs.Texts.{they_are}
+
+pub among_of : {A : Type 0} (xs : List A) (x : A) → Contains xs x → Among x xs
+among_of [] x w = absurd (not_in_none x w)
+among_of (y ∷ xs) x w = ⊎_elim (λ e. inl (sym e)) (λ more. inr (among_of xs x more)) (head_or_tail y x xs w)
+
+-- Ledgers grow, and nothing else changes
+
+pub record Grows (q r : Queue) : Type 0 where
+  pub looks : (part : Part) (n : ℕ) → look r (Of part n) ≡ look q (Of part n)
+  pub lives : (n : ℕ) (i : Injection) → q.books.living n ≡ Some i
+      → (j : Injection) × (r.books.living n ≡ Some j) × (j.args ≡ i.args) × ((t : Spot) → Among t i.ledger.delivered → Among t j.ledger.delivered)
+
+one_grown : (q : Queue) (n : ℕ) (s : Spot) → Grows q (entered_queue q n s)
+one_grown q n s = record {
+  looks = λ part n. refl;
+  lives = λ k i e.
+      let v : Option Injection = option_map (with_delivered s) (q.books.living n) in
+      ⊎_elim
+      (λ c.
+      let old : q.books.living n ≡ Some i = ap q.books.living (sym c.0) ∙ e in
+      (with_delivered s i, c.1 ∙ ap (option_map (with_delivered s)) old, refl, λ t w. inr w))
+      (λ c. (i, c.1 ∙ e, refl, λ t w. w))
+      (put_cases q.books.living n v k);
+}
+
+module _ (q r : Queue) (g : Grows q r) where
+  pub settled_grown : (n : ℕ) (h : IsSettledIn (about q n)) → (k : IsSettledIn (about r n)) × (k.injection.args ≡ h.injection.args)
+  settled_grown n h =
+      let w = g.lives n h.injection h.lives in
+      (record { no_todo = g.looks Todo n ∙ h.no_todo; info = h.info; info_there = g.looks Info n ∙ h.info_there; injection = w.0; lives = w.1 }, w.2)
+
+  pub known_grown : (k : Known) → IsKnown (about q k.n) k → IsKnown (about r k.n) k
+  known_grown k h =
+      let s = settled_grown k.n h.sorted in
+      record {
+        sorted = s.0;
+        sender_is = h.sender_is ∙ ap sender_of (sym s.1);
+        gone = λ ch e. g.looks (lane_part ch) k.n ∙ h.gone ch e;
+      }
+
+  pub serves_grown : (n : ℕ) (ch : Channel) → Serves (about q n) ch → Serves (about r n) ch
+  serves_grown n ch h = record { sorted = (settled_grown n h.sorted).0; file = h.file; there = g.looks (lane_part ch) n ∙ h.there }
+
+  pub entered_grown : (n : ℕ) (ch : Channel) (place : ℕ) → IsEntered (about q n) ch place → IsEntered (about r n) ch place
+  entered_grown n ch place h =
+      let w = g.lives n h.injection h.lives in
+      record { injection = w.0; lives = w.1; delivered = w.3 (record { channel = ch; place = place }) h.delivered }
+
+  pub lane_grown : (ch : Channel) (l : Lane) → OnLane q ch l → OnLane r ch l
+  lane_grown ch l h = record {
+    tied = others_kept (files_of q ch) (files_of r ch) Unwritten l h.tied (λ n _. ap records_at (g.looks (lane_part ch) n));
+    jobs = λ n job e. serves_grown n ch (h.jobs n job e);
+    marks = All-weaker (λ (m : Mark). IsEntered (about q m.attempt.n) ch m.attempt.place) (λ (m : Mark). IsEntered (about r m.attempt.n) ch m.attempt.place)
+        (λ m. entered_grown m.attempt.n ch m.attempt.place) l.marks h.marks;
+  }
+
+  pub known_all : (m : Messages) → All (λ (k : Known). IsKnown (about q k.n) k) m.known → All (λ (k : Known). IsKnown (about r k.n) k) m.known
+  known_all m h = All-weaker (λ (k : Known). IsKnown (about q k.n) k) (λ (k : Known). IsKnown (about r k.n) k) known_grown m.known h
+
+  pub due_all : (m : Messages) → AllServe q m → AllServe r m
+  due_all m h ch = All-weaker (λ (e : ℕ × ℕ). Serves (about q e.1) ch) (λ (e : ℕ × ℕ). Serves (about r e.1) ch) (λ e. serves_grown e.1 ch) (due_on ch m) (h ch)
+
+-- An attempt in flight
+
+inside : (slots : List (Option Attempt)) (slot : ℕ) (a : Attempt) → attempt_in slots slot ≡ Some a → slot < length slots
+inside slots slot a there = ⊎_elim
+    (λ lt. lt)
+    (λ ge. let free : attempt_in slots slot ≡ None = get_or_past slots slot None ge in absurd (cc))
+    (cases_lt slot (length slots))
+
+in_slot : (slots : List (Option Attempt)) (slot : ℕ) (a : Attempt) → attempt_in slots slot ≡ Some a → Contains slots (Some a)
+in_slot slots slot a there = (slot, inside slots slot a there, get_or_default slots slot (Some a) None (inside slots slot a there) ∙ there)
+
+flies : (q : Queue) (ch : Channel) (l : Lane) → OnLane q ch l → (slot : ℕ) (a : Attempt) → attempt_in l.slots slot ≡ Some a → Serves (about q a.n) ch
+flies q ch l h slot a there =
+    let one = contained_counts (is_slot_at a.n a.place) l.slots (Some a) (in_slot l.slots slot a there) (at_itself a) in
+    let held : 1 ≤ in_hand Unwritten a.n a.place l = omega (arith, one) in
+    let job = the_job (job_of a.n l.jobs) (h.tied.owned a.n a.place held) in
+    h.jobs a.n job.0 job.1
+
+-- its record is that of a recipient, which may be entered
+may_enter : (controls : Controls) (q : Queue) (ch : Channel) (l : Lane) → HaveNoNul controls → Sound controls q → OnLane q ch l
+    → (slot : ℕ) (a : Attempt) → attempt_in l.slots slot ≡ Some a → MayEnter controls (about q a.n) (record { channel = ch; place = a.place })
+may_enter controls q ch l none G h slot a there =
+    let serves = flies q ch l h slot a there in
+    let unmarked : IsOpen (files_of q ch) a = subst (λ s. IfSome s (IsOpen (files_of q ch))) there (h.tied.in_flight slot None (inside l.slots slot a there)) in
+    let lane : HasLane (about q a.n) ch = record {
+      no_todo = serves.sorted.no_todo;
+      file = serves.file;
+      there = serves.there;
+      injection = serves.sorted.injection;
+      lives = serves.sorted.lives;
+    } in
+    let pre : IsPreprocessed controls (about q a.n) = sorted_of_lane controls (about q a.n) ch (G.fine a.n) lane in
+    let i : Injection = pre.taken.injection in
+    let marked = lane_there controls (about q a.n) i ch serves.file serves.there (pre.lanes ch) in
+    let read = sym (ap records_at serves.there) ∙ unmarked.there in
+    let are = they_are serves.file.file.bytes unmarked.records read in
+    let of = records_are controls i ch serves.file.file.bytes unmarked.records none pre.taken.valid pre.taken.spots marked.present are in
+    let it : Record = record { done = false; place = a.place; address = a.address } in
+    let one = of.each it (among_of unmarked.records it unmarked.reads) in
+    let at_place : a.place ≡ (spot_of controls i.args one.0).place = one.1.place_is in
+    let same : ◌≡◌ {A = Spot} (record { channel = ch; place = a.place }) (spot_of controls i.args one.0) =
+    ap (λ (c : Channel). record { channel = c; place = a.place }) (sym one.1.on) ∙ ap (λ (p : ℕ). record { channel = (spot_of controls i.args one.0).channel; place = p }) at_place in
+    record {
+      mess = pre.taken.mess;
+      there = pre.taken.mess_there;
+      injection = i;
+      lives = pre.taken.lives;
+      accepted = pre.taken.accepted;
+      spot = (one.0, same);
+    }
+
+-- What a report leads to, over a queue
+
+module _ (controls : Controls) where
+  deferred_on : (q : Queue) (c : Channel) (slot : ℕ) (a : Attempt) (d : Desk) → OnDesk controls q d → attempt_in (lane c d.slots).slots slot ≡ Some a
+      → OnDesk controls q (deferred c a.n (record d { slots = at_lane c (reported slot) d.slots }))
+  deferred_on q Local slot a d h there =
+      let after : Desk = record d { slots = at_lane Local (left_unmarked a.n) (at_lane Local (reported slot) d.slots) } in
+      let f : Lane → Lane = λ l. left_unmarked a.n (reported slot l) in
+      let on : OnDesk controls q after = record { known = h.known; due = h.due; controls_are = h.controls_are; lanes = lane_on q Local f d.slots h.lanes (left_on q Local d.slots.local (h.lanes Local) slot a there) } in
+      retried_on controls q Local a.n (job_over a.n after.slots.local) after refl on
+  deferred_on q Remote slot a d h there =
+      let after : Desk = record d { slots = at_lane Remote (left_unmarked a.n) (at_lane Remote (reported slot) d.slots) } in
+      let f : Lane → Lane = λ l. left_unmarked a.n (reported slot l) in
+      let on : OnDesk controls q after = record { known = h.known; due = h.due; controls_are = h.controls_are; lanes = lane_on q Remote f d.slots h.lanes (left_on q Remote d.slots.remote (h.lanes Remote) slot a there) } in
+      retried_on controls q Remote a.n (job_over a.n after.slots.remote) after refl on
+
+  waits_on : (q : Queue) (c : Channel) (slot : ℕ) (a : Attempt) (d : Desk) → OnDesk controls q d → attempt_in (lane c d.slots).slots slot ≡ Some a
+      → IsEntered (about q a.n) c a.place → OnDesk controls q (waits c a (record d { slots = at_lane c (reported slot) d.slots }))
+  waits_on q Local slot a d h there entered =
+      let m : Mark = record { attempt = a; note = None } in
+      let f : Lane → Lane = λ l. owes m (reported slot l) in
+      record { known = h.known; due = h.due; controls_are = h.controls_are; lanes = lane_on q Local f d.slots h.lanes (owed_on q Local d.slots.local (h.lanes Local) slot a m there refl entered) }
+  waits_on q Remote slot a d h there entered =
+      let m : Mark = record { attempt = a; note = None } in
+      let f : Lane → Lane = λ l. owes m (reported slot l) in
+      record { known = h.known; due = h.due; controls_are = h.controls_are; lanes = lane_on q Remote f d.slots h.lanes (owed_on q Remote d.slots.remote (h.lanes Remote) slot a m there refl entered) }
+
+module _ (controls : Controls) (now : ℕ) (a : List ℕ) (none : HaveNoNul controls) where
+  pub record Step (q r : Queue) (next : Desk) : Type 0 where
+    pub leads : (r ≡ q) ⊎ ((n : ℕ) × LeadsOn controls now a (Some n) q r)
+    pub sound : Sound controls r
+    pub on : OnDesk controls r next
+
+  if_room : (q : Queue) (c : Channel) (slot : ℕ) (t : Attempt) (d : Desk) (b : Bool) → OnDesk controls q d → attempt_in (lane c d.slots).slots slot ≡ Some t
+      → IsEntered (about q t.n) c t.place
+      → OnDesk controls q (if b then waits c t (record d { slots = at_lane c (reported slot) d.slots }) else deferred c t.n (record d { slots = at_lane c (reported slot) d.slots }))
+  if_room q c slot t d true h there entered = waits_on controls q c slot t d h there entered
+  if_room q c slot t d false h there entered = deferred_on controls q c slot t d h there
+
+  settled_on : (q : Queue) (c : Channel) (slot : ℕ) (t : Attempt) (d : Desk) (b : Bool) → Sound controls q → OnDesk controls q d → attempt_in (lane c d.slots).slots slot ≡ Some t
+      → Step q (entered_if b c t q) (settle b c t (record d { slots = at_lane c (reported slot) d.slots }))
+  settled_on q c slot t d true G h there =
+      let may = may_enter controls q c (lane c d.slots) none G (h.lanes c) slot t there in
+      let s : Spot = record { channel = c; place = t.place } in
+      let r : Queue = entered_queue q t.n s in
+      let leads = entries_keep controls now q a G t.n s may in
+      let g = one_grown q t.n s in
+      let on : OnDesk controls r d = record { known = known_all q r g d.book.messages h.known; due = due_all q r g d.book.messages h.due; controls_are = h.controls_are; lanes = λ ch. lane_grown q r g ch (lane ch d.slots) (h.lanes ch) } in
+      let w = g.lives t.n may.injection may.lives in
+      let v : Option Injection = option_map (with_delivered s) (q.books.living t.n) in
+      let lives : r.books.living t.n ≡ Some (with_delivered s may.injection) = put_same q.books.living t.n v ∙ ap (option_map (with_delivered s)) may.lives in
+      let entered : IsEntered (about r t.n) c t.place = record { injection = with_delivered s may.injection; lives = lives; delivered = inl refl } in
+      record {
+        leads = inr (t.n, leads);
+        sound = leads.sound;
+        on = if_room r c slot t d (nat_lt (length (lane c (at_lane c (reported slot) d.slots)).marks) 120) on there entered;
+      }
+  settled_on q c slot t d false G h there = record { leads = inl refl; sound = G; on = deferred_on controls q c slot t d h there }
+
+  told_on : (q : Queue) (c : Channel) (r : Report) (d : Desk) (o : Option Attempt) → attempt_in (lane c d.slots).slots r.slot ≡ o → Sound controls q → OnDesk controls q d
+      → Step q (entered_by o c r q) (told_by o c r d)
+  told_on q c r d None e G h = record { leads = inl refl; sound = G; on = h }
+  told_on q c r d (Some t) e G h = settled_on q c r.slot t d (counted r.letter == 75) G h e
+
+  pub record Steps (c : Channel) (rs : List Report) (d : Desk) (q : Queue) : Type 0 where
+    pub lead : AllLead controls now a c rs d q
+    pub sound : Sound controls (entered_all c rs d q)
+    pub on : OnDesk controls (entered_all c rs d q) (told_all c rs d)
+
+  told_all_on : (c : Channel) (rs : List Report) (d : Desk) (q : Queue) → Sound controls q → OnDesk controls q d → Steps c rs d q
+  told_all_on c [] d q G h = record { lead = tt; sound = G; on = h }
+  told_all_on c (r ∷ rs) d q G h =
+      let one = told_on q c r d (attempt_in (lane c d.slots).slots r.slot) refl G h in
+      let more = told_all_on c rs (told c r d) (entered_one c r d q) one.sound one.on in
+      record { lead = (one.leads, more.lead); sound = more.sound; on = more.on }
+
+  with_reader_on : (q : Queue) (c : Channel) (reader : Reader) (d : Desk) → OnDesk controls q d → OnDesk controls q (with_reader c reader d)
+  with_reader_on q Local reader d h = record { known = h.known; due = h.due; lanes = h.lanes; controls_are = h.controls_are }
+  with_reader_on q Remote reader d h = record { known = h.known; due = h.due; lanes = h.lanes; controls_are = h.controls_are }
+
+  point_rests : (q : Queue) (c : Channel) (d : Desk) → RowStands controls now q a (at.Turn (after_take c)) d.book d.slots d.pass
+  point_rests q Local d = tt
+  point_rests q Remote d = tt
+
+  pub lost_on : (q : Queue) (c : Channel) (d : Desk) → OnDesk controls q d → Stands controls now q a (lost c) d.book d.slots d.pass
+  lost_on q Local d h = stand controls now q a (at.Ended 82) d (record { first = λ ch. refl; controls_read = tt }) h tt
+  lost_on q Remote d h = stand controls now q a (at.Ended 83) d (record { first = λ ch. refl; controls_read = tt }) h tt
+
+  pub record Taken (q : Queue) (c : Channel) (d : Desk) (w : Way) (bytes : List ℕ) : Type 0 where
+    pub lead : LeadBy controls now a w c bytes d q
+    pub sound : Sound controls (taken_by w c bytes d q)
+    pub stands : SenderStands controls now (taken_by w c bytes d q) a (took w bytes c d)
+
+  taken_on : (q : Queue) (c : Channel) (d : Desk) (w : Way) (bytes : List ℕ) → Sound controls q → OnDesk controls q d → Taken q c d w bytes
+  taken_on q c d way.Fine bytes G h =
+      let it = read_on (link c d).reader bytes in
+      let all = told_all_on c it.0 (with_reader c it.1 d) q G (with_reader_on q c it.1 d h) in
+      let next : Desk = told_all c it.0 (with_reader c it.1 d) in
+      let r : Queue = entered_all c it.0 (with_reader c it.1 d) q in
+      record {
+        lead = all.lead;
+        sound = all.sound;
+        stands = stand controls now r a (at.Turn (after_take c)) next (record { first = λ ch. refl; controls_read = tt }) all.on (point_rests r c next);
+      }
+  taken_on q c d way.Over bytes G h = record { lead = tt; sound = G; stands = lost_on q c d h }
+  taken_on q c d way.Absent bytes G h = record { lead = tt; sound = G; stands = lost_on q c d h }
+  taken_on q c d way.NoMemory bytes G h = record { lead = tt; sound = G; stands = lost_on q c d h }
+  taken_on q c d way.Broken bytes G h = record { lead = tt; sound = G; stands = lost_on q c d h }
+
+  pub takings : (q : Queue) (c : Channel) (d : Desk) (read : ℕ) (came : GotData) → Sound controls q → StandsAt controls now q a (at.TakeLink c) d
+      → TakingLeads controls now a q c d read came
+  takings q c d read came G h =
+      let on = on_of controls now q a (at.TakeLink c) d (record { first = λ ch. refl; controls_read = tt }) (λ n w. w) h in
+      let w = taken_on q c d (said came).way (said came).bytes G on in
+      record { sound = w.sound; lead = w.lead; stands = w.stands }
