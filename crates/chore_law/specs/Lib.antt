@@ -1,0 +1,8 @@
+-- the commands that a sender gives its cleaner, over the queue
+pub mod Commands
+-- what a sender waits for, by its table
+pub mod Waits
+-- a todo pass inside a sender
+pub mod Passes
+-- the finish of a message and the sweep
+pub mod Points

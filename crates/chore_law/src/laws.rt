@@ -1,0 +1,67 @@
+// Laws of a sender's chores. Each is the contract of a function that does nothing.
+ghost use Rattle.chore_law.specs.Commands.{CleanersGoOn, WaitingRestsOn};
+ghost use Rattle.chore_law.specs.Passes.{DoneIsKnown, PassesGive, PassesGoOn, SearchBegins, UnlinksLeaveLearned};
+ghost use Rattle.chore_law.specs.Points.{ChoresStand, FinishesLead, PointsAreLeftAlone, SweepsLead};
+ghost use Rattle.chore_law.specs.Waits.{SendersWait};
+
+/// A cleaner that takes a command or gives an answer has what it relies on at its next row. While the sender waits for nothing, it
+/// works at no number.
+pub fn cleaners_go_on()
+    ensures { CleanersGoOn }
+{}
+
+/// A command that waits for the cleaner rests on, as time goes on and by what others do.
+pub fn waiting_rests_on()
+    ensures { WaitingRestsOn }
+{}
+
+/// A sender gives its cleaner commands alone, and takes nothing from it but the answer to the last one, for which it waits.
+pub fn senders_wait()
+    ensures { SendersWait }
+{}
+
+/// A search of `todo` that finds a number begins a pass, which has what it relies on.
+pub fn search_begins()
+    ensures { SearchBegins }
+{}
+
+/// A pass goes on with each of its file calls, and by what others do.
+pub fn passes_go_on()
+    ensures { PassesGoOn }
+{}
+
+/// When a pass gives `todo/n`, that number rests as the command needs, and the message's sender and channel files are known.
+pub fn passes_give()
+    ensures { PassesGive }
+{}
+
+/// They stay known while the cleaner carries the command out.
+pub fn unlinks_leave_learned()
+    ensures { UnlinksLeaveLearned }
+{}
+
+/// After `+` the message is known, and each channel file that it is known to have is there.
+pub fn done_is_known()
+    ensures { DoneIsKnown }
+{}
+
+/// Each call of a finish keeps what holds of the queue, and leads to a row at which the sender has what it relies on.
+pub fn finishes_lead()
+    ensures { FinishesLead }
+{}
+
+/// So does each call of the sweep.
+pub fn sweeps_lead()
+    ensures { SweepsLead }
+{}
+
+/// What the finish and the sweep have the cleaner remove rests.
+pub fn chores_stand()
+    ensures { ChoresStand }
+{}
+
+/// What others do that spares its number leaves what a finish or the sweep rests on. So does time, except while a message file waits
+/// to be judged.
+pub fn points_are_left_alone()
+    ensures { PointsAreLeftAlone }
+{}

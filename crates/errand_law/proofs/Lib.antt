@@ -1,0 +1,6 @@
+-- texts of commands
+pub mod Texts
+-- the events of a sender, and what is lost
+pub mod Links
+-- the events of a cleaner
+pub mod Cleans
