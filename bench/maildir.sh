@@ -37,12 +37,19 @@ print(f"python3: {len(seen)} messages, {sum(wanted.get(k) == v for k, v in seen.
 sys.exit(0 if seen == wanted else 1)
 END
 
-if command -v mutt > /dev/null; then
-  seen=$(mutt -n -F /dev/null -R -f "$work/m" -e 'set sort=mailbox-order; push "<exit>"' > /dev/null 2>&1 && ls "$work/m/new" | wc -l)
-  echo "mutt: opened, $seen messages in new"
+# mutt wants a terminal, which script(1) gives it, and copies all messages that it finds into one mailbox file
+if command -v mutt > /dev/null && command -v script > /dev/null; then
+  cat > "$work/rc" <<END
+set folder=$work spoolfile=$work/m record=$work/sent postponed=$work/postponed mbox_type=mbox
+set confirmcreate=no confirmappend=no move=no quit=yes
+END
+  keys="<tag-pattern>~A<enter><tag-prefix><copy-message>$work/copies<enter><exit>"
+  TERM=xterm timeout 60 script -qec "mutt -n -F $work/rc -R -f $work/m -e 'push \"$keys\"'" /dev/null < /dev/null > /dev/null || bad=1
+  seen=$(grep '^Subject: drop ' "$work/copies" | sort -u | wc -l)
+  echo "mutt: $seen messages"
   [ "$seen" = "$count" ] || bad=1
 else
-  echo "mutt: skipped, it isn't installed"
+  echo "mutt: skipped, it or script(1) isn't installed"
 fi
 
 [ -z "$(ls -A "$work/m/tmp")" ] || { echo "left in tmp: $(ls -A "$work/m/tmp")"; bad=1; }
