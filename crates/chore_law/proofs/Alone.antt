@@ -12,7 +12,7 @@ use Rattle.queue_law.specs.Rests.{RestsAs, Spares}
 use Rattle.queue_law.specs.Steps.{Elsewhere}
 use Rattle.queue_law.proofs.Rests.{closed_later}
 use Rattle.sender_law.specs.Rows.{FinishStands, SweepStands}
-use Rattle.chore_law.specs.Points.{Lasts, PointsAreLeftAlone, number_in}
+use Rattle.chore_law.specs.Points.{PointsAreLeftAlone, number_in}
 
 spent_spared : (now : ℕ) (k : Option ℕ) (q r : Queue) → Spares now k q r → (n : ℕ) → k ≢ Some n → RestsAs now q n IsSpent → RestsAs now r n IsSpent
 spent_spared now k q r S n far h = record { closed = S.closed n far h.closed; rest = subst IsSpent (sym (S.abouts n far h.closed)) h.rest }
@@ -35,7 +35,6 @@ module _ (now : ℕ) (a : List ℕ) (q r : Queue) where
   sweeps : (k : Option ℕ) → Spares now k q r → (row : SweepRow) (known : List Known) → ((n : ℕ) → number_in row ≡ Some n → k ≢ Some n)
       → SweepStands now q a row known → SweepStands now r a row known
   sweeps k S (sweep.StatMess split n) known far h = h
-  sweeps k S (sweep.Judge split n moment) known far h = (h.0, λ old. S.closed n (far n refl) (h.1 old))
   sweeps k S (sweep.StatInfo split n) known far h = (h.0, S.closed n (far n refl) h.1)
   sweeps k S (sweep.StatTodo split n info) known far h =
       (h.0, (S.closed n (far n refl) h.1.0, λ none. ap (λ (w : About). w.parts Info) (S.abouts n (far n refl) h.1.0) ∙ h.1.1 none))
@@ -57,22 +56,21 @@ module _ (now later : ℕ) (soon : now ≤ later) (q : Queue) (a : List ℕ) whe
   finishes_later finish.Over n known h = tt
   finishes_later finish.Lost n known h = tt
 
-  sweeps_later : (row : SweepRow) (known : List Known) → Lasts row → SweepStands now q a row known → SweepStands later q a row known
-  sweeps_later (sweep.StatMess split n) known lasts h = h
-  sweeps_later (sweep.Judge split n moment) known lasts h = absurd lasts
-  sweeps_later (sweep.StatInfo split n) known lasts h = (h.0, closed_later now later soon q n h.1)
-  sweeps_later (sweep.StatTodo split n info) known lasts h = (h.0, (closed_later now later soon q n h.1.0, h.1.1))
-  sweeps_later (sweep.Give split n) known lasts h = (h.0, spent_later now later soon q n h.1)
-  sweeps_later sweep.First known lasts h = tt
-  sweeps_later (sweep.Next split) known lasts h = tt
-  sweeps_later (sweep.Take split n) known lasts h = tt
-  sweeps_later sweep.Over known lasts h = tt
-  sweeps_later sweep.Lost known lasts h = tt
+  sweeps_later : (row : SweepRow) (known : List Known) → SweepStands now q a row known → SweepStands later q a row known
+  sweeps_later (sweep.StatMess split n) known h = h
+  sweeps_later (sweep.StatInfo split n) known h = (h.0, closed_later now later soon q n h.1)
+  sweeps_later (sweep.StatTodo split n info) known h = (h.0, (closed_later now later soon q n h.1.0, h.1.1))
+  sweeps_later (sweep.Give split n) known h = (h.0, spent_later now later soon q n h.1)
+  sweeps_later sweep.First known h = tt
+  sweeps_later (sweep.Next split) known h = tt
+  sweeps_later (sweep.Take split n) known h = tt
+  sweeps_later sweep.Over known h = tt
+  sweeps_later sweep.Lost known h = tt
 
 pub points_are_left_alone : PointsAreLeftAlone
 points_are_left_alone = record {
   finish = λ now a o m k q r E other S row n known far h. finishes now a q r o m k E other S row n known far h;
   sweeps = λ now a k q r S row known far h. sweeps now a q r k S row known far h;
   finish_later = λ now later soon q a row n known h. finishes_later now later soon q a row n known h;
-  sweeps_later = λ now later soon q a row known lasts h. sweeps_later now later soon q a row known lasts h;
+  sweeps_later = λ now later soon q a row known h. sweeps_later now later soon q a row known h;
 }

@@ -136,7 +136,6 @@ gives d (at.Sweep (sweep.Give split n)) text due = record {
 gives d (at.Sweep sweep.First) text due = absurd (cc)
 gives d (at.Sweep (sweep.Next split)) text due = absurd (cc)
 gives d (at.Sweep (sweep.StatMess split n)) text due = absurd (cc)
-gives d (at.Sweep (sweep.Judge split n moment)) text due = absurd (cc)
 gives d (at.Sweep (sweep.StatInfo split n)) text due = absurd (cc)
 gives d (at.Sweep (sweep.StatTodo split n info)) text due = absurd (cc)
 gives d (at.Sweep (sweep.Take split n)) text due = absurd (cc)
@@ -210,7 +209,6 @@ takes d (at.Sweep (sweep.Take split n)) due = (Foop n, refl)
 takes d (at.Sweep sweep.First) due = absurd (cc)
 takes d (at.Sweep (sweep.Next split)) due = absurd (cc)
 takes d (at.Sweep (sweep.StatMess split n)) due = absurd (cc)
-takes d (at.Sweep (sweep.Judge split n moment)) due = absurd (cc)
 takes d (at.Sweep (sweep.StatInfo split n)) due = absurd (cc)
 takes d (at.Sweep (sweep.StatTodo split n info)) due = absurd (cc)
 takes d (at.Sweep (sweep.Give split n)) due = absurd (cc)
@@ -257,7 +255,6 @@ waits d (at.Sweep (sweep.Take split n)) c is = refl
 waits d (at.Sweep sweep.First) c is = absurd (cc)
 waits d (at.Sweep (sweep.Next split)) c is = absurd (cc)
 waits d (at.Sweep (sweep.StatMess split n)) c is = absurd (cc)
-waits d (at.Sweep (sweep.Judge split n moment)) c is = absurd (cc)
 waits d (at.Sweep (sweep.StatInfo split n)) c is = absurd (cc)
 waits d (at.Sweep (sweep.StatTodo split n info)) c is = absurd (cc)
 waits d (at.Sweep (sweep.Give split n)) c is = absurd (cc)
@@ -315,7 +312,6 @@ loses d (at.Finish finish.Lost n) c is = absurd (cc)
 loses d (at.Sweep sweep.First) c is = absurd (cc)
 loses d (at.Sweep (sweep.Next split)) c is = absurd (cc)
 loses d (at.Sweep (sweep.StatMess split n)) c is = absurd (cc)
-loses d (at.Sweep (sweep.Judge split n moment)) c is = absurd (cc)
 loses d (at.Sweep (sweep.StatInfo split n)) c is = absurd (cc)
 loses d (at.Sweep (sweep.StatTodo split n info)) c is = absurd (cc)
 loses d (at.Sweep (sweep.Give split n)) c is = absurd (cc)
@@ -420,22 +416,9 @@ module _ (d : Desk) (now : ℕ) (ready : Ready) where
   point_begins point.Finish = either (finishing d now) _ (may_finish (next_idle now d)) sweep_begins
   point_begins point.Sweep = sweep_begins
 
-judged_free : (old : Bool) (split n : ℕ) (p : Pass) → awaits_at (at.Sweep (if old then sweep.StatInfo split n else sweep.Next split)) p ≡ Nothing
-judged_free true split n p = refl
-judged_free false split n p = refl
-
 pub arrives : (row : Row) (d : Desk) (read : ℕ) (ready : Ready) → awaits_at (arrive row d read ready) d.pass ≡ awaits_at row d.pass
 arrives (at.Turn p) d read ready = begins_free (from_point p d read ready) d.pass (point_begins d read ready p)
-arrives (at.Sweep (sweep.Judge split n moment)) d read ready = judged_free _ split n d.pass
-arrives (at.Sweep sweep.First) d read ready = refl
-arrives (at.Sweep (sweep.Next split)) d read ready = refl
-arrives (at.Sweep (sweep.StatMess split n)) d read ready = refl
-arrives (at.Sweep (sweep.StatInfo split n)) d read ready = refl
-arrives (at.Sweep (sweep.StatTodo split n info)) d read ready = refl
-arrives (at.Sweep (sweep.Give split n)) d read ready = refl
-arrives (at.Sweep (sweep.Take split n)) d read ready = refl
-arrives (at.Sweep sweep.Over) d read ready = refl
-arrives (at.Sweep sweep.Lost) d read ready = refl
+arrives (at.Sweep row) d read ready = refl
 arrives (at.Start row) d read ready = refl
 arrives (at.TakeLink c) d read ready = refl
 arrives (at.Mark row m) d read ready = refl

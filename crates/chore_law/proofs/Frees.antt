@@ -366,7 +366,6 @@ sweep_goes (sweep.Take split n) e h = absurd h
 sweep_goes sweep.First e h = inl refl
 sweep_goes (sweep.Next split) e h = inl refl
 sweep_goes (sweep.StatMess split n) e h = inl refl
-sweep_goes (sweep.Judge split n moment) e h = inl refl
 sweep_goes (sweep.StatInfo split n) e h = inl refl
 sweep_goes (sweep.StatTodo split n info) e h = inl refl
 sweep_goes (sweep.Give split n) e h = inl refl
@@ -390,26 +389,29 @@ swept_by way.Absent text split b = over_by (nat_lt split 22) split
 swept_by way.Broken text split b = over_by (nat_lt split 22) split
 swept_by way.NoMemory text split b = over_by (nat_lt split 22) split
 
-abbrev SweepLeads : SweepRow → Way → Said → Book → Type 0
-SweepLeads row w s b = NoTaking (sweep_to row (record s { way = w }) b)
+old_by : (old : Bool) (split n : ℕ) → NoTaking (if old then sweep.StatInfo split n else sweep.Next split)
+old_by true split n = tt
+old_by false split n = tt
 
-sweep_leads : (row : SweepRow) (w : Way) (s : Said) (b : Book) (words : List ℕ) → ((text : List ℕ) → due_by (sweep_step row) words ≡ needs.Give port.Clean text → ⊥) → SweepLeads row w s b
-sweep_leads sweep.First w s b words h = swept_by w s.bytes 0 b
-sweep_leads (sweep.Next split) w s b words h = swept_by w s.bytes split b
-sweep_leads (sweep.StatMess split n) way.Fine s b words h = tt
-sweep_leads (sweep.StatMess split n) w s b words h = tt
-sweep_leads (sweep.Judge split n moment) w s b words h = tt
-sweep_leads (sweep.StatInfo split n) way.Fine s b words h = tt
-sweep_leads (sweep.StatInfo split n) way.Absent s b words h = tt
-sweep_leads (sweep.StatInfo split n) w s b words h = tt
-sweep_leads (sweep.StatTodo split n true) way.Absent s b words h = tt
-sweep_leads (sweep.StatTodo split n false) way.Absent s b words h = tt
-sweep_leads (sweep.StatTodo split n info) w s b words h = tt
-sweep_leads (sweep.Give split n) w s b words h = absurd (h (remove_text n) refl)
-sweep_leads (sweep.Take split n) way.Fine s b words h = tt
-sweep_leads (sweep.Take split n) w s b words h = tt
-sweep_leads sweep.Over w s b words h = tt
-sweep_leads sweep.Lost w s b words h = tt
+abbrev SweepLeads : SweepRow → ℕ → Way → Said → Book → Type 0
+SweepLeads row now w s b = NoTaking (sweep_to row now (record s { way = w }) b)
+
+sweep_leads : (row : SweepRow) (now : ℕ) (w : Way) (s : Said) (b : Book) (words : List ℕ) → ((text : List ℕ) → due_by (sweep_step row) words ≡ needs.Give port.Clean text → ⊥) → SweepLeads row now w s b
+sweep_leads sweep.First now w s b words h = swept_by w s.bytes 0 b
+sweep_leads (sweep.Next split) now w s b words h = swept_by w s.bytes split b
+sweep_leads (sweep.StatMess split n) now way.Fine s b words h = old_by (nat_lt (s.stat.moment + 129600) now) split n
+sweep_leads (sweep.StatMess split n) now w s b words h = tt
+sweep_leads (sweep.StatInfo split n) now way.Fine s b words h = tt
+sweep_leads (sweep.StatInfo split n) now way.Absent s b words h = tt
+sweep_leads (sweep.StatInfo split n) now w s b words h = tt
+sweep_leads (sweep.StatTodo split n true) now way.Absent s b words h = tt
+sweep_leads (sweep.StatTodo split n false) now way.Absent s b words h = tt
+sweep_leads (sweep.StatTodo split n info) now w s b words h = tt
+sweep_leads (sweep.Give split n) now w s b words h = absurd (h (remove_text n) refl)
+sweep_leads (sweep.Take split n) now way.Fine s b words h = tt
+sweep_leads (sweep.Take split n) now w s b words h = tt
+sweep_leads sweep.Over now w s b words h = tt
+sweep_leads sweep.Lost now w s b words h = tt
 
 -- Each row
 
@@ -436,7 +438,7 @@ step at.InTodo now got e h none = passes e e.pass.row now got none
 step (at.Finish row n) now got e h none =
     finish_goes (finish_to row (said got).way (said got).fd) n now (busied row e) (finish_leads row n (said got).way (said got).fd none)
 step (at.Sweep row) now got e h none =
-    sweep_goes (sweep_to row (said got) e.book) (looked_up row (said got) (sweep_begun row now e)) (sweep_leads row (said got).way (said got) e.book _ none)
+    sweep_goes (sweep_to row now (said got) e.book) (looked_up row (said got) (sweep_begun row now e)) (sweep_leads row now (said got).way (said got) e.book _ none)
 step (at.Ended status) now got e h none = absurd h
 
 begins_step : (row : Row) → Begins row → IsStep row

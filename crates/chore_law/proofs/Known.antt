@@ -8,8 +8,8 @@ use Rattle.send_jobs.specs.declared.channels.Channel.TheVariants as channel
 use Rattle.queue_law.specs.Numbers.{look}
 use Rattle.queue_law.specs.Routes.{lane_part}
 use Rattle.queue_law.proofs.Changes.{unlinks_one}
-use Rattle.sender_law.specs.Knows.{has_file}
-use Rattle.chore_law.specs.Passes.{IsThereIf, UnlinksLeaveLearned, DoneIsKnown}
+use Rattle.sender_law.specs.Knows.{has_file, IsThereIf}
+use Rattle.chore_law.specs.Passes.{UnlinksLeaveLearned, DoneIsKnown}
 
 pub done_is_known : DoneIsKnown
 done_is_known controls now q n k R E =

@@ -47,8 +47,9 @@ use Rattle.queue_law.proofs.Begins.{rests_begin}
 use Rattle.queue_law.proofs.Looks.{find_none, find_some, found}
 use Rattle.queue_law.proofs.Passes.{passes_keep}
 use Rattle.queue_law.proofs.PassesMake.{passes_make, pass_is_left_alone}
-use Rattle.sender_law.specs.Knows.{has_file}
-use Rattle.chore_law.specs.Passes.{PassGoesOn, IsThereIf, SearchBegins, PassGoesTo, PassesGoOn, PassesGive}
+use Rattle.sender_law.specs.Knows.{has_file, IsThereIf}
+use Rattle.sender_law.specs.InTodo.{PassGoesOn}
+use Rattle.chore_law.specs.Passes.{SearchBegins, PassGoesTo, PassesGoOn, PassesGive}
 use Rattle.chore_law.proofs.Fits.{fits_answer}
 
 -- What is left alone

@@ -51,19 +51,11 @@ use Rattle.chore_law.specs.Points.{KnowsEach, FinishLeads, FinishesLead, SweepLe
 
 -- The sweep
 
--- a message file that was judged
-judged_stands : (old : Bool) (now : ℕ) (q : Queue) (a : List ℕ) (split n moment read : ℕ) (known : List Known) → nat_lt (moment + 129600) read ≡ old → read ≤ now
-    → SweepStands now q a (sweep.Judge split n moment) known → SweepStands now q a (if old then sweep.StatInfo split n else sweep.Next split) known
-judged_stands true now q a split n moment read known is soon h =
-    let lt : moment + 129600 < read = ltb-true (moment + 129600) read is in
-    (h.0, h.1 (omega (arith, lt, soon)))
-judged_stands false now q a split n moment read known is soon h = tt
-
 module _ (controls : Controls) (now : ℕ) (q : Queue) (a : List ℕ) (read wrote : ℕ) (G : Sound controls q) where
   reads : (asked : CallData) (told : Answer) → OnlyReads q a asked → Fits q.disk asked told wrote → LeadsOn controls now a None q (called_queue q a read asked told wrote q.role)
   reads asked told may fits = reads_keep controls now q a G read asked told wrote may fits
 
-  module _ (b : Book) where
+  module _ (b : Book) (soon : read ≤ now) where
     abbrev known : List Known
     known = b.messages.known
 
@@ -84,7 +76,7 @@ module _ (controls : Controls) (now : ℕ) (q : Queue) (a : List ℕ) (read wrot
     Leads asked told next = SweepLeads controls now a q (called_queue q a read asked told wrote q.role) next known
 
     abbrev Steps : SweepRow → CallData → Type 0
-    Steps row asked = (told : Answer) (bytes : List ℕ) → Fits q.disk asked told wrote → Leads asked told (sweep_to row (answered told bytes) b)
+    Steps row asked = (told : Answer) (bytes : List ℕ) → Fits q.disk asked told wrote → Leads asked told (sweep_to row read (answered told bytes) b)
 
     abbrev Searches : ℕ → CallData → Type 0
     Searches split asked =
@@ -101,16 +93,22 @@ module _ (controls : Controls) (now : ℕ) (q : Queue) (a : List ℕ) (read wrot
         record { leads = reads (call.NextName dir words) (answer.Refused why.Fault) tt fits; stands = over_stands (nat_lt split 22) split }
     searches split dir words told bytes fits = absurd fits
 
+    -- what is old at the moment of its stat is old
+    old_stands : (split n moment : ℕ) (old : Bool) → nat_lt (moment + 129600) read ≡ old → is_known n known ≡ false → (moment + 129600 < now → IsClosed now q n)
+        → SweepStands now q a (if old then sweep.StatInfo split n else sweep.Next split) known
+    old_stands split n moment true is h closed =
+        let lt : moment + 129600 < read = ltb-true (moment + 129600) read is in
+        (h, closed (omega (arith, lt, soon)))
+    old_stands split n moment false is h closed = tt
+
     -- the stats of a message that isn't known
     stat_mess : (split n : ℕ) → is_known n known ≡ false → Steps (sweep.StatMess split n) (call.Stat (path (Of Mess n)))
     stat_mess split n h (answer.Stat stat) bytes fits = record {
       leads = reads (call.Stat (path (Of Mess n))) (answer.Stat stat) tt fits;
-      stands = (
-        h,
-        λ lt.
-            rests_begin.old controls now q n (entry q.disk.files stat.number) G (find_some q.disk.names q.disk.files (Of Mess n) stat.number fits.number)
-            (subst (λ m. m + 129600 < now) fits.moment_is lt),
-      );
+      stands = old_stands split n stat.moment (nat_lt (stat.moment + 129600) read) refl h
+          (λ old.
+          rests_begin.old controls now q n (entry q.disk.files stat.number) G (find_some q.disk.names q.disk.files (Of Mess n) stat.number fits.number)
+          (subst (λ m. m + 129600 < now) fits.moment_is old));
     }
     stat_mess split n h (answer.Refused why.NotThere) bytes fits =
         record { leads = reads (call.Stat (path (Of Mess n))) (answer.Refused why.NotThere) tt fits; stands = tt }
@@ -149,7 +147,6 @@ module _ (controls : Controls) (now : ℕ) (q : Queue) (a : List ℕ) (read wrot
     sweep_at sweep.First words asked h due = due_call sweep.First _ asked due (searches 0 _ words)
     sweep_at (sweep.Next split) words asked h due = due_call (sweep.Next split) _ asked due (searches split _ words)
     sweep_at (sweep.StatMess split n) words asked h due = due_call (sweep.StatMess split n) _ asked due (stat_mess split n h)
-    sweep_at (sweep.Judge split n moment) words asked h due = absurd (cc)
     sweep_at (sweep.StatInfo split n) words asked h due = due_call (sweep.StatInfo split n) _ asked due (stat_info split n h)
     sweep_at (sweep.StatTodo split n info) words asked h due = due_call (sweep.StatTodo split n info) _ asked due (stat_todo split n info h)
     sweep_at (sweep.Give split n) words asked h due = absurd (cc)
@@ -158,8 +155,8 @@ module _ (controls : Controls) (now : ℕ) (q : Queue) (a : List ℕ) (read wrot
     sweep_at sweep.Lost words asked h due = absurd (cc)
 
 pub sweeps_lead : SweepsLead
-sweeps_lead controls now q a row b words read asked told wrote G h due fits =
-    sweep_at controls now q a read wrote G b row words asked h due told.answer told.bytes fits
+sweeps_lead controls now q a row b words read asked told wrote G h soon due fits =
+    sweep_at controls now q a read wrote G b soon row words asked h due told.answer told.bytes fits
 
 -- The finish
 
@@ -323,6 +320,5 @@ pub chores_stand : ChoresStand
 chores_stand = record {
   finish_gives = λ controls now q a n known h. h.1;
   sweep_gives = λ controls now q a split n known h. h.1;
-  judges = λ now q a split n moment read known soon h. judged_stands (nat_lt (moment + 129600) read) now q a split n moment read known refl soon h;
   forgets = λ q row rest n known is each. forgets q rest n known (subst (λ z. KnowsEach q z known) is each);
 }

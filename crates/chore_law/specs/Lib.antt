@@ -6,3 +6,9 @@ pub mod Waits
 pub mod Passes
 -- the finish of a message and the sweep
 pub mod Points
+-- each event of a sender
+pub mod Whole
+-- what others leave a sender
+pub mod LeftAlone
+-- what steps of others spare
+pub mod Spares

@@ -1,5 +1,5 @@
 -- A todo pass inside a sender, from the search that finds its number to the answer of the cleaner.
-use Rattle.std.specs.Prelude.{◌≡◌, ◌≢◌, ◌⊎◌, ℕ, ◌≤◌, List, Bool, true, false, Option, Some, None}
+use Rattle.std.specs.Prelude.{◌≡◌, ◌≢◌, ◌⊎◌, ℕ, ◌≤◌, List, true, Option, Some}
 use Rattle.address_rules.specs.declared.controls.Controls.{Controls}
 use Rattle.call_fs.specs.declared.calls.Answer.{Answer}
 use Rattle.call_fs.specs.declared.calls.Answer.TheVariants as answer
@@ -8,9 +8,7 @@ use Rattle.call_fs.specs.declared.calls.CallData.TheVariants.{NextName, Unlink}
 use Rattle.call_fs.specs.declared.calls.Told.{Told}
 use Rattle.call_fs.specs.declared.past.GotData.TheVariants as came
 use Rattle.call_fs.specs.declared.past.NeedData.TheVariants as needs
-use Rattle.call_fs.specs.declared.past.Own.{Own}
 use Rattle.call_fs.specs.Apply.{Fits, IsReadBy}
-use Rattle.call_fs.specs.Disk.{Disk}
 use Rattle.queue_clean.specs.declared.command.Command.TheVariants as command
 use Rattle.queue_paths.specs.Names.{Name, path}
 use Rattle.queue_paths.specs.Names.Name.{Of}
@@ -22,40 +20,14 @@ use Rattle.send_steps.specs.Files.{message_number}
 use Rattle.send_steps.specs.Steps.{dir_text}
 use Rattle.send_core.specs.Turn.{known_of}
 use Rattle.todo_pass.specs.declared.row.Row.TheVariants as at
-use Rattle.todo_pass.specs.Disks.{LeadsTo}
-use Rattle.todo_pass.specs.Run.{IsRun}
-use Rattle.todo_pass.specs.Table.{Pass, passed, begun, moved, due_of_pass}
-use Rattle.queue_law.specs.Books.{Injection}
-use Rattle.queue_law.specs.Numbers.{Role, Entry, Queue, About, about, IsPreprocessed, Sound}
-use Rattle.queue_law.specs.Passes.{PassStands}
+use Rattle.todo_pass.specs.Table.{Pass, begun, moved, due_of_pass}
+use Rattle.queue_law.specs.Numbers.{Role, Queue, About, about, IsPreprocessed, Sound}
 use Rattle.queue_law.specs.Rests.{RestsAs, Spares}
-use Rattle.queue_law.specs.Routes.{lane_part, sender_of}
 use Rattle.queue_law.specs.Senders.{LeadsOn, called_queue}
 use Rattle.queue_law.specs.Steps.{Elsewhere}
+use Rattle.sender_law.specs.InTodo.{IsExpected, PassGoesOn}
 use Rattle.sender_law.specs.Knows.{has_file, IsKnown, Serves}
 use Rattle.chore_law.specs.Commands.{RestsFor}
-
--- A pass that goes on: it did what was due since it began, which led from the disk of that time to the one of now, while others left
--- alone what it holds; and it has what it relies on.
-pub record PassGoesOn (controls : Controls) (now : ℕ) (q : Queue) (a : List ℕ) (p : Pass) : Type 0 where
-  pub past : List Own
-  pub is : p ≡ passed controls p.n past
-  pub run : IsRun controls p.n past
-  pub first : Disk
-  pub leads : LeadsTo controls p.n first past q.disk
-  pub stands : PassStands controls now q a p.n p.row
-
--- the file of a channel is there, or it isn't
-abbrev pub IsThereIf : Bool → Option Entry → Type 0
-IsThereIf true o = (y : Entry) × (o ≡ Some y)
-IsThereIf false o = o ≡ None
-
--- What a sender knows of a message whose todo file it gave the cleaner to remove: its sender, and which channel files it has.
-pub record IsExpected (w : About) (k : Known) : Type 0 where
-  pub injection : Injection
-  pub lives : w.living ≡ Some injection
-  pub sender_is : k.sender ≡ sender_of injection.args
-  pub files : (ch : Channel) → IsThereIf (has_file ch k) (w.parts (lane_part ch))
 
 -- The laws
 

@@ -18,7 +18,7 @@ use Rattle.send_steps.specs.Finish.{finish_to}
 use Rattle.send_steps.specs.Replies.{said}
 use Rattle.send_steps.specs.Rows.{finish_step, sweep_step}
 use Rattle.send_steps.specs.Steps.{due_by}
-use Rattle.send_steps.specs.Sweep.{judged, sweep_to}
+use Rattle.send_steps.specs.Sweep.{sweep_to}
 use Rattle.send_core.specs.declared.row.Row.{Row}
 use Rattle.send_core.specs.declared.row.Row.TheVariants as at
 use Rattle.queue_law.specs.Numbers.{Queue, about, Sound}
@@ -49,16 +49,17 @@ FinishesLead = (controls : Controls) (now : ℕ) (q : Queue) (a : List ℕ) (row
     → FinishLeads controls now a q (called_queue q a read call told.answer wrote q.role) n
     (finish_to row (said (came.Answered told)).way (said (came.Answered told)).fd) known
 
--- What a call at a row of the sweep leads to: nothing that concerns a number changes.
+-- What a call at a row of the sweep leads to: nothing that concerns a number changes. A message file that is old at the moment of its
+-- stat is one that no injector touches, and the row that is next may count on that.
 pub record SweepLeads (controls : Controls) (now : ℕ) (a : List ℕ) (q r : Queue) (next : SweepRow) (known : List Known) : Type 0 where
   pub leads : LeadsOn controls now a None q r
   pub stands : SweepStands now r a next known
 
 abbrev pub SweepsLead : Type 0
 SweepsLead = (controls : Controls) (now : ℕ) (q : Queue) (a : List ℕ) (row : SweepRow) (b : Book) (words : List ℕ) (read : ℕ) (call : CallData) (told : Told)
-    (wrote : ℕ) → Sound controls q → SweepStands now q a row b.messages.known
+    (wrote : ℕ) → Sound controls q → SweepStands now q a row b.messages.known → read ≤ now
     → due_by (sweep_step row) words ≡ needs.File call → Fits q.disk call told.answer wrote
-    → SweepLeads controls now a q (called_queue q a read call told.answer wrote q.role) (sweep_to row (said (came.Answered told)) b) b.messages.known
+    → SweepLeads controls now a q (called_queue q a read call told.answer wrote q.role) (sweep_to row read (said (came.Answered told)) b) b.messages.known
 
 -- The steps of both that aren't calls, and what comes after them
 pub record ChoresStand : Type 0 where
@@ -67,9 +68,6 @@ pub record ChoresStand : Type 0 where
       → RestsFor controls now q (Foop n)
   pub sweep_gives : (controls : Controls) (now : ℕ) (q : Queue) (a : List ℕ) (split n : ℕ) (known : List Known) → SweepStands now q a (sweep.Give split n) known
       → RestsFor controls now q (Foop n)
-  -- a message file that is judged old at this moment is one that no injector touches
-  pub judges : (now : ℕ) (q : Queue) (a : List ℕ) (split n moment read : ℕ) (known : List Known) → read ≤ now
-      → SweepStands now q a (sweep.Judge split n moment) known → SweepStands now q a (judged split n moment read) known
   -- once a message is forgotten, what is known of the others stays
   pub forgets : (q : Queue) (row : Row) (rest : Row) (n : ℕ) (known : List Known) → row ≡ at.Finish finish.Take n → KnowsEach q row known
       → KnowsEach q rest (forgotten n known)
@@ -77,17 +75,10 @@ pub record ChoresStand : Type 0 where
 -- the number that a row of the sweep is about
 abbrev pub number_in : SweepRow → Option ℕ
 number_in (sweep.StatMess split n) = Some n
-number_in (sweep.Judge split n moment) = Some n
 number_in (sweep.StatInfo split n) = Some n
 number_in (sweep.StatTodo split n info) = Some n
 number_in (sweep.Give split n) = Some n
 number_in row = None
-
--- A row of the sweep whose basis lasts. At one at which a message file waits to be judged by the moment of the next step there may be
--- another file by then.
-abbrev pub Lasts : SweepRow → Type 0
-Lasts (sweep.Judge split n moment) = ⊥
-Lasts row = Unit {0}
 
 -- What others do that spares the number leaves what a finish and a sweep rest on, and so does time.
 pub record PointsAreLeftAlone : Type 0 where
@@ -97,5 +88,5 @@ pub record PointsAreLeftAlone : Type 0 where
       → ((n : ℕ) → number_in row ≡ Some n → k ≢ Some n) → SweepStands now q a row known → SweepStands now r a row known
   pub finish_later : (now later : ℕ) → now ≤ later → (q : Queue) (a : List ℕ) (row : FinishRow) (n : ℕ) (known : List Known) → FinishStands now q a row n known
       → FinishStands later q a row n known
-  pub sweeps_later : (now later : ℕ) → now ≤ later → (q : Queue) (a : List ℕ) (row : SweepRow) (known : List Known) → Lasts row → SweepStands now q a row known
+  pub sweeps_later : (now later : ℕ) → now ≤ later → (q : Queue) (a : List ℕ) (row : SweepRow) (known : List Known) → SweepStands now q a row known
       → SweepStands later q a row known

@@ -1,8 +1,11 @@
 // Laws of a sender's chores. Each is the contract of a function that does nothing.
 ghost use Rattle.chore_law.specs.Commands.{CleanersGoOn, WaitingRestsOn};
+ghost use Rattle.chore_law.specs.LeftAlone.{SendersAreLeftAlone};
 ghost use Rattle.chore_law.specs.Passes.{DoneIsKnown, PassesGive, PassesGoOn, SearchBegins, UnlinksLeaveLearned};
 ghost use Rattle.chore_law.specs.Points.{ChoresStand, FinishesLead, PointsAreLeftAlone, SweepsLead};
+ghost use Rattle.chore_law.specs.Spares.{OthersSpare};
 ghost use Rattle.chore_law.specs.Waits.{SendersWait};
+ghost use Rattle.chore_law.specs.Whole.{SendersKeep};
 
 /// A cleaner that takes a command or gives an answer has what it relies on at its next row. While the sender waits for nothing, it
 /// works at no number.
@@ -60,8 +63,26 @@ pub fn chores_stand()
     ensures { ChoresStand }
 {}
 
-/// What others do that spares its number leaves what a finish or the sweep rests on. So does time, except while a message file waits
-/// to be judged.
+/// What others do that spares its number leaves what a finish or the sweep rests on, at each of their rows. So does time.
 pub fn points_are_left_alone()
     ensures { PointsAreLeftAlone }
+{}
+
+/// Each event of a sender keeps what holds of the queue and what the sender relies on: a file call that is due, with any answer; what it
+/// gives, whether that succeeds or fails; and what it takes. So this holds at each point of a run, if control files say what they
+/// are taken to say, and `+` to `todo/N` comes of a number that is preprocessed.
+pub fn senders_keep()
+    ensures { SendersKeep }
+{}
+
+/// What another actor does that leaves alone what is preprocessed and the number at work leaves a sender all that it relies on. So does
+/// time.
+pub fn senders_are_left_alone()
+    ensures { SendersAreLeftAlone }
+{}
+
+/// A call of an injector, a step of a program that is none of the queue's, and a call of a cleaner whose number rests as its command
+/// needs leave alone what is preprocessed.
+pub fn others_spare()
+    ensures { OthersSpare }
 {}

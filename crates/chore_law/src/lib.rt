@@ -6,7 +6,7 @@
 mod laws;
 
 pub use laws::{
-    chores_stand, cleaners_go_on, done_is_known, finishes_lead, passes_give, passes_go_on,
-    points_are_left_alone, search_begins, senders_wait, sweeps_lead, unlinks_leave_learned,
-    waiting_rests_on,
+    chores_stand, cleaners_go_on, done_is_known, finishes_lead, others_spare, passes_give,
+    passes_go_on, points_are_left_alone, search_begins, senders_are_left_alone, senders_keep,
+    senders_wait, sweeps_lead, unlinks_leave_learned, waiting_rests_on,
 };

@@ -18,7 +18,7 @@ use Rattle.world_events.specs.declared.event.Event.TheVariants as kept
 use Rattle.mail_world.specs.History.{State, Actor, Life, next_of, start_of, called, finished, happens, held_by, unless_by}
 use Rattle.mail_world.specs.History.Event.{Start}
 use Rattle.mail_world.specs.History.Life.{Alive, Over, Stopped}
-use Rattle.mail_world.specs.World.{kept_call, span_of, ends, starts, is_start}
+use Rattle.mail_world.specs.World.{kept_call, span_of, ends, starts, starts_in}
 use Rattle.mail_world.specs.ByKind.{IsMail, Follows}
 use Rattle.mail_world.specs.Inside.{event_of, span_by, IsMember, IsStranger, is_by}
 use Rattle.call_fs.proofs.Maps.{put_same, put_other, put_at_same, put_at_other}
@@ -78,7 +78,7 @@ kept_on a b (Some c) apart = elim (bytes_eq c a) as (λ t. bytes_eq c a ≡ t �
 -- with this kept event that actor's life becomes this one
 pub record Finishes (a : List ℕ) (k : Kept) (life : Life) : Type 0 where
   pub happens : (s : State) → happens s (event_of k) ≡ finished s a life (s.actors a)
-  pub none_starts : is_start k ≡ false
+  pub none_starts : starts_in k ≡ 0
   pub nobody_starts : (b : List ℕ) → starts b k ≡ false
   pub mine : ends a k ≡ true
   pub alone : (b : List ℕ) → b ≢ a → ends b k ≡ false

@@ -83,6 +83,8 @@ noted_actor (kept.Start a program) e = refl
 noted_actor (kept.Act a own) e = if_named (bytes_eq a e.actor) e (acted_on own.due own.came e) refl
 noted_actor (kept.End a read ready status) e = if_named (bytes_eq a e.actor) e (left_as (told.Ended status) e) refl
 noted_actor (kept.Stop a) e = if_named (bytes_eq a e.actor) e (left_as told.Stopped e) refl
+noted_actor (kept.Generation start) e = refl
+noted_actor (kept.Report slot letter text) e = refl
 noted_actor (kept.Moment m) e = refl
 noted_actor (kept.Halt how) e = refl
 
@@ -92,6 +94,8 @@ IsOwnOf a (kept.Start b program) = ⊥
 IsOwnOf a (kept.Act b own) = b ≡ a
 IsOwnOf a (kept.End b read ready status) = b ≡ a
 IsOwnOf a (kept.Stop b) = b ≡ a
+IsOwnOf a (kept.Generation start) = ⊥
+IsOwnOf a (kept.Report slot letter text) = ⊥
 IsOwnOf a (kept.Moment m) = ⊥
 IsOwnOf a (kept.Halt how) = ⊥
 
@@ -103,6 +107,8 @@ noted_other (kept.End b read ready status) a e mine apart =
     ap (λ t. if t then left_as (told.Ended status) e else e) (other_text b e.actor (λ same. apart (sym same ∙ mine)))
 noted_other (kept.Stop b) a e mine apart =
     ap (λ t. if t then left_as told.Stopped e else e) (other_text b e.actor (λ same. apart (sym same ∙ mine)))
+noted_other (kept.Generation start) a e mine apart = absurd mine
+noted_other (kept.Report slot letter text) a e mine apart = absurd mine
 noted_other (kept.Moment m) a e mine apart = absurd mine
 noted_other (kept.Halt how) a e mine apart = absurd mine
 
@@ -111,6 +117,8 @@ begins_none (kept.Start b program) a mine = absurd mine
 begins_none (kept.Act b own) a mine = refl
 begins_none (kept.End b read ready status) a mine = refl
 begins_none (kept.Stop b) a mine = refl
+begins_none (kept.Generation start) a mine = refl
+begins_none (kept.Report slot letter text) a mine = refl
 begins_none (kept.Moment m) a mine = refl
 begins_none (kept.Halt how) a mine = refl
 

@@ -1,6 +1,6 @@
 -- Each injection of the books is of the mail that its actor was started with, and its number is the one that the books of the
 -- world tell of that mail.
-use Rattle.std.proofs.Common.{◌≡◌, ◌⊎◌, inl, inr, ℕ, List, [], ◌∷◌, ◌++◌, Bool, true, false, Option, Some, None, refl, sym, ap, ◌∙◌, subst, ⊎_elim, bytes_eq, append-nil}
+use Rattle.std.proofs.Common.{◌≡◌, ◌⊎◌, inl, inr, ℕ, List, [], ◌∷◌, ◌++◌, Bool, true, false, Option, Some, None, refl, sym, ap, ◌∙◌, subst, ⊎_elim, bytes_eq, codes, append-nil}
 use Rattle.std.specs.Prelude.{if◌then◌else◌, option_to_list}
 use Rattle.std.specs.List.{AllZip}
 use Rattle.std.specs.Option.{option_map}
@@ -31,8 +31,8 @@ use Rattle.queue_paths.proofs.Paths.{exact}
 use Rattle.queue_law.proofs.Looks.{mapped_some}
 use Rattle.world_events.specs.declared.event.Event.{Event as Kept}
 use Rattle.world_events.specs.declared.event.Program.{Program}
-use Rattle.world_events.specs.declared.event.Program.TheVariants.{Injector, Cleaner}
-use Rattle.mail_world.specs.History.{Event, Actor, Injection, Books, Life, State, MayRun, next_of, own_call, stopped, acted, finished, begun, accept, linked, booked, books_after, happens, after, Legal}
+use Rattle.world_events.specs.declared.event.Program.TheVariants.{Injector}
+use Rattle.mail_world.specs.History.{Event, Actor, Injection, Books, Life, State, MayRun, newborn, next_of, own_call, stopped, acted, finished, begun, accept, linked, booked, books_after, happens, after, Legal}
 use Rattle.mail_world.specs.History.Event.{Start, Act, Child, Generation, Report, End, Stop, Moment, Halt}
 use Rattle.mail_world.specs.History.Life.{Over, Stopped}
 use Rattle.mail_world.specs.World.{Tells}
@@ -40,7 +40,7 @@ use Rattle.mail_world.specs.ByKind.{injection_of}
 use Rattle.mail_world.specs.Books.{mess_number, number_by, newer, number_of, mail_by, mails_of, IsOfMail}
 use Rattle.mail_world.proofs.Kept.{runs_always}
 use Rattle.mail_world.proofs.Owns.{IsPass, by_act, may_read}
-use Rattle.mail_world.proofs.Programs.{passes_none}
+use Rattle.mail_world.proofs.Programs.{no_members, passes_none}
 use Rattle.mail_world.proofs.Tests.{text_cases, same_text}
 
 -- an injection of these books
@@ -322,7 +322,7 @@ timely input late due c h = absurd (cc)
 
 abbrev HasBegun : Program → List Own → Type 0
 HasBegun (Injector args) past = IsPastLink (row_after args past)
-HasBegun (Cleaner start) past = ⊥
+HasBegun other past = ⊥
 
 abbrev Runs : (Program → List Own → Type 0) → Option Actor → Type 0
 Runs P None = ⊥
@@ -357,7 +357,7 @@ stopped_run P actors all a y is =
 
 abbrev IsMailed : List (List ℕ × Arguments) → List ℕ → Program → Type 0
 IsMailed mails a (Injector args) = Among (a, args) mails
-IsMailed mails a (Cleaner start) = Unit {0}
+IsMailed mails a other = Unit {0}
 
 among_left : {X : Type 0} (x : X) (xs ys : List X) → Among x xs → Among x (xs ++ ys)
 among_left x [] ys h = absurd h
@@ -369,11 +369,11 @@ among_right x (y ∷ xs) ys h = inr (among_right x xs ys h)
 
 more_mailed : (mails later : List (List ℕ × Arguments)) (a : List ℕ) (program : Program) → IsMailed mails a program → IsMailed (mails ++ later) a program
 more_mailed mails later a (Injector args) h = among_left (a, args) mails later h
-more_mailed mails later a (Cleaner start) h = tt
+more_mailed mails later a other h = tt
 
 new_mailed : (mails : List (List ℕ × Arguments)) (a : List ℕ) (program : Program) → IsMailed (mails ++ mail_by a (injection_of program)) a program
 new_mailed mails a (Injector args) = among_right (a, args) mails ((a, args) ∷ []) (inl refl)
-new_mailed mails a (Cleaner start) = tt
+new_mailed mails a other = tt
 
 all_mailed : (d : Disk) (events : List Kept) (h : List Event) → AllZip Tells events h → AllRun (IsMailed (mails_of h)) (after d h).actors
 all_mailed d [] [] told a x is = absurd cc
@@ -386,8 +386,20 @@ all_mailed d (k ∷ events) ((Start b program) ∷ h) told a x is =
 all_mailed d (k ∷ events) ((Act b own wrote) ∷ h) told a x is =
     acted_run (IsMailed (mails_of h)) (after d h) b own wrote ((after d h).actors b) refl (all_mailed d events h told.1) a x is
 all_mailed d (k ∷ events) ((Child parent own b program) ∷ h) told a x is = absurd told.0
-all_mailed d (k ∷ events) ((Generation sender clean lspawn rspawn) ∷ h) told a x is = absurd told.0
-all_mailed d (k ∷ events) ((Report slot letter text) ∷ h) told a x is = absurd told.0
+all_mailed d (k ∷ events) ((Generation sender clean lspawn rspawn) ∷ h) told a x is =
+    let are = told.0.2 in
+    let s = after d h in
+    let of : List ℕ → Program → Type 0 = IsMailed (mails_of h) in
+    let one = put_at s.actors (codes "sender") (Some (newborn sender)) in
+    let two = put_at one (codes "clean") (Some (newborn clean)) in
+    let three = put_at two (codes "lspawn") (Some (newborn lspawn)) in
+    put_run of three (codes "rspawn") (newborn rspawn)
+    (put_run of two (codes "lspawn") (newborn lspawn)
+    (put_run of one (codes "clean") (newborn clean)
+    (put_run of s.actors (codes "sender") (newborn sender) (all_mailed d events h told.1)
+    (subst (of (codes "sender")) (sym are.sender_is) tt)) (subst (of (codes "clean")) (sym are.clean_is) tt))
+    (subst (of (codes "lspawn")) (sym are.lspawn_is) tt)) (subst (of (codes "rspawn")) (sym are.rspawn_is) tt) a x is
+all_mailed d (k ∷ events) ((Report slot letter text) ∷ h) told a x is = all_mailed d events h told.1 a x is
 all_mailed d (k ∷ events) ((End b read ready status) ∷ h) told a x is =
     finished_run (IsMailed (mails_of h)) (after d h) b (Over status) ((after d h).actors b) refl (all_mailed d events h told.1) a x is
 all_mailed d (k ∷ events) ((Stop b) ∷ h) told a x is =
@@ -440,7 +452,6 @@ call_told : (h : List Event) (s : State) (b : List ℕ) (read : ℕ) (ready : Re
     → EachIn s.books (IsTold h s.actors)
     → EachIn (books_after s.books b program (needs.File c) (Answered got))
     (IsTold (Act b (own_call read ready c got) wrote ∷ h) (put_at s.actors b (Some (record { program = program; past = own_call read ready c got ∷ past; life = life }))))
-call_told h s b read ready c got wrote (Cleaner start) past life runs is due mailed all = absurd runs
 call_told h s b read ready c got wrote (Injector args) past life runs is due mailed all =
     let row = row_after args past in
     let own : Own = own_call read ready c got in
@@ -462,10 +473,11 @@ call_told h s b read ready c got wrote (Injector args) past life runs is due mai
       number = λ m. ap (λ t. newer (if t then told else None) (number_of b h)) (same_text b) ∙ ap (λ o. newer o (number_of b h)) (begins_number c got n begins m);
       begun_there = subst (Runs HasBegun) (sym (put_at_same s.actors b (Some now))) (link_past args row got.answer (at_link args row c got.answer n call_is begins));
     })
+call_told h s b read ready c got wrote other past life runs is due mailed all = absurd runs
 
 pass_told : (program : Program) (past : List Own) (read : ℕ) (ready : Ready) (due : NeedData) → MayRun program → next_of program past read ready ≡ due → IsPass due → ⊥
 pass_told (Injector args) past read ready due runs next pass = passes_none due (subst IsAlone next (next_alone args past read ready)) pass
-pass_told (Cleaner start) past read ready due runs next pass = runs
+pass_told other past read ready due runs next pass = runs
 
 abbrev TellsOn : List Event → State → List ℕ → Own → ℕ → Type 0
 TellsOn h s b own wrote = (x : Actor) → s.actors b ≡ Some x → EachIn (acted s b own wrote (Some x)).books (IsTold (Act b own wrote ∷ h) (acted s b own wrote (Some x)).actors)
@@ -513,8 +525,10 @@ each_told d (k ∷ events) ((Start b program) ∷ h) legal told q is =
 each_told d (k ∷ events) ((Act b own wrote) ∷ h) legal told q is =
     act_told d h b own wrote legal (all_mailed d events h told.1) (each_told d events h legal.0 told.1) q is
 each_told d (k ∷ events) ((Child parent own b program) ∷ h) legal told q is = absurd told.0
-each_told d (k ∷ events) ((Generation sender clean lspawn rspawn) ∷ h) legal told q is = absurd told.0
-each_told d (k ∷ events) ((Report slot letter text) ∷ h) legal told q is = absurd told.0
+each_told d (k ∷ events) ((Generation sender clean lspawn rspawn) ∷ h) legal told q is = absurd (no_members told.0.0 sender clean lspawn rspawn told.0.2 legal.1.runs.0)
+each_told d (k ∷ events) ((Report slot letter text) ∷ h) legal told q is =
+    let s = after d h in
+    same_told h (Report slot letter text ∷ h) s s.books s.actors refl [] (sym (append-nil (mails_of h))) (λ a. refl) (λ a run. run) (each_told d events h legal.0 told.1) q is
 each_told d (k ∷ events) ((End b read ready status) ∷ h) legal told q is =
     let s = after d h in
     same_told h (End b read ready status ∷ h) s (happens s (End b read ready status)).books (happens s (End b read ready status)).actors

@@ -254,7 +254,7 @@ kept controls s (Act a own wrote) I h =
     let w = by_act s a wrote (λ own. KeptBy controls s a (program_of (s.actors a)) (acted s a own wrote (s.actors a)))
     (λ read ready call told may. kept_call controls s I a read ready call told wrote may) (kept_pass controls s I a wrote) own h in
     record { inv = w.inv; rest = record { outside = λ _. w.outside; opens = w.opens; accepted = w.accepted; sorted = λ _. w.sorted } }
-kept controls s (Child parent own a program) I h = absurd (program_starts_none h.actor.program h.actor.past own.read own.ready h.asked (h.due ∙ h.starts))
+kept controls s (Child parent own a program) I h = absurd (program_starts_none h.actor.program h.actor.past own.read own.ready h.asked (runs controls s I parent h.actor h.reads.is) (h.due ∙ h.starts))
 kept controls s (Generation sender clean lspawn rspawn) I h =
     keeps controls s (Generation sender clean lspawn rspawn)
     (kept_four controls s (codes "sender") (codes "clean") (codes "lspawn") (codes "rspawn") sender clean lspawn rspawn (with_generation s.pipework) h.runs I)

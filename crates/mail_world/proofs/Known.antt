@@ -1,5 +1,5 @@
 -- What kept events tell is the same of each history that they tell, except the disk and the books.
-use Rattle.std.proofs.Common.{◌≡◌, ◌∙◌, ℕ, List, [], ◌∷◌, ◌++◌, Option, Some, None, refl, sym, ap, subst, map, reverse}
+use Rattle.std.proofs.Common.{◌≡◌, ◌∙◌, ℕ, List, [], ◌∷◌, ◌++◌, Option, Some, None, refl, sym, ap, subst, map, reverse, codes}
 use Rattle.std.proofs.lemmas.List.{reverse-append}
 use Rattle.std.specs.List.{AllZip}
 use Rattle.std.specs.Option.{option_map}
@@ -7,9 +7,12 @@ use Rattle.call_fs.specs.declared.past.Own.{Own}
 use Rattle.call_fs.specs.Disk.{Disk}
 use Rattle.call_fs.specs.Maps.{put_at}
 use Rattle.world_events.specs.declared.event.Event.{Event as Kept}
-use Rattle.mail_world.specs.History.{Event, Actor, Life, State, stopped, happens, acted, finished, after, holder_after, unless_by}
+use Rattle.world_events.specs.declared.event.Event.TheVariants as kept
+use Rattle.world_events.specs.declared.event.Program.{Program}
+use Rattle.world_events.specs.declared.event.Program.TheVariants.{Cleaner, Sender, LocalSpawner, RemoteSpawner}
+use Rattle.mail_world.specs.History.{Event, Actor, Life, State, newborn, stopped, happens, acted, finished, after, holder_after, unless_by}
 use Rattle.mail_world.specs.History.Event.{Start, Act, Child, Generation, Report, End, Stop, Moment, Halt}
-use Rattle.mail_world.specs.World.{Tells}
+use Rattle.mail_world.specs.World.{Tells, AreMembers}
 use Rattle.mail_world.specs.Inside.{event_of, nowhere, known}
 
 -- the same actors, holders and moment
@@ -40,6 +43,25 @@ finished_alike s t a life (Some x) c = record {
   actors = put_alike s.actors t.actors a _ c.actors;
 }
 
+-- a generation started, whose members are told by the moment
+members_alike : (s t : State) (start : ℕ) (sender clean lspawn rspawn : Program) → AreMembers start sender clean lspawn rspawn → AreAlike s t
+    → AreAlike (happens s (Generation sender clean lspawn rspawn)) (happens t (event_of (kept.Generation start)))
+members_alike s t start sender clean lspawn rspawn are c =
+    let all : (sender clean lspawn rspawn : Program) → AreAlike (happens s (Generation sender clean lspawn rspawn)) (happens t (Generation sender clean lspawn rspawn)) =
+    λ sender clean lspawn rspawn. record {
+      holder = c.holder;
+      now = c.now;
+      actors = put_alike _ _ (codes "rspawn") (Some (newborn rspawn)) (put_alike _ _ (codes "lspawn") (Some (newborn lspawn))
+          (put_alike _ _ (codes "clean") (Some (newborn clean)) (put_alike s.actors t.actors (codes "sender") (Some (newborn sender)) c.actors)));
+    } in
+    let told : State → Program → Program → Program → Program → Type 0 = λ t sender clean lspawn rspawn. AreAlike (happens s (Generation sender clean lspawn rspawn)) t in
+    let one = happens t (event_of (kept.Generation start)) in
+    subst (λ (sender : Program). told one sender clean lspawn rspawn) (sym are.sender_is)
+    (subst (λ (clean : Program). told one (Sender start) clean lspawn rspawn) (sym are.clean_is)
+    (subst (λ (lspawn : Program). told one (Sender start) (Cleaner start) lspawn rspawn) (sym are.lspawn_is)
+    (subst (λ (rspawn : Program). told one (Sender start) (Cleaner start) (LocalSpawner start) rspawn) (sym are.rspawn_is)
+    (all (Sender start) (Cleaner start) (LocalSpawner start) (RemoteSpawner start)))))
+
 happens_alike : (s t : State) (k : Kept) (e : Event) → Tells k e → AreAlike s t → AreAlike (happens s e) (happens t (event_of k))
 happens_alike s t k (Start a program) told c =
     subst (λ (k : Kept). AreAlike (happens s (Start a program)) (happens t (event_of k))) (sym told) (record {
@@ -52,8 +74,11 @@ happens_alike s t k (Act a own wrote) told c =
     (subst (λ (x : Option Actor). AreAlike (acted s a own wrote (s.actors a)) (acted t a own 0 x))
     (ap (λ (m : List ℕ → Option Actor). m a) c.actors) (acted_alike s t a own wrote 0 (s.actors a) c))
 happens_alike s t k (Child parent own a program) told c = absurd told
-happens_alike s t k (Generation sender clean lspawn rspawn) told c = absurd told
-happens_alike s t k (Report slot letter text) told c = absurd told
+happens_alike s t k (Generation sender clean lspawn rspawn) told c =
+    subst (λ (k : Kept). AreAlike (happens s (Generation sender clean lspawn rspawn)) (happens t (event_of k))) (sym told.1)
+    (members_alike s t told.0 sender clean lspawn rspawn told.2 c)
+happens_alike s t k (Report slot letter text) told c =
+    subst (λ (k : Kept). AreAlike (happens s (Report slot letter text)) (happens t (event_of k))) (sym told) (record { holder = c.holder; now = c.now; actors = c.actors })
 happens_alike s t k (End a read ready status) told c =
     subst (λ (k : Kept). AreAlike (happens s (End a read ready status)) (happens t (event_of k))) (sym told)
     (subst (λ (x : Option Actor). AreAlike (finished s a (Life.Over status) (s.actors a)) (finished t a (Life.Over status) x))
@@ -94,8 +119,8 @@ slots_told d (k ∷ events) ((Start b program) ∷ h) told a = slots_told d even
 slots_told d (k ∷ events) ((Act b own wrote) ∷ h) told a =
     acted_slots (after d h) b own wrote ((after d h).actors b) a ∙ slots_told d events h told.1 a
 slots_told d (k ∷ events) ((Child parent own b program) ∷ h) told a = absurd told.0
-slots_told d (k ∷ events) ((Generation sender clean lspawn rspawn) ∷ h) told a = absurd told.0
-slots_told d (k ∷ events) ((Report slot letter text) ∷ h) told a = absurd told.0
+slots_told d (k ∷ events) ((Generation sender clean lspawn rspawn) ∷ h) told a = slots_told d events h told.1 a
+slots_told d (k ∷ events) ((Report slot letter text) ∷ h) told a = slots_told d events h told.1 a
 slots_told d (k ∷ events) ((End b read ready status) ∷ h) told a =
     finished_slots (after d h) b (Life.Over status) ((after d h).actors b) a ∙ slots_told d events h told.1 a
 slots_told d (k ∷ events) ((Stop b) ∷ h) told a =

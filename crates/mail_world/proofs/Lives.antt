@@ -1,10 +1,10 @@
 -- What kept events tell of who was started and who has ended, whatever history they tell.
-use Rattle.std.proofs.Common.{◌≡◌, ◌≢◌, ◌⊎◌, inl, inr, ℕ, ◌+◌, List, [], ◌∷◌, ◌++◌, length, true, false, ◌||◌, is_some, Option, Some, None, refl, sym, ap, ◌∙◌, subst, ⊎_elim, arith, bytes_eq, reverse}
+use Rattle.std.proofs.Common.{◌≡◌, ◌≢◌, ◌⊎◌, inl, inr, ℕ, ◌+◌, List, [], ◌∷◌, ◌++◌, length, Bool, true, false, ◌||◌, is_some, Option, Some, None, refl, sym, ap, ◌∙◌, subst, ⊎_elim, arith, bytes_eq, codes, reverse}
 use Rattle.std.proofs.Math.Bool.{or-false, or-true}
 use Rattle.std.proofs.lemmas.Grind.{reverse_onto}
 use Rattle.std.proofs.lemmas.List.{reverse-reverse}
 use Rattle.std.proofs.lemmas.List.Sums.{sum_by-append}
-use Rattle.std.specs.Prelude.{count_by, if◌then◌else◌}
+use Rattle.std.specs.Prelude.{if◌then◌else◌}
 use Rattle.std.specs.List.{sum_by}
 use Rattle.std.specs.List.{AllZip}
 use Rattle.std.specs.Option.{option_map}
@@ -15,16 +15,19 @@ use Rattle.call_fs.specs.Maps.{put_at}
 use Rattle.call_fs.proofs.Maps.{put_at_same, put_at_other}
 use Rattle.world_events.specs.declared.event.Event.{Event as Kept}
 use Rattle.world_events.specs.declared.event.Event.TheVariants as kept
-use Rattle.mail_world.specs.History.{Event, Actor, Life, State, Allowed, Legal, stopped, acted, finished, started_by, happens, after}
+use Rattle.world_events.specs.declared.event.Program.{Program}
+use Rattle.mail_world.specs.Pipework.{is_member}
+use Rattle.mail_world.specs.History.{Event, Actor, Life, State, Allowed, Legal, newborn, stopped, acted, finished, started_by, happens, after}
 use Rattle.mail_world.specs.History.Event.{Start, Act, Child, Generation, Report, End, Stop, Moment, Halt}
 use Rattle.mail_world.specs.History.Life.{Alive, Over, Stopped}
-use Rattle.mail_world.specs.World.{Tells, Span, span_after, span_of, EndsAt, starts, ends, was_started, is_start}
+use Rattle.mail_world.specs.World.{Tells, Span, span_after, span_of, EndsAt, starts, ends, was_started, starts_in}
 use Rattle.mail_world.specs.World.Span.{Unborn, Lasting, OverAt}
 use Rattle.queue_law.proofs.Tests.{text_cases, same_text, other_text}
 use Rattle.mail_world.proofs.Owns.{may_read}
 use Rattle.mail_world.proofs.Crew.{started_push}
 use Rattle.mail_world.proofs.Spans.{span_still, span_begins, span_ends}
 use Rattle.mail_world.proofs.Halts.{never_alive}
+use Rattle.mail_world.proofs.Programs.{no_members}
 
 -- by induction over the kept events, the newest last
 along : (P : List Kept → List Event → Type 0) → P [] []
@@ -65,6 +68,36 @@ some_stopped : (o : Option Actor) → is_some (option_map stopped o) ≡ is_some
 some_stopped None = refl
 some_stopped (Some x) = refl
 
+-- a name before or after it, in a test
+turned_text : (a b : List ℕ) → bytes_eq a b ≡ bytes_eq b a
+turned_text a b = ⊎_elim
+    (λ f. f.1 ∙ sym (ap (λ (c : List ℕ). bytes_eq c a) (sym f.0) ∙ same_text a))
+    (λ f. f.1 ∙ sym (other_text b a (λ e. f.0 (sym e))))
+    (text_cases a b)
+
+or_each : (p a b c d : Bool) → (p || (a || (b || (c || (d || false))))) ≡ ((((p || a) || b) || c) || d)
+or_each true a b c d = refl
+or_each false true b c d = refl
+or_each false false true c d = refl
+or_each false false false true d = refl
+or_each false false false false true = refl
+or_each false false false false false = refl
+
+-- after the start of a generation its four members are there
+members_there : (m : List ℕ → Option Actor) (sender clean lspawn rspawn : Program) (a : List ℕ)
+    → (is_some (m a) || is_member a)
+    ≡ is_some (put_at (put_at (put_at (put_at m (codes "sender") (Some (newborn sender))) (codes "clean") (Some (newborn clean)))
+    (codes "lspawn") (Some (newborn lspawn))) (codes "rspawn") (Some (newborn rspawn)) a)
+members_there m sender clean lspawn rspawn a =
+    let one = put_at m (codes "sender") (Some (newborn sender)) in
+    let two = put_at one (codes "clean") (Some (newborn clean)) in
+    let three = put_at two (codes "lspawn") (Some (newborn lspawn)) in
+    let is : (b : List ℕ) (before : List ℕ → Option Actor) (y : Actor) (t : Bool) → t ≡ is_some (before a) → (t || bytes_eq a b) ≡ is_some (put_at before b (Some y) a) =
+    λ b before y t same. ap (λ (t : Bool). t || bytes_eq a b) same ∙ ap (λ (c : Bool). is_some (before a) || c) (turned_text a b) ∙ started_there before b y a in
+    or_each (is_some (m a)) (bytes_eq a (codes "sender")) (bytes_eq a (codes "clean")) (bytes_eq a (codes "lspawn")) (bytes_eq a (codes "rspawn"))
+    ∙ is (codes "rspawn") three (newborn rspawn) _
+    (is (codes "lspawn") two (newborn lspawn) _ (is (codes "clean") one (newborn clean) _ (is (codes "sender") m (newborn sender) (is_some (m a)) refl)))
+
 happens_started : (s : State) (k : Kept) (e : Event) (a : List ℕ) → Tells k e → (is_some (s.actors a) || starts a k) ≡ is_some ((happens s e).actors a)
 happens_started s k (Start b program) a told =
     subst (λ (k : Kept). (is_some (s.actors a) || starts a k) ≡ is_some ((happens s (Start b program)).actors a)) (sym told) (started_there s.actors b _ a)
@@ -72,8 +105,11 @@ happens_started s k (Act b own w) a told =
     subst (λ (k : Kept). (is_some (s.actors a) || starts a k) ≡ is_some ((happens s (Act b own w)).actors a)) (sym told)
     (or-false (is_some (s.actors a)) ∙ sym (acted_there s b own w (s.actors b) a refl))
 happens_started s k (Child parent own b program) a told = absurd told
-happens_started s k (Generation sender clean lspawn rspawn) a told = absurd told
-happens_started s k (Report slot letter text) a told = absurd told
+happens_started s k (Generation sender clean lspawn rspawn) a told =
+    subst (λ (k : Kept). (is_some (s.actors a) || starts a k) ≡ is_some ((happens s (Generation sender clean lspawn rspawn)).actors a)) (sym told.1)
+    (members_there s.actors sender clean lspawn rspawn a)
+happens_started s k (Report slot letter text) a told =
+    subst (λ (k : Kept). (is_some (s.actors a) || starts a k) ≡ is_some (s.actors a)) (sym told) (or-false (is_some (s.actors a)))
 happens_started s k (End b read ready status) a told =
     subst (λ (k : Kept). (is_some (s.actors a) || starts a k) ≡ is_some ((happens s (End b read ready status)).actors a)) (sym told)
     (or-false (is_some (s.actors a)) ∙ sym (finished_there s b (Over status) (s.actors b) a refl))
@@ -94,29 +130,27 @@ started_is d h events a told =
     events h told
 
 -- how many were started
-abbrev kept_starts : Kept → ℕ
-kept_starts k = if is_start k then 1 else 0
 
-starts_alike : (k : Kept) (e : Event) → Tells k e → kept_starts k ≡ started_by e
-starts_alike k (Start a program) told = ap kept_starts told
-starts_alike k (Act a own w) told = ap kept_starts told
+starts_alike : (k : Kept) (e : Event) → Tells k e → starts_in k ≡ started_by e
+starts_alike k (Start a program) told = ap starts_in told
+starts_alike k (Act a own w) told = ap starts_in told
 starts_alike k (Child parent own a program) told = absurd told
-starts_alike k (Generation sender clean lspawn rspawn) told = absurd told
-starts_alike k (Report slot letter text) told = absurd told
-starts_alike k (End a read ready status) told = ap kept_starts told
-starts_alike k (Stop a) told = ap kept_starts told
-starts_alike k (Moment m) told = ap kept_starts told
-starts_alike k (Halt how contents) told = ap kept_starts told
+starts_alike k (Generation sender clean lspawn rspawn) told = ap starts_in told.1
+starts_alike k (Report slot letter text) told = ap starts_in told
+starts_alike k (End a read ready status) told = ap starts_in told
+starts_alike k (Stop a) told = ap starts_in told
+starts_alike k (Moment m) told = ap starts_in told
+starts_alike k (Halt how contents) told = ap starts_in told
 
 one_more : (m n b c : ℕ) → m ≡ n → b ≡ c → m + (0 + b) ≡ (0 + c) + n
 one_more m n b c same alike = omega (arith, same, alike)
 
-pub starts_is : (h : List Event) (events : List Kept) → AllZip Tells (reverse events) h → count_by is_start events ≡ sum_by started_by h
+pub starts_is : (h : List Event) (events : List Kept) → AllZip Tells (reverse events) h → sum_by starts_in events ≡ sum_by started_by h
 starts_is h events told =
-    along (λ events h. count_by is_start events ≡ sum_by started_by h) refl
+    along (λ events h. sum_by starts_in events ≡ sum_by started_by h) refl
     (λ events h k e one was.
-    sum_by-append kept_starts events (k ∷ [])
-    ∙ one_more (count_by is_start events) (sum_by started_by h) (kept_starts k) (started_by e) was (starts_alike k e one)
+    sum_by-append starts_in events (k ∷ [])
+    ∙ one_more (sum_by starts_in events) (sum_by started_by h) (starts_in k) (started_by e) was (starts_alike k e one)
     ∙ sym (sum_by-append started_by (e ∷ []) h))
     events h told
 
@@ -153,10 +187,11 @@ same_suits Unborn x y same was = was
 same_suits Lasting x y same was = same ∙ was
 same_suits (OverAt at) x y same was = λ e. was (sym same ∙ e)
 
-end_suits : (a : List ℕ) (k : Kept) (n : ℕ) (span : Span) (x y : Actor) → ends a k ≡ true → y.life ≢ Alive → Suits span (Some x) → Suits (span_after a k n span) (Some y)
-end_suits a k n Unborn x y ends_it dead was = absurd was
-end_suits a k n Lasting x y ends_it dead was = subst (λ (s : Span). Suits s (Some y)) (sym (span_ends a k n Lasting refl ends_it)) dead
-end_suits a k n (OverAt at) x y ends_it dead was = dead
+end_suits : (a : List ℕ) (k : Kept) (n : ℕ) (span : Span) (x y : Actor) → starts a k ≡ false → ends a k ≡ true → y.life ≢ Alive → Suits span (Some x) → Suits (span_after a k n span) (Some y)
+end_suits a k n Unborn x y no_start ends_it dead was = absurd was
+end_suits a k n Lasting x y no_start ends_it dead was = subst (λ (s : Span). Suits s (Some y)) (sym (span_ends a k n Lasting refl ends_it)) dead
+end_suits a k n (OverAt at) x y no_start ends_it dead was =
+    subst (λ (s : Span). Suits s (Some y)) (sym (ap (λ (b : Bool). if b then Lasting else OverAt at) no_start)) dead
 
 halt_suits : (a : List ℕ) (how : Survival) (n : ℕ) (span : Span) (o : Option Actor) → Suits span o → Suits (span_after a (kept.Halt how) n span) (option_map stopped o)
 halt_suits a how n Unborn None was = tt
@@ -184,22 +219,23 @@ happens_suits s n k (Act b own w) a span told allowed was =
     (suits_put s.actors b _ a one n span (λ f. refl) (λ f. refl)
     (λ same. suits_still a one n span _ refl refl (same_suits span reads.0 _ refl (subst (Suits span) (ap s.actors same ∙ is) was))) was))
 happens_suits s n k (Child parent own b program) a span told allowed was = absurd told
-happens_suits s n k (Generation sender clean lspawn rspawn) a span told allowed was = absurd told
-happens_suits s n k (Report slot letter text) a span told allowed was = absurd told
+happens_suits s n k (Generation sender clean lspawn rspawn) a span told allowed was = absurd (no_members told.0 sender clean lspawn rspawn told.2 allowed.runs.0)
+happens_suits s n k (Report slot letter text) a span told allowed was =
+    subst (λ (k : Kept). Suits (span_after a k n span) (s.actors a)) (sym told) (suits_still a (kept.Report slot letter text) n span (s.actors a) refl refl was)
 happens_suits s n k (End b read ready status) a span told allowed was =
     let one : Kept = kept.End b read ready status in
     let is = allowed.reads.is in
     subst (λ (k : Kept). Suits (span_after a k n span) ((happens s (End b read ready status)).actors a)) (sym told)
     (subst (λ (o : Option Actor). Suits (span_after a one n span) ((finished s b (Over status) o).actors a)) (sym is)
     (suits_put s.actors b _ a one n span (λ f. refl) (λ f. other_text b a (λ e. f (sym e)))
-    (λ same. end_suits a one n span allowed.actor _ (ap (λ (c : List ℕ). bytes_eq c a) (sym same) ∙ same_text a) (λ e. cc)
+    (λ same. end_suits a one n span allowed.actor _ refl (ap (λ (c : List ℕ). bytes_eq c a) (sym same) ∙ same_text a) (λ e. cc)
     (subst (Suits span) (ap s.actors same ∙ is) was)) was))
 happens_suits s n k (Stop b) a span told allowed was =
     let one : Kept = kept.Stop b in
     subst (λ (k : Kept). Suits (span_after a k n span) ((happens s (Stop b)).actors a)) (sym told)
     (subst (λ (o : Option Actor). Suits (span_after a one n span) ((finished s b Stopped o).actors a)) (sym allowed.is)
     (suits_put s.actors b _ a one n span (λ f. refl) (λ f. other_text b a (λ e. f (sym e)))
-    (λ same. end_suits a one n span allowed.actor _ (ap (λ (c : List ℕ). bytes_eq c a) (sym same) ∙ same_text a) (λ e. cc)
+    (λ same. end_suits a one n span allowed.actor _ refl (ap (λ (c : List ℕ). bytes_eq c a) (sym same) ∙ same_text a) (λ e. cc)
     (subst (Suits span) (ap s.actors same ∙ allowed.is) was)) was))
 happens_suits s n k (Moment m) a span told allowed was =
     subst (λ (k : Kept). Suits (span_after a k n span) (s.actors a)) (sym told) (suits_still a (kept.Moment m) n span (s.actors a) refl refl was)

@@ -29,14 +29,22 @@ use Rattle.queue_inject.specs.Rows.{is_open, part_in}
 use Rattle.queue_inject.specs.Stands.{GoesOn, Stands, ContinuesBy, Continues, EndsBy, Ends}
 use Rattle.queue_inject.proofs.Kept.{asked_by, fed_inside}
 use Rattle.world_events.specs.declared.event.Program.{Program}
-use Rattle.world_events.specs.declared.event.Program.TheVariants.{Injector, Cleaner}
+use Rattle.world_events.specs.declared.event.Program.TheVariants.{Injector, Cleaner, Sender, LocalSpawner, RemoteSpawner}
 use Rattle.mail_world.specs.declared.mailer.Mailer.{Mailer}
 use Rattle.mail_world.specs.History.{next_of}
 use Rattle.queue_clean.specs.Machine.{Machine as Cleaning}
 use Rattle.queue_clean.specs.Stands.{Stands as Cleaned}
 use Rattle.queue_clean.specs.Table.{Next as CleansNext}
+use Rattle.send_core.specs.Stands.{Machine as Sending, Stands as Sent}
+use Rattle.send_core.specs.Table.{Next as SendsNext}
+use Rattle.local_spawn.specs.declared.machine.LocalSpawn.{LocalSpawn}
+use Rattle.local_spawn.specs.Stands.{Stands as Answered}
+use Rattle.local_spawn.specs.Table.{Next as AnswersNext}
+use Rattle.remote_spawn.specs.declared.machine.RemoteSpawn.{RemoteSpawn}
+use Rattle.remote_spawn.specs.Stands.{Stands as Spawned}
+use Rattle.remote_spawn.specs.Table.{Next as SpawnsNext}
 use Rattle.mail_world.specs.declared.any_machine.AnyMachine.{AnyMachine}
-use Rattle.mail_world.specs.ByKind.{IsInput, AreInputs, Mails, Cleans, present_of, found_of, need_of, with_own}
+use Rattle.mail_world.specs.ByKind.{IsInput, AreInputs, Mails, Cleans, Sends, Answers, Spawns, present_of, found_of, need_of, with_own}
 use Rattle.call_fs.specs.declared.past.NeedData.TheVariants.{File, Take, Give, Start, Command, Wait, Ended}
 use Rattle.call_fs.specs.declared.past.GotData.{GotData}
 use Rattle.call_fs.specs.declared.past.GotData.TheVariants as got
@@ -150,6 +158,55 @@ pub clean_needs : (m : Cleaning) (program : Program) (past : List Own) (due : Ne
     → ((args : Unit {0}) → Cleaned m args past → due ≡ CleansNext args past now ready) → Cleans m program past → due ≡ next_of program past now ready
 clean_needs m (Cleaner start) past due now ready needs f = needs tt f
 clean_needs m other past due now ready needs f = absurd f
+
+-- Whole senders
+
+pub still_sends : (m n : Sending) (program : Program) (past later : List Own) → ((turns : Option ℕ) → Sent m turns past → Sent n turns later)
+    → Sends m program past → Sends n program later
+still_sends m n (Sender start) past later stands f = stands None f
+still_sends m n other past later stands f = absurd f
+
+pub told_sends : {T E : Type 0} (r : Result T E) (m n : Sending) (program : Program) (past later : List Own) → ((turns : Option ℕ) → Sent m turns past → OnOk r (Sent n turns later))
+    → Sends m program past → OnOk r (Sends n program later)
+told_sends r m n (Sender start) past later stands f = stands None f
+told_sends r m n other past later stands f = absurd f
+
+pub send_needs : (m : Sending) (program : Program) (past : List Own) (due : NeedData) (now : ℕ) (ready : Ready)
+    → ((turns : Option ℕ) → Sent m turns past → due ≡ SendsNext turns past now ready) → Sends m program past → due ≡ next_of program past now ready
+send_needs m (Sender start) past due now ready needs f = needs None f
+send_needs m other past due now ready needs f = absurd f
+
+-- Whole spawners
+
+pub still_answers : (m n : LocalSpawn) (program : Program) (past later : List Own) → ((args : Unit {0}) → Answered m args past → Answered n args later)
+    → Answers m program past → Answers n program later
+still_answers m n (LocalSpawner start) past later stands f = stands tt f
+still_answers m n other past later stands f = absurd f
+
+pub told_answers : {T E : Type 0} (r : Result T E) (m n : LocalSpawn) (program : Program) (past later : List Own) → ((args : Unit {0}) → Answered m args past → OnOk r (Answered n args later))
+    → Answers m program past → OnOk r (Answers n program later)
+told_answers r m n (LocalSpawner start) past later stands f = stands tt f
+told_answers r m n other past later stands f = absurd f
+
+pub answer_needs : (m : LocalSpawn) (program : Program) (past : List Own) (due : NeedData) (now : ℕ) (ready : Ready)
+    → ((args : Unit {0}) → Answered m args past → due ≡ AnswersNext args past now ready) → Answers m program past → due ≡ next_of program past now ready
+answer_needs m (LocalSpawner start) past due now ready needs f = needs tt f
+answer_needs m other past due now ready needs f = absurd f
+
+pub still_spawns : (m n : RemoteSpawn) (program : Program) (past later : List Own) → ((args : Unit {0}) → Spawned m args past → Spawned n args later)
+    → Spawns m program past → Spawns n program later
+still_spawns m n (RemoteSpawner start) past later stands f = stands tt f
+still_spawns m n other past later stands f = absurd f
+
+pub told_spawns : {T E : Type 0} (r : Result T E) (m n : RemoteSpawn) (program : Program) (past later : List Own) → ((args : Unit {0}) → Spawned m args past → OnOk r (Spawned n args later))
+    → Spawns m program past → OnOk r (Spawns n program later)
+told_spawns r m n (RemoteSpawner start) past later stands f = stands tt f
+told_spawns r m n other past later stands f = absurd f
+
+pub spawn_needs : (m : RemoteSpawn) (program : Program) (past : List Own) (due : NeedData) (now : ℕ) (ready : Ready)
+    → ((args : Unit {0}) → Spawned m args past → due ≡ SpawnsNext args past now ready) → Spawns m program past → due ≡ next_of program past now ready
+spawn_needs m (RemoteSpawner start) past due now ready needs f = needs tt f
+spawn_needs m other past due now ready needs f = absurd f
 
 -- The bytes of a read
 

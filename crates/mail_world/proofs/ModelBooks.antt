@@ -1,5 +1,5 @@
 -- The books of a world are those of each legal history that its events tell.
-use Rattle.std.proofs.Common.{◌≡◌, ◌⊎◌, inl, inr, ℕ, List, [], ◌∷◌, ◌++◌, length, map, reverse, Bool, true, false, ◌&&◌, ◌||◌, is_some, Option, Some, None, refl, sym, ap, ◌∙◌, subst, ⊎_elim, bytes_eq, append-nil}
+use Rattle.std.proofs.Common.{◌≡◌, ◌⊎◌, inl, inr, ℕ, List, [], ◌∷◌, ◌++◌, length, map, reverse, Bool, true, false, ◌&&◌, ◌||◌, is_some, Option, Some, None, refl, sym, ap, ◌∙◌, subst, ⊎_elim, bytes_eq, codes, append-nil}
 use Rattle.std.specs.Prelude.{if◌then◌else◌, IsSome}
 use Rattle.std.specs.List.{AllZip}
 use Rattle.std.specs.Option.{option_map}
@@ -29,17 +29,18 @@ use Rattle.call_fs.proofs.Maps.{put_at_cases, put_at_same, put_at_other}
 use Rattle.world_events.specs.declared.event.Event.{Event as Kept}
 use Rattle.world_events.specs.declared.event.Event.TheVariants as kept
 use Rattle.world_events.specs.declared.event.Program.{Program}
-use Rattle.world_events.specs.declared.event.Program.TheVariants.{Injector, Cleaner}
+use Rattle.world_events.specs.declared.event.Program.TheVariants.{Injector}
 use Rattle.world_events.specs.declared.books.Entry.{Entry}
 use Rattle.world_events.specs.declared.books.Life.{Life as ToldLife}
 use Rattle.world_events.specs.declared.books.Life.TheVariants as left
-use Rattle.mail_world.specs.History.{Event, Actor, Life, State, MayRun, next_of, stopped, cut_off as ends_as, acted, finished, happens, after, Legal}
+use Rattle.mail_world.specs.History.{Event, Actor, Life, State, MayRun, newborn, next_of, stopped, cut_off as ends_as, acted, finished, happens, after, Legal}
 use Rattle.mail_world.specs.History.Event.{Start, Act, Child, Generation, Report, End, Stop, Moment, Halt}
 use Rattle.mail_world.specs.History.Life.{Alive, Over, Stopped}
 use Rattle.mail_world.specs.World.{Tells}
 use Rattle.mail_world.specs.ByKind.{injection_of}
 use Rattle.mail_world.specs.Books.{entry_by, entered_by, queues, queues_by, number_by, newer, acted_on, cut_off, noted, books_of, is_to_todo, is_accepting, is_accepting_by, is_accepted, number_of, mail_by, mails_of, told_life, life_in, entry_in, books_in, BooksAreTheModels}
 use Rattle.mail_world.proofs.Kept.{runs_always}
+use Rattle.mail_world.proofs.Programs.{no_members}
 use Rattle.mail_world.proofs.Owns.{MayCall, IsPass, by_act, may_read}
 use Rattle.mail_world.proofs.Tests.{text_cases, same_text, other_text}
 
@@ -94,8 +95,8 @@ timely false late (needs.File own) call h = absurd (cc)
 timely input late due call h = absurd (cc)
 
 next_agrees : (program : Program) (past : List Own) (read : ℕ) (ready : Ready) (call : CallData) → MayRun program → next_of program past read ready ≡ needs.File call → Agrees call
-next_agrees (Cleaner start) past read ready call runs due = absurd runs
 next_agrees (Injector args) past read ready call runs due = row_agrees args _ call (timely _ _ _ call due)
+next_agrees other past read ready call runs due = absurd runs
 
 call_agrees : (s : State) (a : List ℕ) (read : ℕ) (ready : Ready) (call : CallData) (got : Told) (wrote : ℕ)
     → ((x : Actor) → s.actors a ≡ Some x → MayRun x.program) → MayCall s a read ready call got wrote → is_accepting call got.answer ≡ queues call got.answer
@@ -132,6 +133,17 @@ some_stopped : (o : Option Actor) → IsSome o → IsSome (option_map stopped o)
 some_stopped None h = h
 some_stopped (Some x) h = refl
 
+-- after the start of a generation
+some_four : (actors : List ℕ → Option Actor) (sender clean lspawn rspawn : Program) (a : List ℕ) → IsSome (actors a)
+    → IsSome (put_at (put_at (put_at (put_at actors (codes "sender") (Some (newborn sender))) (codes "clean") (Some (newborn clean)))
+    (codes "lspawn") (Some (newborn lspawn))) (codes "rspawn") (Some (newborn rspawn)) a)
+some_four actors sender clean lspawn rspawn a there =
+    let one = put_at actors (codes "sender") (Some (newborn sender)) in
+    let two = put_at one (codes "clean") (Some (newborn clean)) in
+    let three = put_at two (codes "lspawn") (Some (newborn lspawn)) in
+    some_put three (codes "rspawn") (newborn rspawn) a (inr (some_put two (codes "lspawn") (newborn lspawn) a
+    (inr (some_put one (codes "clean") (newborn clean) a (inr (some_put actors (codes "sender") (newborn sender) a (inr there)))))))
+
 -- the actor of a mail is there
 abbrev pub IsThere : State → List ℕ × Arguments → Type 0
 IsThere s mail = IsSome (s.actors mail.0)
@@ -167,8 +179,11 @@ mails_there d (k ∷ events) ((Act b own wrote) ∷ h) told =
     let s = after d h in
     all_there s (happens s (Act b own wrote)) (mails_of h) (λ a there. some_acted s b own wrote (s.actors b) a there) (mails_there d events h told.1)
 mails_there d (k ∷ events) ((Child parent own b program) ∷ h) told = absurd told.0
-mails_there d (k ∷ events) ((Generation sender clean lspawn rspawn) ∷ h) told = absurd told.0
-mails_there d (k ∷ events) ((Report slot letter text) ∷ h) told = absurd told.0
+mails_there d (k ∷ events) ((Generation sender clean lspawn rspawn) ∷ h) told =
+    let s = after d h in
+    all_there s (happens s (Generation sender clean lspawn rspawn)) (mails_of h) (λ a there. some_four s.actors sender clean lspawn rspawn a there) (mails_there d events h told.1)
+mails_there d (k ∷ events) ((Report slot letter text) ∷ h) told =
+    all_there (after d h) (happens (after d h) (Report slot letter text)) (mails_of h) (λ a there. there) (mails_there d events h told.1)
 mails_there d (k ∷ events) ((End b read ready status) ∷ h) told =
     let s = after d h in
     all_there s (happens s (End b read ready status)) (mails_of h) (λ a there. some_finished s b (Over status) (s.actors b) a there) (mails_there d events h told.1)
@@ -205,8 +220,11 @@ quiet d (k ∷ events) ((Act b own wrote) ∷ h) legal told a none =
       before.1 ∙ ap (λ c. newer (if c then number_by own.due own.came else None) (number_of a h)) (sym apart),
     )
 quiet d (k ∷ events) ((Child parent own b program) ∷ h) legal told a none = absurd told.0
-quiet d (k ∷ events) ((Generation sender clean lspawn rspawn) ∷ h) legal told a none = absurd told.0
-quiet d (k ∷ events) ((Report slot letter text) ∷ h) legal told a none = absurd told.0
+quiet d (k ∷ events) ((Generation sender clean lspawn rspawn) ∷ h) legal told a none =
+    let s = after d h in
+    quiet d events h legal.0 told.1 a
+    (none_before (s.actors a) ((happens s (Generation sender clean lspawn rspawn)).actors a) (λ there. some_four s.actors sender clean lspawn rspawn a there) none)
+quiet d (k ∷ events) ((Report slot letter text) ∷ h) legal told a none = quiet d events h legal.0 told.1 a none
 quiet d (k ∷ events) ((End b read ready status) ∷ h) legal told a none =
     let s = after d h in
     quiet d events h legal.0 told.1 a
@@ -337,8 +355,11 @@ told_so d (k ∷ events) ((Act b own wrote) ∷ h) legal told =
     ∙ ap (λ t. made mail number ((bytes_eq b mail.0 && t) || is_accepted mail.0 h) (life_in (s.actors mail.0))) (sym agrees)
     ∙ ap (λ life. made mail number ((bytes_eq b mail.0 && is_accepting_by own.due own.came) || is_accepted mail.0 h) life) (act_life s b own wrote (s.actors b) mail.0 refl))
 told_so d (k ∷ events) ((Child parent own b program) ∷ h) legal told = absurd told.0
-told_so d (k ∷ events) ((Generation sender clean lspawn rspawn) ∷ h) legal told = absurd told.0
-told_so d (k ∷ events) ((Report slot letter text) ∷ h) legal told = absurd told.0
+told_so d (k ∷ events) ((Generation sender clean lspawn rspawn) ∷ h) legal told = absurd (no_members told.0.0 sender clean lspawn rspawn told.0.2 legal.1.runs.0)
+told_so d (k ∷ events) ((Report slot letter text) ∷ h) legal told =
+    let s = after d h in
+    more_books k (kept.Report slot letter text) (books_of events) (entry_in s h) (entry_in (happens s (Report slot letter text)) (Report slot letter text ∷ h)) s (mails_of h)
+    told.0 refl (told_so d events h legal.0 told.1) (mails_there d events h told.1) (λ mail there. refl)
 told_so d (k ∷ events) ((End b read ready status) ∷ h) legal told =
     let s = after d h in
     more_books k (kept.End b read ready status) (books_of events) (entry_in s h) (entry_in (happens s (End b read ready status)) (End b read ready status ∷ h)) s (mails_of h)

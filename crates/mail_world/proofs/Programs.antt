@@ -17,21 +17,27 @@ use Rattle.queue_inject.specs.Table.{row_after}
 use Rattle.queue_inject.proofs.Holds.{holds_what_it_uses}
 use Rattle.mail_world.specs.Acting.{IsAct}
 use Rattle.queue_inject.proofs.Acts.{IsAlone, next_act, next_alone}
-use Rattle.queue_clean.specs.Asked.{IsAsked}
-use Rattle.queue_clean.specs.Asked.IsAsked.{Searches, Stats, Unlinks, Takes, Gives, Ends}
 use Rattle.queue_clean.proofs.Demands.{asks, needs_none}
+use Rattle.send_core.proofs.Holds.{uses as sends_held}
+use Rattle.local_spawn.specs.Table.{place_after, row_now}
+use Rattle.local_spawn.proofs.Asks.{needs_none as answers_none}
+use Rattle.remote_spawn.proofs.Holds.{uses as spawns_held}
 use Rattle.world_events.specs.declared.event.Program.{Program}
-use Rattle.world_events.specs.declared.event.Program.TheVariants.{Injector, Cleaner}
+use Rattle.world_events.specs.declared.event.Program.TheVariants.{Injector, Cleaner, Sender, LocalSpawner, RemoteSpawner}
 use Rattle.mail_world.specs.declared.any_machine.AnyMachine.{AnyMachine}
-use Rattle.mail_world.specs.declared.any_machine.AnyMachine.TheVariants.{Mail, Clean}
+use Rattle.mail_world.specs.declared.any_machine.AnyMachine.TheVariants.{Mail, Clean, Send, Local, Remote}
 use Rattle.mail_world.specs.Pipework.{Slot}
 use Rattle.mail_world.specs.History.{Actor, Life, State, InputIsFound, FindsInputAlone, MayFind, MayRun, next_of, latest, own_call, booked_by, held_by, cut_off}
 use Rattle.mail_world.specs.History.Life.{Alive, Over}
 use Rattle.mail_world.specs.Headline.{IsBooked, EndsWell}
+use Rattle.mail_world.specs.World.{AreMembers}
 use Rattle.mail_world.specs.Readiness.{found_by, found_at, found_in, finds}
 use Rattle.mail_world.specs.declared.mailer.Mailer.{Mailer}
+use Rattle.mail_world.specs.ByKind.{IsMail, CanFind, HasRoom, Leaves, Follows, Mails, Cleans, Sends, Answers, Spawns}
 use Rattle.queue_clean.specs.Machine.{Machine as Cleaning}
-use Rattle.mail_world.specs.ByKind.{IsMail, CanFind, HasRoom, Leaves, Follows, Mails, Cleans}
+use Rattle.send_core.specs.Stands.{Machine as Sending}
+use Rattle.local_spawn.specs.declared.machine.LocalSpawn.{LocalSpawn}
+use Rattle.remote_spawn.specs.declared.machine.RemoteSpawn.{RemoteSpawn}
 use Rattle.call_fs.specs.declared.program.TheConstants.{INPUT_READY}
 use Rattle.queue_law.specs.Books.{Injection, IsInjected}
 use Rattle.queue_law.specs.Numbers.{Role, Queue, about, IsSorted, Sound, IsEarly}
@@ -45,30 +51,22 @@ use Rattle.queue_law.proofs.Injectors.{injector_start, injector_later, injector_
 
 -- What it asks for
 
--- a cleaner starts none
-asks_no_start : {due : NeedData} → IsAsked due → (asked : ChildData) → due ≡ needs.Start asked → ⊥
-asks_no_start (Searches dir last) asked is = cc
-asks_no_start (Stats name) asked is = cc
-asks_no_start (Unlinks name) asked is = cc
-asks_no_start Takes asked is = cc
-asks_no_start (Gives bytes) asked is = cc
-asks_no_start (Ends status) asked is = cc
-
 -- a call that is due in a run uses only what the run holds open
 pub program_uses : (program : Program) (past : List Own) (now : ℕ) (ready : Ready) → IsRunBy (next_of program) past
     → UsesHeld (held past) (next_of program past now ready)
 program_uses (Injector args) past now ready run = holds_what_it_uses args past now ready run
 program_uses (Cleaner start) past now ready run = needs_none (held past) (asks tt past now ready)
+program_uses (Sender start) past now ready run = sends_held None past now ready run
+program_uses (LocalSpawner start) past now ready run = answers_none (held past) (row_now (place_after past) ready) (place_after past)
+program_uses (RemoteSpawner start) past now ready run = spawns_held tt past now ready run
 
 -- it may be told that anything is ready
 pub machine_finds : (m : AnyMachine) (ready : Ready) → CanFind m ready
 machine_finds (Mail mailer) ready = tt
 machine_finds (Clean cleaner) ready = tt
-
--- it takes no memory
-pub machine_has_room : (m : AnyMachine) → HasRoom m
-machine_has_room (Mail mailer) = tt
-machine_has_room (Clean cleaner) = tt
+machine_finds (Send sender) ready = tt
+machine_finds (Local spawner) ready = tt
+machine_finds (Remote spawner) ready = tt
 
 -- that of a mail is one that a history may start
 pub mail_runs : (program : Program) → IsMail program → MayRun program
@@ -91,25 +89,49 @@ found_alone s a x is mail = subst FindsInputAlone (sym (ap (found_at s a) is)) (
 -- each injector finds the same
 pub mail_found : (s : State) (a : List ℕ) (program : Program) → MayRun program → found_by s a program ≡ INPUT_READY
 mail_found s a (Injector args) runs = refl
-mail_found s a (Cleaner start) runs = absurd runs
+mail_found s a other runs = absurd runs
 
 -- what the machine of a mail finds is what its program finds
 mailer_finds : (m : Mailer) (s : State) (a : List ℕ) (program : Program) (past : List Own) → IsMail program → Mails m program past → INPUT_READY ≡ found_by s a program
 mailer_finds m s a (Injector args) past mail f = refl
 mailer_finds m s a other past mail f = absurd mail
 
+-- and no other machine is that of a mail
 cleaner_is_none : (m : Cleaning) (program : Program) (past : List Own) → IsMail program → Cleans m program past → ⊥
-cleaner_is_none m (Injector args) past mail f = f
 cleaner_is_none m (Cleaner start) past mail f = mail
+cleaner_is_none m other past mail f = f
+
+sender_is_none : (m : Sending) (program : Program) (past : List Own) → IsMail program → Sends m program past → ⊥
+sender_is_none m (Sender start) past mail f = mail
+sender_is_none m other past mail f = f
+
+local_is_none : (m : LocalSpawn) (program : Program) (past : List Own) → IsMail program → Answers m program past → ⊥
+local_is_none m (LocalSpawner start) past mail f = mail
+local_is_none m other past mail f = f
+
+remote_is_none : (m : RemoteSpawn) (program : Program) (past : List Own) → IsMail program → Spawns m program past → ⊥
+remote_is_none m (RemoteSpawner start) past mail f = mail
+remote_is_none m other past mail f = f
 
 pub machine_found : (m : AnyMachine) (s : State) (a : List ℕ) (program : Program) (past : List Own) → IsMail program → Follows m program past → finds m ≡ found_by s a program
 machine_found (Mail mailer) s a program past mail f = mailer_finds mailer s a program past mail f
 machine_found (Clean cleaner) s a program past mail f = absurd (cleaner_is_none cleaner program past mail f)
+machine_found (Send sender) s a program past mail f = absurd (sender_is_none sender program past mail f)
+machine_found (Local spawner) s a program past mail f = absurd (local_is_none spawner program past mail f)
+machine_found (Remote spawner) s a program past mail f = absurd (remote_is_none spawner program past mail f)
 
--- it starts no program
-pub program_starts_none : (program : Program) (past : List Own) (now : ℕ) (ready : Ready) (asked : ChildData) → next_of program past now ready ≡ needs.Start asked → ⊥
-program_starts_none (Injector args) past now ready asked is = subst IsAlone is (next_alone args past now ready)
-program_starts_none (Cleaner start) past now ready asked is = asks_no_start (asks tt past now ready) asked is
+-- and it takes no memory
+pub machine_has_room : (m : AnyMachine) (program : Program) (past : List Own) → IsMail program → Follows m program past → HasRoom m
+machine_has_room (Mail mailer) program past mail f = tt
+machine_has_room (Clean cleaner) program past mail f = tt
+machine_has_room (Send sender) program past mail f = absurd (sender_is_none sender program past mail f)
+machine_has_room (Local spawner) program past mail f = absurd (local_is_none spawner program past mail f)
+machine_has_room (Remote spawner) program past mail f = absurd (remote_is_none spawner program past mail f)
+
+-- one that a history may start starts no program
+pub program_starts_none : (program : Program) (past : List Own) (now : ℕ) (ready : Ready) (asked : ChildData) → MayRun program → next_of program past now ready ≡ needs.Start asked → ⊥
+program_starts_none (Injector args) past now ready asked runs is = subst IsAlone is (next_alone args past now ready)
+program_starts_none other past now ready asked runs is = absurd runs
 
 -- one that is no child may find its input ready, which stands in its start
 pub program_finds : (s : State) (a : List ℕ) (program : Program) → IsMail program → (past : List Own) (ready : Ready) → s.pipework.slots a ≡ None → FindsInputAlone ready
@@ -118,22 +140,26 @@ program_finds s a (Injector args) mail past ready none alone =
     (alone, subst (λ (slot : Option Slot). InputIsFound s.pipework a slot past ready) (sym none) tt)
 program_finds s a other mail past ready none alone = absurd mail
 
+-- no history starts a sender yet, so none starts a generation
+pub no_members : (start : ℕ) (sender clean lspawn rspawn : Program) → AreMembers start sender clean lspawn rspawn → MayRun sender → ⊥
+no_members start sender clean lspawn rspawn are runs = subst MayRun are.sender_is runs
+
 -- How it fares
 
--- what holds of an actor; no history starts a cleaner yet
+-- what holds of an actor; no history starts a member of a generation yet
 abbrev pub FaresBy : ℕ → Queue → List ℕ → Program → List Own → Life → Type 0
 FaresBy now q a (Injector args) past life = InjectorFares now q a args past (is_alive life) (is_well life)
-FaresBy now q a (Cleaner start) past life = ⊥
+FaresBy now q a other past life = ⊥
 
 -- so it is one that a history may start
 pub fares_runs : (now : ℕ) (q : Queue) (a : List ℕ) (program : Program) (past : List Own) (life : Life) → FaresBy now q a program past life → MayRun program
 fares_runs now q a (Injector args) past life F = tt
-fares_runs now q a (Cleaner start) past life F = absurd F
+fares_runs now q a other past life F = absurd F
 
 -- one that has just started
 pub fares_start : (now : ℕ) (q : Queue) (a : List ℕ) (program : Program) → MayRun program → FaresBy now q a program [] Alive
 fares_start now q a (Injector args) runs = injector_start now q a args
-fares_start now q a (Cleaner start) runs = absurd runs
+fares_start now q a other runs = absurd runs
 
 -- what asks for nothing that concerns another program passes nothing
 pub passes_none : (due : NeedData) → IsAlone due → IsPass due → ⊥
@@ -149,52 +175,52 @@ passes_none (needs.Ended status) alone pass = pass
 pub fares_passes : (now : ℕ) (q : Queue) (a : List ℕ) (program : Program) (past : List Own) (life : Life) (own : Own) → FaresBy now q a program past life
     → next_of program past own.read own.ready ≡ own.due → IsPass own.due → FaresBy now q a program (own ∷ past) life
 fares_passes now q a (Injector args) past life own F next pass = absurd (passes_none own.due (subst IsAlone next (next_alone args past own.read own.ready)) pass)
-fares_passes now q a (Cleaner start) past life own F next pass = absurd F
+fares_passes now q a other past life own F next pass = absurd F
 
 -- after a step of another actor
 pub fares_frame : (now : ℕ) (a : List ℕ) (m : Option ℕ) (q r : Queue) → Elsewhere now a m q r
     → (o : List ℕ) → o ≢ a → (program : Program) (past : List Own) (life : Life) → FaresBy now q o program past life → FaresBy now r o program past life
 fares_frame now a m q r E o other (Injector args) past life F = injector_frame now a m q r E o other args past (is_alive life) (is_well life) F
-fares_frame now a m q r E o other (Cleaner start) past life F = absurd F
+fares_frame now a m q r E o other program past life F = absurd F
 
 -- after a machine stop
 pub fares_halt : (now : ℕ) (q : Queue) (contents : ℕ → List ℕ) (a : List ℕ) (program : Program) (past : List Own) (life : Life)
     → FaresBy now q a program past life → FaresBy now (after_halt contents q) a program past (cut_off life)
 fares_halt now q contents a (Injector args) past life F =
     after_stop (InjectorFares now (after_halt contents q) a args past) life (injector_halt now q contents a args past (is_alive life) (is_well life) F)
-fares_halt now q contents a (Cleaner start) past life F = absurd F
+fares_halt now q contents a other past life F = absurd F
 
 -- at a later moment
 pub fares_later : (now m : ℕ) → now ≤ m → (q : Queue) (a : List ℕ) (program : Program) (past : List Own) (life : Life)
     → FaresBy now q a program past life → FaresBy m q a program past life
 fares_later now m later q a (Injector args) past life F = injector_later now m later q a args past (is_alive life) (is_well life) F
-fares_later now m later q a (Cleaner start) past life F = absurd F
+fares_later now m later q a other past life F = absurd F
 
 -- a program that is at its end with 0
 abbrev pub IsDone : Program → List Own → Type 0
 IsDone (Injector args) past = row_after args past ≡ at.Queued
-IsDone (Cleaner start) past = Unit {0}
+IsDone other past = Unit {0}
 
 pub fares_done : (now : ℕ) (q : Queue) (a : List ℕ) (program : Program) (past : List Own) (life : Life) (read : ℕ) (ready : Ready)
     → FaresBy now q a program past life → life ≡ Alive → next_of program past read ready ≡ needs.Ended 0 → IsDone program past
 fares_done now q a (Injector args) past life read ready F alive next = injector_done now q a args past (is_alive life) (is_well life) read ready F (ap is_alive alive) next
-fares_done now q a (Cleaner start) past life read ready F alive next = tt
+fares_done now q a other past life read ready F alive next = tt
 
 -- after its end or its stop
 pub fares_over : (now : ℕ) (q r : Queue) → r.books ≡ q.books → (a : List ℕ) (program : Program) (past : List Own) (old life : Life)
     → FaresBy now q a program past old → (life ≡ Alive → ⊥) → (life ≡ Over 0 → IsDone program past) → FaresBy now r a program past life
 fares_over now q r same a (Injector args) past old life F dead ends =
     injector_over now q r same a args past (is_alive old) (is_well old) (is_alive life) (is_well life) F (λ h. dead (alive_is life h)) (λ h. ends (well_is life h))
-fares_over now q r same a (Cleaner start) past old life F dead ends = absurd F
+fares_over now q r same a other past old life F dead ends = absurd F
 
 -- what its past has put into the books, and what its end with 0 says
 pub fares_booked : (now : ℕ) (q : Queue) (a : List ℕ) (program : Program) (past : List Own) (life : Life) → FaresBy now q a program past life → IsBooked q.books a program past
 fares_booked now q a (Injector args) past life F = F.queued
-fares_booked now q a (Cleaner start) past life F = absurd F
+fares_booked now q a other past life F = absurd F
 
 pub fares_well : (now : ℕ) (q : Queue) (a : List ℕ) (program : Program) (past : List Own) (life : Life) → FaresBy now q a program past life → life ≡ Over 0 → EndsWell q.books a program
 fares_well now q a (Injector args) past life F over = F.queued (F.ends (ap is_well over))
-fares_well now q a (Cleaner start) past life F over = absurd F
+fares_well now q a other past life F over = absurd F
 
 -- the queue after a call of it
 abbrev pub queue_by : Queue → List ℕ → Program → (read : ℕ) → CallData → Answer → (wrote : ℕ) → (ℕ → Role) → Queue
@@ -209,6 +235,9 @@ queue_by q a program read call answer wrote role = record {
 pub leaves_same : (program : Program) (d : Disk) (opens : ℕ → Option Open) → Leaves program d (record { dirs = d.dirs; names = d.names; files = d.files; opens = opens })
 leaves_same (Injector args) d opens = outside_same d opens
 leaves_same (Cleaner start) d opens = outside_same d opens
+leaves_same (Sender start) d opens = outside_same d opens
+leaves_same (LocalSpawner start) d opens = outside_same d opens
+leaves_same (RemoteSpawner start) d opens = outside_same d opens
 
 -- what a call of it leads to
 pub record Calls (controls : Controls) (now : ℕ) (q : Queue) (a : List ℕ) (program : Program) (past : List Own) (life : Life) (read : ℕ) (ready : Ready) (call : CallData) (told : Told) (wrote : ℕ) : Type 0 where
@@ -232,4 +261,4 @@ fares_calls controls now q a (Injector args) past life read ready call told wrot
     let r = queue_by q a (Injector args) read call told.answer wrote w.role in
     let fares = subst (λ (l : Life). InjectorFares now r a args (own_call read ready call told ∷ past) (is_alive l) (is_well l)) (sym alive) w.fares in
     record { role = w.role; number = w.number; elsewhere = w.elsewhere; sound = w.sound; fares = fares; outside = w.outside; accepted = w.accepted; sorted = w.sorted; early = w.early }
-fares_calls controls now q a (Cleaner start) past life read ready call told wrote G F alive no_earlier no_stall next fits = absurd F
+fares_calls controls now q a other past life read ready call told wrote G F alive no_earlier no_stall next fits = absurd F

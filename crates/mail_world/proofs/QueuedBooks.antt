@@ -29,7 +29,7 @@ use Rattle.queue_paths.specs.Names.Part.{Mess, Intd, Todo, Info, Local, Remote, 
 use Rattle.queue_paths.proofs.Paths.{exact}
 use Rattle.world_events.specs.declared.event.Event.{Event as Kept}
 use Rattle.world_events.specs.declared.event.Program.{Program}
-use Rattle.world_events.specs.declared.event.Program.TheVariants.{Injector, Cleaner}
+use Rattle.world_events.specs.declared.event.Program.TheVariants.{Injector}
 use Rattle.mail_world.specs.History.{Event, Actor, Injection, Books, Life, State, MayRun, next_of, own_call, stopped, acted, finished, begun, accept, linked, booked, books_after, after, Legal}
 use Rattle.mail_world.specs.History.Event.{Start, Act, Child, Generation, Report, End, Stop, Moment, Halt}
 use Rattle.mail_world.specs.History.Life.{Over, Stopped}
@@ -39,6 +39,7 @@ use Rattle.mail_world.specs.Books.{is_to_todo, is_accepting, is_accepting_by, is
 use Rattle.mail_world.proofs.BookedNumbers.{IsIn, among_option, injections_told}
 use Rattle.mail_world.proofs.Headline.{headline}
 use Rattle.mail_world.proofs.Kept.{runs_always}
+use Rattle.mail_world.proofs.Programs.{no_members}
 use Rattle.mail_world.proofs.Owns.{IsPass, by_act, may_read}
 use Rattle.mail_world.proofs.Tests.{text_cases, same_text}
 
@@ -128,7 +129,7 @@ call_linked b a args (call.NextName dir name) answer said h mine = h
 program_linked : (b : Books) (a : List ℕ) (program : Program) (c : CallData) (got : Told) (said : List ℕ → Bool) → MayRun program → AreLinked b said → (is_accepting c got.answer ≡ true → said a ≡ true)
     → AreLinked (books_after b a program (needs.File c) (Answered got)) said
 program_linked b a (Injector args) c got said runs h mine = call_linked b a args c got.answer said h mine
-program_linked b a (Cleaner start) c got said runs h mine = absurd runs
+program_linked b a other c got said runs h mine = absurd runs
 
 -- what passes between programs changes no books
 pass_books : (b : Books) (a : List ℕ) (program : Program) (due : NeedData) (came : GotData) → IsPass due → books_after b a program due came ≡ b
@@ -168,8 +169,8 @@ linked_told d (k ∷ events) ((Act b own wrote) ∷ h) legal told q is agreed =
     let mine : t ≡ true → said b ≡ true = λ e. ap (λ c. (c && t) || is_accepted b h) (same_text b) ∙ ap (λ c. c || is_accepted b h) e in
     subst (λ (o : Option Actor). AreLinked (acted s b own wrote o).books said) (sym reads.1.is) (on reads.0 reads.1.is said before mine) q is agreed
 linked_told d (k ∷ events) ((Child parent own b program) ∷ h) legal told q is agreed = absurd told.0
-linked_told d (k ∷ events) ((Generation sender clean lspawn rspawn) ∷ h) legal told q is agreed = absurd told.0
-linked_told d (k ∷ events) ((Report slot letter text) ∷ h) legal told q is agreed = absurd told.0
+linked_told d (k ∷ events) ((Generation sender clean lspawn rspawn) ∷ h) legal told q is agreed = linked_told d events h legal.0 told.1 q is agreed
+linked_told d (k ∷ events) ((Report slot letter text) ∷ h) legal told q is agreed = linked_told d events h legal.0 told.1 q is agreed
 linked_told d (k ∷ events) ((End b read ready status) ∷ h) legal told q is agreed =
     subst (λ (books : Books). AreLinked books (λ a. is_accepted a h)) (sym (finished_books (after d h) b (Over status) ((after d h).actors b)))
     (linked_told d events h legal.0 told.1) q is agreed
@@ -249,12 +250,12 @@ ends_next args other past read ready due is row next =
 
 call_row : (program : Program) (past : List Own) (read : ℕ) (ready : Ready) (c : CallData) (got : Told) (before : Bool) → MayRun program → next_of program past read ready ≡ needs.File c
     → (before ≡ true → HasQueuedRow program past) → (is_accepting c got.answer || before) ≡ true → HasQueuedRow program (own_call read ready c got ∷ past)
-call_row (Cleaner start) past read ready c got before runs due old agreed = absurd runs
 call_row (Injector args) past read ready c got true runs due old agreed =
     let w = old refl in
     let ends : needs.File c ≡ needs.Ended DONE = ends_next args w.0 past read ready (needs.File c) w.1 w.2 due in absurd (cc)
 call_row (Injector args) past read ready c got false runs due old agreed =
     (args, refl, row_queued args (row_after args past) c got.answer (timely _ _ _ c due) (sym (or-false (is_accepting c got.answer)) ∙ agreed))
+call_row other past read ready c got before runs due old agreed = absurd runs
 
 pass_accepts : (due : NeedData) (came : GotData) → IsPass due → is_accepting_by due came ≡ false
 pass_accepts (needs.Take port) came pass = refl
@@ -267,10 +268,10 @@ pass_accepts (needs.Ended status) came pass = absurd pass
 
 pass_row : (program : Program) (past : List Own) (read : ℕ) (ready : Ready) (due : NeedData) (came : GotData) (before : Bool) → MayRun program → next_of program past read ready ≡ due → IsPass due
     → (before ≡ true → HasQueuedRow program past) → (is_accepting_by due came || before) ≡ true → ⊥
-pass_row (Cleaner start) past read ready due came before runs next pass old agreed = runs
 pass_row (Injector args) past read ready due came before runs next pass old agreed =
     let w = old (ap (λ c. c || before) (sym (pass_accepts due came pass)) ∙ agreed) in
     subst IsPass (ends_next args w.0 past read ready due w.1 w.2 next) pass
+pass_row other past read ready due came before runs next pass old agreed = runs
 
 abbrev RowsOn : State → List ℕ → Own → Type 0
 RowsOn s b own = (x : Actor) → s.actors b ≡ Some x → (before : Bool) → (before ≡ true → HasQueuedRow x.program x.past) → (is_accepting_by own.due own.came || before) ≡ true
@@ -324,8 +325,8 @@ row_told d (k ∷ events) ((Act b own wrote) ∷ h) legal told a agreed =
     subst (λ (o : Option Actor). HasRow ((acted s b own wrote o).actors a)) (sym reads.1.is)
     (act_row s b own wrote reads.0 (is_accepting_by own.due own.came) (is_accepted a h) a reads.1.is (on reads.0 reads.1.is) (row_told d events h legal.0 told.1 a) agreed)
 row_told d (k ∷ events) ((Child parent own b program) ∷ h) legal told a agreed = absurd told.0
-row_told d (k ∷ events) ((Generation sender clean lspawn rspawn) ∷ h) legal told a agreed = absurd told.0
-row_told d (k ∷ events) ((Report slot letter text) ∷ h) legal told a agreed = absurd told.0
+row_told d (k ∷ events) ((Generation sender clean lspawn rspawn) ∷ h) legal told a agreed = absurd (no_members told.0.0 sender clean lspawn rspawn told.0.2 legal.1.runs.0)
+row_told d (k ∷ events) ((Report slot letter text) ∷ h) legal told a agreed = row_told d events h legal.0 told.1 a agreed
 row_told d (k ∷ events) ((End b read ready status) ∷ h) legal told a agreed =
     finish_row (after d h) b (Over status) ((after d h).actors b) a refl (row_told d events h legal.0 told.1 a agreed)
 row_told d (k ∷ events) ((Stop b) ∷ h) legal told a agreed = finish_row (after d h) b Stopped ((after d h).actors b) a refl (row_told d events h legal.0 told.1 a agreed)

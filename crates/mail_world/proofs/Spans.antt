@@ -1,5 +1,5 @@
 -- The life of an actor, by the kept events.
-use Rattle.std.proofs.Common.{◌≡◌, ℕ, List, [], ◌∷◌, ◌++◌, length, Bool, true, false, if◌then◌else◌, refl, ap, ◌∙◌, reverse}
+use Rattle.std.proofs.Common.{◌≡◌, ℕ, List, [], ◌∷◌, ◌++◌, length, Bool, true, false, if◌then◌else◌, ap, ◌∙◌, reverse}
 use Rattle.std.proofs.lemmas.List.{reverse-append, length-reverse}
 use Rattle.world_events.specs.declared.event.Event.{Event as Kept}
 use Rattle.mail_world.specs.World.{Span, span_after, span_of, starts, ends}
@@ -13,7 +13,7 @@ span_push events k a = ap (span_of a) (reverse-append events (k ∷ [])) ∙ ap 
 pub span_still : (a : List ℕ) (k : Kept) (n : ℕ) (s : Span) → starts a k ≡ false → ends a k ≡ false → span_after a k n s ≡ s
 span_still a k n Unborn no_start no_end = ap (λ (b : Bool). if b then Lasting else Unborn) no_start
 span_still a k n Lasting no_start no_end = ap (λ (b : Bool). if b then OverAt n else Lasting) no_end
-span_still a k n (OverAt at) no_start no_end = refl
+span_still a k n (OverAt at) no_start no_end = ap (λ (b : Bool). if b then Lasting else OverAt at) no_start
 
 pub span_stays : (events : List Kept) (k : Kept) (a : List ℕ) → starts a k ≡ false → ends a k ≡ false → span_of a (reverse (events ++ k ∷ [])) ≡ span_of a (reverse events)
 span_stays events k a no_start no_end = span_push events k a ∙ span_still a k (length events) (span_of a (reverse events)) no_start no_end

@@ -2,8 +2,7 @@
 use Rattle.std.proofs.Common.{◌≡◌, ℕ, ◌+◌, ◌-◌, ◌^◌, ◌≤◌, ◌<◌, min, List, [], ◌∷◌, ◌++◌, length, set, Bool, true, false, Option, Some, None, IsSomeAnd, is_some, reverse, refl, sym, ap, ◌∙◌, subst, arith, get_or}
 use Rattle.std.proofs.lemmas.Option.{slice_get_within, get_or_from_slice_get}
 use Rattle.std.proofs.lemmas.List.Sums.{sum_by-append}
-use Rattle.std.specs.Prelude.{count_by, if◌then◌else◌}
-use Rattle.std.specs.List.{slice_get}
+use Rattle.std.specs.List.{slice_get, sum_by}
 use Rattle.call_fs.specs.declared.calls.CallData.{CallData}
 use Rattle.call_fs.specs.declared.calls.Told.{Told}
 use Rattle.call_fs.specs.Disk.{Disk}
@@ -31,7 +30,7 @@ use Rattle.mail_world.specs.History.{Life, State, FindsInputAlone, own_call, nex
 use Rattle.mail_world.specs.History.Event.{Start, Moment, Halt}
 use Rattle.mail_world.specs.History.Life.{Over, Stopped}
 use Rattle.call_fs.specs.declared.program.Ready.{Ready}
-use Rattle.mail_world.specs.World.{kept_call, next_pid, is_start, ComesWhole, IsOwnOf, IsStep, span_after, span_of, was_started, EndsAt}
+use Rattle.mail_world.specs.World.{kept_call, next_pid, starts_in, ComesWhole, IsOwnOf, IsStep, span_after, span_of, was_started, EndsAt}
 use Rattle.mail_world.specs.World.Span.{OverAt}
 use Rattle.mail_world.specs.ByKind.{IsMail, Follows}
 use Rattle.mail_world.specs.Inside.{known, span_by, IsMember, AreActors, IsOpenTo, IsLed, IsWorld}
@@ -71,11 +70,11 @@ met_by None (Some y) R S f met = absurd met
 met_by (Some x) None R S f met = absurd met
 met_by (Some x) (Some y) R S f met = f x y met
 
-pid_push : (events : List Kept) (k : Kept) → next_pid (events ++ k ∷ []) ≡ min (77 + (count_by is_start events + (if is_start k then 1 else 0))) (2 ^ 32 - 1)
-pid_push events k = ap (λ (n : ℕ). min (77 + n) (2 ^ 32 - 1)) (sum_by-append (λ e. if is_start e then 1 else 0) events (k ∷ []) ∙ omega arith)
+pid_push : (events : List Kept) (k : Kept) → next_pid (events ++ k ∷ []) ≡ min (77 + (sum_by starts_in events + starts_in k)) (2 ^ 32 - 1)
+pid_push events k = ap (λ (n : ℕ). min (77 + n) (2 ^ 32 - 1)) (sum_by-append starts_in events (k ∷ []) ∙ omega arith)
 
-still_pid : (events : List Kept) (k : Kept) → is_start k ≡ false → min (77 + (count_by is_start events + (if is_start k then 1 else 0))) (2 ^ 32 - 1) ≡ next_pid events
-still_pid events k none = ap (λ (b : Bool). min (77 + (count_by is_start events + (if b then 1 else 0))) (2 ^ 32 - 1)) none ∙ omega arith
+still_pid : (events : List Kept) (k : Kept) → starts_in k ≡ 0 → min (77 + (sum_by starts_in events + starts_in k)) (2 ^ 32 - 1) ≡ next_pid events
+still_pid events k none = ap (λ (n : ℕ). min (77 + (sum_by starts_in events + n)) (2 ^ 32 - 1)) none ∙ omega arith
 
 -- the actor at a place
 pub record StandsAt (places : List ℕ → Option ℕ) (actors : List Held) (s : State) (events : List Kept) (p i : ℕ) (x : Held) : Type 0 where
@@ -107,6 +106,7 @@ may_act told places actors s events p n i x ready w at finds =
       program = m.actor.program;
       past = past;
       follows = m.follows;
+      mail = m.mail;
       run = m.run;
       acts = subst (λ (ready : Ready). IsAct (next_of m.actor.program past p ready)) (sym finds) (program_acts s x.name m.actor.program m.mail past p);
       may = on_told told (λ d. IsOpenTo d actors s) (λ d. MayMake d due)

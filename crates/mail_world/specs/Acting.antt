@@ -30,7 +30,7 @@ use Rattle.mail_world.specs.declared.error.WorldError.TheVariants as why
 use Rattle.mail_world.specs.History.{next_of}
 use Rattle.call_fs.specs.declared.program.Ready.{Ready}
 use Rattle.mail_world.specs.World.{IsPlannedOwn}
-use Rattle.mail_world.specs.ByKind.{Follows}
+use Rattle.mail_world.specs.ByKind.{IsMail, Follows}
 use Rattle.mail_world.specs.Inside.{has}
 
 -- the others of these
@@ -69,11 +69,13 @@ IsAct (needs.File c) = Unit {0}
 IsAct (needs.Ended status) = Unit {0}
 IsAct other = ⊥
 
--- an actor's machine may act at this moment, with this ready
+-- An actor's machine may act at this moment, with this ready: so far that of an injector, which takes no memory when it is told
+-- what came.
 pub record MayAct (disk : Option Disk) (machine : AnyMachine) (now : ℕ) (ready : Ready) : Type 0 where
   pub program : Program
   pub past : List Own
   pub follows : Follows machine program past
+  pub mail : IsMail program
   pub run : IsRunBy (next_of program) past
   pub acts : IsAct (next_of program past now ready)
   pub may : OnTold disk (λ d. MayMake d (next_of program past now ready))

@@ -9,7 +9,7 @@ use Rattle.queue_inject.specs.Table.{row_after}
 use Rattle.queue_inject.specs.Texts.{entered, todo_of, recipients_of}
 use Rattle.call_fs.specs.declared.past.Own.{Own}
 use Rattle.world_events.specs.declared.event.Program.{Program}
-use Rattle.world_events.specs.declared.event.Program.TheVariants.{Injector, Cleaner}
+use Rattle.world_events.specs.declared.event.Program.TheVariants.{Injector}
 use Rattle.queue_states.specs.declared.state.State.TheVariants.{Other}
 use Rattle.queue_states.specs.States.{state_of}
 use Rattle.mail_world.specs.History.{Event, Actor, Injection, Books, State, after, Legal}
@@ -30,12 +30,12 @@ pub data Accounted (s : State) (q : Injection) (recipient : ℕ) : Type 0 where
 -- what the past of a program has put into the books: if an injector has queued its message, its accepted injection
 abbrev pub IsBooked : Books → List ℕ → Program → List Own → Type 0
 IsBooked b a (Injector args) past = row_after args past ≡ Row.Queued → HasQueued b a args
-IsBooked b a (Cleaner start) past = Unit {0}
+IsBooked b a other past = Unit {0}
 
 -- what a program's end with 0 says: an injector's, that it has an accepted injection
 abbrev pub EndsWell : Books → List ℕ → Program → Type 0
 EndsWell b a (Injector args) = HasQueued b a args
-EndsWell b a (Cleaner start) = Unit {0}
+EndsWell b a other = Unit {0}
 
 pub record Safe (s : State) : Type 0 where
   -- each number is in one of the states S1 to S5

@@ -31,8 +31,11 @@ use Rattle.queue_paths.specs.Names.{Part, path}
 use Rattle.queue_paths.specs.Names.Name.{Of}
 use Rattle.queue_inject.specs.Table.{Next, has_input}
 use Rattle.queue_clean.specs.Table.{Next as CleansNext}
+use Rattle.send_core.specs.Table.{Next as SendsNext}
+use Rattle.local_spawn.specs.Table.{Next as AnswersNext}
+use Rattle.remote_spawn.specs.Table.{Next as SpawnsNext}
 use Rattle.world_events.specs.declared.event.Program.{Program}
-use Rattle.world_events.specs.declared.event.Program.TheVariants.{Injector, Cleaner}
+use Rattle.world_events.specs.declared.event.Program.TheVariants.{Injector, Cleaner, Sender, LocalSpawner, RemoteSpawner}
 use Rattle.actor_names.specs.MailNames.{members}
 use Rattle.mail_world.specs.Pipework.{Pipework, Tenant, Slot, is_ready, Yields, no_pipework, slot_of, pipework_after, with_child, without_writer, with_generation, with_report}
 use Rattle.mail_world.specs.Pipework.Tenant.{Runs, Remote}
@@ -75,15 +78,21 @@ started_by (Stop a) = 0
 started_by (Moment m) = 0
 started_by (Halt how contents) = 0
 
--- what a program must do next: after this past, newest event first, at this moment, with this ready
+-- What a program must do next: after this past, newest event first, at this moment, with this ready. A sender has no last turn.
 abbrev pub next_of : Program → List Own → ℕ → Ready → NeedData
 next_of (Injector args) past now ready = Next args past now ready
 next_of (Cleaner start) past now ready = CleansNext tt past now ready
+next_of (Sender start) past now ready = SendsNext None past now ready
+next_of (LocalSpawner start) past now ready = AnswersNext tt past now ready
+next_of (RemoteSpawner start) past now ready = SpawnsNext tt past now ready
 
 -- the moment at which a program was started
 abbrev pub start_of : Program → ℕ
 start_of (Injector args) = args.start
 start_of (Cleaner start) = start
+start_of (Sender start) = start
+start_of (LocalSpawner start) = start
+start_of (RemoteSpawner start) = start
 
 -- alive, ended with a status, or stopped from outside
 pub data Life : Type 0 where
@@ -111,10 +120,13 @@ pub record State : Type 0 where
   pub books : Books
   pub pipework : Pipework
 
--- what they say after a call, by the program that made it
+-- What they say after a call, by the program that made it. What a sender's mark means to them is still to come.
 abbrev pub booked_by : Books → List ℕ → Program → CallData → Answer → Books
 booked_by b a (Injector args) call answer = booked b a args call answer
 booked_by b a (Cleaner start) call answer = b
+booked_by b a (Sender start) call answer = b
+booked_by b a (LocalSpawner start) call answer = b
+booked_by b a (RemoteSpawner start) call answer = b
 
 -- What an event of an actor does to the disk, to the descriptors and to the books: a file call its effect, any other
 -- nothing.
@@ -241,10 +253,13 @@ pub record MayRead (s : State) (a : List ℕ) (x : Actor) (read : ℕ) : Type 0 
   pub no_later : read ≤ s.now
   pub no_stall : s.now ≤ read + LONGEST_STALL
 
--- A program that a history may start so far: no cleaner, since its sender is still to come.
+-- A program that a history may start so far: no member of a generation, until the law says how it fares.
 abbrev pub MayRun : Program → Type 0
 MayRun (Injector args) = Unit {0}
 MayRun (Cleaner start) = ⊥
+MayRun (Sender start) = ⊥
+MayRun (LocalSpawner start) = ⊥
+MayRun (RemoteSpawner start) = ⊥
 
 -- a start takes a name that no actor had
 pub record MayStart (s : State) (a : List ℕ) (program : Program) : Type 0 where
@@ -267,11 +282,23 @@ InputIsFound pipework a (Some slot) past ready =
 abbrev pub FindsInputAlone : Ready → Type 0
 FindsInputAlone ready = (ready.links ≡ has_input ready ∷ false ∷ false ∷ false ∷ []) × (ready.child ≡ None)
 
--- What an actor found ready is no more than what lies in its pipes, and may be less. The input of a cleaner may be found
--- ready at any point.
+-- its links to the cleaner and to the spawners, and no program
+abbrev pub FindsItsLinks : Ready → Type 0
+FindsItsLinks ready = (clean lspawn rspawn : Bool) × (ready.links ≡ clean ∷ lspawn ∷ rspawn ∷ false ∷ []) × (ready.child ≡ None)
+
+-- its input, and a program in a slot
+abbrev pub FindsInputOrChild : Ready → Type 0
+FindsInputOrChild ready = ready.links ≡ has_input ready ∷ false ∷ false ∷ false ∷ []
+
+-- What an actor found ready is no more than what lies in its pipes, and may be less. A member of a generation may find each of
+-- its pipes, and each program in a slot of its own, ready at any point: of a pipe in which nothing lies only a failure
+-- may come (`Yields`), and so of a program that hasn't ended.
 abbrev pub MayFind : State → List ℕ → Program → List Own → Ready → Type 0
 MayFind s a (Injector args) past ready = FindsInputAlone ready × InputIsFound s.pipework a (s.pipework.slots a) past ready
 MayFind s a (Cleaner start) past ready = FindsInputAlone ready
+MayFind s a (Sender start) past ready = FindsItsLinks ready
+MayFind s a (LocalSpawner start) past ready = FindsInputAlone ready
+MayFind s a (RemoteSpawner start) past ready = FindsInputOrChild ready
 
 -- a status of a program that has ended, or was stopped
 abbrev pub IsStatusOf : Life → GotData → Type 0
@@ -293,7 +320,7 @@ netstring text = head (length text) ++ (text ++ 44 ∷ [])
 abbrev pub IsInputOf : Program → List ℕ → Type 0
 IsInputOf (Injector args) bytes =
     (bytes ≡ netstring args.message ++ netstring args.envelope) × (args.message_end ≡ Whole) × (args.envelope_end ≡ Whole)
-IsInputOf (Cleaner start) bytes = ⊥
+IsInputOf other bytes = ⊥
 
 -- What is given to a child is the input that stands in its start. A remote program takes what it is given.
 abbrev pub IsFed : State → Option Tenant → List ℕ → Type 0
@@ -352,25 +379,28 @@ pub record IsLiving (s : State) (a : List ℕ) : Type 0 where
   pub is : s.actors a ≡ Some actor
   pub alive : actor.life ≡ Alive
 
--- Which program each member of a generation is. The sender and the spawners aren't programs of histories yet, so no
--- generation starts so far.
+-- Which program each member of a generation is.
 abbrev pub IsSender : Program → Type 0
-IsSender (Injector args) = ⊥
-IsSender (Cleaner start) = ⊥
+IsSender (Sender start) = Unit {0}
+IsSender other = ⊥
 
 abbrev pub IsCleaner : Program → Type 0
-IsCleaner (Injector args) = ⊥
 IsCleaner (Cleaner start) = Unit {0}
+IsCleaner other = ⊥
 
-abbrev pub IsSpawner : Program → Type 0
-IsSpawner (Injector args) = ⊥
-IsSpawner (Cleaner start) = ⊥
+abbrev pub IsLocalSpawner : Program → Type 0
+IsLocalSpawner (LocalSpawner start) = Unit {0}
+IsLocalSpawner other = ⊥
+
+abbrev pub IsRemoteSpawner : Program → Type 0
+IsRemoteSpawner (RemoteSpawner start) = Unit {0}
+IsRemoteSpawner other = ⊥
 
 -- a generation starts only when no member of the old one lives
 pub record MayBegin (s : State) (sender clean lspawn rspawn : Program) : Type 0 where
   pub over : (a : List ℕ) (x : Actor) → Contains members a → s.actors a ≡ Some x → x.life ≢ Alive
   pub runs : MayRun sender × MayRun clean × MayRun lspawn × MayRun rspawn
-  pub kinds : IsSender sender × IsCleaner clean × IsSpawner lspawn × IsSpawner rspawn
+  pub kinds : IsSender sender × IsCleaner clean × IsLocalSpawner lspawn × IsRemoteSpawner rspawn
 
 -- a report comes only for a slot in which the living remote spawner has a program without one
 pub record MayReport (s : State) (slot : ℕ) : Type 0 where

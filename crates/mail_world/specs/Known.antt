@@ -4,13 +4,16 @@ use Rattle.call_fs.specs.Disk.{Disk}
 use Rattle.call_fs.specs.Apply.{empty_file}
 use Rattle.world_events.specs.declared.event.Event.{Event as Kept}
 use Rattle.world_events.specs.declared.event.Event.TheVariants as kept
+use Rattle.world_events.specs.declared.event.Program.TheVariants.{Cleaner, Sender, LocalSpawner, RemoteSpawner}
 use Rattle.mail_world.specs.History.{Event, State, after}
-use Rattle.mail_world.specs.History.Event.{Start, Act, End, Stop, Moment, Halt}
+use Rattle.mail_world.specs.History.Event.{Start, Act, Generation, Report, End, Stop, Moment, Halt}
 
--- a kept event, read as one whose failed write had written nothing, or that left nothing of any file
+-- A kept event, read as one whose failed write had written nothing, or that left nothing of any file.
 abbrev pub event_of : Kept → Event
 event_of (kept.Start a program) = Start a program
 event_of (kept.Act a own) = Act a own 0
+event_of (kept.Generation start) = Generation (Sender start) (Cleaner start) (LocalSpawner start) (RemoteSpawner start)
+event_of (kept.Report slot letter text) = Report slot letter text
 event_of (kept.End a read ready status) = End a read ready status
 event_of (kept.Stop a) = Stop a
 event_of (kept.Moment m) = Moment m

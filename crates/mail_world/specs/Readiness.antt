@@ -1,24 +1,57 @@
 -- What an actor of a world finds ready, by the state.
-use Rattle.std.specs.Prelude.{ℕ, List, [], ◌∷◌, Bool, false, Option, Some, None}
+use Rattle.std.specs.Prelude.{ℕ, List, [], ◌∷◌, Bool, true, false, Option, Some, None, position}
+use Rattle.std.specs.List.{range_with_len}
+use Rattle.call_fs.specs.declared.program.Port.{Port}
 use Rattle.call_fs.specs.declared.program.Port.TheVariants as port
 use Rattle.call_fs.specs.declared.program.Ready.{Ready}
 use Rattle.call_fs.specs.declared.program.TheConstants.{INPUT_READY}
 use Rattle.world_events.specs.declared.event.Program.{Program}
-use Rattle.world_events.specs.declared.event.Program.TheVariants.{Injector, Cleaner}
+use Rattle.world_events.specs.declared.event.Program.TheVariants.{Injector, Cleaner, Sender, LocalSpawner, RemoteSpawner}
 use Rattle.mail_world.specs.declared.any_machine.AnyMachine.{AnyMachine}
-use Rattle.mail_world.specs.declared.any_machine.AnyMachine.TheVariants.{Mail, Clean}
-use Rattle.mail_world.specs.Pipework.{is_ready}
-use Rattle.mail_world.specs.History.{Actor, State}
+use Rattle.mail_world.specs.declared.any_machine.AnyMachine.TheVariants.{Mail}
+use Rattle.mail_world.specs.Pipework.{Tenant, is_ready}
+use Rattle.mail_world.specs.Pipework.Tenant.{Runs, Remote}
+use Rattle.mail_world.specs.History.{Actor, Life, State}
+use Rattle.mail_world.specs.History.Life.{Alive, Over, Stopped}
 
 -- its input alone, or nothing
 abbrev pub input_alone : Bool → Ready
 input_alone input = record { links = input ∷ false ∷ false ∷ false ∷ []; child = None }
 
--- By the program that it runs: an injector, whose input stands in its start, finds it ready at any point; a cleaner, when
--- something lies there, or its sender is gone.
+-- something lies in a pipe of that actor, or its writer is gone
+abbrev pub lies_ready : State → List ℕ → Port → Bool
+lies_ready s a port = is_ready (s.pipework.pipes a port)
+
+abbrev pub is_over : Life → Bool
+is_over Alive = false
+is_over (Over status) = true
+is_over Stopped = true
+
+abbrev pub is_gone : Option Actor → Bool
+is_gone None = false
+is_gone (Some x) = is_over x.life
+
+-- the program in a slot has ended: an actor, if it is over; a remote program, if its report came
+abbrev pub has_ended : State → Option Tenant → Bool
+has_ended s None = false
+has_ended s (Some (Runs a)) = is_gone (s.actors a)
+has_ended s (Some (Remote reported)) = reported
+
+-- the lowest of an actor's slots, which are numbered from 0 to 255, whose program has ended
+abbrev pub lowest_ended : State → List ℕ → Option ℕ
+lowest_ended s a = position (λ d. has_ended s (s.pipework.programs a d)) (range_with_len 0 256)
+
+-- By the program that it runs: an injector, whose input stands in its start, finds it ready at any point; any other finds all
+-- that lies in its pipes, and the remote spawner also which of its programs has ended.
 abbrev pub found_by : State → List ℕ → Program → Ready
 found_by s a (Injector args) = INPUT_READY
-found_by s a (Cleaner start) = input_alone (is_ready (s.pipework.pipes a port.Input))
+found_by s a (Cleaner start) = input_alone (lies_ready s a port.Input)
+found_by s a (Sender start) = record {
+  links = lies_ready s a port.Clean ∷ lies_ready s a port.Lspawn ∷ lies_ready s a port.Rspawn ∷ false ∷ [];
+  child = None;
+}
+found_by s a (LocalSpawner start) = input_alone (lies_ready s a port.Input)
+found_by s a (RemoteSpawner start) = record { links = lies_ready s a port.Input ∷ false ∷ false ∷ false ∷ []; child = lowest_ended s a }
 
 abbrev pub found_at : State → List ℕ → Option Actor → Ready
 found_at s a None = input_alone false
@@ -31,4 +64,4 @@ found_in s a = found_at s a (s.actors a)
 -- what the machine of an actor finds ready, as long as no pipe is kept
 abbrev pub finds : AnyMachine → Ready
 finds (Mail mailer) = INPUT_READY
-finds (Clean cleaner) = input_alone false
+finds other = input_alone false

@@ -1,6 +1,6 @@
 -- A world: what it keeps of its history, and what is promised of that.
-use Rattle.std.specs.Prelude.{◌≡◌, ℕ, ◌+◌, ◌-◌, ◌^◌, min, List, [], ◌∷◌, ◌++◌, length, reverse, count_by, Bool, true, false, bytes_eq, if◌then◌else◌, Option, Some, None, IsSomeAnd}
-use Rattle.std.specs.List.{AllZip, list_any}
+use Rattle.std.specs.Prelude.{◌≡◌, ℕ, ◌+◌, ◌-◌, ◌^◌, min, List, [], ◌∷◌, ◌++◌, length, reverse, Bool, true, false, bytes_eq, if◌then◌else◌, Option, Some, None, IsSomeAnd}
+use Rattle.std.specs.List.{AllZip, list_any, sum_by}
 use Rattle.call_fs.specs.declared.calls.CallData.{CallData}
 use Rattle.call_fs.specs.declared.calls.Told.{Told}
 use Rattle.call_fs.specs.declared.program.Ready.{Ready}
@@ -18,7 +18,9 @@ use Rattle.queue_inject.specs.declared.injection.InputEnd.TheVariants.{Whole}
 use Rattle.received_line.specs.declared.line.Invoked.TheVariants.{Uid}
 use Rattle.world_events.specs.declared.event.Event.{Event as Kept}
 use Rattle.world_events.specs.declared.event.Event.TheVariants as kept
-use Rattle.world_events.specs.declared.event.Program.TheVariants.{Injector}
+use Rattle.world_events.specs.declared.event.Program.{Program}
+use Rattle.world_events.specs.declared.event.Program.TheVariants.{Injector, Cleaner, Sender, LocalSpawner, RemoteSpawner}
+use Rattle.mail_world.specs.Pipework.{is_member}
 use Rattle.mail_world.specs.History.{Event, Actor, State, own_call, starts_program, next_of, after, EachAllowed, Legal}
 use Rattle.mail_world.specs.History.Event.{Start, Act, Child, Generation, Report, End, Stop, Moment, Halt}
 use Rattle.mail_world.specs.Headline.{Safe}
@@ -29,14 +31,21 @@ use Rattle.mail_world.specs.Readiness.{found_in}
 abbrev pub kept_call : List ℕ → ℕ → Ready → CallData → Told → Kept
 kept_call a read ready call told = kept.Act a (own_call read ready call told)
 
+-- the four programs of a generation that started at this moment
+pub record AreMembers (start : ℕ) (sender clean lspawn rspawn : Program) : Type 0 where
+  pub sender_is : sender ≡ Sender start
+  pub clean_is : clean ≡ Cleaner start
+  pub lspawn_is : lspawn ≡ LocalSpawner start
+  pub rspawn_is : rspawn ≡ RemoteSpawner start
+
 -- A kept event tells an event: all of it but how much a failed write had written, which no program is told. A world makes no
--- children, generations and reports yet.
+-- children yet.
 abbrev pub Tells : Kept → Event → Type 0
 Tells event (Start a program) = event ≡ kept.Start a program
 Tells event (Act a own wrote) = event ≡ kept.Act a own
 Tells event (Child parent own a program) = ⊥
-Tells event (Generation sender clean lspawn rspawn) = ⊥
-Tells event (Report slot letter text) = ⊥
+Tells event (Generation sender clean lspawn rspawn) = (start : ℕ) × (event ≡ kept.Generation start) × AreMembers start sender clean lspawn rspawn
+Tells event (Report slot letter text) = event ≡ kept.Report slot letter text
 Tells event (End a read ready status) = event ≡ kept.End a read ready status
 Tells event (Stop a) = event ≡ kept.Stop a
 Tells event (Moment m) = event ≡ kept.Moment m
@@ -96,10 +105,12 @@ GoesOn tells old new = (opening : Disk) (h : List Event) → Happened tells open
 abbrev pub EachSafe : Disk → List Event → Type 0
 EachSafe opening h = (later before : List Event) → later ++ before ≡ h → Safe (after opening before)
 
--- a start of that actor
+-- a start of that actor, with its generation if it is a member
 abbrev pub starts : List ℕ → Kept → Bool
 starts a (kept.Start b program) = bytes_eq b a
 starts a (kept.Act b own) = false
+starts a (kept.Generation start) = is_member a
+starts a (kept.Report slot letter text) = false
 starts a (kept.End b read ready status) = false
 starts a (kept.Stop b) = false
 starts a (kept.Moment m) = false
@@ -113,22 +124,24 @@ was_started events a = list_any (starts a) events
 abbrev pub ends : List ℕ → Kept → Bool
 ends a (kept.Start b program) = false
 ends a (kept.Act b own) = false
+ends a (kept.Generation start) = false
+ends a (kept.Report slot letter text) = false
 ends a (kept.End b read ready status) = bytes_eq b a
 ends a (kept.Stop b) = bytes_eq b a
 ends a (kept.Moment m) = false
 ends a (kept.Halt how) = true
 
--- the life of an actor: not begun, lasting, or over with the event at this index
+-- the newest life of an actor: not begun, lasting, or over with the event at this index
 pub data Span : Type 0 where
   Unborn : Span
   Lasting : Span
   OverAt : (at : ℕ) → Span
 
--- after one event more, which has this index
+-- after one event more, which has this index; who is over may start again, as a member does with its next generation
 abbrev pub span_after : List ℕ → Kept → ℕ → Span → Span
 span_after a event at Unborn = if starts a event then Lasting else Unborn
 span_after a event at Lasting = if ends a event then OverAt at else Lasting
-span_after a event at (OverAt before) = OverAt before
+span_after a event at (OverAt before) = if starts a event then Lasting else OverAt before
 
 -- by these events, the newest first
 abbrev pub span_of : List ℕ → List Kept → Span
@@ -139,14 +152,16 @@ span_of a (event ∷ before) = span_after a event (length before) (span_of a bef
 abbrev pub EndsAt : List Kept → List ℕ → ℕ → Type 0
 EndsAt events a at = span_of a (reverse events) ≡ OverAt at
 
--- any start of a program
-abbrev pub is_start : Kept → Bool
-is_start (kept.Start b program) = true
-is_start (kept.Act b own) = starts_program own.due own.came
-is_start (kept.End b read ready status) = false
-is_start (kept.Stop b) = false
-is_start (kept.Moment m) = false
-is_start (kept.Halt how) = false
+-- how many programs an event starts
+abbrev pub starts_in : Kept → ℕ
+starts_in (kept.Start b program) = 1
+starts_in (kept.Act b own) = if starts_program own.due own.came then 1 else 0
+starts_in (kept.Generation start) = 4
+starts_in (kept.Report slot letter text) = 0
+starts_in (kept.End b read ready status) = 0
+starts_in (kept.Stop b) = 0
+starts_in (kept.Moment m) = 0
+starts_in (kept.Halt how) = 0
 
 -- the process number of the next actor after so many starts: 77 and on; it stands still at the last u32
 abbrev pub pid_after : ℕ → ℕ
@@ -154,7 +169,7 @@ pid_after starts = min (77 + starts) (2 ^ 32 - 1)
 
 -- the process number of the next actor
 abbrev pub next_pid : List Kept → ℕ
-next_pid events = pid_after (count_by is_start events)
+next_pid events = pid_after (sum_by starts_in events)
 
 -- what the injector of a mail is started with
 abbrev pub mail : ℕ → ℕ → List ℕ → List ℕ → Arguments
@@ -231,6 +246,8 @@ IsPlannedOwn due came old new disk disk_after = new ≡ old
 abbrev pub IsPlannedEvent : Kept → Option Plan → Option Plan → Option Disk → Option Disk → Type 0
 IsPlannedEvent (kept.Start a program) old new told told_after = new ≡ old
 IsPlannedEvent (kept.Act a own) old new disk disk_after = IsPlannedOwn own.due own.came old new disk disk_after
+IsPlannedEvent (kept.Generation start) old new told told_after = new ≡ old
+IsPlannedEvent (kept.Report slot letter text) old new told told_after = new ≡ old
 IsPlannedEvent (kept.End a read ready status) old new told told_after = new ≡ old
 IsPlannedEvent (kept.Stop a) old new told told_after = new ≡ old
 IsPlannedEvent (kept.Moment m) old new told told_after = new ≡ old

@@ -5,8 +5,11 @@ ghost use Rattle.mail_world.specs.Readiness.{finds};
 use crate::Program;
 use crate::mailer::Mailer;
 use call_fs::{Got, INPUT_READY, Machine, Need, Ready};
+use local_spawn::LocalSpawn;
 use mail_bytes::Memory;
 use queue_clean::Cleaner;
+use remote_spawn::RemoteSpawn;
+use send_core::Sender;
 use std::alloc::Global;
 
 /// What a program finds ready in whose pipes nothing lies.
@@ -20,18 +23,24 @@ const NOTHING_READY: Ready = Ready {
 pub enum AnyMachine {
     /// The injector of a mail, and its input.
     Mail(Mailer),
-    /// A cleaner. The world makes none yet: it starts with its generation.
+    /// A cleaner. The world makes none yet, and none of the others: they start with their generation.
     Clean(Cleaner),
+    /// A sender.
+    Send(Sender),
+    /// A local spawner.
+    Local(LocalSpawn),
+    /// A remote spawner.
+    Remote(RemoteSpawn),
 }
 
 impl AnyMachine {
-    /// What it finds ready. No pipe is kept yet, by which a cleaner would.
+    /// What it finds ready. No pipe is kept yet, by which a member of a generation would.
     pub fn finds(&self) -> Ready
         ensures { result ≡ finds self.now }
     {
         match self {
             AnyMachine::Mail(_) => INPUT_READY,
-            AnyMachine::Clean(_) => NOTHING_READY,
+            _ => NOTHING_READY,
         }
     }
 }
@@ -67,6 +76,9 @@ impl Machine for AnyMachine {
         match self {
             AnyMachine::Mail(mailer) => mailer.look(now, ready),
             AnyMachine::Clean(cleaner) => cleaner.look(now, ready),
+            AnyMachine::Send(sender) => sender.look(now, ready),
+            AnyMachine::Local(spawner) => spawner.look(now, ready),
+            AnyMachine::Remote(spawner) => spawner.look(now, ready),
         }
     }
 
@@ -74,6 +86,9 @@ impl Machine for AnyMachine {
         match self {
             AnyMachine::Mail(mailer) => mailer.need(),
             AnyMachine::Clean(cleaner) => cleaner.need(),
+            AnyMachine::Send(sender) => sender.need(),
+            AnyMachine::Local(spawner) => spawner.need(),
+            AnyMachine::Remote(spawner) => spawner.need(),
         }
     }
 
@@ -81,6 +96,9 @@ impl Machine for AnyMachine {
         match self {
             AnyMachine::Mail(mailer) => mailer.taking_room(),
             AnyMachine::Clean(cleaner) => cleaner.taking_room(),
+            AnyMachine::Send(sender) => sender.taking_room(),
+            AnyMachine::Local(spawner) => spawner.taking_room(),
+            AnyMachine::Remote(spawner) => spawner.taking_room(),
         }
     }
 
@@ -88,6 +106,9 @@ impl Machine for AnyMachine {
         match self {
             AnyMachine::Mail(mailer) => mailer.done(alloc, got),
             AnyMachine::Clean(cleaner) => cleaner.done(got),
+            AnyMachine::Send(sender) => sender.done(alloc, got),
+            AnyMachine::Local(spawner) => spawner.done(alloc, got),
+            AnyMachine::Remote(spawner) => spawner.done(alloc, got),
         }
     }
 

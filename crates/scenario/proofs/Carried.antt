@@ -116,6 +116,10 @@ put_actor actors a b x y is = ⊎_elim
     (λ h. inr (h.0, sym h.1 ∙ is))
     (put_at_cases actors a (Some x) b)
 
+-- what holds of each actor that was there, and of the one that took a place, holds of each
+put_holds : (P : Actor → Type 0) (actors : List ℕ → Option Actor) (a b : List ℕ) (x y : Actor) → put_at actors a (Some x) b ≡ Some y → P x → (actors b ≡ Some y → P y) → P y
+put_holds P actors a b x y here mine old = ⊎_elim (λ h. subst P h.1 mine) (λ h. old h.1) (put_actor actors a b x y here)
+
 module _ (s : State) (a : List ℕ) (x : Actor) (carries : Carries s) (is : s.actors a ≡ Some x) where
   -- what is due uses what is held
   due_uses : UsesHeld (held x.past) (next_of x.program x.past s.now (found_in s a))
@@ -146,19 +150,16 @@ module _ (s : State) (a : List ℕ) (x : Actor) (carries : Carries s) (is : s.ac
             (subst (λ (z : Actor). Owns t.disk t.holder a (held z.past)) h.1 owned))
             (λ h fd mode at. own_stays s.disk t.disk s.holder t.holder a b c got.answer fd mode opens closes h.0 (carries.owns b y h.1 lives fd mode at))
             (put_actor s.actors a b now y here);
-        runs = λ b y here. ⊎_elim
-            (λ h. subst (λ (z : Actor). IsRunBy (next_of z.program) z.past) h.1 (carries.runs a x is, (due, fits_answer s.disk c got.answer 0 fits)))
-            (λ h. carries.runs b y h.1)
-            (put_actor s.actors a b now y here);
-        in_order = λ b y here. ⊎_elim
-            (λ h. subst (λ (z : Actor). latest z.program z.past ≤ s.now) h.1 (omega arith))
-            (λ h. carries.in_order b y h.1)
-            (put_actor s.actors a b now y here);
+        runs = λ b y here. put_holds (λ (z : Actor). IsRunBy (next_of z.program) z.past) s.actors a b now y here
+            (carries.runs a x is, (due, fits_answer s.disk c got.answer 0 fits))
+            (λ old. carries.runs b y old);
+        in_order = λ b y here. put_holds (λ (z : Actor). latest z.program z.past ≤ s.now) s.actors a b now y here
+            (omega arith)
+            (λ old. carries.in_order b y old);
         no_child = carries.no_child;
-        mails = λ b y here. ⊎_elim
-            (λ h. subst (λ (z : Actor). IsMail z.program) h.1 (carries.mails a x is))
-            (λ h. carries.mails b y h.1)
-            (put_actor s.actors a b now y here);
+        mails = λ b y here. put_holds (λ (z : Actor). IsMail z.program) s.actors a b now y here
+            (carries.mails a x is)
+            (λ old. carries.mails b y old);
       }
 
 finished_carries : (s : State) (a : List ℕ) (x : Actor) (life : Life) → life ≢ Alive → Carries s → s.actors a ≡ Some x
@@ -172,19 +173,16 @@ finished_carries s a x life over carries is =
           (λ h. absurd (over (ap (λ (z : Actor). z.life) h.1 ∙ lives)))
           (λ h fd mode at. own_after s.disk s.holder a b fd mode h.0 (carries.owns b y h.1 lives fd mode at))
           (put_actor s.actors a b gone y here);
-      runs = λ b y here. ⊎_elim
-          (λ h. subst (λ (z : Actor). IsRunBy (next_of z.program) z.past) h.1 (carries.runs a x is))
-          (λ h. carries.runs b y h.1)
-          (put_actor s.actors a b gone y here);
-      in_order = λ b y here. ⊎_elim
-          (λ h. subst (λ (z : Actor). latest z.program z.past ≤ s.now) h.1 (carries.in_order a x is))
-          (λ h. carries.in_order b y h.1)
-          (put_actor s.actors a b gone y here);
+      runs = λ b y here. put_holds (λ (z : Actor). IsRunBy (next_of z.program) z.past) s.actors a b gone y here
+          (carries.runs a x is)
+          (λ old. carries.runs b y old);
+      in_order = λ b y here. put_holds (λ (z : Actor). latest z.program z.past ≤ s.now) s.actors a b gone y here
+          (carries.in_order a x is)
+          (λ old. carries.in_order b y old);
       no_child = carries.no_child;
-      mails = λ b y here. ⊎_elim
-          (λ h. subst (λ (z : Actor). IsMail z.program) h.1 (carries.mails a x is))
-          (λ h. carries.mails b y h.1)
-          (put_actor s.actors a b gone y here);
+      mails = λ b y here. put_holds (λ (z : Actor). IsMail z.program) s.actors a b gone y here
+          (carries.mails a x is)
+          (λ old. carries.mails b y old);
     }
 
 started_carries : (s : State) (a : List ℕ) (program : Program) → IsMail program → start_of program ≤ s.now → Carries s
@@ -198,19 +196,16 @@ started_carries s a program mail begun carries =
           (λ h. subst (λ (z : Actor). Owns s.disk s.holder b (held z.past)) h.1 (λ fd mode at. absurd (cc)))
           (λ h. carries.owns b y h.1 lives)
           (put_actor s.actors a b new y here);
-      runs = λ b y here. ⊎_elim
-          (λ h. subst (λ (z : Actor). IsRunBy (next_of z.program) z.past) h.1 tt)
-          (λ h. carries.runs b y h.1)
-          (put_actor s.actors a b new y here);
-      in_order = λ b y here. ⊎_elim
-          (λ h. subst (λ (z : Actor). latest z.program z.past ≤ s.now) h.1 begun)
-          (λ h. carries.in_order b y h.1)
-          (put_actor s.actors a b new y here);
+      runs = λ b y here. put_holds (λ (z : Actor). IsRunBy (next_of z.program) z.past) s.actors a b new y here
+          tt
+          (λ old. carries.runs b y old);
+      in_order = λ b y here. put_holds (λ (z : Actor). latest z.program z.past ≤ s.now) s.actors a b new y here
+          begun
+          (λ old. carries.in_order b y old);
       no_child = carries.no_child;
-      mails = λ b y here. ⊎_elim
-          (λ h. subst (λ (z : Actor). IsMail z.program) h.1 mail)
-          (λ h. carries.mails b y h.1)
-          (put_actor s.actors a b new y here);
+      mails = λ b y here. put_holds (λ (z : Actor). IsMail z.program) s.actors a b new y here
+          mail
+          (λ old. carries.mails b y old);
     }
 
 -- A legal history that keeps this.

@@ -50,8 +50,8 @@ call_told : (a : List ℕ) (p : ℕ) (ready : Ready) (call : CallData) (got : To
 call_told a p ready call got (Start b program) told = absurd (cc)
 call_told a p ready call got (Act b own w) told = (w, cc)
 call_told a p ready call got (Child parent own b other) told = absurd told
-call_told a p ready call got (Generation sender clean lspawn rspawn) told = absurd told
-call_told a p ready call got (Report slot letter text) told = absurd told
+call_told a p ready call got (Generation sender clean lspawn rspawn) told = (let kept_is = told.1 in absurd (cc))
+call_told a p ready call got (Report slot letter text) told = absurd (cc)
 call_told a p ready call got (End b q r status) told = absurd (cc)
 call_told a p ready call got (Stop b) told = absurd (cc)
 call_told a p ready call got (Moment m) told = absurd (cc)
@@ -61,8 +61,8 @@ end_told : (a : List ℕ) (p : ℕ) (ready : Ready) (status : ℕ) (e : Event) �
 end_told a p ready status (Start b program) told = absurd (cc)
 end_told a p ready status (Act b own w) told = absurd (cc)
 end_told a p ready status (Child parent own b other) told = absurd told
-end_told a p ready status (Generation sender clean lspawn rspawn) told = absurd told
-end_told a p ready status (Report slot letter text) told = absurd told
+end_told a p ready status (Generation sender clean lspawn rspawn) told = (let kept_is = told.1 in absurd (cc))
+end_told a p ready status (Report slot letter text) told = absurd (cc)
 end_told a p ready status (End b q r other) told = cc
 end_told a p ready status (Stop b) told = absurd (cc)
 end_told a p ready status (Moment m) told = absurd (cc)
@@ -72,8 +72,8 @@ pub start_told : (a : List ℕ) (program : Program) (e : Event) → Tells (kept.
 start_told a program (Start b other) told = cc
 start_told a program (Act b own w) told = absurd (cc)
 start_told a program (Child parent own b other) told = absurd told
-start_told a program (Generation sender clean lspawn rspawn) told = absurd told
-start_told a program (Report slot letter text) told = absurd told
+start_told a program (Generation sender clean lspawn rspawn) told = (let kept_is = told.1 in absurd (cc))
+start_told a program (Report slot letter text) told = absurd (cc)
 start_told a program (End b q r status) told = absurd (cc)
 start_told a program (Stop b) told = absurd (cc)
 start_told a program (Moment m) told = absurd (cc)
@@ -83,8 +83,8 @@ pub stop_told : (a : List ℕ) (e : Event) → Tells (kept.Stop a) e → e ≡ S
 stop_told a (Start b program) told = absurd (cc)
 stop_told a (Act b own w) told = absurd (cc)
 stop_told a (Child parent own b other) told = absurd told
-stop_told a (Generation sender clean lspawn rspawn) told = absurd told
-stop_told a (Report slot letter text) told = absurd told
+stop_told a (Generation sender clean lspawn rspawn) told = (let kept_is = told.1 in absurd (cc))
+stop_told a (Report slot letter text) told = absurd (cc)
 stop_told a (End b q r status) told = absurd (cc)
 stop_told a (Stop b) told = cc
 stop_told a (Moment m) told = absurd (cc)
@@ -94,8 +94,8 @@ pub moment_told : (m : ℕ) (e : Event) → Tells (kept.Moment m) e → e ≡ Mo
 moment_told m (Start b program) told = absurd (cc)
 moment_told m (Act b own w) told = absurd (cc)
 moment_told m (Child parent own b other) told = absurd told
-moment_told m (Generation sender clean lspawn rspawn) told = absurd told
-moment_told m (Report slot letter text) told = absurd told
+moment_told m (Generation sender clean lspawn rspawn) told = (let kept_is = told.1 in absurd (cc))
+moment_told m (Report slot letter text) told = absurd (cc)
 moment_told m (End b q r status) told = absurd (cc)
 moment_told m (Stop b) told = absurd (cc)
 moment_told m (Moment n) told = cc

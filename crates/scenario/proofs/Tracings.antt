@@ -74,8 +74,8 @@ line_told : (k : Kept) (e : Event) → Tells k e → event_line (event_of k) ≡
 line_told k (Start a program) told = ap (λ (k : Kept). event_line (event_of k)) told
 line_told k (Act a own wrote) told = ap (λ (k : Kept). event_line (event_of k)) told
 line_told k (Child parent own a program) told = absurd told
-line_told k (Generation sender clean lspawn rspawn) told = absurd told
-line_told k (Report slot letter text) told = absurd told
+line_told k (Generation sender clean lspawn rspawn) told = ap (λ (k : Kept). event_line (event_of k)) told.1
+line_told k (Report slot letter text) told = ap (λ (k : Kept). event_line (event_of k)) told
 line_told k (End a read ready status) told = ap (λ (k : Kept). event_line (event_of k)) told
 line_told k (Stop a) told = ap (λ (k : Kept). event_line (event_of k)) told
 line_told k (Moment m) told = ap (λ (k : Kept). event_line (event_of k)) told

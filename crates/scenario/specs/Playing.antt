@@ -36,6 +36,8 @@ lacked_memory (kept.Start a program) = false
 lacked_memory (kept.Act a own) = is_memory_of own.came
 lacked_memory (kept.End a read ready status) = false
 lacked_memory (kept.Stop a) = false
+lacked_memory (kept.Generation start) = false
+lacked_memory (kept.Report slot letter text) = false
 lacked_memory (kept.Moment m) = false
 lacked_memory (kept.Halt how) = false
 

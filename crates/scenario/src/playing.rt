@@ -228,6 +228,7 @@ fn lacked_memory(event: &Event) -> bool
         Event::Act { own, .. } => is_memory(&own.came),
         Event::Start { .. } | Event::End { .. } => false,
         Event::Stop { .. } | Event::Moment { .. } | Event::Halt { .. } => false,
+        Event::Generation { .. } | Event::Report { .. } => false,
     }
 }
 

@@ -1,7 +1,8 @@
 // The lines of events.
-ghost use Rattle.std.specs.Prelude.{◌≡◌, ◌≤◌, ◌++◌, List, length, drop, OnOk, codes, flat_map};
+ghost use Rattle.std.specs.Prelude.{◌≡◌, ◌≤◌, ◌++◌, ◌∷◌, [], List, length, drop, OnOk, codes, flat_map};
 ghost use Rattle.std.specs.List.{AllZip};
 ghost use Rattle.mail_bytes.specs.Decimal.{digits};
+ghost use Rattle.actor_names.specs.MailNames.{members};
 ghost use Rattle.mail_world.specs.History.{Event as Happening};
 ghost use Rattle.mail_world.specs.Inside.{event_of};
 ghost use Rattle.mail_world.specs.World.{Tells};
@@ -64,6 +65,8 @@ fn put_event(alloc: Global, text: &mut Vec<u8>, event: &Event) -> Result<(), Mem
     match event {
         Event::Start { actor, .. } => put_start(text, actor),
         Event::Act { actor, own } => put_act(alloc, text, actor, own),
+        Event::Generation { .. } => put_generation(text),
+        Event::Report { slot, letter, .. } => put_report(text, *slot, *letter),
         Event::End { actor, status, .. } => put_end(text, actor, *status),
         Event::Stop { actor } => put_stop(text, actor),
         Event::Moment { moment } => put_moment(text, *moment),
@@ -76,6 +79,36 @@ fn put_start(text: &mut Vec<u8>, actor: &ActorName) -> Result<(), Memory>
     ensures { OnOk result (text.new.items ≡ text.old.items ++ start_line actor.now) }
 {
     put_line(text, actor.as_slice(), b"start")
+}
+
+/// Puts the lines of the start of a generation at the end of a text, one for each member.
+fn put_generation(text: &mut Vec<u8>) -> Result<(), Memory>
+    ensures { OnOk result (text.new.items ≡ text.old.items ++ flat_map start_line members) }
+{
+    put_line(text, b"sender", b"start")?;
+    put_line(text, b"clean", b"start")?;
+    put_line(text, b"lspawn", b"start")?;
+    put_line(text, b"rspawn", b"start")
+}
+
+/// Puts the line of a report at the end of a text.
+fn put_report(text: &mut Vec<u8>, slot: u8, letter: u8) -> Result<(), Memory>
+    ensures { OnOk result (text.new.items ≡ text.old.items
+        ++ line_of (codes "rspawn") (codes "report " ++ (digits slot ++ (32 ∷ letter ∷ [])))) }
+{
+    text.extend_from_slice(b"rspawn ")?;
+    put_reported(text, slot, letter)?;
+    text.extend_from_slice(b"\n")
+}
+
+/// Puts the slot and the letter of a report at the end of a text.
+fn put_reported(text: &mut Vec<u8>, slot: u8, letter: u8) -> Result<(), Memory>
+    ensures { OnOk result (text.new.items ≡ text.old.items
+        ++ (codes "report " ++ (digits slot ++ (32 ∷ letter ∷ [])))) }
+{
+    text.extend_from_slice(b"report ")?;
+    put_number(text, u64::from(slot))?;
+    text.extend_from_slice(&[b' ', letter])
 }
 
 /// Puts the line of a stop at the end of a text.

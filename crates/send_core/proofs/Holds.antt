@@ -401,7 +401,6 @@ module _ (h : ℕ → Option Mode) where
   swept_holds sweep.First d = tt
   swept_holds (sweep.Next split) d = tt
   swept_holds (sweep.StatMess split n) d = tt
-  swept_holds (sweep.Judge split n moment) d = tt
   swept_holds (sweep.StatInfo split n) d = tt
   swept_holds (sweep.StatTodo split n info) d = tt
   swept_holds (sweep.Give split n) d = tt
@@ -585,7 +584,7 @@ module _ (h : ℕ → Option Mode) (now : ℕ) (d : Desk) where
       (pass_step d.book.controls d.pass now h d.pass.row got own may)
   step (at.Finish row n) got own may = finish_step_holds row n got own may
   step (at.Sweep row) got own may =
-      swept_holds (held_by h (due_at (at.Sweep row) d) got) (sweep_to row (said got) d.book) (looked_up row (said got) (sweep_begun row now d))
+      swept_holds (held_by h (due_at (at.Sweep row) d) got) (sweep_to row now (said got) d.book) (looked_up row (said got) (sweep_begun row now d))
   step (at.Ended status) got own may = absurd may
 
 -- Between two steps nothing is held open but what the row holds
@@ -728,7 +727,6 @@ uses_sweep : (h : ℕ → Option Mode) (d : Desk) (row : SweepRow) → UsesHeld 
 uses_sweep h d sweep.First = tt
 uses_sweep h d (sweep.Next split) = tt
 uses_sweep h d (sweep.StatMess split n) = tt
-uses_sweep h d (sweep.Judge split n moment) = tt
 uses_sweep h d (sweep.StatInfo split n) = tt
 uses_sweep h d (sweep.StatTodo split n info) = tt
 uses_sweep h d (sweep.Give split n) = tt

@@ -339,7 +339,6 @@ module _ (Gives : Channel → List ℕ → Type 0) (Opens : List ℕ → Type 0)
   sweep_due sweep.First d = tt
   sweep_due (sweep.Next split) d = tt
   sweep_due (sweep.StatMess split n) d = tt
-  sweep_due (sweep.Judge split n moment) d = tt
   sweep_due (sweep.StatInfo split n) d = tt
   sweep_due (sweep.StatTodo split n info) d = tt
   sweep_due (sweep.Give split n) d = tt

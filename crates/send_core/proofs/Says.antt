@@ -229,7 +229,7 @@ module _ (S : ℕ → List ℕ → Type 0) (now : ℕ) (l : Option Letter) (d : 
   row_knows (at.Finish row n) got w may heard says h =
       ok_finish S (letter_by l (due_at (at.Finish row n) d) got) (finish_to row (said got).way (said got).fd) n now (busied row d) (base_busied S (letter_by l (due_at (at.Finish row n) d) got) row d h)
   row_knows (at.Sweep row) got w may heard says h =
-      ok_swept S (letter_by l (due_at (at.Sweep row) d) got) (sweep_to row (said got) d.book) (looked_up row (said got) (sweep_begun row now d)) (base_looked S (letter_by l (due_at (at.Sweep row) d) got) row (said got) now d h)
+      ok_swept S (letter_by l (due_at (at.Sweep row) d) got) (sweep_to row now (said got) d.book) (looked_up row (said got) (sweep_begun row now d)) (base_looked S (letter_by l (due_at (at.Sweep row) d) got) row (said got) now d h)
   row_knows (at.Ended status) got w may heard says h = absurd may
 
 -- Between two steps

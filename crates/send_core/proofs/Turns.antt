@@ -259,7 +259,6 @@ sweep_silent : (row : SweepRow) (d : Desk) (got : GotData) → MayCome (due_at (
 sweep_silent sweep.First d got may = by_file (due_at (at.Sweep sweep.First) d) tt (Silent (due_at (at.Sweep sweep.First) d)) got may (λ told fit. (refl, refl, refl))
 sweep_silent (sweep.Next split) d got may = by_file (due_at (at.Sweep (sweep.Next split)) d) tt (Silent (due_at (at.Sweep (sweep.Next split)) d)) got may (λ told fit. (refl, refl, refl))
 sweep_silent (sweep.StatMess split n) d got may = by_file (due_at (at.Sweep (sweep.StatMess split n)) d) tt (Silent (due_at (at.Sweep (sweep.StatMess split n)) d)) got may (λ told fit. (refl, refl, refl))
-sweep_silent (sweep.Judge split n moment) d got may = absurd may
 sweep_silent (sweep.StatInfo split n) d got may = by_file (due_at (at.Sweep (sweep.StatInfo split n)) d) tt (Silent (due_at (at.Sweep (sweep.StatInfo split n)) d)) got may (λ told fit. (refl, refl, refl))
 sweep_silent (sweep.StatTodo split n info) d got may = by_file (due_at (at.Sweep (sweep.StatTodo split n info)) d) tt (Silent (due_at (at.Sweep (sweep.StatTodo split n info)) d)) got may (λ told fit. (refl, refl, refl))
 sweep_silent (sweep.Give split n) d got may = (refl, refl, refl)
@@ -308,7 +307,7 @@ module _ (P : Fd → Marked → Type 0) (now : ℕ) (d : Desk) (al ar : Account)
   sweep_step row got h b may =
       let due : NeedData = due_at (at.Sweep row) d in
       swept_fits P (reading_by None due got) (account_by (happening due got None Local) al) (account_by (happening due got None Remote) ar)
-      (sweep_to row (said got) d.book) (looked_up row (said got) (sweep_begun row now d))
+      (sweep_to row now (said got) d.book) (looked_up row (said got) (sweep_begun row now d))
       (quiet P due got al ar (looked_up row (said got) (sweep_begun row now d)) (sweep_silent row d got may) b (begun_same row now al ar d h))
 
   -- a taking

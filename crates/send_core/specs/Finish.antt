@@ -51,4 +51,4 @@ abbrev pub looked_up : SweepRow → Said → Desk → Desk
 looked_up row s d = record d { book = searched row s d.book }
 
 abbrev pub act_sweep : SweepRow → ℕ → Said → Desk → Desk
-act_sweep row now s d = sweep_at (sweep_to row s d.book) (looked_up row s (sweep_begun row now d))
+act_sweep row now s d = sweep_at (sweep_to row now s d.book) (looked_up row s (sweep_begun row now d))

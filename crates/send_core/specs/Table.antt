@@ -45,7 +45,6 @@ use Rattle.send_steps.specs.declared.rows.SweepRow.TheVariants as sweep
 use Rattle.send_steps.specs.Requests.{first_text, quiet}
 use Rattle.send_steps.specs.Rows.{finish_step, start_step, sweep_step}
 use Rattle.send_steps.specs.Start.{new_book, start_takes_memory}
-use Rattle.send_steps.specs.Sweep.{judged}
 use Rattle.send_core.specs.Desk.{link, due_on, sweep_due, next_idle, ready}
 use Rattle.send_core.specs.Start.{started}
 use Rattle.send_core.specs.Turn.{act_mark, begun_at, file_read, in_todo, requested, took, todo_named, unlinked}
@@ -132,13 +131,8 @@ from_point (point.Pass Remote may) d now ready = from_remote may d now
 from_point point.Finish d now ready = or_else (finishing d now) (from_sweep d now ready)
 from_point point.Sweep d now ready = from_sweep d now ready
 
-abbrev pub from_sweep_row : SweepRow → ℕ → SweepRow
-from_sweep_row (sweep.Judge split n moment) now = judged split n moment now
-from_sweep_row row now = row
-
 abbrev pub arrive : Row → Desk → ℕ → Ready → Row
 arrive (at.Turn p) d now ready = from_point p d now ready
-arrive (at.Sweep row) d now ready = at.Sweep (from_sweep_row row now)
 arrive row d now ready = row
 
 -- What is done there

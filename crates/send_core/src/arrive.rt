@@ -3,13 +3,13 @@ ghost use Rattle.std.specs.Prelude.{◌≡◌};
 ghost use Rattle.std.specs.Option.{option_copied};
 ghost use Rattle.retry_schedule.specs.Due.{first_due};
 ghost use Rattle.send_core.specs.Desk.{due_on};
-ghost use Rattle.send_core.specs.Table.{beginning, finishing, from_begin, from_local, from_point, from_remote, from_reports, from_sweep, from_sweep_row, from_take, going_on, marking, marking_by, or_else, passing, row_now, sweeping, taking};
+ghost use Rattle.send_core.specs.Table.{beginning, finishing, from_begin, from_local, from_point, from_remote, from_reports, from_sweep, from_take, going_on, marking, marking_by, or_else, passing, row_now, sweeping, taking};
 
 use crate::desk::sweep_due;
 use crate::{Desk, MarkRow, Marked, Point, Row};
 use call_fs::Ready;
 use send_jobs::{Channel, Mark};
-use send_steps::{FinishRow, Reading, Search, SweepRow, judged};
+use send_steps::{FinishRow, Reading, Search, SweepRow};
 
 /// The row at which a sender that keeps this is, at this moment and with this ready.
 pub fn row_now(desk: &Desk, now: u64, ready: &Ready) -> Row
@@ -17,7 +17,6 @@ pub fn row_now(desk: &Desk, now: u64, ready: &Ready) -> Row
 {
     match desk.row {
         Row::Turn(point) => from_point(point, desk, now, ready),
-        Row::Sweep(row) => Row::Sweep(from_sweep_row(row, now)),
         row => row,
     }
 }
@@ -196,15 +195,5 @@ fn sweeping(desk: &Desk, now: u64) -> Option<Row>
         Some(Row::Sweep(SweepRow::First))
     } else {
         None
-    }
-}
-
-/// The row of a sweep, after the judgement of a file if one is due.
-fn from_sweep_row(row: SweepRow, now: u64) -> SweepRow
-    ensures { result ≡ from_sweep_row row now }
-{
-    match row {
-        SweepRow::Judge { split, n, moment } => judged(split, n, moment, now),
-        row => row,
     }
 }

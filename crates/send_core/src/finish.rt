@@ -66,7 +66,7 @@ pub fn act_sweep(desk: &mut Desk, row: SweepRow, now: u64, reply: &Reply<'_>)
     ensures { desk.new ≡ act_sweep row now (said_of reply.now) desk.old }
 {
     sweep_begun(desk, row, now);
-    let next = send_steps::act_sweep(&mut desk.book, row, reply);
+    let next = send_steps::act_sweep(&mut desk.book, row, now, reply);
     sweep_at(desk, next);
 }
 

@@ -1,5 +1,6 @@
--- The sweep: of each message file that isn't known and was last written more than 36 hours ago it has the cleaner remove the
--- message, if it has neither an info file nor a todo file. A name that is no number is passed over, and a number at a failure.
+-- The sweep: of each message file that isn't known and that at the moment of its stat was last written more than 36 hours ago it
+-- has the cleaner remove the message, if it has neither an info file nor a todo file. A name that is no number is passed over, and
+-- a number at a failure.
 use Rattle.std.specs.Prelude.{ℕ, ◌+◌, List, [], take, Bool, true, false, Option, Some, None, if◌then◌else◌, nat_lt}
 use Rattle.queue_limits.specs.declared.times.TheConstants.{PID_NAME_AGE}
 use Rattle.send_known.specs.declared.known.Known.{Known}
@@ -21,13 +22,11 @@ abbrev pub swept : Way → List ℕ → ℕ → Book → SweepRow
 swept way.Fine text split b = sweep_row (message_number text) split b.messages.known
 swept w text split b = if nat_lt split 22 then sweep.Next (split + 1) else sweep.Over
 
-abbrev pub mess_stated : Way → ℕ → ℕ → ℕ → SweepRow
-mess_stated way.Fine split n moment = sweep.Judge split n moment
-mess_stated w split n moment = sweep.Next split
-
--- a message file that was last written more than 36 hours ago is looked at closer
-abbrev pub judged : ℕ → ℕ → ℕ → ℕ → SweepRow
-judged split n moment now = if nat_lt (moment + PID_NAME_AGE) now then sweep.StatInfo split n else sweep.Next split
+-- A message file that was last written more than 36 hours before its stat is looked at closer. The moment of the stat itself
+-- decides: by a later one the number may have another message.
+abbrev pub mess_stated : Way → ℕ → ℕ → ℕ → ℕ → SweepRow
+mess_stated way.Fine split n moment now = if nat_lt (moment + PID_NAME_AGE) now then sweep.StatInfo split n else sweep.Next split
+mess_stated w split n moment now = sweep.Next split
 
 -- both stats are made, but after one that failed the number is passed over
 abbrev pub info_stated : Way → ℕ → ℕ → SweepRow
@@ -47,16 +46,16 @@ abbrev pub sweep_taken : Way → ℕ → SweepRow
 sweep_taken way.Fine split = sweep.Next split
 sweep_taken w split = sweep.Lost
 
--- where a step leads
-abbrev pub sweep_to : SweepRow → Said → Book → SweepRow
-sweep_to sweep.First s b = swept s.way s.bytes 0 b
-sweep_to (sweep.Next split) s b = swept s.way s.bytes split b
-sweep_to (sweep.StatMess split n) s b = mess_stated s.way split n s.stat.moment
-sweep_to (sweep.StatInfo split n) s b = info_stated s.way split n
-sweep_to (sweep.StatTodo split n info) s b = todo_stated s.way split n info
-sweep_to (sweep.Give split n) s b = sweep_given s.way split n
-sweep_to (sweep.Take split n) s b = sweep_taken s.way split
-sweep_to row s b = row
+-- where a step at this moment leads
+abbrev pub sweep_to : SweepRow → ℕ → Said → Book → SweepRow
+sweep_to sweep.First now s b = swept s.way s.bytes 0 b
+sweep_to (sweep.Next split) now s b = swept s.way s.bytes split b
+sweep_to (sweep.StatMess split n) now s b = mess_stated s.way split n s.stat.moment now
+sweep_to (sweep.StatInfo split n) now s b = info_stated s.way split n
+sweep_to (sweep.StatTodo split n info) now s b = todo_stated s.way split n info
+sweep_to (sweep.Give split n) now s b = sweep_given s.way split n
+sweep_to (sweep.Take split n) now s b = sweep_taken s.way split
+sweep_to row now s b = row
 
 -- a search goes on after the name that was found, and begins anew in the next directory
 abbrev pub named : Way → List ℕ → Book → Book

@@ -40,5 +40,5 @@ pub use row_steps::{finish_step, start_step, sweep_step};
 pub use rows::{FinishRow, Search, StartRow, SweepRow};
 pub use start::{act_start, keep, remote_limit};
 pub use step::Step;
-pub use sweep::{act_sweep, judged};
+pub use sweep::act_sweep;
 pub use texts::{hold, is_info, message_number, number_text, records_in, sender_in};

@@ -55,6 +55,6 @@ pub fn sweep_step(row: SweepRow) -> Step
         SweepRow::StatTodo { n, .. } => Step::Stat(Name::Todo(n)),
         SweepRow::Give { n, .. } => Step::Remove(n),
         SweepRow::Take { .. } => Step::Take(Port::Clean),
-        SweepRow::Judge { .. } | SweepRow::Over | SweepRow::Lost => Step::Wait,
+        SweepRow::Over | SweepRow::Lost => Step::Wait,
     }
 }

@@ -85,8 +85,6 @@ pub enum SweepRow {
     Next { split: u64 },
     /// Asks of what moment a message file is that isn't known.
     StatMess { split: u64, n: u64 },
-    /// Between two steps: whether that is old is decided by the moment.
-    Judge { split: u64, n: u64, moment: u64 },
     /// Asks whether it has an info file.
     StatInfo { split: u64, n: u64 },
     /// Asks whether it has a todo file; whether it has an info file.

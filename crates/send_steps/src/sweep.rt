@@ -1,27 +1,27 @@
 // Where the steps of the sweep lead.
 ghost use Rattle.std.specs.Prelude.{◌≡◌};
 ghost use Rattle.send_steps.specs.Replies.{said_of};
-ghost use Rattle.send_steps.specs.Sweep.{info_stated, judged, mess_stated, searched, sweep_given, sweep_row, sweep_taken, sweep_to, swept, todo_stated};
+ghost use Rattle.send_steps.specs.Sweep.{info_stated, mess_stated, searched, sweep_given, sweep_row, sweep_taken, sweep_to, swept, todo_stated};
 
 use crate::{Book, Reply, SweepRow, Way, hold, message_number};
 use queue_limits::PID_NAME_AGE;
 use send_known::KnownList;
 
-/// What came at a row of the sweep, and where that leads. Takes no memory.
-pub fn act_sweep(book: &mut Book, row: SweepRow, reply: &Reply<'_>) -> SweepRow
-    ensures to { result ≡ sweep_to row (said_of reply.now) book.old }
+/// What came at a row of the sweep, at this moment, and where that leads. Takes no memory.
+pub fn act_sweep(book: &mut Book, row: SweepRow, now: u64, reply: &Reply<'_>) -> SweepRow
+    ensures to { result ≡ sweep_to row now (said_of reply.now) book.old }
     ensures book { book.new ≡ searched row (said_of reply.now) book.old }
 {
     let way = reply.way;
     match row {
         SweepRow::First => swept(book, 0, reply),
         SweepRow::Next { split } => swept(book, split, reply),
-        SweepRow::StatMess { split, n } => mess_stated(way, split, n, reply.stat.moment),
+        SweepRow::StatMess { split, n } => mess_stated(way, split, n, reply.stat.moment, now),
         SweepRow::StatInfo { split, n } => info_stated(way, split, n),
         SweepRow::StatTodo { split, n, info } => todo_stated(way, split, n, info),
         SweepRow::Give { split, n } => sweep_given(way, split, n),
         SweepRow::Take { split, .. } => sweep_taken(way, split),
-        SweepRow::Judge { .. } | SweepRow::Over | SweepRow::Lost => row,
+        SweepRow::Over | SweepRow::Lost => row,
     }
 }
 
@@ -56,24 +56,14 @@ fn sweep_row(n: Option<u64>, split: u64, known: &KnownList) -> SweepRow
     }
 }
 
-/// After the stat of a message file.
-fn mess_stated(way: Way, split: u64, n: u64, moment: u64) -> SweepRow
-    ensures { result ≡ mess_stated way split n moment }
+/// After the stat of a message file, at this moment: one that was last written more than 36 hours before is looked at closer. A
+/// later moment would say nothing, since the number may have another message by then.
+fn mess_stated(way: Way, split: u64, n: u64, moment: u64, now: u64) -> SweepRow
+    ensures { result ≡ mess_stated way split n moment now }
 {
     match way {
-        Way::Fine => SweepRow::Judge { split, n, moment },
+        Way::Fine if now.saturating_sub(moment) > PID_NAME_AGE => SweepRow::StatInfo { split, n },
         _ => SweepRow::Next { split },
-    }
-}
-
-/// A message file that was last written more than 36 hours ago is looked at closer.
-pub fn judged(split: u64, n: u64, moment: u64, now: u64) -> SweepRow
-    ensures { result ≡ judged split n moment now }
-{
-    if now.saturating_sub(moment) > PID_NAME_AGE {
-        SweepRow::StatInfo { split, n }
-    } else {
-        SweepRow::Next { split }
     }
 }
 

@@ -1,11 +1,12 @@
 -- What a sender relies on between two steps it relies on at the row that is next.
-use Rattle.std.proofs.Common.{◌≡◌, ℕ, ◌+◌, ◌<◌, ◌≤◌, List, [], ◌∷◌, Bool, true, false, Option, Some, None, refl, sym, ap, subst, arith}
-use Rattle.std.specs.Prelude.{All, Contains, ◌||◌, not, if◌then◌else◌, nat_le, nat_lt, is_some, find, slice_get, IsSome}
+use Rattle.std.proofs.Common.{◌≡◌, ℕ, ◌≤◌, List, [], ◌∷◌, Bool, true, false, Option, Some, None, refl, sym, ap, subst, arith}
+use Rattle.std.specs.Prelude.{All, Contains, ◌||◌, not, if◌then◌else◌, nat_le, is_some, find, slice_get, IsSome}
 use Rattle.std.specs.Option.{option_map}
-use Rattle.std.proofs.lemmas.Bool.{and_parts, ltb-true}
+use Rattle.std.proofs.lemmas.Bool.{and_parts, leb-true}
 use Rattle.std.proofs.lemmas.List.Elements.{All-head, All-weaker}
 use Rattle.address_rules.specs.declared.controls.Controls.{Controls}
 use Rattle.call_fs.specs.declared.program.Ready.{Ready}
+use Rattle.mail_bytes.specs.Moments.{IsMoment}
 use Rattle.retry_schedule.specs.Due.{first_due}
 use Rattle.send_core.specs.declared.desk.Desk.{Desk}
 use Rattle.send_core.specs.declared.row.MarkRow.TheVariants as mark
@@ -14,12 +15,14 @@ use Rattle.send_core.specs.declared.row.Point.TheVariants as point
 use Rattle.send_core.specs.declared.row.Row.{Row}
 use Rattle.send_core.specs.declared.row.Row.TheVariants as at
 use Rattle.send_core.specs.Agrees.{is_same}
-use Rattle.send_core.specs.Desk.{due_on, next_idle, sweep_due}
-use Rattle.send_core.specs.Table.{arrive, beginning, finishing, finishing_by, from_begin, from_local, from_point, from_remote, from_reports, from_sweep, from_sweep_row, from_take, going_on, holds, link_of, marking, marking_by, or_else, passing, sweeping, taking}
+use Rattle.send_core.specs.Desk.{due_on, never, next_idle, sweep_due}
+use Rattle.send_core.specs.Table.{arrive, beginning, finishing, finishing_by, from_begin, from_local, from_point, from_remote, from_reports, from_sweep, from_take, going_on, holds, link_of, marking, marking_by, or_else, passing, sweeping, taking}
 use Rattle.send_jobs.specs.declared.attempts.Mark.{Mark}
 use Rattle.send_jobs.specs.declared.channels.Channel.{Channel}
 use Rattle.send_jobs.specs.declared.channels.Channel.TheVariants.{Local, Remote}
 use Rattle.send_jobs.specs.declared.slots.Slots.{Slots}
+use Rattle.send_jobs.specs.declared.jobs.Job.{Job}
+use Rattle.send_jobs.specs.Jobs.{job_of}
 use Rattle.send_jobs.specs.Lanes.{next}
 use Rattle.send_jobs.specs.Sending.{lane}
 use Rattle.send_jobs.specs.Slots.{lowest}
@@ -27,18 +30,16 @@ use Rattle.send_known.specs.declared.known.Known.{Known}
 use Rattle.send_known.specs.Known.{first_idle, is_idle}
 use Rattle.send_steps.specs.declared.book.Book.{Book}
 use Rattle.send_steps.specs.declared.rows.Search.TheVariants as search
-use Rattle.send_steps.specs.declared.rows.SweepRow.{SweepRow}
 use Rattle.send_steps.specs.declared.rows.SweepRow.TheVariants as sweep
 use Rattle.todo_pass.specs.Table.{Pass}
 use Rattle.channel_law.specs.Tied.{First, IsTied, waiting}
 use Rattle.channel_law.specs.Tied.First.{Unwritten}
 use Rattle.channel_law.proofs.Counts.{at_head, in_tail}
 use Rattle.queue_law.specs.Numbers.{Queue, About, about}
-use Rattle.queue_law.specs.Rests.{IsClosed}
 use Rattle.sender_law.specs.Views.{files_of, first_at, first_if}
 use Rattle.sender_law.specs.Knows.{Knows, Serves, IsEntered, has_file}
 use Rattle.sender_law.specs.Knows.Knows.{Stays, Leaves}
-use Rattle.sender_law.specs.Rows.{HasNoMarks, PointStands, RowStands, SweepStands}
+use Rattle.sender_law.specs.Rows.{HasNoJob, HasNoMarks, PointStands, RowStands}
 use Rattle.sender_law.specs.Stands.{HasControls, Stands, StandsAt, SenderStands}
 
 -- at such a row no mark is written yet, and the control files were read
@@ -69,6 +70,25 @@ due_one : (P : ℕ × ℕ → Type 0) (now : ℕ) (es : List (ℕ × ℕ)) → A
 due_one P now [] h e eq = absurd (cc)
 due_one P now (x ∷ xs) h e eq = subst P (by_due x e (nat_le x.0 now) eq) (All-head P x xs h)
 
+by_now : (x e : ℕ × ℕ) (now : ℕ) (b : Bool) → nat_le x.0 now ≡ b → ◌≡◌ {A = Option (ℕ × ℕ)} (if b then Some x else None) (Some e) → e.0 ≤ now
+by_now x e now true le eq = let same = ap (λ (y : ℕ × ℕ). y.0) (some_same x e eq) in let low = leb-true x.0 now le in omega (arith, same, low)
+by_now x e now false le eq = absurd (cc)
+
+due_by_now : (now : ℕ) (es : List (ℕ × ℕ)) (e : ℕ × ℕ) → first_due now es ≡ Some e → e.0 ≤ now
+due_by_now now [] e eq = absurd (cc)
+due_by_now now (x ∷ xs) e eq = by_now x e now (nat_le x.0 now) refl eq
+
+told_by_then : {read : ℕ} (due : ℕ) → due ≤ read → read ≤ 250000000000 → due ≤ 250000000000
+told_by_then due le told = omega (arith, le, told)
+
+-- what is due by a moment that a clock may tell has no job, if what has a job is due at none
+jobless : {read : ℕ} → IsMoment read → (o : Option Job) (due : ℕ) → due ≤ read → (IsSome o → due ≡ never) → o ≡ None
+jobless told None due le f = refl
+jobless told (Some job) due le f =
+    let late : due ≡ 18446744073709551615 = f refl in
+    let soon : due ≤ 250000000000 = told_by_then due le told in
+    absurd (omega (arith, late, soon))
+
 no_file : (l r : Bool) → not (l || r) ≡ true → (l ≡ false) × (r ≡ false)
 no_file true r e = absurd (cc)
 no_file false true e = absurd (cc)
@@ -90,7 +110,7 @@ found p (k ∷ ks) n e = by_test (found p ks n) (p k) refl e
     by_test more true t eq = (k, at_head k ks, some_same k.n n eq, t)
     by_test more false t eq = let w = more eq in (w.0, in_tail k w.0 ks w.1, w.2, w.3)
 
-module _ (controls : Controls) (now read : ℕ) (q : Queue) (a : List ℕ) (not_later : read ≤ now) where
+module _ (controls : Controls) (now read : ℕ) (q : Queue) (a : List ℕ) (not_later : read ≤ now) (told : IsMoment read) where
   at_row : (p : Point) (b : Book) (s : Slots) (pass : Pass) → Stands controls now q a (at.Turn p) b s pass
       → (row : Row) → IsPlain row → RowStands controls now q a row b s pass → Stands controls now q a row b s pass
   at_row p b s pass h row plain rests = record {
@@ -104,6 +124,7 @@ module _ (controls : Controls) (now read : ℕ) (q : Queue) (a : List ℕ) (not_
       jobs = l.jobs;
       marks = subst (λ (f : First). All (λ (m : Mark). IsEntered (about q m.attempt.n) ch m.attempt.place) (waiting f (lane ch s).marks)) (sym (plain.first ch)) l.marks;
     };
+    apart = h.apart;
     controls_are = λ _. h.controls_are tt;
     rests = rests;
   }
@@ -140,16 +161,18 @@ module _ (controls : Controls) (now read : ℕ) (q : Queue) (a : List ℕ) (not_
     going_good bare c (Some slot) there e = (record { first = λ ch. refl; controls_read = tt }, (bare, (there, ap (λ x. is_some x) e)))
 
     beginning_good : HasNoMarks d.slots → (c : Channel) (may : Bool) (o : Option (ℕ × ℕ)) → ((e : ℕ × ℕ) → o ≡ Some e → Serves (about q e.1) c)
-        → GoodIf (beginning c may o)
-    beginning_good bare c false o f = tt
-    beginning_good bare c true None f = tt
-    beginning_good bare c true (Some e) f = (record { first = λ ch. refl; controls_read = tt }, (bare, (f e refl, tt)))
+        → ((e : ℕ × ℕ) → o ≡ Some e → HasNoJob c e.1 d.slots) → GoodIf (beginning c may o)
+    beginning_good bare c false o f g = tt
+    beginning_good bare c true None f g = tt
+    beginning_good bare c true (Some e) f g = (record { first = λ ch. refl; controls_read = tt }, (bare, (g e refl, (f e refl, tt))))
 
     pass_by : HasNoMarks d.slots → (c : Channel) (may b : Bool) → is_some (next (lane c d.slots)) ≡ b
         → GoodIf (if b then going_on c (lowest (lane c d.slots).slots) else beginning c may (first_due read (due_on c d.book.messages)))
     pass_by bare c may true e = going_good bare c (lowest (lane c d.slots).slots) e refl
     pass_by bare c may false e = beginning_good bare c may (first_due read (due_on c d.book.messages))
         (λ e eq. due_one (λ (x : ℕ × ℕ). Serves (about q x.1) c) read (due_on c d.book.messages) (h.knows.due c) e eq)
+        (λ e eq. jobless told (job_of e.1 (lane c d.slots).jobs) e.0 (due_by_now read (due_on c d.book.messages) e eq)
+        (due_one (λ (x : ℕ × ℕ). IsSome (job_of x.1 (lane c d.slots).jobs) → x.0 ≡ never) read (due_on c d.book.messages) (h.apart c) e eq))
 
     finish_good : HasNoMarks d.slots → (o : Option ℕ) → first_idle read d.book.messages.known ≡ o → GoodIf (finishing_by o)
     finish_good bare None e = tt
@@ -192,47 +215,9 @@ module _ (controls : Controls) (now read : ℕ) (q : Queue) (a : List ℕ) (not_
     point_good point.Finish r = or_good (finishing d read) (from_sweep d read ready) (finish_good r (next_idle read d) refl) (λ _. from_sweep_good r)
     point_good point.Sweep r = from_sweep_good r
 
-  sweep_on : (known : List Known) (split n moment : ℕ) (b : Bool) → nat_lt (moment + 129600) read ≡ b → SweepStands now q a (sweep.Judge split n moment) known
-      → SweepStands now q a (if b then sweep.StatInfo split n else sweep.Next split) known
-  sweep_on known split n moment true e h =
-      let old : moment + 129600 < read = ltb-true (moment + 129600) read e in
-      let closed : IsClosed now q n = h.1 (omega (arith, old, not_later)) in
-      (h.0, closed)
-  sweep_on known split n moment false e h = tt
-
-  sweep_row_on : (row : SweepRow) (known : List Known) → SweepStands now q a row known → SweepStands now q a (from_sweep_row row read) known
-  sweep_row_on sweep.First known h = h
-  sweep_row_on (sweep.Next split) known h = h
-  sweep_row_on (sweep.StatMess split n) known h = h
-  sweep_row_on (sweep.Judge split n moment) known h = sweep_on known split n moment (nat_lt (moment + 129600) read) refl h
-  sweep_row_on (sweep.StatInfo split n) known h = h
-  sweep_row_on (sweep.StatTodo split n info) known h = h
-  sweep_row_on (sweep.Give split n) known h = h
-  sweep_row_on (sweep.Take split n) known h = h
-  sweep_row_on sweep.Over known h = h
-  sweep_row_on sweep.Lost known h = h
-
-  swept_knows : (row : SweepRow) (other : SweepRow) (w : About) (k : Known) → Knows (at.Sweep row) w k → Knows (at.Sweep other) w k
-  swept_knows row other w k (Stays h) = Stays h
-  swept_knows row other w k (Leaves h) = absurd h
-
-  swept : (row other : SweepRow) (b : Book) (s : Slots) (pass : Pass) → Stands controls now q a (at.Sweep row) b s pass
-      → SweepStands now q a other b.messages.known → Stands controls now q a (at.Sweep other) b s pass
-  swept row other b s pass h rests = record {
-    knows = record {
-      known = All-weaker (λ (k : Known). Knows (at.Sweep row) (about q k.n) k) (λ (k : Known). Knows (at.Sweep other) (about q k.n) k) (λ k. swept_knows row other (about q k.n) k)
-          b.messages.known h.knows.known;
-      due = h.knows.due;
-    };
-    lanes = λ ch. let l = h.lanes ch in record { tied = l.tied; jobs = l.jobs; marks = l.marks };
-    controls_are = λ _. h.controls_are tt;
-    rests = (h.rests.0, rests);
-  }
-
   arrived_at : (row : Row) (d : Desk) (ready : Ready) → Stands controls now q a row d.book d.slots d.pass
       → Stands controls now q a (arrive row d read ready) d.book d.slots d.pass
   arrived_at (at.Turn p) d ready h = let g = point_good d ready p h p h.rests in at_row p d.book d.slots d.pass h (from_point p d read ready) g.0 g.1
-  arrived_at (at.Sweep row) d ready h = swept row (from_sweep_row row read) d.book d.slots d.pass h (sweep_row_on row d.book.messages.known h.rests.1)
   arrived_at (at.Start row) d ready h = h
   arrived_at (at.TakeLink c) d ready h = h
   arrived_at (at.Mark row m) d ready h = h
@@ -242,6 +227,7 @@ module _ (controls : Controls) (now read : ℕ) (q : Queue) (a : List ℕ) (not_
   arrived_at (at.FindTodo s) d ready h = h
   arrived_at at.InTodo d ready h = h
   arrived_at (at.Finish row n) d ready h = h
+  arrived_at (at.Sweep row) d ready h = h
   arrived_at (at.Ended status) d ready h = h
 
   pub arrived : (d : Desk) (ready : Ready) → SenderStands controls now q a d → StandsAt controls now q a (arrive d.row d read ready) d

@@ -1,9 +1,9 @@
 -- A sender that begins.
 use Rattle.std.proofs.Common.{◌≡◌, ℕ, List, [], Option, Some, refl, arith}
-use Rattle.std.specs.Prelude.{All, IfSome}
+use Rattle.std.specs.Prelude.{All, IfSome, IsSome}
 use Rattle.std.proofs.lemmas.List.Elements.{All-nil}
 use Rattle.address_rules.specs.declared.controls.Controls.{Controls}
-use Rattle.send_core.specs.Desk.{due_on}
+use Rattle.send_core.specs.Desk.{due_on, never}
 use Rattle.send_core.specs.Table.{begun}
 use Rattle.send_jobs.specs.declared.attempts.Mark.{Mark}
 use Rattle.send_jobs.specs.declared.channels.Channel.{Channel}
@@ -43,13 +43,22 @@ module _ (controls : Controls) (now : ℕ) (q : Queue) (a : List ℕ) (turns : O
       due = λ ch. none_due ch;
     };
     lanes = λ ch. on_lane ch;
+    apart = λ ch. none_apart ch;
     controls_are = λ h. absurd h;
-    rests = (λ ch. bare ch, tt);
+    rests = (λ ch. bare ch, (λ ch. no_jobs ch, tt));
   }
     where
       none_due : (ch : Channel) → All (λ (e : ℕ × ℕ). Serves (about q e.1) ch) (due_on ch (begun turns).book.messages)
       none_due Local = All-nil (λ (e : ℕ × ℕ). Serves (about q e.1) Local)
       none_due Remote = All-nil (λ (e : ℕ × ℕ). Serves (about q e.1) Remote)
+
+      none_apart : (ch : Channel) → All (λ (e : ℕ × ℕ). IsSome (job_of e.1 (lane ch (begun turns).slots).jobs) → e.0 ≡ never) (due_on ch (begun turns).book.messages)
+      none_apart Local = All-nil (λ (e : ℕ × ℕ). IsSome (job_of e.1 []) → e.0 ≡ never)
+      none_apart Remote = All-nil (λ (e : ℕ × ℕ). IsSome (job_of e.1 []) → e.0 ≡ never)
+
+      no_jobs : (ch : Channel) → (lane ch (begun turns).slots).jobs ≡ []
+      no_jobs Local = refl
+      no_jobs Remote = refl
 
       bare : (ch : Channel) → (lane ch (begun turns).slots).marks ≡ []
       bare Local = refl

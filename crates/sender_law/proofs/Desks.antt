@@ -23,7 +23,8 @@ use Rattle.sender_law.specs.Views.{files_of, first_at}
 use Rattle.sender_law.specs.Knows.{IsEntered, IsKnown, IsLeaving, Knows, Serves}
 use Rattle.sender_law.specs.Knows.Knows.{Stays, Leaves}
 use Rattle.sender_law.specs.Rows.{RowStands}
-use Rattle.sender_law.specs.Stands.{Stands}
+use Rattle.sender_law.specs.Stands.{DueApart, Stands}
+use Rattle.sender_law.proofs.Apart.{apart_again}
 use Rattle.sender_law.proofs.Arrive.{IsPlain}
 use Rattle.sender_law.proofs.Lanes.{AllServe, OnBoth, OnLane, ended_on, lane_on, over_there, then_on}
 
@@ -31,6 +32,7 @@ pub record OnDesk (controls : Controls) (q : Queue) (d : Desk) : Type 0 where
   pub known : All (λ (k : Known). IsKnown (about q k.n) k) d.book.messages.known
   pub due : AllServe q d.book.messages
   pub lanes : OnBoth q d.slots
+  pub apart : DueApart d.book.messages d.slots
   pub controls_are : d.book.controls ≡ controls
 
 stays_known : (row : Row) (w : About) (k : Known) → (IsLeaving row k.n → ⊥) → Knows row w k → IsKnown w k
@@ -53,11 +55,12 @@ on_of controls now q a row d plain stays h = record {
       d.book.messages.known h.knows.known;
   due = h.knows.due;
   lanes = λ ch. lane_of controls now q a row d.book d.slots d.pass h ch (plain.first ch);
+  apart = h.apart;
   controls_are = h.controls_are plain.controls_read;
 }
 
 -- and the other way, with what the row rests on
-pub stand : (controls : Controls) (now : ℕ) (q : Queue) (a : List ℕ) (row : Row) (d : Desk) → IsPlain row → OnDesk controls q d
+pub stand : (controls : Controls) (now : ℕ) (q : Queue) (a : List ℕ) (row : Row) (d : Desk) → ((ch : Channel) → first_at row ch ≡ Unwritten) → OnDesk controls q d
     → RowStands controls now q a row d.book d.slots d.pass → Stands controls now q a row d.book d.slots d.pass
 stand controls now q a row d plain h rests = record {
   knows = record {
@@ -65,10 +68,11 @@ stand controls now q a row d plain h rests = record {
     due = h.due;
   };
   lanes = λ ch. let l = h.lanes ch in record {
-    tied = subst (λ (f : First). IsTied (files_of q ch) f (lane ch d.slots)) (sym (plain.first ch)) l.tied;
+    tied = subst (λ (f : First). IsTied (files_of q ch) f (lane ch d.slots)) (sym (plain ch)) l.tied;
     jobs = l.jobs;
-    marks = subst (λ (f : First). All (λ (m : Mark). IsEntered (about q m.attempt.n) ch m.attempt.place) (waiting f (lane ch d.slots).marks)) (sym (plain.first ch)) l.marks;
+    marks = subst (λ (f : First). All (λ (m : Mark). IsEntered (about q m.attempt.n) ch m.attempt.place) (waiting f (lane ch d.slots).marks)) (sym (plain ch)) l.marks;
   };
+  apart = h.apart;
   controls_are = λ _. h.controls_are;
   rests = rests;
 }
@@ -80,12 +84,14 @@ due_again_on controls q Local n due d h serves over = record {
   known = h.known;
   due = then_on q Local n due d.book.messages serves h.due;
   lanes = lane_on q Local (ended n) d.slots h.lanes over;
+  apart = apart_again Local n due d.book.messages d.slots h.apart;
   controls_are = h.controls_are;
 }
 due_again_on controls q Remote n due d h serves over = record {
   known = h.known;
   due = then_on q Remote n due d.book.messages serves h.due;
   lanes = lane_on q Remote (ended n) d.slots h.lanes over;
+  apart = apart_again Remote n due d.book.messages d.slots h.apart;
   controls_are = h.controls_are;
 }
 

@@ -51,6 +51,7 @@ use Rattle.sender_law.specs.Knows.{IsEntered, IsKnown, IsSettledIn, Serves}
 use Rattle.sender_law.specs.Rows.{RowStands}
 use Rattle.sender_law.specs.Stands.{Stands, StandsAt, SenderStands}
 use Rattle.sender_law.specs.Takings.{AllLead, LeadBy, TakingLeads, entered_all, entered_by, entered_if, entered_one, taken_by}
+use Rattle.sender_law.proofs.Apart.{apart_lane, fewer_unmarked}
 use Rattle.sender_law.proofs.Desks.{OnDesk, on_of, retried_on, stand}
 use Rattle.sender_law.proofs.Lanes.{AllServe, OnLane, lane_on, left_on, owed_on}
 use Rattle.sender_law.proofs.Others.{the_job}
@@ -176,12 +177,12 @@ module _ (controls : Controls) where
   deferred_on q Local slot a d h there =
       let after : Desk = record d { slots = at_lane Local (left_unmarked a.n) (at_lane Local (reported slot) d.slots) } in
       let f : Lane → Lane = λ l. left_unmarked a.n (reported slot l) in
-      let on : OnDesk controls q after = record { known = h.known; due = h.due; controls_are = h.controls_are; lanes = lane_on q Local f d.slots h.lanes (left_on q Local d.slots.local (h.lanes Local) slot a there) } in
+      let on : OnDesk controls q after = record { known = h.known; due = h.due; controls_are = h.controls_are; lanes = lane_on q Local f d.slots h.lanes (left_on q Local d.slots.local (h.lanes Local) slot a there); apart = apart_lane Local f d.book.messages d.slots (fewer_unmarked a.n d.slots.local.jobs) h.apart } in
       retried_on controls q Local a.n (job_over a.n after.slots.local) after refl on
   deferred_on q Remote slot a d h there =
       let after : Desk = record d { slots = at_lane Remote (left_unmarked a.n) (at_lane Remote (reported slot) d.slots) } in
       let f : Lane → Lane = λ l. left_unmarked a.n (reported slot l) in
-      let on : OnDesk controls q after = record { known = h.known; due = h.due; controls_are = h.controls_are; lanes = lane_on q Remote f d.slots h.lanes (left_on q Remote d.slots.remote (h.lanes Remote) slot a there) } in
+      let on : OnDesk controls q after = record { known = h.known; due = h.due; controls_are = h.controls_are; lanes = lane_on q Remote f d.slots h.lanes (left_on q Remote d.slots.remote (h.lanes Remote) slot a there); apart = apart_lane Remote f d.book.messages d.slots (fewer_unmarked a.n d.slots.remote.jobs) h.apart } in
       retried_on controls q Remote a.n (job_over a.n after.slots.remote) after refl on
 
   waits_on : (q : Queue) (c : Channel) (slot : ℕ) (a : Attempt) (d : Desk) → OnDesk controls q d → attempt_in (lane c d.slots).slots slot ≡ Some a
@@ -189,11 +190,11 @@ module _ (controls : Controls) where
   waits_on q Local slot a d h there entered =
       let m : Mark = record { attempt = a; note = None } in
       let f : Lane → Lane = λ l. owes m (reported slot l) in
-      record { known = h.known; due = h.due; controls_are = h.controls_are; lanes = lane_on q Local f d.slots h.lanes (owed_on q Local d.slots.local (h.lanes Local) slot a m there refl entered) }
+      record { known = h.known; due = h.due; controls_are = h.controls_are; lanes = lane_on q Local f d.slots h.lanes (owed_on q Local d.slots.local (h.lanes Local) slot a m there refl entered); apart = apart_lane Local f d.book.messages d.slots (λ n some. some) h.apart }
   waits_on q Remote slot a d h there entered =
       let m : Mark = record { attempt = a; note = None } in
       let f : Lane → Lane = λ l. owes m (reported slot l) in
-      record { known = h.known; due = h.due; controls_are = h.controls_are; lanes = lane_on q Remote f d.slots h.lanes (owed_on q Remote d.slots.remote (h.lanes Remote) slot a m there refl entered) }
+      record { known = h.known; due = h.due; controls_are = h.controls_are; lanes = lane_on q Remote f d.slots h.lanes (owed_on q Remote d.slots.remote (h.lanes Remote) slot a m there refl entered); apart = apart_lane Remote f d.book.messages d.slots (λ n some. some) h.apart }
 
 module _ (controls : Controls) (now : ℕ) (a : List ℕ) (none : HaveNoNul controls) where
   pub record Step (q r : Queue) (next : Desk) : Type 0 where
@@ -215,7 +216,7 @@ module _ (controls : Controls) (now : ℕ) (a : List ℕ) (none : HaveNoNul cont
       let r : Queue = entered_queue q t.n s in
       let leads = entries_keep controls now q a G t.n s may in
       let g = one_grown q t.n s in
-      let on : OnDesk controls r d = record { known = known_all q r g d.book.messages h.known; due = due_all q r g d.book.messages h.due; controls_are = h.controls_are; lanes = λ ch. lane_grown q r g ch (lane ch d.slots) (h.lanes ch) } in
+      let on : OnDesk controls r d = record { known = known_all q r g d.book.messages h.known; due = due_all q r g d.book.messages h.due; controls_are = h.controls_are; lanes = λ ch. lane_grown q r g ch (lane ch d.slots) (h.lanes ch); apart = h.apart } in
       let w = g.lives t.n may.injection may.lives in
       let v : Option Injection = option_map (with_delivered s) (q.books.living t.n) in
       let lives : r.books.living t.n ≡ Some (with_delivered s may.injection) = put_same q.books.living t.n v ∙ ap (option_map (with_delivered s)) may.lives in
@@ -245,16 +246,16 @@ module _ (controls : Controls) (now : ℕ) (a : List ℕ) (none : HaveNoNul cont
       record { lead = (one.leads, more.lead); sound = more.sound; on = more.on }
 
   with_reader_on : (q : Queue) (c : Channel) (reader : Reader) (d : Desk) → OnDesk controls q d → OnDesk controls q (with_reader c reader d)
-  with_reader_on q Local reader d h = record { known = h.known; due = h.due; lanes = h.lanes; controls_are = h.controls_are }
-  with_reader_on q Remote reader d h = record { known = h.known; due = h.due; lanes = h.lanes; controls_are = h.controls_are }
+  with_reader_on q Local reader d h = record { known = h.known; due = h.due; lanes = h.lanes; apart = h.apart; controls_are = h.controls_are }
+  with_reader_on q Remote reader d h = record { known = h.known; due = h.due; lanes = h.lanes; apart = h.apart; controls_are = h.controls_are }
 
   point_rests : (q : Queue) (c : Channel) (d : Desk) → RowStands controls now q a (at.Turn (after_take c)) d.book d.slots d.pass
   point_rests q Local d = tt
   point_rests q Remote d = tt
 
   pub lost_on : (q : Queue) (c : Channel) (d : Desk) → OnDesk controls q d → Stands controls now q a (lost c) d.book d.slots d.pass
-  lost_on q Local d h = stand controls now q a (at.Ended 82) d (record { first = λ ch. refl; controls_read = tt }) h tt
-  lost_on q Remote d h = stand controls now q a (at.Ended 83) d (record { first = λ ch. refl; controls_read = tt }) h tt
+  lost_on q Local d h = stand controls now q a (at.Ended 82) d (λ ch. refl) h tt
+  lost_on q Remote d h = stand controls now q a (at.Ended 83) d (λ ch. refl) h tt
 
   pub record Taken (q : Queue) (c : Channel) (d : Desk) (w : Way) (bytes : List ℕ) : Type 0 where
     pub lead : LeadBy controls now a w c bytes d q
@@ -270,7 +271,7 @@ module _ (controls : Controls) (now : ℕ) (a : List ℕ) (none : HaveNoNul cont
       record {
         lead = all.lead;
         sound = all.sound;
-        stands = stand controls now r a (at.Turn (after_take c)) next (record { first = λ ch. refl; controls_read = tt }) all.on (point_rests r c next);
+        stands = stand controls now r a (at.Turn (after_take c)) next (λ ch. refl) all.on (point_rests r c next);
       }
   taken_on q c d way.Over bytes G h = record { lead = tt; sound = G; stands = lost_on q c d h }
   taken_on q c d way.Absent bytes G h = record { lead = tt; sound = G; stands = lost_on q c d h }

@@ -3,7 +3,7 @@ use Rattle.std.proofs.Common.{◌≡◌, ◌≢◌, inr, ℕ, List, [], ◌∷�
 use Rattle.std.specs.Prelude.{◌==◌, if◌then◌else◌, All, Contains, position}
 use Rattle.std.proofs.lemmas.Bool.{eq-eqb, eqb-true}
 use Rattle.std.proofs.lemmas.Bool.Decides.{eqb_tells}
-use Rattle.std.proofs.lemmas.List.Elements.{All-head, All-tail, All-contains, All-contains_itself, All-set, All-weaker}
+use Rattle.std.proofs.lemmas.List.Elements.{All-head, All-tail, All-set, All-weaker}
 use Rattle.std.proofs.lemmas.List.Quantifiers.{position-Some}
 use Rattle.address_rules.specs.declared.controls.Controls.{Controls}
 use Rattle.address_rules.specs.Nuls.{HaveNoNul}
@@ -61,10 +61,10 @@ use Rattle.sender_law.specs.Views.{files_of, records_at}
 use Rattle.sender_law.specs.Knows.{IsEntered, IsKnown, IsSettledIn, Serves, has_file}
 use Rattle.sender_law.specs.Rows.{HasNoMarks, IsAllDone, PointStands}
 use Rattle.sender_law.specs.Stands.{SenderLeads, SenderStands, StandsAt}
-use Rattle.sender_law.proofs.Arrive.{IsPlain}
 use Rattle.sender_law.proofs.Desks.{OnDesk, due_again_on, on_of, stand}
 use Rattle.sender_law.proofs.Entries.{Grows, due_all, known_all, lane_grown}
-use Rattle.sender_law.proofs.Lanes.{AllServe, OnBoth, OnLane, ended_on, over_there}
+use Rattle.sender_law.proofs.Apart.{apart_gone}
+use Rattle.sender_law.proofs.Lanes.{AllServe, OnBoth, OnLane, ended_on, over_there, removed_each}
 use Rattle.sender_law.proofs.Texts.{they_are}
 
 -- All of a finished file is delivered
@@ -232,9 +232,6 @@ removed_far ch c n es e w same = ((in_removed n e es).0 w).1 (number_is (lane_pa
     number_is : (x y : Part) (k n : ℕ) → Of x k ≡ Of y n → k ≡ n
     number_is x y k n e = cc
 
-removed_all : (P : ℕ × ℕ → Type 0) (n : ℕ) (es : List (ℕ × ℕ)) → All P es → All P (removed n es)
-removed_all P n es h = All-weaker (Contains (removed n es)) P (λ e w. All-contains P es e h ((in_removed n e es).0 w).0) (removed n es) (All-contains_itself (removed n es))
-
 local_far : (k n : ℕ) → Of LocalFile k ≢ Of RemoteFile n
 local_far k n e = absurd (cc)
 
@@ -244,12 +241,12 @@ remote_far k n e = absurd (cc)
 module _ (q r : Queue) (n : ℕ) (books : r.books ≡ q.books) where
   due_local : look r (Of LocalFile n) ≡ None → ((y : Name) → y ≢ Of LocalFile n → look r y ≡ look q y) → (m : Messages) → AllServe q m → AllServe r (file_gone Local n m)
   due_local gone others m h Local = due_still q r Local n books gone others Local (removed n m.local) (removed_far Local Local n m.local)
-      (removed_all (λ (e : ℕ × ℕ). Serves (about q e.1) Local) n m.local (h Local))
+      (removed_each (λ (e : ℕ × ℕ). Serves (about q e.1) Local) n m.local (h Local))
   due_local gone others m h Remote = due_still q r Local n books gone others Remote m.remote (λ e w. remote_far e.1 n) (h Remote)
 
   due_remote : look r (Of RemoteFile n) ≡ None → ((y : Name) → y ≢ Of RemoteFile n → look r y ≡ look q y) → (m : Messages) → AllServe q m → AllServe r (file_gone Remote n m)
   due_remote gone others m h Remote = due_still q r Remote n books gone others Remote (removed n m.remote) (removed_far Remote Remote n m.remote)
-      (removed_all (λ (e : ℕ × ℕ). Serves (about q e.1) Remote) n m.remote (h Remote))
+      (removed_each (λ (e : ℕ × ℕ). Serves (about q e.1) Remote) n m.remote (h Remote))
   due_remote gone others m h Local = due_still q r Remote n books gone others Local m.local (λ e w. local_far e.1 n) (h Local)
 
   both_local : look r (Of LocalFile n) ≡ None → ((y : Name) → y ≢ Of LocalFile n → look r y ≡ look q y) → (s : Slots) → OnBoth q s → OnLane q Local (ended n s.local)
@@ -269,12 +266,14 @@ module _ (controls : Controls) (q r : Queue) (books : r.books ≡ q.books) where
     known = local_off r n d.book.messages.known (position (is_of n) d.book.messages.known) refl gone (all_known q r Local n books gone others d.book.messages.known h.known);
     due = due_local q r n books gone others d.book.messages h.due;
     lanes = both_local q r n books gone others d.slots h.lanes (ended_on q Local d.slots.local (h.lanes Local) n job over);
+    apart = apart_gone Local n d.book.messages d.slots h.apart;
     controls_are = h.controls_are;
   }
   done_on Remote n job d h over gone others = record {
     known = remote_off r n d.book.messages.known (position (is_of n) d.book.messages.known) refl gone (all_known q r Remote n books gone others d.book.messages.known h.known);
     due = due_remote q r n books gone others d.book.messages h.due;
     lanes = both_remote q r n books gone others d.slots h.lanes (ended_on q Remote d.slots.remote (h.lanes Remote) n job over);
+    apart = apart_gone Remote n d.book.messages d.slots h.apart;
     controls_are = h.controls_are;
   }
 
@@ -299,6 +298,7 @@ desk_grown controls q r d g h = record {
   known = known_all q r g d.book.messages h.known;
   due = due_all q r g d.book.messages h.due;
   lanes = λ ch. lane_grown q r g ch (lane ch d.slots) (h.lanes ch);
+  apart = h.apart;
   controls_are = h.controls_are;
 }
 
@@ -313,9 +313,6 @@ module _ (controls : Controls) (now : ℕ) (q : Queue) (a : List ℕ) (none : Ha
     may : MayDrop controls (about q n) c
     may = may_drop controls q c n (lane c d.slots) all.job none G (on.lanes c) all.over all.none_left
 
-    plain_turn : IsPlain (at.Turn p)
-    plain_turn = record { first = λ ch. refl; controls_read = tt }
-
     done_leads : Fits q.disk (Unlink (path (Of (lane_part c) n))) answer.Done wrote → SenderLeads controls now a q (after answer.Done) (done_with c n (stands_at d p))
     done_leads fits =
         let one = unlinks_one q a read (Of (lane_part c) n) answer.Done wrote fits in
@@ -328,8 +325,8 @@ module _ (controls : Controls) (now : ℕ) (q : Queue) (a : List ℕ) (none : Ha
         }
       where
         done_stands : (c : Channel) (r : Queue) → OnDesk controls r (done_with c n d) → SenderStands controls now r a (done_with c n (stands_at d p))
-        done_stands Local r h = stand controls now r a (at.Turn p) (done_with Local n d) plain_turn h (point_ended Local n p d.slots rests)
-        done_stands Remote r h = stand controls now r a (at.Turn p) (done_with Remote n d) plain_turn h (point_ended Remote n p d.slots rests)
+        done_stands Local r h = stand controls now r a (at.Turn p) (done_with Local n d) (λ ch. refl) h (point_ended Local n p d.slots rests)
+        done_stands Remote r h = stand controls now r a (at.Turn p) (done_with Remote n d) (λ ch. refl) h (point_ended Remote n p d.slots rests)
 
     failed_leads : (told : Answer) → Fits q.disk (Unlink (path (Of (lane_part c) n))) told wrote → Grows q (after told)
         → SenderLeads controls now a q (after told) (due_again c n (later read) (stands_at d p))
@@ -345,8 +342,8 @@ module _ (controls : Controls) (now : ℕ) (q : Queue) (a : List ℕ) (none : Ha
         }
       where
         again_stands : (c : Channel) (r : Queue) → OnDesk controls r (due_again c n (later read) d) → SenderStands controls now r a (due_again c n (later read) (stands_at d p))
-        again_stands Local r h = stand controls now r a (at.Turn p) (due_again Local n (later read) d) plain_turn h (point_ended Local n p d.slots rests)
-        again_stands Remote r h = stand controls now r a (at.Turn p) (due_again Remote n (later read) d) plain_turn h (point_ended Remote n p d.slots rests)
+        again_stands Local r h = stand controls now r a (at.Turn p) (due_again Local n (later read) d) (λ ch. refl) h (point_ended Local n p d.slots rests)
+        again_stands Remote r h = stand controls now r a (at.Turn p) (due_again Remote n (later read) d) (λ ch. refl) h (point_ended Remote n p d.slots rests)
 
     same_looks : (told : Answer) → effect q.disk read (Unlink (path (Of (lane_part c) n))) told wrote ≡ q.disk → Grows q (after told)
     same_looks told e = record {

@@ -22,7 +22,7 @@ use Rattle.send_jobs.proofs.JobLemmas.{job_unmarked, job_without}
 use Rattle.send_known.specs.declared.messages.Messages.{Messages}
 use Rattle.channel_law.specs.Tied.{IsTied}
 use Rattle.channel_law.specs.Tied.First.{Unwritten}
-use Rattle.channel_law.proofs.Passes.{over_kept}
+use Rattle.channel_law.proofs.Passes.{none_kept, over_kept}
 use Rattle.channel_law.proofs.Ties.{report_kept}
 use Rattle.queue_law.specs.Numbers.{Queue, about}
 use Rattle.sender_law.specs.Views.{files_of}
@@ -66,6 +66,14 @@ module _ (q : Queue) (ch : Channel) (l : Lane) (h : OnLane q ch l) where
     marks = h.marks;
   }
 
+  -- no job was there
+  pub none_on : (n : ℕ) → job_of n l.jobs ≡ None → OnLane q ch (ended n l)
+  none_on n none = record {
+    tied = none_kept (files_of q ch) Unwritten l n h.tied none;
+    jobs = λ k other e. h.jobs k other (some_job (n == k) (job_of k l.jobs) other (sym (job_without n k l.jobs) ∙ e));
+    marks = h.marks;
+  }
+
   jobs_unmarked : (n k : ℕ) (job : Job) → job_of k (unmark n l.jobs) ≡ Some job → Serves (about q k) ch
   jobs_unmarked n k job e = let w = unmarked_was (n == k) n (job_of k l.jobs) job (sym (job_unmarked n k l.jobs) ∙ e) in h.jobs k w.0 w.1
 
@@ -94,27 +102,34 @@ lane_on q Remote f s h one Remote = one
 
 -- Due entries
 
-abbrev OfNumber : (ℕ → Type 0) → ℕ × ℕ → Type 0
-OfNumber P e = P e.1
-
-moved_all : (P : ℕ → Type 0) (due n : ℕ) (es : List (ℕ × ℕ)) → P n → All (OfNumber P) es → All (OfNumber P) (moved (due, n) es)
-moved_all P due n es p h = by_due (is_due n es)
+-- what holds of an entry and of others holds of all once it is put in place of the one of its number
+pub put_each : (P : ℕ × ℕ → Type 0) (due n : ℕ) (es : List (ℕ × ℕ)) → P (due, n) → All P es → All P (put (due, n) es)
+put_each P due n es p h = All-weaker (Contains (put (due, n) es)) P each (put (due, n) es) (All-contains_itself (put (due, n) es))
   where
-    each : (x : ℕ × ℕ) → Contains (put (due, n) es) x → P x.1
+    each : (x : ℕ × ℕ) → Contains (put (due, n) es) x → P x
     each x w = ⊎_elim
-        (λ same. subst (OfNumber P) (sym same) p)
-        (λ old. All-contains (OfNumber P) es x h ((in_removed n x es).0 old).0)
+        (λ same. subst P (sym same) p)
+        (λ old. All-contains P es x h ((in_removed n x es).0 old).0)
         ((in_added (due, n) x (removed n es)).0 w)
 
-    by_due : (b : Bool) → All (OfNumber P) (if b then put (due, n) es else es)
-    by_due true = All-weaker (Contains (put (due, n) es)) (OfNumber P) each (put (due, n) es) (All-contains_itself (put (due, n) es))
+pub moved_each : (P : ℕ × ℕ → Type 0) (due n : ℕ) (es : List (ℕ × ℕ)) → P (due, n) → All P es → All P (moved (due, n) es)
+moved_each P due n es p h = by_due (is_due n es)
+  where
+    by_due : (b : Bool) → All P (if b then put (due, n) es else es)
+    by_due true = put_each P due n es p h
     by_due false = h
+
+pub removed_each : (P : ℕ × ℕ → Type 0) (n : ℕ) (es : List (ℕ × ℕ)) → All P es → All P (removed n es)
+removed_each P n es h = All-weaker (Contains (removed n es)) P (λ e w. All-contains P es e h ((in_removed n e es).0 w).0) (removed n es) (All-contains_itself (removed n es))
+
+abbrev OfNumber : (ℕ → Type 0) → ℕ × ℕ → Type 0
+OfNumber P e = P e.1
 
 abbrev pub AllServe : Queue → Messages → Type 0
 AllServe q m = (ch : Channel) → All (λ (e : ℕ × ℕ). Serves (about q e.1) ch) (due_on ch m)
 
 pub then_on : (q : Queue) (c : Channel) (n due : ℕ) (m : Messages) → Serves (about q n) c → AllServe q m → AllServe q (due_then c n due m)
-then_on q Local n due m s h Local = moved_all (λ k. Serves (about q k) Local) due n m.local s (h Local)
+then_on q Local n due m s h Local = moved_each (OfNumber (λ k. Serves (about q k) Local)) due n m.local s (h Local)
 then_on q Local n due m s h Remote = h Remote
 then_on q Remote n due m s h Local = h Local
-then_on q Remote n due m s h Remote = moved_all (λ k. Serves (about q k) Remote) due n m.remote s (h Remote)
+then_on q Remote n due m s h Remote = moved_each (OfNumber (λ k. Serves (about q k) Remote)) due n m.remote s (h Remote)

@@ -6,6 +6,8 @@ pub mod Others
 pub mod Texts
 -- what each event of a channel keeps
 pub mod Lanes
+-- messages with a job are due apart
+pub mod Apart
 -- what holds of a desk
 pub mod Desks
 -- takings
@@ -18,6 +20,14 @@ pub mod Gone
 pub mod Marking
 -- the write of a mark
 pub mod Writes
+-- passes that open
+pub mod Passes
+-- a message that is known from now on
+pub mod Learned
+-- the sender of a message
+pub mod Senders
+-- the scan of the info files
+pub mod Scan
 -- a sender that begins
 pub mod Begins
 -- readings of files

@@ -48,8 +48,8 @@ use Rattle.sender_law.specs.Views.{by_mark, files_of, first_if, records_at}
 use Rattle.sender_law.specs.Knows.{IsEntered, IsKnown, Knows, Serves}
 use Rattle.sender_law.specs.Knows.Knows.{Stays, Leaves}
 use Rattle.sender_law.specs.Rows.{HasFile, IsFirstMark, MarkHolds, PointStands}
-use Rattle.sender_law.specs.Stands.{LaneStands, SenderLeads, SenderStands, StandsAt}
-use Rattle.sender_law.proofs.Arrive.{IsPlain}
+use Rattle.sender_law.specs.Stands.{DueApart, LaneStands, SenderLeads, SenderStands, StandsAt}
+use Rattle.sender_law.proofs.Apart.{IsFewer, apart_lane, fewer_unmarked}
 use Rattle.sender_law.proofs.Desks.{OnDesk, due_again_on, stand}
 use Rattle.sender_law.proofs.Entries.{Grows, due_all, known_all, lane_grown, serves_grown, entered_grown}
 use Rattle.sender_law.proofs.Gone.{lane_name, point_ended}
@@ -58,14 +58,11 @@ use Rattle.send_jobs.proofs.JobLemmas.{job_unmarked}
 
 -- A job that may be over, and where the turn goes on
 
-plain_turn : (p : Point) → IsPlain (at.Turn p)
-plain_turn p = record { first = λ ch. refl; controls_read = tt }
-
 module _ (controls : Controls) (now : ℕ) (q : Queue) (a : List ℕ) where
-  again : (c : Channel) (n due : ℕ) (p : Point) (d : Desk) → PointStands p d.slots → OnDesk controls q (due_again c n due d)
+  pub again : (c : Channel) (n due : ℕ) (p : Point) (d : Desk) → PointStands p d.slots → OnDesk controls q (due_again c n due d)
       → SenderStands controls now q a (due_again c n due (stands_at d p))
-  again Local n due p d rests h = stand controls now q a (at.Turn p) (due_again Local n due d) (plain_turn p) h (point_ended Local n p d.slots rests)
-  again Remote n due p d rests h = stand controls now q a (at.Turn p) (due_again Remote n due d) (plain_turn p) h (point_ended Remote n p d.slots rests)
+  again Local n due p d rests h = stand controls now q a (at.Turn p) (due_again Local n due d) (λ ch. refl) h (point_ended Local n p d.slots rests)
+  again Remote n due p d rests h = stand controls now q a (at.Turn p) (due_again Remote n due d) (λ ch. refl) h (point_ended Remote n p d.slots rests)
 
   by_left : (c : Channel) (n : ℕ) (p : Point) (d : Desk) (job : Job) (b : Bool) → OnDesk controls q d → PointStands p d.slots → job_over n (lane c d.slots) ≡ Some job → job.unmarked ≡ b
       → SenderStands controls now q a (if b then retried c n job.begun (stands_at d p) else goes d (at.UnlinkFile c n p))
@@ -74,11 +71,11 @@ module _ (controls : Controls) (now : ℕ) (q : Queue) (a : List ℕ) where
       again c n (retry_of c n job.begun d) p d rests
       (due_again_on controls q c n (retry_of c n job.begun d) d h (l.jobs n job (over_there n (lane c d.slots) job over)) (ended_on q c (lane c d.slots) l n job over))
   by_left c n p d job false h rests over e =
-      stand controls now q a (at.UnlinkFile c n p) d (record { first = λ ch. refl; controls_read = tt }) h (record { job = job; over = over; none_left = e }, rests)
+      stand controls now q a (at.UnlinkFile c n p) d (λ ch. refl) h (record { job = job; over = over; none_left = e }, rests)
 
   by_job : (c : Channel) (n : ℕ) (p : Point) (d : Desk) (o : Option Job) → OnDesk controls q d → PointStands p d.slots → job_over n (lane c d.slots) ≡ o
       → SenderStands controls now q a (closed_by o c n p d)
-  by_job c n p d None h rests e = stand controls now q a (at.Turn p) d (plain_turn p) h rests
+  by_job c n p d None h rests e = stand controls now q a (at.Turn p) d (λ ch. refl) h rests
   by_job c n p d (Some job) h rests e = by_left c n p d job job.unmarked h rests e refl
 
   pub closed_on : (c : Channel) (n : ℕ) (p : Point) (d : Desk) → OnDesk controls q d → PointStands p d.slots → SenderStands controls now q a (closed c n p d)
@@ -89,6 +86,7 @@ module _ (controls : Controls) (now : ℕ) (q : Queue) (a : List ℕ) where
 pub record AtMark (controls : Controls) (q : Queue) (row : MarkRow) (c : Channel) (d : Desk) : Type 0 where
   pub known : All (λ (k : Known). IsKnown (about q k.n) k) d.book.messages.known
   pub due : AllServe q d.book.messages
+  pub apart : DueApart d.book.messages d.slots
   pub controls_are : d.book.controls ≡ controls
   pub others : (ch : Channel) → ch ≢ c → OnLane q ch (lane ch d.slots)
   pub tied : IsTied (files_of q c) (by_mark row) (lane c d.slots)
@@ -121,6 +119,7 @@ at_mark controls now q a row m d h =
       known = All-weaker (λ (k : Known). Knows (at.Mark row m) (about q k.n) k) (λ (k : Known). IsKnown (about q k.n) k) (λ k. stays row m (about q k.n) k)
           d.book.messages.known h.knows.known;
       due = h.knows.due;
+      apart = h.apart;
       controls_are = h.controls_are tt;
       others = λ ch far. let l = h.lanes ch in record {
         tied = subst (λ b. IsTied (files_of q ch) (first_if b row) (lane ch d.slots)) (not_same c ch far) l.tied;
@@ -165,6 +164,7 @@ at_stands controls now q a row m d h first holds = record {
     due = h.due;
   };
   lanes = lanes_at controls q row m d h;
+  apart = h.apart;
   controls_are = λ _. h.controls_are;
   rests = (first, holds);
 }
@@ -174,6 +174,7 @@ pub at_grown : (controls : Controls) (q r : Queue) (row : MarkRow) (c : Channel)
 at_grown controls q r row c d g h = record {
   known = known_all q r g d.book.messages h.known;
   due = due_all q r g d.book.messages h.due;
+  apart = h.apart;
   controls_are = h.controls_are;
   others = λ ch far. lane_grown q r g ch (lane ch d.slots) (h.others ch far);
   tied = others_kept (files_of q c) (files_of r c) (by_mark row) (lane c d.slots) h.tied (λ n _. ap records_at (g.looks (lane_part c) n));
@@ -211,8 +212,14 @@ module _ (controls : Controls) (q : Queue) (row : MarkRow) (c : Channel) (d : De
         marks = later_marks (Entered q c) (by_mark row) l.marks h.marks;
       }
 
-  on_with : (f : Lane → Lane) → OnLane q c (f (lane c d.slots)) → OnDesk controls q (record d { slots = at_lane c f d.slots })
-  on_with f one = record { known = h.known; due = h.due; lanes = both_by q c f d.slots h.others one; controls_are = h.controls_are }
+  on_with : (f : Lane → Lane) → IsFewer (f (lane c d.slots)).jobs (lane c d.slots).jobs → OnLane q c (f (lane c d.slots)) → OnDesk controls q (record d { slots = at_lane c f d.slots })
+  on_with f fewer one = record {
+    known = h.known;
+    due = h.due;
+    lanes = both_by q c f d.slots h.others one;
+    apart = apart_lane c f d.book.messages d.slots fewer h.apart;
+    controls_are = h.controls_are;
+  }
 
 abbrev given_up : ℕ → Lane → Lane
 given_up n l = left_unmarked n (mark_settled l)
@@ -231,8 +238,8 @@ module _ (controls : Controls) (now : ℕ) (q : Queue) (a : List ℕ) (row : Mar
         where
           made : (x : Channel) → AtMark controls q row x d → OnLane q x (given_up m.n (lane x d.slots))
               → SenderStands controls now q a (closed x m.n point.Reports (record d { slots = at_lane x (left_unmarked m.n) (at_lane x mark_settled d.slots) }))
-          made Local h one = closed_on controls now q a Local m.n point.Reports (record d { slots = at_lane Local (given_up m.n) d.slots }) (on_with controls q row Local d h (given_up m.n) one) tt
-          made Remote h one = closed_on controls now q a Remote m.n point.Reports (record d { slots = at_lane Remote (given_up m.n) d.slots }) (on_with controls q row Remote d h (given_up m.n) one) tt
+          made Local h one = closed_on controls now q a Local m.n point.Reports (record d { slots = at_lane Local (given_up m.n) d.slots }) (on_with controls q row Local d h (given_up m.n) (fewer_unmarked m.n d.slots.local.jobs) one) tt
+          made Remote h one = closed_on controls now q a Remote m.n point.Reports (record d { slots = at_lane Remote (given_up m.n) d.slots }) (on_with controls q row Remote d h (given_up m.n) (fewer_unmarked m.n d.slots.remote.jobs) one) tt
 
   -- it was made
   over_made : by_mark row ≡ Written → SenderStands controls now q a (mark_over true m d)
@@ -240,7 +247,7 @@ module _ (controls : Controls) (now : ℕ) (q : Queue) (a : List ℕ) (row : Mar
       let l : Lane = lane m.channel d.slots in
       let tied : IsTied (files_of q m.channel) Written l = subst (λ (f : First). IsTied (files_of q m.channel) f l) e h.tied in
       let one = settled_lane controls q row m.channel d h (made_kept (files_of q m.channel) l tied) in
-      closed_on controls now q a m.channel m.n point.Reports (record d { slots = at_lane m.channel mark_settled d.slots }) (on_with controls q row m.channel d h mark_settled one) tt
+      closed_on controls now q a m.channel m.n point.Reports (record d { slots = at_lane m.channel mark_settled d.slots }) (on_with controls q row m.channel d h mark_settled (λ n some. some) one) tt
 
 -- The calls
 
@@ -273,6 +280,7 @@ module _ (controls : Controls) (now : ℕ) (q : Queue) (a : List ℕ) (G : Sound
         stands = at_stands controls now r a (mark.Write fd) m d (record {
           known = then_at.known;
           due = then_at.due;
+          apart = then_at.apart;
           controls_are = then_at.controls_are;
           others = then_at.others;
           tied = then_at.tied;

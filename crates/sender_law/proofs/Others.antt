@@ -39,7 +39,7 @@ use Rattle.queue_law.specs.Passes.{HasOpen}
 use Rattle.queue_law.specs.Routes.{lane_part}
 use Rattle.queue_law.specs.Steps.{Elsewhere}
 use Rattle.sender_law.specs.Views.{files_of, first_at, records_at}
-use Rattle.sender_law.specs.Knows.{IsSettledIn, IsEntered, IsKnown, Knows, Serves}
+use Rattle.sender_law.specs.Knows.{IsSettledIn, IsEntered, IsKnown, IsThereIf, Knows, Serves}
 use Rattle.sender_law.specs.Knows.Knows.{Stays, Leaves}
 use Rattle.sender_law.specs.Rows.{HasFile, HasText, IsFound, IsLearned, MarkHolds, Reads, ReadsOther, RowStands, StartStands}
 use Rattle.sender_law.specs.Stands.{KnowsAll, LaneStands, SparesSorted}
@@ -121,7 +121,7 @@ module _ (q r : Queue) (spares : SparesSorted q r) where
     start_kept (start.ReadInfo split n g) read h = (found_kept n h.0, reads_kept Info n g read refl h.1)
     start_kept (start.StatInfo split n) read h = learned_kept n read h
     start_kept (start.StatLocal split n birth) read h = learned_kept n read h
-    start_kept (start.StatRemote split n birth local) read h = (learned_kept n read h.0, λ e. same_look LocalFile n refl ∙ h.1 e)
+    start_kept (start.StatRemote split n birth local) read h = (learned_kept n read h.0, subst (IsThereIf local) (sym (same_look LocalFile n refl)) h.1)
     start_kept start.Over read h = tt
     start_kept (start.Ended status) read h = tt
 
@@ -132,13 +132,13 @@ module _ (q r : Queue) (spares : SparesSorted q r) where
 
     row_kept : (controls : Controls) (now : ℕ) (row : Row) (b : Book) (s : Slots) (p : Pass) → IsAmongSorted row → RowStands controls now q a row b s p
         → RowStands controls now r a row b s p
-    row_kept controls now (at.Start row) b s p among h = (h.0, start_kept row b.read h.1)
+    row_kept controls now (at.Start row) b s p among h = (h.0, (h.1.0, start_kept row b.read h.1.1))
     row_kept controls now (at.Turn point) b s p among h = h
     row_kept controls now (at.TakeLink ch) b s p among h = tt
     row_kept controls now (at.Mark row m) b s p among h = (h.0, mark_kept row m h.1)
     row_kept controls now (at.UnlinkFile ch n point) b s p among h = h
     row_kept controls now (at.ReadFile ch n begun g) b s p among h =
-        (h.0, (serves_kept n ch h.1.0, reads_kept (lane_part ch) n g b.read (lane_later ch) h.1.1))
+        (h.0, (h.1.0, (serves_kept n ch h.1.1.0, reads_kept (lane_part ch) n g b.read (lane_later ch) h.1.1.1)))
     row_kept controls now (at.Request ch) b s p among h = h
     row_kept controls now (at.FindTodo search) b s p among h = h
     row_kept controls now at.InTodo b s p among h = absurd among

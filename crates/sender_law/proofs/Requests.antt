@@ -14,9 +14,11 @@ use Rattle.send_jobs.specs.declared.channels.Channel.{Channel}
 use Rattle.send_jobs.specs.declared.channels.Channel.TheVariants.{Local, Remote}
 use Rattle.send_jobs.specs.declared.lane.Lane.{Lane}
 use Rattle.send_jobs.specs.declared.slots.Slots.{Slots}
+use Rattle.send_jobs.specs.Jobs.{job_of}
 use Rattle.send_jobs.specs.Lanes.{next, sent, sent_in}
 use Rattle.send_jobs.specs.Sending.{lane, next_delivery, sent_as, sent_on}
 use Rattle.send_jobs.specs.Slots.{lowest}
+use Rattle.send_known.specs.declared.messages.Messages.{Messages}
 use Rattle.send_steps.specs.declared.reply.Way.{Way}
 use Rattle.send_steps.specs.declared.reply.Way.TheVariants as way
 use Rattle.send_steps.specs.Replies.{said}
@@ -26,8 +28,9 @@ use Rattle.channel_law.specs.Tied.First.{Unwritten}
 use Rattle.queue_law.specs.Numbers.{Queue}
 use Rattle.sender_law.specs.Views.{files_of}
 use Rattle.sender_law.specs.Rows.{HasNoMarks}
-use Rattle.sender_law.specs.Stands.{SenderStands, Stands, StandsAt}
+use Rattle.sender_law.specs.Stands.{DueApart, SenderStands, Stands, StandsAt}
 use Rattle.sender_law.specs.Passing.{RequestLeads}
+use Rattle.sender_law.proofs.Apart.{IsFewer, apart_lane}
 use Rattle.sender_law.proofs.Arrive.{IsPlain}
 use Rattle.sender_law.proofs.Desks.{OnDesk, on_of, stand}
 use Rattle.sender_law.proofs.Lanes.{OnBoth, OnLane}
@@ -67,16 +70,26 @@ sent_bare Local s h delivery slot t e f Remote = h Remote
 sent_bare Remote s h delivery slot t e f Local = h Local
 sent_bare Remote s h delivery slot t e f Remote = sent_marks s.remote delivery slot t e f (h Remote)
 
+sent_fewer : (l : Lane) (delivery slot : ℕ) (t : Attempt) → next l ≡ Some t → lowest l.slots ≡ Some slot → IsFewer (sent delivery l).jobs l.jobs
+sent_fewer l delivery slot t e f n some = subst (λ (m : Lane). IsSome (job_of n m.jobs)) (sent_is l delivery slot t e f) some
+
+sent_apart : (c : Channel) (m : Messages) (s : Slots) → DueApart m s → (delivery slot : ℕ) (t : Attempt) → next (lane c s) ≡ Some t → lowest (lane c s).slots ≡ Some slot
+    → DueApart m (sent_as (Some slot) c delivery s)
+sent_apart Local m s h delivery slot t e f Local = apart_lane Local (sent delivery) m s (sent_fewer s.local delivery slot t e f) h Local
+sent_apart Local m s h delivery slot t e f Remote = h Remote
+sent_apart Remote m s h delivery slot t e f Local = h Local
+sent_apart Remote m s h delivery slot t e f Remote = apart_lane Remote (sent delivery) m s (sent_fewer s.remote delivery slot t e f) h Remote
+
 plain_row : (c : Channel) → IsPlain (at.Request c)
 plain_row c = record { first = λ ch. refl; controls_read = tt }
 
 module _ (controls : Controls) (now : ℕ) (q : Queue) (a : List ℕ) where
   -- what a desk with these slots relies on at the next point
-  gave_on : (c : Channel) (s : Slots) (d : Desk) → OnDesk controls q d → OnBoth q s → HasNoMarks s → Stands controls now q a (at.Turn (point.Pass c false)) d.book s d.pass
-  gave_on c s d h lanes bare =
+  gave_on : (c : Channel) (s : Slots) (d : Desk) → OnDesk controls q d → OnBoth q s → DueApart d.book.messages s → HasNoMarks s → Stands controls now q a (at.Turn (point.Pass c false)) d.book s d.pass
+  gave_on c s d h lanes apart bare =
       let e : Desk = record d { slots = s } in
-      let on : OnDesk controls q e = record { known = h.known; due = h.due; lanes = lanes; controls_are = h.controls_are } in
-      stand controls now q a (at.Turn (point.Pass c false)) e (record { first = λ ch. refl; controls_read = tt }) on bare
+      let on : OnDesk controls q e = record { known = h.known; due = h.due; lanes = lanes; apart = apart; controls_are = h.controls_are } in
+      stand controls now q a (at.Turn (point.Pass c false)) e (λ ch. refl) on bare
 
   -- the request was given
   given_on : (c : Channel) (d : Desk) → OnDesk controls q d → HasNoMarks d.slots → (slot : ℕ) (t : Attempt) → next (lane c d.slots) ≡ Some t → lowest (lane c d.slots).slots ≡ Some slot
@@ -85,7 +98,7 @@ module _ (controls : Controls) (now : ℕ) (q : Queue) (a : List ℕ) where
       let s : Slots = sent_as (Some slot) c (next_delivery d.slots) d.slots in
       let same : sent_on c d.slots ≡ s = ap (λ o. sent_as o c (next_delivery d.slots) d.slots) f in
       subst (λ (x : Slots). Stands controls now q a (at.Turn (point.Pass c false)) d.book x d.pass) (sym same)
-      (gave_on c s d h (sent_both q c d.slots h.lanes (next_delivery d.slots) slot t e f) (sent_bare c d.slots bare (next_delivery d.slots) slot t e f))
+      (gave_on c s d h (sent_both q c d.slots h.lanes (next_delivery d.slots) slot t e f) (sent_apart c d.book.messages d.slots h.apart (next_delivery d.slots) slot t e f) (sent_bare c d.slots bare (next_delivery d.slots) slot t e f))
 
   sent_by : (c : Channel) (d : Desk) (b : Bool) → is_some (next (lane c d.slots)) ≡ b → Stands controls now q a (at.Turn (point.Pass c false)) d.book (sent_on c d.slots) d.pass
       → IsSome (next (lane c d.slots)) → SenderStands controls now q a (request_sent c (stands_at d (point.Pass c false)))
@@ -97,8 +110,8 @@ module _ (controls : Controls) (now : ℕ) (q : Queue) (a : List ℕ) where
       (sym some) h
 
   lost_at : (c : Channel) (d : Desk) → OnDesk controls q d → Stands controls now q a (lost c) d.book d.slots d.pass
-  lost_at Local d h = stand controls now q a (at.Ended 82) d (record { first = λ ch. refl; controls_read = tt }) h tt
-  lost_at Remote d h = stand controls now q a (at.Ended 83) d (record { first = λ ch. refl; controls_read = tt }) h tt
+  lost_at Local d h = stand controls now q a (at.Ended 82) d (λ ch. refl) h tt
+  lost_at Remote d h = stand controls now q a (at.Ended 83) d (λ ch. refl) h tt
 
   came_on : (c : Channel) (d : Desk) (w : Way) → OnDesk controls q d → SenderStands controls now q a (request_sent c (stands_at d (point.Pass c false)))
       → SenderStands controls now q a (requested w c d)

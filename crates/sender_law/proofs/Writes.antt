@@ -217,6 +217,7 @@ module _ (q r : Queue) (c : Channel) (n place : ℕ) (books : r.books ≡ q.book
     written_at true = record {
       known = known_all_after;
       due = due_after;
+      apart = h.apart;
       controls_are = h.controls_are;
       others = λ ch far. other_lane ch far (lane ch d.slots) (h.others ch far);
       tied = tied_after Written (written_kept (files_of q c) first (lane c d.slots) h.tied is_first);
@@ -226,6 +227,7 @@ module _ (q r : Queue) (c : Channel) (n place : ℕ) (books : r.books ≡ q.book
     written_at false = record {
       known = known_all_after;
       due = due_after;
+      apart = h.apart;
       controls_are = h.controls_are;
       others = λ ch far. other_lane ch far (lane ch d.slots) (h.others ch far);
       tied = tied_after Unsure (failed_kept (files_of q c) first (lane c d.slots) h.tied is_first);
@@ -238,6 +240,7 @@ unsure_at : (controls : Controls) (q : Queue) (fd : Fd) (c : Channel) (d : Desk)
 unsure_at controls q fd c d h = record {
   known = h.known;
   due = h.due;
+  apart = h.apart;
   controls_are = h.controls_are;
   others = h.others;
   tied = unsure_kept (files_of q c) (lane c d.slots) h.tied;

@@ -1,5 +1,5 @@
 -- What holds of the messages that a sender knows, that are due on a channel, that have a job there, or wait for a mark.
-use Rattle.std.specs.Prelude.{◌≡◌, ℕ, Bool, false, Some, None}
+use Rattle.std.specs.Prelude.{◌≡◌, ℕ, Bool, true, false, Option, Some, None}
 use Rattle.send_core.specs.declared.row.Row.{Row}
 use Rattle.send_core.specs.declared.row.Row.TheVariants as at
 use Rattle.send_jobs.specs.declared.channels.Channel.{Channel}
@@ -17,6 +17,11 @@ use Rattle.queue_law.specs.Routes.{lane_part, sender_of}
 abbrev pub has_file : Channel → Known → Bool
 has_file Local k = k.local
 has_file Remote k = k.remote
+
+-- the file is there, or it isn't
+abbrev pub IsThereIf : Bool → Option Entry → Type 0
+IsThereIf true o = (y : Entry) × (o ≡ Some y)
+IsThereIf false o = o ≡ None
 
 -- The number is preprocessed: todo is gone, and info is there, of the injection whose life lasts.
 pub record IsSettledIn (w : About) : Type 0 where
@@ -39,8 +44,10 @@ IsRemoved finish.Give = Unit {0}
 IsRemoved finish.Take = Unit {0}
 IsRemoved row = ⊥
 
+-- of one that has ended nothing more is asked
 abbrev pub IsLeaving : Row → ℕ → Type 0
 IsLeaving (at.Finish row m) n = IsRemoved row × (m ≡ n)
+IsLeaving (at.Ended status) n = Unit {0}
 IsLeaving row n = ⊥
 
 -- so it is of each, except the one whose finish has begun to remove it

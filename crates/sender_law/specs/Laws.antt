@@ -11,6 +11,7 @@ use Rattle.send_jobs.specs.declared.slots.Slots.{Slots}
 use Rattle.send_known.specs.declared.messages.Messages.{Messages}
 use Rattle.send_steps.specs.declared.book.Book.{Book}
 use Rattle.todo_pass.specs.Table.{Pass}
+use Rattle.mail_bytes.specs.Moments.{IsMoment}
 use Rattle.queue_law.specs.Numbers.{Queue}
 use Rattle.queue_law.specs.Steps.{Elsewhere}
 use Rattle.sender_law.specs.Rows.{RowStands}
@@ -20,9 +21,9 @@ use Rattle.sender_law.specs.Stands.{KnowsAll, LaneStands, SenderStands, SparesSo
 abbrev pub SendersBegin : Type 0
 SendersBegin = (controls : Controls) (now : ℕ) (q : Queue) (a : List ℕ) (turns : Option ℕ) → SenderStands controls now q a (begun turns)
 
--- What a sender relies on between two steps it relies on at the row that is next, by a moment that it read earlier.
+-- What a sender relies on between two steps it relies on at the row that is next, by a moment that it read earlier and that a clock may tell.
 abbrev pub SendersArrive : Type 0
-SendersArrive = (controls : Controls) (now read : ℕ) (q : Queue) (a : List ℕ) (d : Desk) (ready : Ready) → read ≤ now → SenderStands controls now q a d
+SendersArrive = (controls : Controls) (now read : ℕ) (q : Queue) (a : List ℕ) (d : Desk) (ready : Ready) → read ≤ now → IsMoment read → SenderStands controls now q a d
     → StandsAt controls now q a (row_now d read ready) d
 
 -- rows at which no other program is waited for, and that concern preprocessed numbers alone

@@ -2,6 +2,8 @@
 pub mod Views
 -- what holds of what a sender knows
 pub mod Knows
+-- a todo pass inside a sender
+pub mod InTodo
 -- what a sender rests on at each row
 pub mod Rows
 -- what a living sender relies on
@@ -14,5 +16,9 @@ pub mod Passing
 pub mod Marking
 -- readings of files
 pub mod Readings
+-- passes that open
+pub mod Passes
+-- the scan of the info files
+pub mod Scan
 -- the laws
 pub mod Laws

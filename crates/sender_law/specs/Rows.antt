@@ -1,5 +1,5 @@
 -- What a sender rests on at each row of its table, besides what it knows and keeps.
-use Rattle.std.specs.Prelude.{◌≡◌, ◌≢◌, ℕ, ◌<◌, ◌+◌, List, [], length, take, false, Some, None, IsSome, Contains, slice_get}
+use Rattle.std.specs.Prelude.{◌≡◌, ◌≢◌, ℕ, List, [], length, take, false, Some, None, IsSome, Contains, slice_get}
 use Rattle.address_rules.specs.declared.controls.Controls.{Controls}
 use Rattle.call_fs.specs.declared.calls.How.{How}
 use Rattle.call_fs.specs.declared.calls.How.TheVariants as how
@@ -18,6 +18,7 @@ use Rattle.send_jobs.specs.declared.attempts.Mark.{Mark}
 use Rattle.send_jobs.specs.declared.channels.Channel.{Channel}
 use Rattle.send_jobs.specs.declared.jobs.Job.{Job}
 use Rattle.send_jobs.specs.declared.slots.Slots.{Slots}
+use Rattle.send_jobs.specs.Jobs.{job_of}
 use Rattle.send_jobs.specs.Lanes.{job_over, next}
 use Rattle.send_jobs.specs.Sending.{lane}
 use Rattle.send_jobs.specs.Slots.{lowest}
@@ -35,15 +36,24 @@ use Rattle.send_steps.specs.declared.rows.SweepRow.TheVariants as sweep
 use Rattle.todo_pass.specs.Table.{Pass}
 use Rattle.queue_law.specs.Injectors.{IsHeld}
 use Rattle.queue_law.specs.Numbers.{Queue, Entry, look, about}
-use Rattle.queue_law.specs.Passes.{HasOpen, PassStands}
+use Rattle.queue_law.specs.Passes.{HasOpen}
 use Rattle.queue_law.specs.Ready.{IsSpent}
 use Rattle.queue_law.specs.Rests.{IsClosed, RestsAs}
 use Rattle.queue_law.specs.Routes.{lane_part}
-use Rattle.sender_law.specs.Knows.{has_file, IsSettledIn, Serves}
+use Rattle.sender_law.specs.InTodo.{TodoStands}
+use Rattle.sender_law.specs.Knows.{has_file, IsSettledIn, IsThereIf, Serves}
 
 -- no record of either channel waits for its mark
 abbrev pub HasNoMarks : Slots → Type 0
 HasNoMarks s = (ch : Channel) → (lane ch s).marks ≡ []
+
+-- no job of the channel is on the message
+abbrev pub HasNoJob : Channel → ℕ → Slots → Type 0
+HasNoJob ch n s = job_of n (lane ch s).jobs ≡ None
+
+-- there is no job
+abbrev pub HasNoJobs : Slots → Type 0
+HasNoJobs s = (ch : Channel) → (lane ch s).jobs ≡ []
 
 -- Files
 
@@ -94,7 +104,7 @@ StartStands q a (start.Control file reading) read = ReadsOther q a reading
 StartStands q a (start.ReadInfo split n reading) read = IsFound q n × Reads q a Info n reading read
 StartStands q a (start.StatInfo split n) read = IsLearned q n read
 StartStands q a (start.StatLocal split n birth) read = IsLearned q n read
-StartStands q a (start.StatRemote split n birth local) read = IsLearned q n read × (local ≡ false → look q (Of Local n) ≡ None)
+StartStands q a (start.StatRemote split n birth local) read = IsLearned q n read × IsThereIf local (look q (Of Local n))
 StartStands q a row read = Unit {0}
 
 -- The turn
@@ -142,10 +152,10 @@ FinishStands now q a finish.Give n known = IsIdle n known × RestsAs now q n IsS
 FinishStands now q a finish.Take n known = IsIdle n known
 FinishStands now q a row n known = Unit {0}
 
--- A message file that isn't known and was last written over 36 hours ago is one that no injector touches.
+-- A message file that isn't known, and that at the moment of its stat was last written over 36 hours ago, is one that no injector
+-- touches.
 abbrev pub SweepStands : ℕ → Queue → List ℕ → SweepRow → List Known → Type 0
 SweepStands now q a (sweep.StatMess split n) known = is_known n known ≡ false
-SweepStands now q a (sweep.Judge split n moment) known = (is_known n known ≡ false) × (moment + 129600 < now → IsClosed now q n)
 SweepStands now q a (sweep.StatInfo split n) known = (is_known n known ≡ false) × IsClosed now q n
 SweepStands now q a (sweep.StatTodo split n info) known =
     (is_known n known ≡ false) × (IsClosed now q n × (info ≡ false → look q (Of Info n) ≡ None))
@@ -155,16 +165,16 @@ SweepStands now q a row known = Unit {0}
 -- Each row
 
 abbrev pub RowStands : Controls → ℕ → Queue → List ℕ → Row → Book → Slots → Pass → Type 0
-RowStands controls now q a (at.Start row) b s p = HasNoMarks s × StartStands q a row b.read
+RowStands controls now q a (at.Start row) b s p = HasNoMarks s × (HasNoJobs s × StartStands q a row b.read)
 RowStands controls now q a (at.Turn point) b s p = PointStands point s
 RowStands controls now q a (at.TakeLink ch) b s p = Unit {0}
 RowStands controls now q a (at.Mark row m) b s p = IsFirstMark m s × MarkHolds q a row m
 RowStands controls now q a (at.UnlinkFile ch n point) b s p = IsAllDone ch n s × PointStands point s
 RowStands controls now q a (at.ReadFile ch n begun reading) b s p =
-    HasNoMarks s × (Serves (about q n) ch × Reads q a (lane_part ch) n reading b.read)
+    HasNoMarks s × (HasNoJob ch n s × (Serves (about q n) ch × Reads q a (lane_part ch) n reading b.read))
 RowStands controls now q a (at.Request ch) b s p = HasNoMarks s × (IsSome (next (lane ch s)) × IsSome (lowest (lane ch s).slots))
 RowStands controls now q a (at.FindTodo search) b s p = HasNoMarks s
-RowStands controls now q a at.InTodo b s p = HasNoMarks s × PassStands controls now q a p.n p.row
+RowStands controls now q a at.InTodo b s p = HasNoMarks s × (((ch : Channel) → HasNoJob ch p.n s) × TodoStands controls now q a p.row p)
 RowStands controls now q a (at.Finish row n) b s p = HasNoMarks s × FinishStands now q a row n b.messages.known
 RowStands controls now q a (at.Sweep row) b s p = HasNoMarks s × SweepStands now q a row b.messages.known
 RowStands controls now q a (at.Ended status) b s p = Unit {0}

@@ -1,5 +1,5 @@
 -- What a living sender relies on, over the queue: by its row, and by what it knows and keeps.
-use Rattle.std.specs.Prelude.{◌≡◌, ℕ, List, Option, Some, None, All}
+use Rattle.std.specs.Prelude.{◌≡◌, ℕ, List, Option, Some, None, All, IsSome}
 use Rattle.address_rules.specs.declared.controls.Controls.{Controls}
 use Rattle.channel_law.specs.Tied.{IsTied, waiting}
 use Rattle.queue_paths.specs.Names.Name.{Of}
@@ -7,7 +7,7 @@ use Rattle.queue_paths.specs.Names.Part.{Todo, Info}
 use Rattle.send_core.specs.declared.desk.Desk.{Desk}
 use Rattle.send_core.specs.declared.row.Row.{Row}
 use Rattle.send_core.specs.declared.row.Row.TheVariants as at
-use Rattle.send_core.specs.Desk.{due_on}
+use Rattle.send_core.specs.Desk.{due_on, never}
 use Rattle.send_steps.specs.declared.rows.StartRow.TheVariants as start
 use Rattle.send_jobs.specs.declared.attempts.Mark.{Mark}
 use Rattle.send_jobs.specs.declared.channels.Channel.{Channel}
@@ -38,15 +38,21 @@ pub record LaneStands (q : Queue) (row : Row) (ch : Channel) (s : Slots) : Type 
   pub jobs : (n : ℕ) (job : Job) → job_of n (lane ch s).jobs ≡ Some job → Serves (about q n) ch
   pub marks : All (λ (m : Mark). IsEntered (about q m.attempt.n) ch m.attempt.place) (waiting (first_at row ch) (lane ch s).marks)
 
--- it has read the control files
+-- A message with a job on a channel is due there, if it is, at the moment that never comes.
+abbrev pub DueApart : Messages → Slots → Type 0
+DueApart m s = (ch : Channel) → All (λ (e : ℕ × ℕ). IsSome (job_of e.1 (lane ch s).jobs) → e.0 ≡ never) (due_on ch m)
+
+-- it has read the control files, and hasn't ended
 abbrev pub HasControls : Row → Type 0
 HasControls (at.Start (start.Control file reading)) = ⊥
+HasControls (at.Ended status) = ⊥
 HasControls row = Unit {0}
 
 -- At this row, with this book, these slots and this todo pass.
 pub record Stands (controls : Controls) (now : ℕ) (q : Queue) (a : List ℕ) (row : Row) (b : Book) (s : Slots) (p : Pass) : Type 0 where
   pub knows : KnowsAll q row b.messages
   pub lanes : (ch : Channel) → LaneStands q row ch s
+  pub apart : DueApart b.messages s
   pub controls_are : HasControls row → b.controls ≡ controls
   pub rests : RowStands controls now q a row b s p
 

@@ -2,7 +2,9 @@
 ghost use Rattle.sender_law.specs.Laws.{SendersArrive, SendersBegin, SortedIsLeftAlone};
 ghost use Rattle.sender_law.specs.Marking.{MarksKeep};
 ghost use Rattle.sender_law.specs.Passing.{FilesGo, RequestsKeep};
+ghost use Rattle.sender_law.specs.Passes.{PassesOpen};
 ghost use Rattle.sender_law.specs.Readings.{ReadingsKeep};
+ghost use Rattle.sender_law.specs.Scan.{ScansKeep};
 ghost use Rattle.sender_law.specs.Takings.{TakingsKeep};
 
 /// A sender that begins has what it relies on, whatever the queue is.
@@ -42,6 +44,18 @@ pub fn files_go()
 /// of the channel file, the overwriting of the letter, of which any part may have been written, and the close.
 pub fn marks_keep()
     ensures { MarksKeep }
+{}
+
+/// Each call of a pass that opens keeps what holds of the queue and what the sender relies on, whatever is answered: each call of
+/// the reading of its channel file, the begin of the pass over the records that the file has then, and its being put off.
+pub fn passes_open()
+    ensures { PassesOpen }
+{}
+
+/// Each call of the scan at a sender's start keeps what holds of the queue and what the sender relies on, whatever is answered. So
+/// what the scan finds is known as a known message is, and due at moment 0 on each channel of which it has a file.
+pub fn scans_keep()
+    ensures { ScansKeep }
 {}
 
 /// Each call of a reading that is due, of a file that preprocessing made, keeps what the reading rests on, whatever is answered;

@@ -5,6 +5,6 @@
 mod laws;
 
 pub use laws::{
-    files_go, marks_keep, readings_keep, requests_keep, senders_arrive, senders_begin,
-    sorted_is_left_alone, takings_keep,
+    files_go, marks_keep, passes_open, readings_keep, requests_keep, scans_keep, senders_arrive,
+    senders_begin, sorted_is_left_alone, takings_keep,
 };

@@ -41,6 +41,8 @@ entry_by a (Some args) = new_entry a args ∷ []
 abbrev pub entered_by : Kept → List Entry
 entered_by (kept.Start a program) = entry_by a (injection_of program)
 entered_by (kept.Act a own) = []
+entered_by (kept.Generation start) = []
+entered_by (kept.Report slot letter text) = []
 entered_by (kept.End a read ready status) = []
 entered_by (kept.Stop a) = []
 entered_by (kept.Moment m) = []
@@ -93,6 +95,8 @@ noted (kept.Start a program) e = e
 noted (kept.Act a own) e = if bytes_eq a e.actor then acted_on own.due own.came e else e
 noted (kept.End a read ready status) e = if bytes_eq a e.actor then left_as (told.Ended status) e else e
 noted (kept.Stop a) e = if bytes_eq a e.actor then left_as told.Stopped e else e
+noted (kept.Generation start) e = e
+noted (kept.Report slot letter text) e = e
 noted (kept.Moment m) e = e
 noted (kept.Halt how) e = left_as (cut_off e.life) e
 

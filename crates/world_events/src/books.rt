@@ -99,7 +99,8 @@ impl Entry {
                 }
             }
             Event::Halt { .. } => self.cut_off(),
-            Event::Start { .. } | Event::Moment { .. } => {}
+            Event::Start { .. } | Event::Generation { .. } => {}
+            Event::Report { .. } | Event::Moment { .. } => {}
         }
     }
 

@@ -3,7 +3,7 @@ ghost use Rattle.std.specs.Prelude.{◌≡◌, ◌∷◌, ◌++◌, ◌+◌, ◌
 
 use actor_names::ActorName;
 use call_fs::{Own, Ready, Survival};
-use mail_bytes::Memory;
+use mail_bytes::{ByteText, Memory};
 use queue_inject::Arguments;
 use std::alloc::Global;
 
@@ -12,8 +12,24 @@ use std::alloc::Global;
 pub enum Program {
     /// An injector.
     Injector(Arguments),
-    /// A cleaner, which was started at this moment. No history starts one yet.
+    /// A cleaner, which was started at this moment. No history starts one yet, and so none of the other members of a
+    /// generation.
     Cleaner {
+        /// The moment of its start.
+        start: u64,
+    },
+    /// A sender, which was started at this moment and goes on until it is stopped.
+    Sender {
+        /// The moment of its start.
+        start: u64,
+    },
+    /// A local spawner, which was started at this moment.
+    LocalSpawner {
+        /// The moment of its start.
+        start: u64,
+    },
+    /// A remote spawner, which was started at this moment.
+    RemoteSpawner {
         /// The moment of its start.
         start: u64,
     },
@@ -29,7 +45,7 @@ impl Program {
     {
         match self {
             Program::Injector(arguments) => Some(arguments),
-            Program::Cleaner { .. } => None,
+            _ => None,
         }
     }
 }
@@ -50,6 +66,20 @@ pub enum Event {
         actor: ActorName,
         /// What it did, and what came of it.
         own: Own,
+    },
+    /// A generation was started: the sender, the cleaner and the two spawners, together.
+    Generation {
+        /// The moment of its start.
+        start: u64,
+    },
+    /// The remote program in a slot of the remote spawner ended, and this is what it put out.
+    Report {
+        /// The slot.
+        slot: u8,
+        /// The letter of its report.
+        letter: u8,
+        /// The text of its report.
+        text: ByteText,
     },
     /// An actor ended, and its descriptors were closed.
     End {

@@ -24,7 +24,9 @@ hand_in-requires-clause-within g c =
     carried_within (takes_of c.ask.new.self.machine) own.due own.came (subst IsStated c.in-Did.is asked.stated)
 
 pub unwrap-requires : goal.unwrap-requires
-unwrap-requires g c = c.hand_in.ensures.ok (machine_has_room c.ask.new.self.machine)
+unwrap-requires g c =
+    let may = c.requires.may in
+    c.hand_in.ensures.ok (machine_has_room c.ask.new.self.machine may.program may.past may.mail (c.ask.ensures.follows may.program may.past may.follows))
 
 pub returns-in-Did-clause-acted : goal.returns-in-Did-clause-acted
 returns-in-Did-clause-acted g c =
@@ -41,6 +43,8 @@ returns-in-Did-clause-acted g c =
     let name = asked.name in
     let put : Kept = kept.Act c.copy.result own in
     let event : put ≡ kept.Act c.args.self.now.name own = cc in
+    let may = c.requires.may in
+    let room = machine_has_room machine may.program may.past may.mail (asked.follows may.program may.past may.follows) in
     rw c.new.ensures (record {
       own = own;
       event = c.put.ensures.event ∙ ap (λ (k : Kept). c.args.history.now.events.items ++ k ∷ []) event;
@@ -50,7 +54,7 @@ returns-in-Did-clause-acted g c =
       follows = λ program past f.
           let past_is : with_own machine own.came past ≡ own ∷ past = own_is machine own past (present ∙ sym read.0) (found ∙ sym read.1) need in
           subst (Follows c.hand_in.new.self.machine program) past_is
-          (on_is_ok c.hand_in.result (c.hand_in.ensures.ok (machine_has_room machine)) c.hand_in.ensures.follows program past (asked.follows program past f));
+          (on_is_ok c.hand_in.result (c.hand_in.ensures.ok room) c.hand_in.ensures.follows program past (asked.follows program past f));
       made = subst (λ (came : Came). IsMade came now (g.D.CallFs.disk c.args.disk.now) (g.D.CallFs.disk c.ask.new.disk)) c.in-Did.is asked.made;
       carried = subst IsStated c.in-Did.is asked.stated;
       name = c.hand_in.ensures.name ∙ name;
