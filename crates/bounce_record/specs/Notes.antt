@@ -1,6 +1,6 @@
 -- Notes in a bounce file (QSBMF): a paragraph for each recipient that couldn't be delivered to, which begins with `<`, the
 -- address and `>:`, and goes on with the report. A note ends with an empty line.
-use Rattle.std.specs.Prelude.{◌≡◌, ℕ, ◌+◌, ◌-◌, ◌<◌, List, [], ◌∷◌, ◌++◌, length, take, drop, map, count_by, Bool, true, false, ◌&&◌, ◌||◌, if◌then◌else◌, ◌==◌, nat_eq, nat_lt, Option, Some, None, bytes_eq, slice_index}
+use Rattle.std.specs.Prelude.{◌≡◌, ℕ, ◌+◌, ◌-◌, ◌<◌, List, [], ◌∷◌, ◌++◌, length, take, drop, map, count_by, Bool, true, false, ◌&&◌, ◌||◌, if◌then◌else◌, ◌==◌, nat_eq, nat_lt, Option, Some, None, bytes_eq, codes, slice_index}
 use Rattle.std.specs.List.{filter_map, zip, slice_split, range_with_len, ends_with}
 
 -- an address as a note names it: each newline as `_`
@@ -48,6 +48,10 @@ plain_note address report = heading (note_name address) ++ 10 ∷ (report ++ mis
 -- The note of an address with a report: of `r`, and `a`, two newlines and `b`, the lines `<r>:`, `a`, `/b` and an empty line.
 unfoldable pub note_text : List ℕ → List ℕ → List ℕ
 note_text address report = softened (plain_note address report) ++ 10 ∷ []
+
+-- the report of a temporary failure that isn't tried again, as a note has it
+abbrev pub late_report : List ℕ → List ℕ
+late_report report = report ++ (codes "I'm not going to try again; this message has been in the queue too long." ++ 10 ∷ [])
 
 -- Which addresses a file names
 

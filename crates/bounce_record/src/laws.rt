@@ -1,7 +1,8 @@
-// Laws of notes and bounces.
+// Laws of notes and bounces, and of the steps that write and send them.
 ghost use Rattle.std.specs.Prelude.{◌≡◌, ◌≢◌, ◌↔◌, ◌++◌, ◌∷◌, ◌+◌, ◌-◌, ◌≤◌, [], ℕ, List, Some, codes, length, drop, count_by, if◌then◌else◌, bytes_eq};
 ghost use Rattle.bounce_record.specs.Bounces.{return_address};
 ghost use Rattle.bounce_record.specs.Notes.{IsSoftened, count, heading, named, note_name, notes_of, parting, softened, with_note};
+ghost use Rattle.bounce_record.specs.Runs.{CallsUseWhatIsHeld, NotesAreWritten, UnlinksWhatIsReturned};
 
 /// Which newlines of a note become `/`, which lines name which addresses, and where a bounce goes, as relations.
 pub fn notes_are_exact()
@@ -23,4 +24,22 @@ pub fn notes_are_counted()
         count (with_note file address report) r ≡ count file r + (if bytes_eq (note_name address) r then 1 else 0) }
     ensures stays { (bytes rest r : List ℕ) → count (bytes ++ 10 ∷ []) r ≤ count (bytes ++ 10 ∷ rest) r }
     ensures parting { (file : List ℕ) → parting file ≡ parting (drop (length file - 2) file) }
+{}
+
+/// Each call of a note's writing and of a return uses only a descriptor that this holds open, in a mode that fits.
+pub fn calls_use_what_is_held()
+    ensures { CallsUseWhatIsHeld }
+{}
+
+/// A note that counts as written stands at the end of the bounce file, after what that held before and what parts it from
+/// that, and all of the file is on the disk, if the calls of its writing alone were made on the disk.
+pub fn written_notes_are_whole()
+    ensures { NotesAreWritten }
+{}
+
+/// A return unlinks the bounce file only directly after the injector of the bounce of all that the bounce file and the message file
+/// held was given that bounce and ended with 0, or if nothing comes of them (`bounce_message` says when), if its calls alone were
+/// made on the disk.
+pub fn bounces_are_queued_first()
+    ensures { UnlinksWhatIsReturned }
 {}

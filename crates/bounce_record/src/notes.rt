@@ -1,7 +1,7 @@
 // Notes, and the addresses that a bounce file names.
 ghost use Rattle.std.specs.Prelude.{◌≡◌, ◌++◌, ◌==◌, if◌then◌else◌, IfOk, OnOk};
 ghost use Rattle.std.specs.Option.{option_and_then, option_copied, option_to_list};
-ghost use Rattle.bounce_record.specs.Notes.{missing_newline, note_name, note_text, plain_note, softened, first_line, named, notes_of};
+ghost use Rattle.bounce_record.specs.Notes.{late_report, missing_newline, note_name, note_text, plain_note, softened, first_line, named, notes_of};
 
 use mail_bytes::{ByteText, Memory};
 use std::alloc::Global;
@@ -16,6 +16,18 @@ pub fn note(alloc: Global, address: &[u8], report: &[u8]) -> Result<Vec<u8>, Mem
     let mut text = plain_note(alloc, address, report)?;
     soften(&mut text);
     text.push(b'\n')?;
+    Ok(text)
+}
+
+/// The report of a temporary failure of which a note is written, since the message is too old to be tried again
+/// (qmail-send(8), queuelifetime): a line that says so comes directly after it.
+pub fn late_report(alloc: Global, report: &[u8]) -> Result<Vec<u8>, Memory>
+    ensures { IfOk result (λ text. text.items ≡ late_report report.now) }
+{
+    let mut text = Vec::from_slice(alloc, report)?;
+    text.extend_from_slice(
+        b"I'm not going to try again; this message has been in the queue too long.\n",
+    )?;
     Ok(text)
 }
 

@@ -74,8 +74,9 @@ fn place_of(names: &[ByteText], name: &[u8]) -> Option<usize>
     names.iter().position(|it| it.as_slice() == name)
 }
 
-/// The name for a dash and ext.
-fn full_name(alloc: Global, dash: &[u8], ext: &[u8]) -> Result<Vec<u8>, Memory>
+/// The name of the file for a dash and ext: `.qmail`, the dash, and ext with lower case for upper case and colons for dots.
+/// Fails only if out of memory.
+pub fn full_name(alloc: Global, dash: &[u8], ext: &[u8]) -> Result<Vec<u8>, Memory>
     ensures { IfOk result (λ full. full.items ≡ dot_name dash.now (safe ext.now)) }
 {
     let mut full = Vec::from_slice(alloc, b".qmail")?;

@@ -10,6 +10,6 @@ mod line;
 mod path;
 mod rank;
 
-pub use choice::{ChooseError, Chosen, choose};
+pub use choice::{ChooseError, Chosen, choose, full_name};
 pub use line::{Line, PlanError, plan};
 pub use path::path_in;

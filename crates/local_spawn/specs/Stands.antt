@@ -4,18 +4,14 @@ use Rattle.call_fs.specs.declared.past.GotData.{GotData}
 use Rattle.call_fs.specs.declared.past.NeedData.{NeedData}
 use Rattle.call_fs.specs.declared.past.Own.{Own}
 use Rattle.local_spawn.specs.declared.machine.LocalSpawn.{LocalSpawn}
-use Rattle.local_spawn.specs.declared.row.Row.{Row}
-use Rattle.local_spawn.specs.Table.{act, due_at, place_after, row_now}
-
-abbrev pub row_of : LocalSpawn → Row
-row_of m = row_now m.place m.ready
+use Rattle.local_spawn.specs.Table.{act, due_by, place_after}
 
 abbrev pub due_now : LocalSpawn → NeedData
-due_now m = due_at (row_of m) m.place
+due_now m = due_by m.place m.ready
 
 -- after this came of its need
 abbrev pub gone_on : LocalSpawn → GotData → LocalSpawn
-gone_on m came = record m { place = act (row_of m) came m.place }
+gone_on m came = record m { place = act m.place.row m.ready came m.place }
 
 -- it keeps what the table says of this past, newest event first
 abbrev pub Stands : LocalSpawn → Unit {0} → List Own → Type 0

@@ -1,97 +1,131 @@
--- What a local spawner does next, as a function of its own past (qmail-lspawn(8)). It finds no user here, so each request is
--- answered at once. Of each row: where it comes from (`arrive`), what is done there (`due_at`), and where what came of it
--- leads (`act`).
-use Rattle.std.specs.Prelude.{ℕ, List, [], ◌∷◌, ◌++◌, Bool, true, false, Option, Some, None, slice_index_or, codes}
+-- What a local spawner does next, as a function of its own past (qmail-lspawn(8)). In its start it reads users/assign; then it does
+-- what both spawners do (spawner_parts `specs/Table.antt`), in its own way. Of each row: what is done there (`due_at`), and where
+-- what came of it leads (`act`).
+use Rattle.std.specs.Prelude.{ℕ, List, [], ◌∷◌, ◌++◌, length, Bool, true, false, Option, Some, None, if◌then◌else◌, nat_lt, unwrap_or, codes}
+use Rattle.call_fs.specs.declared.file_system.TheConstants.{PIECE}
+use Rattle.call_fs.specs.declared.calls.Answer.{Answer}
+use Rattle.call_fs.specs.declared.calls.Answer.TheVariants as answer
+use Rattle.call_fs.specs.declared.calls.CallData.TheVariants as call
+use Rattle.call_fs.specs.declared.calls.Fd.{Fd}
+use Rattle.call_fs.specs.declared.calls.FsError.TheVariants as why
+use Rattle.call_fs.specs.declared.calls.How.TheVariants as how
+use Rattle.call_fs.specs.declared.past.ChildData.{ChildData}
+use Rattle.call_fs.specs.declared.past.ChildData.TheVariants as child
 use Rattle.call_fs.specs.declared.past.GotData.{GotData}
 use Rattle.call_fs.specs.declared.past.GotData.TheVariants as came
 use Rattle.call_fs.specs.declared.past.NeedData.{NeedData}
 use Rattle.call_fs.specs.declared.past.NeedData.TheVariants as needs
 use Rattle.call_fs.specs.declared.past.Own.{Own}
-use Rattle.call_fs.specs.declared.program.Port.TheVariants as port
 use Rattle.call_fs.specs.declared.program.Ready.{Ready}
-use Rattle.queue_limits.specs.declared.statuses.TheConstants.{DONE, INPUT, MALFORMED, OUTPUT}
-use Rattle.spawn_protocol.specs.Inbox.{empty, ended, pull, with_more}
-use Rattle.spawn_protocol.specs.Report.{numbered}
-use Rattle.spawn_protocol.specs.declared.inbox.Intake.{Intake}
-use Rattle.spawn_protocol.specs.declared.inbox.Intake.TheVariants as intake
-use Rattle.spawn_protocol.specs.declared.inbox.Pulled.{Pulled}
-use Rattle.spawn_protocol.specs.declared.request.Request.{Request}
+use Rattle.queue_limits.specs.declared.statuses.TheConstants.{MEMORY}
+use Rattle.spawner_parts.specs.declared.place.Place.{Place as Work}
+use Rattle.spawner_parts.specs.declared.row.Row.{Row as WorkRow}
+use Rattle.spawner_parts.specs.declared.row.Row.TheVariants as work_at
+use Rattle.spawner_parts.specs.Table as parts
+use Rattle.local_spawn.specs.declared.assign.Assignment.{Assignment}
+use Rattle.local_spawn.specs.declared.delivery.Delivery.{Delivery}
 use Rattle.local_spawn.specs.declared.place.Place.{Place}
 use Rattle.local_spawn.specs.declared.row.Row.{Row}
 use Rattle.local_spawn.specs.declared.row.Row.TheVariants as at
+use Rattle.local_spawn.specs.Deliveries.{crashed, delivery_for, local_report, netstring, refusal}
+use Rattle.local_spawn.specs.Users.{users_in}
+
+abbrev pub no_delivery : Delivery
+no_delivery = record {
+  words = record { user = []; home = []; local = []; dash = []; ext = []; domain = []; sender = []; line = [] };
+  uid = 0;
+}
 
 abbrev pub begun : Place
-begun = record { row = at.Greet; inbox = empty; report = [] }
+begun = record { row = at.OpenUsers; text = []; users = None; delivery = no_delivery; work = parts.begun }
 
--- Where a step comes from: between two steps, from what is ready. Nothing is changed by it, so a later look may come out
--- otherwise.
+-- Its start
 
--- it ends with 0 after the end of its requests, with 91 after a field that was too long, and else waits
-abbrev pub resting : Intake → (is_asked : Bool) → Row
-resting intake.Open true = at.TakeInput
-resting intake.Open false = at.Idle
-resting intake.Ended is_asked = at.Ended DONE
-resting intake.TooLong is_asked = at.Ended MALFORMED
+abbrev pub users_name : List ℕ
+users_name = codes "users/assign"
 
-abbrev pub arrive : Row → Place → Ready → Row
-arrive at.Idle p ready = resting p.inbox.intake (slice_index_or ready.links 0 false)
-arrive row p ready = row
+-- the users are known, or can't be
+abbrev pub serves : Option (List Assignment) → Place → Place
+serves users p = record p { row = at.Serves; text = []; users = users }
 
-abbrev pub row_now : Place → Ready → Row
-row_now p ready = arrive p.row p ready
+-- without the file there are no users
+abbrev pub users_opened_by : Answer → Place → Place
+users_opened_by (answer.Opened fd) p = record p { row = at.ReadUsers fd }
+users_opened_by (answer.Refused why.NotThere) p = serves (Some []) p
+users_opened_by (answer.Refused why.Memory) p = record p { row = at.OutOfMemory }
+users_opened_by told p = serves None p
 
--- The next request
+abbrev pub users_opened : GotData → Place → Place
+users_opened (came.Answered told) p = users_opened_by told.answer p
+users_opened other p = serves None p
 
--- no user is found for any recipient
-abbrev pub no_user : List ℕ
-no_user = codes "DSorry, no mailbox here by that name. (#5.1.1)" ++ 10 ∷ []
+-- a piece that isn't full is the last one
+abbrev pub users_row : Fd → List ℕ → Row
+users_row fd bytes = if nat_lt (length bytes) PIECE then at.CloseUsers fd true else at.ReadUsers fd
 
-abbrev pub heeded : Option Request → Place → Place
-heeded None p = record p { row = at.Idle }
-heeded (Some r) p = record p { row = at.Report; report = numbered r.slot no_user }
+abbrev pub users_read_by : Fd → Answer → List ℕ → Place → Place
+users_read_by fd (answer.Count count) bytes p = record p { row = users_row fd bytes; text = p.text ++ bytes }
+users_read_by fd told bytes p = record p { row = at.CloseUsers fd false }
 
-abbrev pub with_pulled : Pulled → Place → Place
-with_pulled it p = heeded it.request (record p { inbox = it.inbox })
+abbrev pub users_read : Fd → GotData → Place → Place
+users_read fd (came.Answered told) p = users_read_by fd told.answer told.bytes p
+users_read fd other p = record p { row = at.CloseUsers fd false }
 
-abbrev pub next_request : Place → Place
-next_request p = with_pulled (pull p.inbox) p
+abbrev pub users_closed : Bool → Place → Place
+users_closed true p = serves (users_in p.text) p
+users_closed false p = serves None p
+
+-- Its own way of serving requests: once the message was read, the user is looked for.
+
+abbrev pub readied_by : Option Delivery → List ℕ → Work → Work
+readied_by None report p = parts.answers report p
+readied_by (Some delivery) report p = record p { row = work_at.Start; message = netstring p.message }
+
+abbrev pub readied : Option (List Assignment) → Work → Work
+readied users p = readied_by (delivery_for users p.request) (refusal users) p
+
+abbrev pub local_kind : Option (List Assignment) → parts.Kind
+local_kind users = record { readied = readied users; given = netstring; unstarted = crashed; ended = local_report }
+
+-- which delivery is to be started
+abbrev pub delivery_after : WorkRow → Place → Delivery
+delivery_after (work_at.CloseMess fd true) p = unwrap_or (delivery_for p.users p.work.request) p.delivery
+delivery_after row p = p.delivery
+
+abbrev pub served : WorkRow → GotData → Place → Place
+served row got p = record p { work = parts.act (local_kind p.users) row got p.work; delivery = delivery_after row p }
 
 -- Where what came leads. What isn't of the kind of its need counts as a failure.
-
--- a report, or the first byte
-abbrev pub gave : GotData → Place → Place
-gave came.Gave p = next_request p
-gave other p = record p { row = at.Ended OUTPUT }
-
-abbrev pub took : GotData → Place → Place
-took (came.Took bytes) p = next_request (record p { inbox = with_more bytes p.inbox })
-took came.End p = record p { row = at.Idle; inbox = ended }
-took other p = record p { row = at.Ended INPUT }
-
-abbrev pub act : Row → GotData → Place → Place
-act at.Greet got p = gave got p
-act at.Idle got p = p
-act at.TakeInput got p = took got p
-act at.Report got p = gave got p
-act (at.Ended code) got p = p
+abbrev pub act : Row → Ready → GotData → Place → Place
+act at.OpenUsers ready got p = users_opened got p
+act (at.ReadUsers fd) ready got p = users_read fd got p
+act (at.CloseUsers fd whole) ready got p = users_closed whole p
+act at.Serves ready got p = served (parts.row_now p.work ready) got p
+act at.OutOfMemory ready got p = p
 
 -- What is due
 
--- how many programs it runs at once
-abbrev pub greeting : List ℕ
-greeting = 120 ∷ []
+abbrev pub program_of : Place → ChildData
+program_of p = child.Local p.work.request.slot p.delivery.words p.delivery.uid
 
-abbrev pub due_at : Row → Place → NeedData
-due_at at.Greet p = needs.Give port.Output greeting
-due_at at.Idle p = needs.Wait
-due_at at.TakeInput p = needs.Take port.Input
-due_at at.Report p = needs.Give port.Output p.report
-due_at (at.Ended code) p = needs.Ended code
+abbrev pub start_of : Place → NeedData
+start_of p = needs.Start (program_of p)
+
+-- as it serves requests
+abbrev pub due_from : WorkRow → Place → NeedData
+due_from row p = parts.due_at (program_of p) row p.work
+
+abbrev pub due_at : Row → Ready → Place → NeedData
+due_at at.OpenUsers ready p = needs.File (call.Open users_name how.Read)
+due_at (at.ReadUsers fd) ready p = needs.File (call.ReadAt fd (length p.text) PIECE)
+due_at (at.CloseUsers fd whole) ready p = needs.File (call.Close fd)
+due_at at.Serves ready p = due_from (parts.row_now p.work ready) p
+due_at at.OutOfMemory ready p = needs.Ended MEMORY
 
 -- The past
 
 abbrev pub moved : Place → Own → Place
-moved p event = act (row_now p event.ready) event.came p
+moved p event = act p.row event.ready event.came p
 
 -- where it stands after a past, newest event first
 abbrev pub place_after : List Own → Place
@@ -99,7 +133,7 @@ place_after [] = begun
 place_after (event ∷ before) = moved (place_after before) event
 
 abbrev pub due_by : Place → Ready → NeedData
-due_by p ready = due_at (row_now p ready) p
+due_by p ready = due_at p.row ready p
 
 -- What a local spawner does next: after this past, newest event first, with this ready. It has no arguments, and the moment
 -- makes no difference.

@@ -1,6 +1,7 @@
 // The line that a local part belongs to.
-ghost use Rattle.std.specs.Prelude.{◌↔◌, IsTrue, MatchOption};
+ghost use Rattle.std.specs.Prelude.{◌≡◌, ◌↔◌, IsTrue, MatchOption};
 ghost use Rattle.local_spawn.specs.Finding.{BeginsFor, Becomes, IsFor, IsForNobody, IsFound};
+ghost use Rattle.local_spawn.specs.Users.{found_in};
 
 use crate::assign::{Assign, Assignment};
 use crate::kinds::Kind;
@@ -17,8 +18,10 @@ pub struct Found {
 
 /// The line that this local part belongs to: the first simple line for it, else the wildcard for it that is the longest, the first
 /// of equally long ones. The case of ASCII letters is ignored. `None` exactly if no line is for it. Takes no memory.
+#[tactic(auto, using(crate::proofs::FoundLemmas::one_answer))]
 pub fn find(assign: &Assign, local: &[u8]) -> Option<Found>
-    ensures { MatchOption result (IsForNobody assign.now local.now) (IsFound assign.now local.now) }
+    ensures is { MatchOption result (IsForNobody assign.now local.now) (IsFound assign.now local.now) }
+    ensures found { result ≡ found_in assign.now local.now }
 {
     find_in(assign.as_slice(), local)
 }

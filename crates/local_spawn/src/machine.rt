@@ -4,14 +4,18 @@ ghost use Rattle.call_fs.specs.Program.{due_of, came_of};
 ghost use Rattle.call_fs.specs.declared.past.Own.{Own};
 ghost use Rattle.mail_bytes.specs.Moments.{IsMoment};
 ghost use Rattle.local_spawn.specs.Stands.{Stands, due_now, gone_on};
-ghost use Rattle.local_spawn.specs.Table.{Next, act, begun, due_at, resting, row_now};
+ghost use Rattle.local_spawn.specs.Table.{Next, act, begun, due_by, due_from, no_delivery, start_of};
 
-use crate::steps::{gave, took};
-use crate::{Place, Row};
-use call_fs::{Got, Machine, Need, Port, Ready};
+use crate::delivery::Delivery;
+use crate::place::Place;
+use crate::row::Row;
+use crate::steps::{served, users_closed, users_opened, users_read};
+use call_fs::{
+    Call, Child, DeliveryWords, DeliveryWordsData, Got, How, Machine, Need, PIECE, Ready,
+};
 use mail_bytes::{ByteText, Memory};
-use queue_limits::{DONE, MALFORMED};
-use spawn_protocol::{Inbox, Intake};
+use queue_limits::MEMORY;
+use spawner_parts::{Row as WorkRow, begun as begun_work, need_at as need_of_work, row_now};
 use std::alloc::Global;
 
 /// Nothing is ready.
@@ -20,13 +24,14 @@ const UNREADY: Ready = Ready {
     child: None,
 };
 
-/// The byte that it gives first: how many programs it runs at once.
-const GREETING: &[u8] = b"x";
+/// The file of the users.
+const USERS: &[u8] = b"users/assign";
 
-/// The local spawner (qmail-lspawn(8)): the program that answers each local request of the sender, as a machine. It finds no user
-/// here, so it starts no delivery and doesn't look at the request.
+/// The local spawner (qmail-lspawn(8)): the program that starts a local delivery for each request of the sender, and tells what
+/// became of it, as a machine.
 ///
-/// It takes requests when any are ready, and else waits. Of its links the first is its input.
+/// In its start it reads users/assign. Then it takes requests when any are ready; else it deals with the lowest delivery that has
+/// ended; else it waits. Of its links the first is its input.
 #[derive(Drop)]
 pub struct LocalSpawn {
     place: Place,
@@ -62,7 +67,7 @@ impl LocalSpawn {
         ensures stands { (args : Unit {0}) (past : List Own) → Stands self.now args past
             → due_of result ≡ Next args past self.now.present self.now.ready }
     {
-        need_at(row_now(&self.place, &self.ready), &self.place)
+        need_at(&self.place, &self.ready)
     }
 
     /// Hands in what came of its need. Then it stands for each past that it stood for and this event; after `Memory` it is
@@ -73,8 +78,7 @@ impl LocalSpawn {
         ensures goes { OnOk result (self.new ≡ gone_on self.old (came_of got.entry)) }
         ensures err { OnErr result (self.new ≡ self.old) }
     {
-        let row = row_now(&self.place, &self.ready);
-        act(&mut self.place, alloc, row, &got)
+        act(&mut self.place, alloc, &self.ready, &got)
     }
 }
 
@@ -83,56 +87,96 @@ fn begun(alloc: Global) -> Place
     ensures { result ≡ begun }
 {
     Place {
-        row: Row::Greet,
-        inbox: Inbox::new(alloc),
-        report: ByteText::new(alloc),
+        row: Row::OpenUsers,
+        text: ByteText::new(alloc),
+        users: None,
+        delivery: no_delivery(alloc),
+        work: begun_work(alloc),
     }
 }
 
-/// The row at which a local spawner that keeps this is, with this ready.
-fn row_now(place: &Place, ready: &Ready) -> Row
-    ensures { result ≡ row_now place.now ready.now }
+/// No delivery.
+fn no_delivery(alloc: Global) -> Delivery
+    ensures { result ≡ no_delivery }
+{
+    Delivery {
+        words: DeliveryWordsData {
+            user: ByteText::new(alloc),
+            home: ByteText::new(alloc),
+            local: ByteText::new(alloc),
+            dash: ByteText::new(alloc),
+            ext: ByteText::new(alloc),
+            domain: ByteText::new(alloc),
+            sender: ByteText::new(alloc),
+            line: ByteText::new(alloc),
+        },
+        uid: 0,
+    }
+}
+
+/// What is done by a local spawner that keeps this, with this ready.
+fn need_at<'a>(place: &'a Place, ready: &Ready) -> Need<'a>
+    ensures { due_of result ≡ due_by place.now ready.now }
 {
     match place.row {
-        Row::Idle => resting(place.inbox.intake, ready.links[0]),
-        row => row,
+        Row::OpenUsers => Need::File(Call::Open(USERS, How::Read)),
+        Row::ReadUsers { fd } => {
+            Need::File(Call::ReadAt(fd, place.text.len() as u64, PIECE as u64))
+        }
+        Row::CloseUsers { fd, .. } => Need::File(Call::Close(fd)),
+        Row::Serves => need_from(row_now(&place.work, ready), place),
+        Row::OutOfMemory => Need::Ended(MEMORY),
     }
 }
 
-/// The row between two steps, by whether requests are ready.
-fn resting(intake: Intake, is_asked: bool) -> Row
-    ensures { result ≡ resting intake is_asked }
-{
-    match intake {
-        Intake::Open if is_asked => Row::TakeInput,
-        Intake::Open => Row::Idle,
-        Intake::Ended => Row::Ended { status: DONE },
-        Intake::TooLong => Row::Ended { status: MALFORMED },
-    }
-}
-
-/// What is done at a row.
-fn need_at(row: Row, place: &Place) -> Need<'_>
-    ensures { due_of result ≡ due_at row place.now }
+/// What is done at a row of its work.
+fn need_from(row: WorkRow, place: &Place) -> Need<'_>
+    ensures { due_of result ≡ due_from row place.now }
 {
     match row {
-        Row::Greet => Need::Give(Port::Output, GREETING),
-        Row::Idle => Need::Wait,
-        Row::TakeInput => Need::Take(Port::Input),
-        Row::Report => Need::Give(Port::Output, place.report.as_slice()),
-        Row::Ended { status } => Need::Ended(status),
+        WorkRow::Start => start_of(place),
+        _ => need_of_work(row, &place.work),
     }
 }
 
-/// Where what came at a row leads. After an `Err` all is as before.
-fn act(place: &mut Place, alloc: Global, row: Row, got: &Got<'_>) -> Result<(), Memory>
-    ensures ok { OnOk result (place.new ≡ act row (came_of got.now) place.old) }
+/// The start of a delivery.
+fn start_of(place: &Place) -> Need<'_>
+    ensures { due_of result ≡ start_of place.now }
+{
+    let words = &place.delivery.words;
+    Need::Start(Child::Local {
+        slot: place.work.request.slot,
+        words: DeliveryWords {
+            user: words.user.as_slice(),
+            home: words.home.as_slice(),
+            local: words.local.as_slice(),
+            dash: words.dash.as_slice(),
+            ext: words.ext.as_slice(),
+            domain: words.domain.as_slice(),
+            sender: words.sender.as_slice(),
+            line: words.line.as_slice(),
+        },
+        uid: place.delivery.uid,
+    })
+}
+
+/// Where what came leads. After an `Err` all is as before.
+fn act(place: &mut Place, alloc: Global, ready: &Ready, got: &Got<'_>) -> Result<(), Memory>
+    ensures ok { OnOk result (place.new ≡ act place.old.row ready.now (came_of got.now) place.old) }
     ensures err { OnErr result (place.new ≡ place.old) }
 {
-    match row {
-        Row::Greet | Row::Report => gave(place, alloc, got),
-        Row::TakeInput => took(place, alloc, got),
-        Row::Idle | Row::Ended { .. } => Ok(()),
+    match place.row {
+        Row::OpenUsers => {
+            users_opened(place, alloc, got);
+            Ok(())
+        }
+        Row::ReadUsers { fd } => users_read(place, fd, got),
+        Row::CloseUsers { whole, .. } => users_closed(place, alloc, whole),
+        Row::Serves => {
+            let row = row_now(&place.work, ready);
+            served(place, alloc, row, got)
+        }
+        Row::OutOfMemory => Ok(()),
     }
 }
 

@@ -1,16 +1,22 @@
 // What a local spawner keeps.
 
-use crate::Row;
+use crate::assign::Assign;
+use crate::delivery::Delivery;
+use crate::row::Row;
 use mail_bytes::ByteText;
-use spawn_protocol::Inbox;
+use spawner_parts::Place as Work;
 
 /// What a local spawner keeps: where it stands, and what its steps need.
 #[derive(Drop)]
 pub struct Place {
     /// Where it stands.
     pub row: Row,
-    /// What it holds of its requests.
-    pub inbox: Inbox,
-    /// The report that is due: its slot, its letter and text, and NUL.
-    pub report: ByteText,
+    /// What was read of users/assign so far.
+    pub text: ByteText,
+    /// The lines of users/assign; none if it couldn't be read, or wasn't yet.
+    pub users: Option<Assign>,
+    /// The delivery that is to be started, or was last.
+    pub delivery: Delivery,
+    /// What it keeps to serve requests.
+    pub work: Work,
 }

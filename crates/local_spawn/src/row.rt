@@ -1,16 +1,18 @@
 // The rows of a local spawner's table.
 
+use call_fs::Fd;
+
 /// Where a local spawner stands: at what is named.
 #[derive(Clone, Copy, Debug, PartialEq, Eq)]
 pub enum Row {
-    /// Tells how many programs it runs at once.
-    Greet,
-    /// Between two steps: what is ready decides what it does next.
-    Idle,
-    /// Takes more requests.
-    TakeInput,
-    /// Gives a report.
-    Report,
-    /// Has ended with this exit status.
-    Ended { status: u8 },
+    /// Opens users/assign.
+    OpenUsers,
+    /// Reads its next piece.
+    ReadUsers { fd: Fd },
+    /// Closes it. `whole`: it was read to its end, and no read failed.
+    CloseUsers { fd: Fd, whole: bool },
+    /// Serves requests: where, its work says.
+    Serves,
+    /// Has ended, since it was out of memory in its start.
+    OutOfMemory,
 }

@@ -32,15 +32,16 @@ use Rattle.queue_law.proofs.Looks.{mapped_some}
 use Rattle.world_events.specs.declared.event.Event.{Event as Kept}
 use Rattle.world_events.specs.declared.event.Program.{Program}
 use Rattle.world_events.specs.declared.event.Program.TheVariants.{Injector}
-use Rattle.mail_world.specs.History.{Event, Actor, Injection, Books, Life, State, MayRun, newborn, next_of, own_call, stopped, acted, finished, begun, accept, linked, booked, books_after, happens, after, Legal}
+use Rattle.mail_world.specs.History.{Event, Actor, Injection, Books, Life, State, MayRun, newborn, next_of, own_call, stopped, acted, finished, begun, accept, linked, booked, books_after, happens, after}
 use Rattle.mail_world.specs.History.Event.{Start, Act, Child, Generation, Report, End, Stop, Moment, Halt}
 use Rattle.mail_world.specs.History.Life.{Over, Stopped}
 use Rattle.mail_world.specs.World.{Tells}
 use Rattle.mail_world.specs.ByKind.{injection_of}
 use Rattle.mail_world.specs.Books.{mess_number, number_by, newer, number_of, mail_by, mails_of, IsOfMail}
+use Rattle.mail_world.proofs.Covered.{AreLone}
 use Rattle.mail_world.proofs.Kept.{runs_always}
 use Rattle.mail_world.proofs.Owns.{IsPass, by_act, may_read}
-use Rattle.mail_world.proofs.Programs.{no_members, passes_none}
+use Rattle.mail_world.proofs.Programs.{passes_none}
 use Rattle.mail_world.proofs.Tests.{text_cases, same_text}
 
 -- an injection of these books
@@ -450,7 +451,7 @@ old_number b a o before n none is = ⊎_elim
 call_told : (h : List Event) (s : State) (b : List ℕ) (read : ℕ) (ready : Ready) (c : CallData) (got : Told) (wrote : ℕ) (program : Program) (past : List Own) (life : Life) → MayRun program
     → s.actors b ≡ Some (record { program = program; past = past; life = life }) → next_of program past read ready ≡ needs.File c → IsMailed (mails_of h) b program
     → EachIn s.books (IsTold h s.actors)
-    → EachIn (books_after s.books b program (needs.File c) (Answered got))
+    → EachIn (books_after s.books b program past read ready (needs.File c) (Answered got))
     (IsTold (Act b (own_call read ready c got) wrote ∷ h) (put_at s.actors b (Some (record { program = program; past = own_call read ready c got ∷ past; life = life }))))
 call_told h s b read ready c got wrote (Injector args) past life runs is due mailed all =
     let row = row_after args past in
@@ -482,7 +483,7 @@ pass_told other past read ready due runs next pass = runs
 abbrev TellsOn : List Event → State → List ℕ → Own → ℕ → Type 0
 TellsOn h s b own wrote = (x : Actor) → s.actors b ≡ Some x → EachIn (acted s b own wrote (Some x)).books (IsTold (Act b own wrote ∷ h) (acted s b own wrote (Some x)).actors)
 
-act_told : (d : Disk) (h : List Event) (b : List ℕ) (own : Own) (wrote : ℕ) → Legal d (Act b own wrote ∷ h) → AllRun (IsMailed (mails_of h)) (after d h).actors
+act_told : (d : Disk) (h : List Event) (b : List ℕ) (own : Own) (wrote : ℕ) → AreLone d (Act b own wrote ∷ h) → AllRun (IsMailed (mails_of h)) (after d h).actors
     → EachIn (after d h).books (IsTold h (after d h).actors) → EachIn (after d (Act b own wrote ∷ h)).books (IsTold (Act b own wrote ∷ h) (after d (Act b own wrote ∷ h)).actors)
 act_told d h b own wrote legal mailed all =
     let s = after d h in
@@ -514,7 +515,7 @@ finished_same : (s : State) (b : List ℕ) (life : Life) (o : Option Actor) → 
 finished_same s b life None = refl
 finished_same s b life (Some x) = refl
 
-each_told : (d : Disk) (events : List Kept) (h : List Event) → Legal d h → AllZip Tells events h → EachIn (after d h).books (IsTold h (after d h).actors)
+each_told : (d : Disk) (events : List Kept) (h : List Event) → AreLone d h → AllZip Tells events h → EachIn (after d h).books (IsTold h (after d h).actors)
 each_told d [] [] legal told q is = ⊎_elim (λ w. absurd (cc)) (λ w. absurd w) is
 each_told d [] (e ∷ h) legal told q is = absurd told
 each_told d (k ∷ events) [] legal told q is = absurd told
@@ -525,7 +526,7 @@ each_told d (k ∷ events) ((Start b program) ∷ h) legal told q is =
 each_told d (k ∷ events) ((Act b own wrote) ∷ h) legal told q is =
     act_told d h b own wrote legal (all_mailed d events h told.1) (each_told d events h legal.0 told.1) q is
 each_told d (k ∷ events) ((Child parent own b program) ∷ h) legal told q is = absurd told.0
-each_told d (k ∷ events) ((Generation sender clean lspawn rspawn) ∷ h) legal told q is = absurd (no_members told.0.0 sender clean lspawn rspawn told.0.2 legal.1.runs.0)
+each_told d (k ∷ events) ((Generation sender clean lspawn rspawn) ∷ h) legal told q is = absurd legal.1
 each_told d (k ∷ events) ((Report slot letter text) ∷ h) legal told q is =
     let s = after d h in
     same_told h (Report slot letter text ∷ h) s s.books s.actors refl [] (sym (append-nil (mails_of h))) (λ a. refl) (λ a run. run) (each_told d events h legal.0 told.1) q is
@@ -547,5 +548,5 @@ each_told d (k ∷ events) ((Halt how contents) ∷ h) legal told q is =
     same_told h (Halt how contents ∷ h) s s.books (happens s (Halt how contents)).actors refl [] (sym (append-nil (mails_of h))) (λ a. refl)
     (λ a run. stop_kept HasBegun (s.actors a) run) (each_told d events h legal.0 told.1) q is
 
-pub injections_told : (d : Disk) (events : List Kept) (h : List Event) → Legal d h → AllZip Tells events h → (q : Injection) → IsIn (after d h).books q → IsOfMail h q
+pub injections_told : (d : Disk) (events : List Kept) (h : List Event) → AreLone d h → AllZip Tells events h → (q : Injection) → IsIn (after d h).books q → IsOfMail h q
 injections_told d events h legal told q is = let t = each_told d events h legal told q is in record { mail = t.mail; number = t.number }

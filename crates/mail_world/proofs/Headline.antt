@@ -19,6 +19,7 @@ use Rattle.queue_law.proofs.Looks.{find_some, find_none, not_found, found}
 use Rattle.mail_world.specs.Untouched.{queue}
 use Rattle.queue_law.specs.Numbers.Phase.{Free, Queued, Sorted, Finished}
 use Rattle.mail_world.proofs.Programs.{fares_booked, fares_well}
+use Rattle.mail_world.proofs.Covered.{covered}
 use Rattle.mail_world.proofs.Kept.{Inv, always}
 
 is_none : {A : Type 0} (o : Option A) → is_some o ≡ false → o ≡ None
@@ -124,4 +125,5 @@ legal_before d [] before l = l
 legal_before d (e ∷ later) before l = legal_before d later before l.0
 
 pub headline : Headline
-headline d later before l = safe (controls_of []) (after d before) (always (controls_of []) d before (legal_before d later before l))
+headline d later before l none =
+    safe (controls_of []) (after d before) (always (controls_of []) d before (covered d before (legal_before d later before l) none))

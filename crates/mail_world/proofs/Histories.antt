@@ -20,8 +20,9 @@ use Rattle.mail_world.specs.History.{Event, call_act, Actor, Life, State, next_o
 use Rattle.mail_world.specs.History.Event.{Start, End, Stop, Moment, Halt}
 use Rattle.mail_world.specs.History.Life.{Alive}
 use Rattle.mail_world.specs.World.{kept_call, Tells, IsByName, Leads, IsHistory, EachSafe}
-use Rattle.mail_world.specs.Headline.{Headline}
-use Rattle.mail_world.specs.Inside.{IsLed, known}
+use Rattle.mail_world.specs.Headline.{IsCovered, Headline}
+use Rattle.mail_world.specs.Inside.{StartsNone, IsLed, known}
+use Rattle.mail_world.proofs.Covered.{each_safe}
 use Rattle.mail_world.proofs.Known.{AreAlike, after_known, told_slots}
 use Rattle.mail_world.specs.ByKind.{IsMail}
 use Rattle.mail_world.proofs.Programs.{mail_runs, program_finds}
@@ -273,10 +274,16 @@ halt_goes_with (Some d) new events p how met o h is =
     let next = halt_leads (Some d) new events p how met o h (leads_of o d h events p is) in
     (next.0, history_of o h new (events ++ kept.Halt how ∷ []) p (Halt how next.0) (legal_opens o h is.legal) next.1)
 
--- what led to a world from an initial disk is legal and safe
-pub led_safe : Headline → (told : Option Disk) (events : List Kept) (p : ℕ) → OnTold told (λ d. IsLed d events p)
+-- what happened in a world is safe, if no generation was started
+pub history_safe : Headline → (told : Option Disk) (events : List Kept) (p : ℕ) → StartsNone events → (o : Disk) (h : List Event)
+    → IsSomeAnd told (λ d. IsHistory o d events p h) → EachSafe o h
+history_safe law None events p alone o h is = absurd is
+history_safe law (Some d) events p alone o h is = each_safe law o h is.legal (alone h is.told)
+
+-- what led to a world from an initial disk is legal, and safe
+pub led_safe : Headline → (told : Option Disk) (events : List Kept) (p : ℕ) → StartsNone events → OnTold told (λ d. IsLed d events p)
     → OnTold told (λ d. (o : Disk) × (h : List Event) × Leads o d events p h × (Opening o → Legal o h × EachSafe o h))
-led_safe law None events p led = tt
-led_safe law (Some d) events p led = (led.0, led.1, led.2, λ opens. safe led.0 led.1 (legal_by led.0 led.1 opens led.2.allowed)) where
-  safe : (o : Disk) (h : List Event) → Legal o h → Legal o h × EachSafe o h
-  safe o h legal = (legal, λ later before is. law o later before (subst (Legal o) (sym is) legal))
+led_safe law None events p alone led = tt
+led_safe law (Some d) events p alone led = (led.0, led.1, led.2, λ opens. safe led.0 led.1 (legal_by led.0 led.1 opens led.2.allowed) (alone led.1 led.2.told)) where
+  safe : (o : Disk) (h : List Event) → Legal o h → IsCovered h → Legal o h × EachSafe o h
+  safe o h legal none = (legal, each_safe law o h legal none)

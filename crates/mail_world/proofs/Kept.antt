@@ -1,5 +1,5 @@
 -- The invariant, and that each legal event keeps it.
-use Rattle.std.proofs.Common.{◌≡◌, ◌≢◌, ℕ, ◌≤◌, List, [], ◌∷◌, true, Option, Some, None, refl, sym, ap, ◌∙◌, subst, ⊎_elim, codes}
+use Rattle.std.proofs.Common.{◌≡◌, ◌≢◌, ℕ, ◌≤◌, List, [], ◌∷◌, true, Option, Some, None, refl, sym, ap, ◌∙◌, subst, ⊎_elim}
 use Rattle.address_rules.specs.Files.{controls_of}
 use Rattle.address_rules.specs.declared.controls.Controls.{Controls}
 use Rattle.call_fs.specs.Disk.{Disk, Open}
@@ -12,17 +12,20 @@ use Rattle.call_fs.specs.declared.past.GotData.{GotData}
 use Rattle.call_fs.specs.declared.past.Own.{Own}
 use Rattle.call_fs.specs.declared.calls.CallData.{CallData}
 use Rattle.call_fs.specs.declared.calls.Told.{Told}
+use Rattle.call_fs.specs.declared.program.Port.{Port}
 use Rattle.call_fs.specs.declared.program.Ready.{Ready as Found}
 use Rattle.call_fs.specs.Apply.{Fits}
 use Rattle.queue_paths.specs.Names.Part.{Intd, Todo}
 use Rattle.queue_paths.specs.Names.Name.{Pid, Of}
 use Rattle.world_events.specs.declared.event.Program.{Program}
-use Rattle.mail_world.specs.History.{Event, Life, Injection, Books, Actor, State, newborn, begins, report_text, next_of, own_call, acted, called, unless_by, shut_by, finished, stopped, happens, MayRun, MayRead, MayEnd, IsLiving, Allowed, Opening, opening, after, Legal}
+use Rattle.world_events.specs.declared.event.Program.TheVariants.{Injector}
+use Rattle.mail_world.specs.History.{Event, Life, Injection, Books, Actor, State, newborn, begins, report_text, next_of, own_call, acted, called, unless_by, shut_by, finished, stopped, happens, MayRun, MayRead, MayEnd, IsLiving, Opening, opening, after}
 use Rattle.mail_world.specs.History.Event.{Start, Act, Child, Generation, Report, End, Stop, Moment, Halt}
 use Rattle.mail_world.specs.History.Life.{Alive, Over, Stopped}
 use Rattle.call_fs.proofs.Maps.{put_at_cases}
+use Rattle.mail_world.proofs.Covered.{IsLone, AreLone, covered}
 use Rattle.mail_world.proofs.Owns.{MayCall, IsPass, own_of, by_act}
-use Rattle.mail_world.specs.Pipework.{Pipework, pipework_after, without_writer, with_generation, with_report}
+use Rattle.mail_world.specs.Pipework.{Pipework, pipework_after, without_writer, with_report}
 use Rattle.queue_law.specs.Books.{IsInjected}
 use Rattle.queue_law.proofs.Tests.{unless_same}
 use Rattle.queue_law.proofs.Looks.{find_none, found, mapped_some}
@@ -123,12 +126,18 @@ module _ (controls : Controls) (s : State) (I : Inv controls s) where
   kept_call a read ready call told wrote m =
       subst (KeepsBy a (called s a read ready call told wrote)) (sym m.reads.is) (called_by a read ready call told wrote m.actor m.reads m.due m.fits)
 
-  -- what passes between programs, which concerns nothing of the queue
+  -- what passes between programs, which concerns nothing of the queue if it isn't a sender's
+  taken_by : (a : List ℕ) (read : ℕ) (ready : Found) (port : Port) (came : GotData) (wrote : ℕ) (program : Program) (past : List Own) (life : Life)
+      → FaresBy s.now (queue s I.role) a program (own_of read ready (needs.Take port) came ∷ past) life
+      → KeepsBy a (acted s a (own_of read ready (needs.Take port) came) wrote) (Some (record { program = program; past = past; life = life }))
+  taken_by a read ready port came wrote (Injector args) past life F =
+      still a (record { program = Injector args; past = own_of read ready (needs.Take port) came ∷ past; life = life }) (pipework_after s.pipework a (needs.Take port) came wrote) F
+  taken_by a read ready port came wrote other past life F = absurd F
+
   passed_by : (a : List ℕ) (read : ℕ) (ready : Found) (due : NeedData) (came : GotData) (wrote : ℕ) (x : Actor) → IsPass due
       → Fares s.now (queue s I.role) a (with_own x (own_of read ready due came))
       → KeepsBy a (acted s a (own_of read ready due came) wrote) (Some x)
-  passed_by a read ready (needs.Take port) came wrote x pass F =
-      still a (with_own x (own_of read ready (needs.Take port) came)) (pipework_after s.pipework a (needs.Take port) came wrote) F
+  passed_by a read ready (needs.Take port) came wrote x pass F = taken_by a read ready port came wrote x.program x.past x.life F
   passed_by a read ready (needs.Give port bytes) came wrote x pass F =
       still a (with_own x (own_of read ready (needs.Give port bytes) came)) (pipework_after s.pipework a (needs.Give port bytes) came wrote) F
   passed_by a read ready (needs.Start asked) came wrote x pass F =
@@ -219,14 +228,6 @@ module _ (controls : Controls) (s : State) (I : Inv controls s) where
   runs : (a : List ℕ) (x : Actor) → s.actors a ≡ Some x → MayRun x.program
   runs a x is = fares_runs s.now (queue s I.role) a x.program x.past x.life (I.actors a x is)
 
--- four actors more
-kept_four : (controls : Controls) (s : State) (a b c d : List ℕ) (p q r t : Program) (l : Pipework) → MayRun p × MayRun q × MayRun r × MayRun t → Inv controls s → Inv controls (begins (begins (begins (begins s a p l) b q l) c r l) d t l)
-kept_four controls s a b c d p q r t l runs I =
-    let one = begins s a p l in
-    let two = begins one b q l in
-    let three = begins two c r l in
-    kept_start controls three (kept_start controls two (kept_start controls one (kept_start controls s I a p runs.0 l) b q runs.1 l) c r runs.2 l) d t runs.3 l
-
 -- the pipework concerns nothing of the queue
 kept_pipework : (controls : Controls) (s : State) (l : Pipework) → Inv controls s → Inv controls (record { disk = s.disk; holder = s.holder; now = s.now; actors = s.actors; books = s.books; pipework = l })
 kept_pipework controls s l I = record { role = I.role; sound = I.sound; early = I.early; actors = I.actors }
@@ -248,17 +249,14 @@ keeps controls s e after disk holder books none = record {
   };
 }
 
-kept : (controls : Controls) (s : State) (e : Event) → Inv controls s → Allowed s e → Keeps controls s e
+kept : (controls : Controls) (s : State) (e : Event) → Inv controls s → IsLone s e → Keeps controls s e
 kept controls s (Start a program) I h = keeps controls s (Start a program) (kept_start controls s I a program h.runs s.pipework) refl refl refl refl
 kept controls s (Act a own wrote) I h =
     let w = by_act s a wrote (λ own. KeptBy controls s a (program_of (s.actors a)) (acted s a own wrote (s.actors a)))
     (λ read ready call told may. kept_call controls s I a read ready call told wrote may) (kept_pass controls s I a wrote) own h in
     record { inv = w.inv; rest = record { outside = λ _. w.outside; opens = w.opens; accepted = w.accepted; sorted = λ _. w.sorted } }
 kept controls s (Child parent own a program) I h = absurd (program_starts_none h.actor.program h.actor.past own.read own.ready h.asked (runs controls s I parent h.actor h.reads.is) (h.due ∙ h.starts))
-kept controls s (Generation sender clean lspawn rspawn) I h =
-    keeps controls s (Generation sender clean lspawn rspawn)
-    (kept_four controls s (codes "sender") (codes "clean") (codes "lspawn") (codes "rspawn") sender clean lspawn rspawn (with_generation s.pipework) h.runs I)
-    refl refl refl refl
+kept controls s (Generation sender clean lspawn rspawn) I h = absurd h
 kept controls s (Report slot letter text) I h =
     keeps controls s (Report slot letter text) (kept_pipework controls s (with_report s.pipework slot (report_text letter text)) I) refl refl refl refl
 kept controls s (End a read ready status) I h =
@@ -299,14 +297,16 @@ kept_opening controls d o = record {
     opening_suits (Pid p t k) y h = (tt, tt)
     opening_suits (Of part n) y h = let w = (found d.names d.files (Of part n) y h).0 in let v = o.empty part n in absurd (cc)
 
-pub always : (controls : Controls) (d : Disk) (h : List Event) → Legal d h → Inv controls (after d h)
+pub always : (controls : Controls) (d : Disk) (h : List Event) → AreLone d h → Inv controls (after d h)
 always controls d [] o = kept_opening controls d o
 always controls d (e ∷ before) l = (kept controls (after d before) e (always controls d before l.0) l.1).inv
 
--- so it is after each legal history
-pub runs_always : (d : Disk) (h : List Event) → Legal d h → (a : List ℕ) (x : Actor) → (after d h).actors a ≡ Some x → MayRun x.program
+-- so it is after each history in which no generation was started
+pub runs_always : (d : Disk) (h : List Event) → AreLone d h → (a : List ℕ) (x : Actor) → (after d h).actors a ≡ Some x → MayRun x.program
 runs_always d h l = runs (controls_of []) (after d h) (always (controls_of []) d h l)
 
--- and each event of one leaves the rest
+-- and each event of a legal one leaves the rest
 pub events_leave : EventsLeave
-events_leave d e before l = (kept (controls_of []) (after d before) e (always (controls_of []) d before l.0) l.1).rest
+events_leave d e before legal none =
+    let l = covered d (e ∷ before) legal none in
+    (kept (controls_of []) (after d before) e (always (controls_of []) d before l.0) l.1).rest

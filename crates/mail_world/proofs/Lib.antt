@@ -33,6 +33,10 @@ pub mod Crew
 pub mod Acts
 -- what the actors have open
 pub mod Hands
+-- the names of members
+pub mod Members
+-- histories without generations
+pub mod Covered
 -- a map whose keys are texts
 pub mod Index
 -- what a world keeps

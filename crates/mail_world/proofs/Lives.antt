@@ -27,7 +27,7 @@ use Rattle.mail_world.proofs.Owns.{may_read}
 use Rattle.mail_world.proofs.Crew.{started_push}
 use Rattle.mail_world.proofs.Spans.{span_still, span_begins, span_ends}
 use Rattle.mail_world.proofs.Halts.{never_alive}
-use Rattle.mail_world.proofs.Programs.{no_members}
+use Rattle.mail_world.proofs.Members.{whether, member_contained, four_other, four_new}
 
 -- by induction over the kept events, the newest last
 along : (P : List Kept → List Event → Type 0) → P [] []
@@ -201,6 +201,14 @@ halt_suits a how n Lasting (Some x) was = λ e. never_alive x.life e
 halt_suits a how n (OverAt at) None was = was
 halt_suits a how n (OverAt at) (Some x) was = λ e. never_alive x.life e
 
+-- who doesn't live starts, perhaps again
+again_suits : (a : List ℕ) (k : Kept) (n : ℕ) (span : Span) (o : Option Actor) (program : Program) → starts a k ≡ true → ((x : Actor) → o ≡ Some x → x.life ≢ Alive) → Suits span o
+    → Suits (span_after a k n span) (Some (newborn program))
+again_suits a k n Unborn o program starts_it over was = subst (λ (s : Span). Suits s (Some (newborn program))) (sym (ap (λ (b : Bool). if b then Lasting else Unborn) starts_it)) refl
+again_suits a k n Lasting None program starts_it over was = absurd was
+again_suits a k n Lasting (Some x) program starts_it over was = absurd (over x refl was)
+again_suits a k n (OverAt at) o program starts_it over was = subst (λ (s : Span). Suits s (Some (newborn program))) (sym (ap (λ (b : Bool). if b then Lasting else OverAt at) starts_it)) refl
+
 -- one event more
 happens_suits : (s : State) (n : ℕ) (k : Kept) (e : Event) (a : List ℕ) (span : Span) → Tells k e → Allowed s e → Suits span (s.actors a)
     → Suits (span_after a k n span) ((happens s e).actors a)
@@ -219,7 +227,15 @@ happens_suits s n k (Act b own w) a span told allowed was =
     (suits_put s.actors b _ a one n span (λ f. refl) (λ f. refl)
     (λ same. suits_still a one n span _ refl refl (same_suits span reads.0 _ refl (subst (Suits span) (ap s.actors same ∙ is) was))) was))
 happens_suits s n k (Child parent own b program) a span told allowed was = absurd told
-happens_suits s n k (Generation sender clean lspawn rspawn) a span told allowed was = absurd (no_members told.0 sender clean lspawn rspawn told.2 allowed.runs.0)
+happens_suits s n k (Generation sender clean lspawn rspawn) a span told allowed was =
+    subst (λ (k : Kept). Suits (span_after a k n span) ((happens s (Generation sender clean lspawn rspawn)).actors a)) (sym told.1)
+    (⊎_elim
+    (λ is. let new = four_new s.actors sender clean lspawn rspawn a is in
+    subst (Suits (span_after a (kept.Generation told.0) n span)) (sym new.1)
+    (again_suits a (kept.Generation told.0) n span (s.actors a) new.0 is (λ x there. allowed.over a x (member_contained a is) there) was))
+    (λ other. subst (Suits (span_after a (kept.Generation told.0) n span)) (sym (four_other s.actors sender clean lspawn rspawn a other))
+    (suits_still a (kept.Generation told.0) n span (s.actors a) other refl was))
+    (whether (is_member a)))
 happens_suits s n k (Report slot letter text) a span told allowed was =
     subst (λ (k : Kept). Suits (span_after a k n span) (s.actors a)) (sym told) (suits_still a (kept.Report slot letter text) n span (s.actors a) refl refl was)
 happens_suits s n k (End b read ready status) a span told allowed was =

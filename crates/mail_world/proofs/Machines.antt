@@ -37,9 +37,9 @@ use Rattle.queue_clean.specs.Stands.{Stands as Cleaned}
 use Rattle.queue_clean.specs.Table.{Next as CleansNext}
 use Rattle.send_core.specs.Stands.{Machine as Sending, Stands as Sent}
 use Rattle.send_core.specs.Table.{Next as SendsNext}
-use Rattle.local_spawn.specs.declared.machine.LocalSpawn.{LocalSpawn}
-use Rattle.local_spawn.specs.Stands.{Stands as Answered}
-use Rattle.local_spawn.specs.Table.{Next as AnswersNext}
+use Rattle.no_mailbox.specs.declared.machine.NoMailbox.{NoMailbox}
+use Rattle.no_mailbox.specs.Stands.{Stands as Answered}
+use Rattle.no_mailbox.specs.Table.{Next as AnswersNext}
 use Rattle.remote_spawn.specs.declared.machine.RemoteSpawn.{RemoteSpawn}
 use Rattle.remote_spawn.specs.Stands.{Stands as Spawned}
 use Rattle.remote_spawn.specs.Table.{Next as SpawnsNext}
@@ -178,17 +178,17 @@ send_needs m other past due now ready needs f = absurd f
 
 -- Whole spawners
 
-pub still_answers : (m n : LocalSpawn) (program : Program) (past later : List Own) → ((args : Unit {0}) → Answered m args past → Answered n args later)
+pub still_answers : (m n : NoMailbox) (program : Program) (past later : List Own) → ((args : Unit {0}) → Answered m args past → Answered n args later)
     → Answers m program past → Answers n program later
 still_answers m n (LocalSpawner start) past later stands f = stands tt f
 still_answers m n other past later stands f = absurd f
 
-pub told_answers : {T E : Type 0} (r : Result T E) (m n : LocalSpawn) (program : Program) (past later : List Own) → ((args : Unit {0}) → Answered m args past → OnOk r (Answered n args later))
+pub told_answers : {T E : Type 0} (r : Result T E) (m n : NoMailbox) (program : Program) (past later : List Own) → ((args : Unit {0}) → Answered m args past → OnOk r (Answered n args later))
     → Answers m program past → OnOk r (Answers n program later)
 told_answers r m n (LocalSpawner start) past later stands f = stands tt f
 told_answers r m n other past later stands f = absurd f
 
-pub answer_needs : (m : LocalSpawn) (program : Program) (past : List Own) (due : NeedData) (now : ℕ) (ready : Ready)
+pub answer_needs : (m : NoMailbox) (program : Program) (past : List Own) (due : NeedData) (now : ℕ) (ready : Ready)
     → ((args : Unit {0}) → Answered m args past → due ≡ AnswersNext args past now ready) → Answers m program past → due ≡ next_of program past now ready
 answer_needs m (LocalSpawner start) past due now ready needs f = needs tt f
 answer_needs m other past due now ready needs f = absurd f

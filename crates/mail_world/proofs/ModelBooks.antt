@@ -1,5 +1,5 @@
 -- The books of a world are those of each legal history that its events tell.
-use Rattle.std.proofs.Common.{◌≡◌, ◌⊎◌, inl, inr, ℕ, List, [], ◌∷◌, ◌++◌, length, map, reverse, Bool, true, false, ◌&&◌, ◌||◌, is_some, Option, Some, None, refl, sym, ap, ◌∙◌, subst, ⊎_elim, bytes_eq, codes, append-nil}
+use Rattle.std.proofs.Common.{◌≡◌, ◌⊎◌, inr, ℕ, List, [], ◌∷◌, ◌++◌, length, map, reverse, Bool, true, false, ◌&&◌, ◌||◌, is_some, Option, Some, None, refl, sym, ap, ◌∙◌, subst, ⊎_elim, bytes_eq, codes, append-nil}
 use Rattle.std.specs.Prelude.{if◌then◌else◌, IsSome}
 use Rattle.std.specs.List.{AllZip}
 use Rattle.std.specs.Option.{option_map}
@@ -33,14 +33,14 @@ use Rattle.world_events.specs.declared.event.Program.TheVariants.{Injector}
 use Rattle.world_events.specs.declared.books.Entry.{Entry}
 use Rattle.world_events.specs.declared.books.Life.{Life as ToldLife}
 use Rattle.world_events.specs.declared.books.Life.TheVariants as left
-use Rattle.mail_world.specs.History.{Event, Actor, Life, State, MayRun, newborn, next_of, stopped, cut_off as ends_as, acted, finished, happens, after, Legal}
+use Rattle.mail_world.specs.History.{Event, Actor, Life, State, MayRun, MayBegin, newborn, next_of, stopped, cut_off as ends_as, acted, finished, happens, after, Legal}
 use Rattle.mail_world.specs.History.Event.{Start, Act, Child, Generation, Report, End, Stop, Moment, Halt}
 use Rattle.mail_world.specs.History.Life.{Alive, Over, Stopped}
+use Rattle.mail_world.specs.Pipework.{is_member}
 use Rattle.mail_world.specs.World.{Tells}
 use Rattle.mail_world.specs.ByKind.{injection_of}
 use Rattle.mail_world.specs.Books.{entry_by, entered_by, queues, queues_by, number_by, newer, acted_on, cut_off, noted, books_of, is_to_todo, is_accepting, is_accepting_by, is_accepted, number_of, mail_by, mails_of, told_life, life_in, entry_in, books_in, BooksAreTheModels}
-use Rattle.mail_world.proofs.Kept.{runs_always}
-use Rattle.mail_world.proofs.Programs.{no_members}
+use Rattle.mail_world.proofs.Members.{whether, member_contained, if_its, with_four, four_other}
 use Rattle.mail_world.proofs.Owns.{MayCall, IsPass, by_act, may_read}
 use Rattle.mail_world.proofs.Tests.{text_cases, same_text, other_text}
 
@@ -144,9 +144,54 @@ some_four actors sender clean lspawn rspawn a there =
     some_put three (codes "rspawn") (newborn rspawn) a (inr (some_put two (codes "lspawn") (newborn lspawn) a
     (inr (some_put one (codes "clean") (newborn clean) a (inr (some_put actors (codes "sender") (newborn sender) a (inr there)))))))
 
--- the actor of a mail is there
+-- an actor that is there, and was started alone
+abbrev pub RunsAlone : Option Actor → Type 0
+RunsAlone None = ⊥
+RunsAlone (Some x) = MayRun x.program
+
+pub alone_is : (o : Option Actor) → RunsAlone o → IsSome o
+alone_is None alone = absurd alone
+alone_is (Some x) alone = refl
+
+alone_runs : (o : Option Actor) (x : Actor) → o ≡ Some x → RunsAlone o → MayRun x.program
+alone_runs o x is alone = subst RunsAlone is alone
+
+alone_put : (actors : List ℕ → Option Actor) (b : List ℕ) (x : Actor) (a : List ℕ) → (b ≡ a → MayRun x.program) → RunsAlone (actors a) → RunsAlone (put_at actors b (Some x) a)
+alone_put actors b x a mine alone = ⊎_elim
+    (λ w. subst RunsAlone (sym w.1) (mine (sym w.0)))
+    (λ w. subst RunsAlone (sym w.1) alone)
+    (put_at_cases actors b (Some x) a)
+
+alone_acted : (s : State) (b : List ℕ) (own : Own) (wrote : ℕ) (o : Option Actor) (a : List ℕ) → s.actors b ≡ o → RunsAlone (s.actors a) → RunsAlone ((acted s b own wrote o).actors a)
+alone_acted s b own wrote None a is alone = alone
+alone_acted s b own wrote (Some x) a is alone =
+    alone_put s.actors b (record { program = x.program; past = own ∷ x.past; life = x.life }) a (λ same. alone_runs (s.actors a) x (ap s.actors (sym same) ∙ is) alone) alone
+
+alone_finished : (s : State) (b : List ℕ) (life : Life) (o : Option Actor) (a : List ℕ) → s.actors b ≡ o → RunsAlone (s.actors a) → RunsAlone ((finished s b life o).actors a)
+alone_finished s b life None a is alone = alone
+alone_finished s b life (Some x) a is alone =
+    alone_put s.actors b (record { program = x.program; past = x.past; life = life }) a (λ same. alone_runs (s.actors a) x (ap s.actors (sym same) ∙ is) alone) alone
+
+alone_stopped : (o : Option Actor) → RunsAlone o → RunsAlone (option_map stopped o)
+alone_stopped None alone = alone
+alone_stopped (Some x) alone = alone
+
+-- so it is no member of a generation that may start
+alone_other : (s : State) (sender clean lspawn rspawn : Program) (a : List ℕ) (o : Option Actor) → s.actors a ≡ o → MayBegin s sender clean lspawn rspawn → RunsAlone o → is_member a ≡ false
+alone_other s sender clean lspawn rspawn a None is may alone = absurd alone
+alone_other s sender clean lspawn rspawn a (Some x) is may alone = ⊎_elim
+    (λ member. absurd (may.apart a x (member_contained a member) is alone))
+    (λ other. other)
+    (whether (is_member a))
+
+alone_four : (s : State) (sender clean lspawn rspawn : Program) (a : List ℕ) → MayBegin s sender clean lspawn rspawn → RunsAlone (s.actors a)
+    → with_four s.actors sender clean lspawn rspawn a ≡ s.actors a
+alone_four s sender clean lspawn rspawn a may alone =
+    four_other s.actors sender clean lspawn rspawn a (alone_other s sender clean lspawn rspawn a (s.actors a) refl may alone)
+
+-- the actor of a mail is there, and was started alone
 abbrev pub IsThere : State → List ℕ × Arguments → Type 0
-IsThere s mail = IsSome (s.actors mail.0)
+IsThere s mail = RunsAlone (s.actors mail.0)
 
 -- those of some mails are
 abbrev pub AreThere : State → List (List ℕ × Arguments) → Type 0
@@ -157,43 +202,44 @@ both_there : (s : State) (first second : List (List ℕ × Arguments)) → AreTh
 both_there s [] second h g = g
 both_there s (mail ∷ mails) second h g = (h.0, both_there s mails second h.1 g)
 
-all_there : (s t : State) (mails : List (List ℕ × Arguments)) → ((a : List ℕ) → IsSome (s.actors a) → IsSome (t.actors a)) → AreThere s mails → AreThere t mails
+all_there : (s t : State) (mails : List (List ℕ × Arguments)) → ((a : List ℕ) → RunsAlone (s.actors a) → RunsAlone (t.actors a)) → AreThere s mails → AreThere t mails
 all_there s t [] keeps h = tt
 all_there s t (mail ∷ mails) keeps h = (keeps mail.0 h.0, all_there s t mails keeps h.1)
 
-new_there : (t : State) (a : List ℕ) (o : Option Arguments) → IsSome (t.actors a) → AreThere t (mail_by a o)
+new_there : (t : State) (a : List ℕ) (o : Option Arguments) → RunsAlone (t.actors a) → AreThere t (mail_by a o)
 new_there t a None h = tt
 new_there t a (Some args) h = (h, tt)
 
-pub mails_there : (d : Disk) (events : List Kept) (h : List Event) → AllZip Tells events h → AreThere (after d h) (mails_of h)
-mails_there d [] [] told = tt
-mails_there d [] (e ∷ h) told = absurd told
-mails_there d (k ∷ events) [] told = absurd told
-mails_there d (k ∷ events) ((Start b program) ∷ h) told =
+pub mails_there : (d : Disk) (events : List Kept) (h : List Event) → Legal d h → AllZip Tells events h → AreThere (after d h) (mails_of h)
+mails_there d [] [] legal told = tt
+mails_there d [] (e ∷ h) legal told = absurd told
+mails_there d (k ∷ events) [] legal told = absurd told
+mails_there d (k ∷ events) ((Start b program) ∷ h) legal told =
     let s = after d h in
     let t = happens s (Start b program) in
     both_there t (mails_of h) (mail_by b (injection_of program))
-    (all_there s t (mails_of h) (λ a there. some_put s.actors b _ a (inr there)) (mails_there d events h told.1))
-    (new_there t b (injection_of program) (some_put s.actors b _ b (inl refl)))
-mails_there d (k ∷ events) ((Act b own wrote) ∷ h) told =
+    (all_there s t (mails_of h) (λ a there. alone_put s.actors b (newborn program) a (λ same. legal.1.runs) there) (mails_there d events h legal.0 told.1))
+    (new_there t b (injection_of program) (subst RunsAlone (sym (put_at_same s.actors b (Some (newborn program)))) legal.1.runs))
+mails_there d (k ∷ events) ((Act b own wrote) ∷ h) legal told =
     let s = after d h in
-    all_there s (happens s (Act b own wrote)) (mails_of h) (λ a there. some_acted s b own wrote (s.actors b) a there) (mails_there d events h told.1)
-mails_there d (k ∷ events) ((Child parent own b program) ∷ h) told = absurd told.0
-mails_there d (k ∷ events) ((Generation sender clean lspawn rspawn) ∷ h) told =
+    all_there s (happens s (Act b own wrote)) (mails_of h) (λ a there. alone_acted s b own wrote (s.actors b) a refl there) (mails_there d events h legal.0 told.1)
+mails_there d (k ∷ events) ((Child parent own b program) ∷ h) legal told = absurd told.0
+mails_there d (k ∷ events) ((Generation sender clean lspawn rspawn) ∷ h) legal told =
     let s = after d h in
-    all_there s (happens s (Generation sender clean lspawn rspawn)) (mails_of h) (λ a there. some_four s.actors sender clean lspawn rspawn a there) (mails_there d events h told.1)
-mails_there d (k ∷ events) ((Report slot letter text) ∷ h) told =
-    all_there (after d h) (happens (after d h) (Report slot letter text)) (mails_of h) (λ a there. there) (mails_there d events h told.1)
-mails_there d (k ∷ events) ((End b read ready status) ∷ h) told =
+    all_there s (happens s (Generation sender clean lspawn rspawn)) (mails_of h)
+    (λ a there. subst RunsAlone (sym (alone_four s sender clean lspawn rspawn a legal.1 there)) there) (mails_there d events h legal.0 told.1)
+mails_there d (k ∷ events) ((Report slot letter text) ∷ h) legal told =
+    all_there (after d h) (happens (after d h) (Report slot letter text)) (mails_of h) (λ a there. there) (mails_there d events h legal.0 told.1)
+mails_there d (k ∷ events) ((End b read ready status) ∷ h) legal told =
     let s = after d h in
-    all_there s (happens s (End b read ready status)) (mails_of h) (λ a there. some_finished s b (Over status) (s.actors b) a there) (mails_there d events h told.1)
-mails_there d (k ∷ events) ((Stop b) ∷ h) told =
+    all_there s (happens s (End b read ready status)) (mails_of h) (λ a there. alone_finished s b (Over status) (s.actors b) a refl there) (mails_there d events h legal.0 told.1)
+mails_there d (k ∷ events) ((Stop b) ∷ h) legal told =
     let s = after d h in
-    all_there s (happens s (Stop b)) (mails_of h) (λ a there. some_finished s b Stopped (s.actors b) a there) (mails_there d events h told.1)
-mails_there d (k ∷ events) ((Moment m) ∷ h) told = all_there (after d h) (happens (after d h) (Moment m)) (mails_of h) (λ a there. there) (mails_there d events h told.1)
-mails_there d (k ∷ events) ((Halt how contents) ∷ h) told =
+    all_there s (happens s (Stop b)) (mails_of h) (λ a there. alone_finished s b Stopped (s.actors b) a refl there) (mails_there d events h legal.0 told.1)
+mails_there d (k ∷ events) ((Moment m) ∷ h) legal told = all_there (after d h) (happens (after d h) (Moment m)) (mails_of h) (λ a there. there) (mails_there d events h legal.0 told.1)
+mails_there d (k ∷ events) ((Halt how contents) ∷ h) legal told =
     let s = after d h in
-    all_there s (happens s (Halt how contents)) (mails_of h) (λ a there. some_stopped (s.actors a) there) (mails_there d events h told.1)
+    all_there s (happens s (Halt how contents)) (mails_of h) (λ a there. alone_stopped (s.actors a) there) (mails_there d events h legal.0 told.1)
 
 -- Who isn't there has linked nothing.
 
@@ -325,7 +371,7 @@ start_books k b program books s h is new accepts before there =
     let old : map (noted own) books ≡ map u (mails_of h) =
     ap (map (noted own)) before
     ∙ turned (noted own) (entry_in s h) u s (mails_of h) there
-    (λ mail here. ap (λ life. made mail (number_of mail.0 h) (is_accepted mail.0 h) life) (start_life s.actors b _ mail.0 new here)) in
+    (λ mail here. ap (λ life. made mail (number_of mail.0 h) (is_accepted mail.0 h) life) (start_life s.actors b _ mail.0 new (alone_is (s.actors mail.0) here))) in
     ap (λ (k : Kept). map (noted k) books ++ entered_by k) is
     ∙ ap (λ (l : List Entry). l ++ entry_by b (injection_of program)) old
     ∙ ap (λ (l : List Entry). map u (mails_of h) ++ l)
@@ -340,49 +386,55 @@ told_so d (k ∷ events) ((Start b program) ∷ h) legal told =
     let s = after d h in
     start_books k b program (books_of events) s h told.0 legal.1.new
     (quiet d events h legal.0 told.1 b legal.1.new)
-    (told_so d events h legal.0 told.1) (mails_there d events h told.1)
+    (told_so d events h legal.0 told.1) (mails_there d events h legal.0 told.1)
 told_so d (k ∷ events) ((Act b own wrote) ∷ h) legal told =
     let s = after d h in
-    let agrees : is_accepting_by own.due own.came ≡ queues_by own.due own.came =
-    by_act s b wrote (λ own. is_accepting_by own.due own.came ≡ queues_by own.due own.came)
-    (λ read ready call got may. call_agrees s b read ready call got wrote (runs_always d h legal.0 b) may)
+    let agrees : RunsAlone (s.actors b) → is_accepting_by own.due own.came ≡ queues_by own.due own.came =
+    λ alone. by_act s b wrote (λ own. is_accepting_by own.due own.came ≡ queues_by own.due own.came)
+    (λ read ready call got may. call_agrees s b read ready call got wrote (λ x is. alone_runs (s.actors b) x is alone) may)
     (λ x read ready due came reads next pass. pass_agrees due came pass) own legal.1 in
     more_books k (kept.Act b own) (books_of events) (entry_in s h) (entry_in (happens s (Act b own wrote)) (Act b own wrote ∷ h)) s (mails_of h)
-    told.0 refl (told_so d events h legal.0 told.1) (mails_there d events h told.1)
+    told.0 refl (told_so d events h legal.0 told.1) (mails_there d events h legal.0 told.1)
     (λ mail there.
     let number : Option ℕ = newer (if bytes_eq b mail.0 then number_by own.due own.came else None) (number_of mail.0 h) in
     act_or mail (number_of mail.0 h) (bytes_eq b mail.0) (is_accepted mail.0 h) (life_in (s.actors mail.0)) own.due own.came
-    ∙ ap (λ t. made mail number ((bytes_eq b mail.0 && t) || is_accepted mail.0 h) (life_in (s.actors mail.0))) (sym agrees)
+    ∙ ap (λ t. made mail number (t || is_accepted mail.0 h) (life_in (s.actors mail.0)))
+    (sym (if_its b mail.0 (is_accepting_by own.due own.came) (queues_by own.due own.came) (λ same. agrees (subst (λ a. RunsAlone (s.actors a)) (sym same) there))))
     ∙ ap (λ life. made mail number ((bytes_eq b mail.0 && is_accepting_by own.due own.came) || is_accepted mail.0 h) life) (act_life s b own wrote (s.actors b) mail.0 refl))
 told_so d (k ∷ events) ((Child parent own b program) ∷ h) legal told = absurd told.0
-told_so d (k ∷ events) ((Generation sender clean lspawn rspawn) ∷ h) legal told = absurd (no_members told.0.0 sender clean lspawn rspawn told.0.2 legal.1.runs.0)
+told_so d (k ∷ events) ((Generation sender clean lspawn rspawn) ∷ h) legal told =
+    let s = after d h in
+    let e : Event = Generation sender clean lspawn rspawn in
+    more_books k (kept.Generation told.0.0) (books_of events) (entry_in s h) (entry_in (happens s e) (e ∷ h)) s (mails_of h)
+    told.0.1 refl (told_so d events h legal.0 told.1) (mails_there d events h legal.0 told.1)
+    (λ mail there. ap (λ life. made mail (number_of mail.0 h) (is_accepted mail.0 h) life) (ap life_in (sym (alone_four s sender clean lspawn rspawn mail.0 legal.1 there))))
 told_so d (k ∷ events) ((Report slot letter text) ∷ h) legal told =
     let s = after d h in
     more_books k (kept.Report slot letter text) (books_of events) (entry_in s h) (entry_in (happens s (Report slot letter text)) (Report slot letter text ∷ h)) s (mails_of h)
-    told.0 refl (told_so d events h legal.0 told.1) (mails_there d events h told.1) (λ mail there. refl)
+    told.0 refl (told_so d events h legal.0 told.1) (mails_there d events h legal.0 told.1) (λ mail there. refl)
 told_so d (k ∷ events) ((End b read ready status) ∷ h) legal told =
     let s = after d h in
     more_books k (kept.End b read ready status) (books_of events) (entry_in s h) (entry_in (happens s (End b read ready status)) (End b read ready status ∷ h)) s (mails_of h)
-    told.0 refl (told_so d events h legal.0 told.1) (mails_there d events h told.1)
+    told.0 refl (told_so d events h legal.0 told.1) (mails_there d events h legal.0 told.1)
     (λ mail there.
     left_or mail (number_of mail.0 h) (bytes_eq b mail.0) (is_accepted mail.0 h) (life_in (s.actors mail.0)) (left.Ended status)
     ∙ ap (λ life. made mail (number_of mail.0 h) (is_accepted mail.0 h) life) (over_life s b (Over status) (s.actors b) mail.0 (ap is_some legal.1.reads.is)))
 told_so d (k ∷ events) ((Stop b) ∷ h) legal told =
     let s = after d h in
     more_books k (kept.Stop b) (books_of events) (entry_in s h) (entry_in (happens s (Stop b)) (Stop b ∷ h)) s (mails_of h)
-    told.0 refl (told_so d events h legal.0 told.1) (mails_there d events h told.1)
+    told.0 refl (told_so d events h legal.0 told.1) (mails_there d events h legal.0 told.1)
     (λ mail there.
     left_or mail (number_of mail.0 h) (bytes_eq b mail.0) (is_accepted mail.0 h) (life_in (s.actors mail.0)) left.Stopped
     ∙ ap (λ life. made mail (number_of mail.0 h) (is_accepted mail.0 h) life) (over_life s b Stopped (s.actors b) mail.0 (ap is_some legal.1.is)))
 told_so d (k ∷ events) ((Moment m) ∷ h) legal told =
     let s = after d h in
     more_books k (kept.Moment m) (books_of events) (entry_in s h) (entry_in (happens s (Moment m)) (Moment m ∷ h)) s (mails_of h)
-    told.0 refl (told_so d events h legal.0 told.1) (mails_there d events h told.1) (λ mail there. refl)
+    told.0 refl (told_so d events h legal.0 told.1) (mails_there d events h legal.0 told.1) (λ mail there. refl)
 told_so d (k ∷ events) ((Halt how contents) ∷ h) legal told =
     let s = after d h in
     more_books k (kept.Halt how) (books_of events) (entry_in s h) (entry_in (happens s (Halt how contents)) (Halt how contents ∷ h)) s (mails_of h)
-    told.0 refl (told_so d events h legal.0 told.1) (mails_there d events h told.1)
-    (λ mail there. ap (λ life. made mail (number_of mail.0 h) (is_accepted mail.0 h) life) (halt_life (s.actors mail.0) there))
+    told.0 refl (told_so d events h legal.0 told.1) (mails_there d events h legal.0 told.1)
+    (λ mail there. ap (λ life. made mail (number_of mail.0 h) (is_accepted mail.0 h) life) (halt_life (s.actors mail.0) (alone_is (s.actors mail.0) there)))
 
 pub books_told : BooksAreTheModels
 books_told d events h legal told = told_so d (reverse events) h legal told

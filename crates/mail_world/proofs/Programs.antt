@@ -19,8 +19,8 @@ use Rattle.mail_world.specs.Acting.{IsAct}
 use Rattle.queue_inject.proofs.Acts.{IsAlone, next_act, next_alone}
 use Rattle.queue_clean.proofs.Demands.{asks, needs_none}
 use Rattle.send_core.proofs.Holds.{uses as sends_held}
-use Rattle.local_spawn.specs.Table.{place_after, row_now}
-use Rattle.local_spawn.proofs.Asks.{needs_none as answers_none}
+use Rattle.no_mailbox.specs.Table.{place_after, row_now}
+use Rattle.no_mailbox.proofs.Asks.{needs_none as answers_none}
 use Rattle.remote_spawn.proofs.Holds.{uses as spawns_held}
 use Rattle.world_events.specs.declared.event.Program.{Program}
 use Rattle.world_events.specs.declared.event.Program.TheVariants.{Injector, Cleaner, Sender, LocalSpawner, RemoteSpawner}
@@ -30,13 +30,12 @@ use Rattle.mail_world.specs.Pipework.{Slot}
 use Rattle.mail_world.specs.History.{Actor, Life, State, InputIsFound, FindsInputAlone, MayFind, MayRun, next_of, latest, own_call, booked_by, held_by, cut_off}
 use Rattle.mail_world.specs.History.Life.{Alive, Over}
 use Rattle.mail_world.specs.Headline.{IsBooked, EndsWell}
-use Rattle.mail_world.specs.World.{AreMembers}
 use Rattle.mail_world.specs.Readiness.{found_by, found_at, found_in, finds}
 use Rattle.mail_world.specs.declared.mailer.Mailer.{Mailer}
 use Rattle.mail_world.specs.ByKind.{IsMail, CanFind, HasRoom, Leaves, Follows, Mails, Cleans, Sends, Answers, Spawns}
 use Rattle.queue_clean.specs.Machine.{Machine as Cleaning}
 use Rattle.send_core.specs.Stands.{Machine as Sending}
-use Rattle.local_spawn.specs.declared.machine.LocalSpawn.{LocalSpawn}
+use Rattle.no_mailbox.specs.declared.machine.NoMailbox.{NoMailbox}
 use Rattle.remote_spawn.specs.declared.machine.RemoteSpawn.{RemoteSpawn}
 use Rattle.call_fs.specs.declared.program.TheConstants.{INPUT_READY}
 use Rattle.queue_law.specs.Books.{Injection, IsInjected}
@@ -105,7 +104,7 @@ sender_is_none : (m : Sending) (program : Program) (past : List Own) → IsMail 
 sender_is_none m (Sender start) past mail f = mail
 sender_is_none m other past mail f = f
 
-local_is_none : (m : LocalSpawn) (program : Program) (past : List Own) → IsMail program → Answers m program past → ⊥
+local_is_none : (m : NoMailbox) (program : Program) (past : List Own) → IsMail program → Answers m program past → ⊥
 local_is_none m (LocalSpawner start) past mail f = mail
 local_is_none m other past mail f = f
 
@@ -139,10 +138,6 @@ pub program_finds : (s : State) (a : List ℕ) (program : Program) → IsMail pr
 program_finds s a (Injector args) mail past ready none alone =
     (alone, subst (λ (slot : Option Slot). InputIsFound s.pipework a slot past ready) (sym none) tt)
 program_finds s a other mail past ready none alone = absurd mail
-
--- no history starts a sender yet, so none starts a generation
-pub no_members : (start : ℕ) (sender clean lspawn rspawn : Program) → AreMembers start sender clean lspawn rspawn → MayRun sender → ⊥
-no_members start sender clean lspawn rspawn are runs = subst MayRun are.sender_is runs
 
 -- How it fares
 

@@ -30,7 +30,7 @@ use Rattle.queue_paths.proofs.Paths.{exact}
 use Rattle.world_events.specs.declared.event.Event.{Event as Kept}
 use Rattle.world_events.specs.declared.event.Program.{Program}
 use Rattle.world_events.specs.declared.event.Program.TheVariants.{Injector}
-use Rattle.mail_world.specs.History.{Event, Actor, Injection, Books, Life, State, MayRun, next_of, own_call, stopped, acted, finished, begun, accept, linked, booked, books_after, after, Legal}
+use Rattle.mail_world.specs.History.{Event, Actor, Injection, Books, Life, State, MayRun, next_of, own_call, stopped, acted, finished, begun, accept, linked, booked, books_after, told_by, after}
 use Rattle.mail_world.specs.History.Event.{Start, Act, Child, Generation, Report, End, Stop, Moment, Halt}
 use Rattle.mail_world.specs.History.Life.{Over, Stopped}
 use Rattle.mail_world.specs.Headline.{IsBooked, HasQueued, Safe}
@@ -38,8 +38,8 @@ use Rattle.mail_world.specs.World.{Tells}
 use Rattle.mail_world.specs.Books.{is_to_todo, is_accepting, is_accepting_by, is_accepted, AcceptedAreBooked}
 use Rattle.mail_world.proofs.BookedNumbers.{IsIn, among_option, injections_told}
 use Rattle.mail_world.proofs.Headline.{headline}
+use Rattle.mail_world.proofs.Covered.{AreLone, covered}
 use Rattle.mail_world.proofs.Kept.{runs_always}
-use Rattle.mail_world.proofs.Programs.{no_members}
 use Rattle.mail_world.proofs.Owns.{IsPass, by_act, may_read}
 use Rattle.mail_world.proofs.Tests.{text_cases, same_text}
 
@@ -126,20 +126,25 @@ call_linked b a args (call.Unlink name) answer said h mine = h
 call_linked b a args (call.Stat name) answer said h mine = h
 call_linked b a args (call.NextName dir name) answer said h mine = h
 
-program_linked : (b : Books) (a : List ℕ) (program : Program) (c : CallData) (got : Told) (said : List ℕ → Bool) → MayRun program → AreLinked b said → (is_accepting c got.answer ≡ true → said a ≡ true)
-    → AreLinked (books_after b a program (needs.File c) (Answered got)) said
-program_linked b a (Injector args) c got said runs h mine = call_linked b a args c got.answer said h mine
-program_linked b a other c got said runs h mine = absurd runs
+program_linked : (b : Books) (a : List ℕ) (program : Program) (past : List Own) (read : ℕ) (ready : Ready) (c : CallData) (got : Told) (said : List ℕ → Bool) → MayRun program → AreLinked b said → (is_accepting c got.answer ≡ true → said a ≡ true)
+    → AreLinked (books_after b a program past read ready (needs.File c) (Answered got)) said
+program_linked b a (Injector args) past read ready c got said runs h mine = call_linked b a args c got.answer said h mine
+program_linked b a other past read ready c got said runs h mine = absurd runs
 
--- what passes between programs changes no books
-pass_books : (b : Books) (a : List ℕ) (program : Program) (due : NeedData) (came : GotData) → IsPass due → books_after b a program due came ≡ b
-pass_books b a program (needs.Take port) came pass = refl
-pass_books b a program (needs.Give port bytes) came pass = refl
-pass_books b a program (needs.Start asked) came pass = refl
-pass_books b a program (needs.Command bytes) came pass = refl
-pass_books b a program (needs.File c) came pass = absurd pass
-pass_books b a program needs.Wait came pass = absurd pass
-pass_books b a program (needs.Ended status) came pass = absurd pass
+-- what passes between programs changes no books, if it isn't a sender's
+take_books : (b : Books) (program : Program) (past : List Own) (read : ℕ) (ready : Ready) (came : GotData) → MayRun program → told_by b program past read ready came ≡ b
+take_books b (Injector args) past read ready came runs = refl
+take_books b other past read ready came runs = absurd runs
+
+pass_books : (b : Books) (a : List ℕ) (program : Program) (past : List Own) (read : ℕ) (ready : Ready) (due : NeedData) (came : GotData) → MayRun program → IsPass due
+    → books_after b a program past read ready due came ≡ b
+pass_books b a program past read ready (needs.Take port) came runs pass = take_books b program past read ready came runs
+pass_books b a program past read ready (needs.Give port bytes) came runs pass = refl
+pass_books b a program past read ready (needs.Start asked) came runs pass = refl
+pass_books b a program past read ready (needs.Command bytes) came runs pass = refl
+pass_books b a program past read ready (needs.File c) came runs pass = absurd pass
+pass_books b a program past read ready needs.Wait came runs pass = absurd pass
+pass_books b a program past read ready (needs.Ended status) came runs pass = absurd pass
 
 finished_books : (s : State) (b : List ℕ) (life : Life) (o : Option Actor) → (finished s b life o).books ≡ s.books
 finished_books s b life None = refl
@@ -147,9 +152,9 @@ finished_books s b life (Some x) = refl
 
 abbrev LinksOn : State → List ℕ → Own → Type 0
 LinksOn s b own = (x : Actor) → s.actors b ≡ Some x → (said : List ℕ → Bool) → AreLinked s.books said → (is_accepting_by own.due own.came ≡ true → said b ≡ true)
-    → AreLinked (books_after s.books b x.program own.due own.came) said
+    → AreLinked (books_after s.books b x.program x.past own.read own.ready own.due own.came) said
 
-linked_told : (d : Disk) (events : List Kept) (h : List Event) → Legal d h → AllZip Tells events h → AreLinked (after d h).books (λ a. is_accepted a h)
+linked_told : (d : Disk) (events : List Kept) (h : List Event) → AreLone d h → AllZip Tells events h → AreLinked (after d h).books (λ a. is_accepted a h)
 linked_told d [] [] legal told q is agreed = ⊎_elim (λ w. absurd (cc)) (λ w. absurd w) is
 linked_told d [] (e ∷ h) legal told q is agreed = absurd told
 linked_told d (k ∷ events) [] legal told q is agreed = absurd told
@@ -161,8 +166,8 @@ linked_told d (k ∷ events) ((Act b own wrote) ∷ h) legal told q is agreed =
     let said : List ℕ → Bool = λ a. (bytes_eq b a && t) || is_accepted a h in
     let on : LinksOn s b own =
     by_act s b wrote (LinksOn s b)
-    (λ read ready c got may x here said old mine. program_linked s.books b x.program c got said (runs_always d h legal.0 b x here) old mine)
-    (λ x read ready due came reads next pass y here said old mine. subst (λ (books : Books). AreLinked books said) (sym (pass_books s.books b y.program due came pass)) old)
+    (λ read ready c got may x here said old mine. program_linked s.books b x.program x.past read ready c got said (runs_always d h legal.0 b x here) old mine)
+    (λ x read ready due came reads next pass y here said old mine. subst (λ (books : Books). AreLinked books said) (sym (pass_books s.books b y.program y.past read ready due came (runs_always d h legal.0 b y here) pass)) old)
     own legal.1 in
     let before : AreLinked s.books said =
     λ q is agreed. ap (λ c. (bytes_eq b q.actor && t) || c) (linked_told d events h legal.0 told.1 q is agreed) ∙ or-true (bytes_eq b q.actor && t) in
@@ -305,7 +310,7 @@ act_row s b own wrote x t before a is on old agreed =
     (λ w. subst HasRow (sym (put_at_other s.actors b (Some now) a (λ e. w.0 (sym e)))) (old (ap (λ c. (c && t) || before) (sym w.1) ∙ agreed)))
     (text_cases b a)
 
-row_told : (d : Disk) (events : List Kept) (h : List Event) → Legal d h → AllZip Tells events h → (a : List ℕ) → is_accepted a h ≡ true → HasRow ((after d h).actors a)
+row_told : (d : Disk) (events : List Kept) (h : List Event) → AreLone d h → AllZip Tells events h → (a : List ℕ) → is_accepted a h ≡ true → HasRow ((after d h).actors a)
 row_told d [] [] legal told a agreed = absurd cc
 row_told d [] (e ∷ h) legal told a agreed = absurd told
 row_told d (k ∷ events) [] legal told a agreed = absurd told
@@ -325,7 +330,7 @@ row_told d (k ∷ events) ((Act b own wrote) ∷ h) legal told a agreed =
     subst (λ (o : Option Actor). HasRow ((acted s b own wrote o).actors a)) (sym reads.1.is)
     (act_row s b own wrote reads.0 (is_accepting_by own.due own.came) (is_accepted a h) a reads.1.is (on reads.0 reads.1.is) (row_told d events h legal.0 told.1 a) agreed)
 row_told d (k ∷ events) ((Child parent own b program) ∷ h) legal told a agreed = absurd told.0
-row_told d (k ∷ events) ((Generation sender clean lspawn rspawn) ∷ h) legal told a agreed = absurd (no_members told.0.0 sender clean lspawn rspawn told.0.2 legal.1.runs.0)
+row_told d (k ∷ events) ((Generation sender clean lspawn rspawn) ∷ h) legal told a agreed = absurd legal.1
 row_told d (k ∷ events) ((Report slot letter text) ∷ h) legal told a agreed = row_told d events h legal.0 told.1 a agreed
 row_told d (k ∷ events) ((End b read ready status) ∷ h) legal told a agreed =
     finish_row (after d h) b (Over status) ((after d h).actors b) a refl (row_told d events h legal.0 told.1 a agreed)
@@ -340,17 +345,18 @@ row_booked s a (Some x) safe is row =
     let booked = subst (λ (program : Program). IsBooked s.books a program x.past) row.1 (safe.queued a x is) in
     (row.0, booked row.2)
 
-booked_row : (d : Disk) (events : List Kept) (h : List Event) → Legal d h → AllZip Tells events h → (a : List ℕ) → (args : Arguments) × HasQueued (after d h).books a args → is_accepted a h ≡ true
+booked_row : (d : Disk) (events : List Kept) (h : List Event) → AreLone d h → AllZip Tells events h → (a : List ℕ) → (args : Arguments) × HasQueued (after d h).books a args → is_accepted a h ≡ true
 booked_row d events h legal told a w =
     let q = w.1.0 in
     let is : IsIn (after d h).books q = ⊎_elim (λ l. inl (q.number, l)) (λ o. inr o) w.1.1 in
     sym (ap (λ a. is_accepted a h) w.1.2) ∙ linked_told d events h legal told q is w.1.4
 
 pub accepted_booked : AcceptedAreBooked
-accepted_booked d events h legal told = (
-  λ a. (
-    λ agreed. row_booked (after d h) a ((after d h).actors a) (headline d [] h legal) refl (row_told d (reverse events) h legal told a agreed),
-    λ w. booked_row d (reverse events) h legal told a w,
-  ),
-  λ q is. injections_told d (reverse events) h legal told q (⊎_elim (λ l. inl (q.number, l)) (λ o. inr o) is),
-)
+accepted_booked d events h legal none told =
+    let lone = covered d h legal none in (
+      λ a. (
+        λ agreed. row_booked (after d h) a ((after d h).actors a) (headline d [] h legal none) refl (row_told d (reverse events) h lone told a agreed),
+        λ w. booked_row d (reverse events) h lone told a w,
+      ),
+      λ q is. injections_told d (reverse events) h lone told q (⊎_elim (λ l. inl (q.number, l)) (λ o. inr o) is),
+    )

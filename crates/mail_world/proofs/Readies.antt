@@ -12,9 +12,11 @@ use Rattle.call_fs.specs.declared.past.NeedData.TheVariants as needs
 use Rattle.call_fs.specs.declared.past.GotData.{GotData}
 use Rattle.call_fs.specs.declared.past.Own.{Own}
 use Rattle.mail_world.specs.World.{Tells, ComesWhole, IsOwnOf}
+use Rattle.mail_world.specs.Headline.{IsCovered}
 use Rattle.mail_world.specs.Known.{known}
 use Rattle.mail_world.specs.Readiness.{found_at, found_in}
 use Rattle.mail_world.proofs.Known.{after_known}
+use Rattle.mail_world.proofs.Covered.{covered}
 use Rattle.mail_world.proofs.Kept.{runs_always}
 use Rattle.mail_world.proofs.Programs.{mail_found}
 
@@ -23,12 +25,12 @@ at_found : (s t : State) (a : List ℕ) (o : Option Actor) → ((x : Actor) → 
 at_found s t a None runs = refl
 at_found s t a (Some x) runs = mail_found t a x.program (runs x refl) ∙ sym (mail_found s a x.program (runs x refl))
 
-pub known_found : (o : Disk) (events : List Kept) (h : List Event) (a : List ℕ) → Legal o h → AllZip Tells (reverse events) h → found_in (known events) a ≡ found_in (after o h) a
-known_found o events h a legal told =
+pub known_found : (o : Disk) (events : List Kept) (h : List Event) (a : List ℕ) → Legal o h → IsCovered h → AllZip Tells (reverse events) h → found_in (known events) a ≡ found_in (after o h) a
+known_found o events h a legal none told =
     let s = after o h in
     let t = known events in
     let same = after_known o events h told in
-    ap (found_at t a) (sym (ap (λ (m : List ℕ → Option Actor). m a) same.actors)) ∙ at_found s t a (s.actors a) (runs_always o h legal a)
+    ap (found_at t a) (sym (ap (λ (m : List ℕ → Option Actor). m a) same.actors)) ∙ at_found s t a (s.actors a) (runs_always o h (covered o h legal none) a)
 
 -- what an actor did in a world is a file call
 pub record IsOwnCall (present : ℕ) (ready : Ready) (own : Own) : Type 0 where

@@ -36,6 +36,7 @@ use Rattle.mail_world.specs.ByKind.{IsMail, Follows}
 use Rattle.mail_world.specs.Inside.{known, span_by, IsMember, AreActors, IsOpenTo, IsLed, IsWorld}
 use Rattle.mail_world.specs.Readiness.{found_by, found_at, found_in, finds}
 use Rattle.mail_world.specs.Acting.{IsAct, MayAct, MayMake, AreOpen, AreCutOff, HasActed, HasDone, IsCarried, MakesOf, IsFinished, opened_by, open_after, shut}
+use Rattle.mail_world.proofs.Covered.{begins_none, none_alone, alone_push}
 use Rattle.mail_world.proofs.Known.{known_push}
 use Rattle.mail_world.proofs.Spans.{span_push}
 use Rattle.mail_world.proofs.Histories.{IsActing, LeadsOn, call_told, end_told, stop_told, moment_told, start_told, halt_told, led_on, led_still}
@@ -125,6 +126,7 @@ look_keeps told places actors s events p n i x y w at name ended list follows = 
   kept = crew_looks places actors s events p i x y w.kept at.is name (look_member s events p x y at.member name ended follows);
   opens = on_told told (λ d. IsOpenTo d actors s) (λ d. IsOpenTo d (set actors i y) s) (λ d o. look_opens actors s i x y d at.is name list o) w.opens;
   led = w.led;
+  alone = w.alone;
 }
 
 acting : (s : State) (p : ℕ) (x : Held) (events : List Kept) (m : IsMember s events p x) → x.ended ≡ None → IsActing s x.name p m.actor
@@ -173,6 +175,7 @@ call_keeps old new places actors events p n i x y ready c got w at alone name en
       opens = on_both old new (λ d. IsOpenTo d actors s) (λ d. IsOpenTo d (set actors i y) t) (λ d e. Apply d p c got.answer e × IsReadBy d c got)
           (λ d e applied o. call_open d e places actors s events p i x y ready at c got w.kept name list due applied.0 o) made w.opens;
       led = led_on old new (λ d e. Apply d p c got.answer e × IsReadBy d c got) events (events ++ k ∷ []) p p made (call_leads_on old new places actors events p i x ready c got at alone due made) w.led;
+      alone = alone_push events k refl w.alone;
     })
 
 -- what an actor has open can be closed
@@ -232,6 +235,7 @@ finish_keeps old new places actors events later p n i x y k life w at f over on 
           (λ d e is o. subst (λ (d : Disk). IsOpenTo d (set actors i y) t) (sym is) (finish_opens places actors s events p i x y m d life f.dead w.kept at.is name over.descriptors o))
           (shut_is old new places actors s events p n i x w at over.closed) w.opens;
       led = led_on old new (λ d e. e ≡ shut x.descriptors.items d) events (events ++ k ∷ []) p p over.closed on w.led;
+      alone = alone_push events k (begins_none k none_starts) w.alone;
     }))
 
 -- what a world carries out is a file call
@@ -327,6 +331,7 @@ moment_keeps told places actors events p m n moment later w =
       kept = crew_waits places actors s t events k p m later w.kept refl refl (λ a. refl) (λ a. refl);
       opens = on_told told (λ d. IsOpenTo d actors s) (λ d. IsOpenTo d actors t) (λ d o. moment_opens actors s m d o) w.opens;
       led = led_still told events (events ++ k ∷ []) p m (moment_told told events p m moment later) w.led;
+      alone = alone_push events k refl w.alone;
     })
 
 -- the machine stopped
@@ -346,6 +351,7 @@ halt_keeps old new places actors stood events p n how w cut met =
       opens = on_both old new (λ d. IsOpenTo d actors s) (λ d. IsOpenTo d stood t) (λ d e. Halts how d e)
           (λ d e halts o. halt_opens (length events) actors stood s t e halted cut) met w.opens;
       led = led_on old new (λ d e. Halts how d e) events (events ++ k ∷ []) p p met (halt_told old new events p how met) w.led;
+      alone = alone_push events k refl w.alone;
     })
 
 -- a disk that tells the same, or not
@@ -413,6 +419,7 @@ start_keeps told places next actors events p n q y a program mail w new put name
       opens = on_told told (λ d. IsOpenTo d actors s) (λ d. IsOpenTo d (actors ++ y ∷ []) t)
           (λ d o. start_opens places actors s events p y a program d w.kept new name list o) w.opens;
       led = led_still told events (events ++ k ∷ []) p p (start_leads_on told places actors events p n a program mail w new) w.led;
+      alone = alone_push events k refl w.alone;
     })
 
 -- a world without actors
@@ -430,6 +437,7 @@ new_keeps told places none = record {
   };
   opens = every told (λ d. IsOpenTo d [] (known [])) (λ d. record { held = λ fd a is. absurd (cc); each = λ i x is. absurd (cc) });
   led = every told (λ d. IsLed d [] 0) (λ d. (d, [], record { allowed = tt; told = tt; named = tt; disk = refl; moment = refl }));
+  alone = none_alone;
 } where
   every : {X : Type 0} (t : Option X) (P : X → Type 0) → ((x : X) → P x) → OnTold t P
   every None P f = tt

@@ -25,7 +25,7 @@ use Rattle.mail_world.specs.ByKind.{injection_of}
 use Rattle.mail_world.specs.History.{Event, Actor, Life, State, Injection, after, Legal}
 use Rattle.mail_world.specs.History.Event.{Start, Act, Child, Generation, Report, End, Stop, Moment, Halt}
 use Rattle.mail_world.specs.History.Life.{Alive, Over, Stopped}
-use Rattle.mail_world.specs.Headline.{IsInjected, HasQueued}
+use Rattle.mail_world.specs.Headline.{IsInjected, HasQueued, IsCovered}
 use Rattle.mail_world.specs.World.{Tells}
 -- the books by the events that a world kept
 pub use Rattle.world_events.specs.Books.{entries_of, HasPlace, new_entry, entry_by, entered_by, queues, queues_by, mess_number, linked_number, number_by, newer, acted_on, left_as, cut_off, noted, books_of}
@@ -130,9 +130,10 @@ pub record IsOfMail (h : List Event) (q : Injection) : Type 0 where
   pub number : is_number q.number ≡ true → number_of q.actor h ≡ Some q.number
 
 -- A mail is accepted in them exactly if the books of the state have an accepted injection of it; and each injection there,
--- accepted or not, is of its actor's mail, with that mail's sender and recipients, and has its number.
+-- accepted or not, is of its actor's mail, with that mail's sender and recipients, and has its number. It is claimed of histories
+-- in which no generation was started.
 abbrev pub AcceptedAreBooked : Type 0
 AcceptedAreBooked =
-    (d : Disk) (events : List Kept) (h : List Event) → Legal d h → AllZip Tells (reverse events) h
+    (d : Disk) (events : List Kept) (h : List Event) → Legal d h → IsCovered h → AllZip Tells (reverse events) h
     → ((a : List ℕ) → (is_accepted a h ≡ true) ↔ ((args : Arguments) × HasQueued (after d h).books a args))
     × ((q : Injection) → IsInjected (after d h).books q → IsOfMail h q)

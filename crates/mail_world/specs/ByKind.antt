@@ -15,8 +15,8 @@ use Rattle.queue_inject.specs.Stands.{Stands}
 use Rattle.queue_clean.specs.Machine.{Machine as Cleaning, due_now as cleaning_due}
 use Rattle.queue_clean.specs.Stands.{Stands as CleansAfter}
 use Rattle.send_core.specs.Stands.{Machine as Sending, Stands as SendsAfter, due_now as sending_due}
-use Rattle.local_spawn.specs.declared.machine.LocalSpawn.{LocalSpawn}
-use Rattle.local_spawn.specs.Stands.{Stands as AnswersAfter, due_now as answering_due}
+use Rattle.no_mailbox.specs.declared.machine.NoMailbox.{NoMailbox}
+use Rattle.no_mailbox.specs.Stands.{Stands as AnswersAfter, due_now as answering_due}
 use Rattle.remote_spawn.specs.declared.machine.RemoteSpawn.{RemoteSpawn}
 use Rattle.remote_spawn.specs.Stands.{Stands as RunsAfter, due_now as running_due}
 use Rattle.call_fs.specs.Disk.{Disk}
@@ -76,7 +76,7 @@ Sends sender other past = ⊥
 -- The spawners
 
 -- a local spawner is that of this program with this past
-abbrev pub Answers : LocalSpawn → Program → List Own → Type 0
+abbrev pub Answers : NoMailbox → Program → List Own → Type 0
 Answers spawner (LocalSpawner start) past = AnswersAfter spawner tt past
 Answers spawner other past = ⊥
 

@@ -1,5 +1,5 @@
 -- What is claimed of each state, and the headline: no accepted message is lost.
-use Rattle.std.specs.Prelude.{◌≡◌, ◌≢◌, ℕ, ◌<◌, List, ◌++◌, length, true, Some}
+use Rattle.std.specs.Prelude.{◌≡◌, ◌≢◌, ℕ, ◌<◌, List, [], ◌∷◌, ◌++◌, length, Bool, true, false, Some}
 use Rattle.call_fs.specs.Disk.{Disk, IsSynced}
 use Rattle.queue_paths.specs.Names.{path}
 use Rattle.queue_paths.specs.Names.Part.{Mess, Todo}
@@ -13,6 +13,7 @@ use Rattle.world_events.specs.declared.event.Program.TheVariants.{Injector}
 use Rattle.queue_states.specs.declared.state.State.TheVariants.{Other}
 use Rattle.queue_states.specs.States.{state_of}
 use Rattle.mail_world.specs.History.{Event, Actor, Injection, Books, State, after, Legal}
+use Rattle.mail_world.specs.History.Event.{Start, Act, Child, Generation, Report, End, Stop, Moment, Halt}
 use Rattle.mail_world.specs.History.Life.{Over}
 -- injections, and what is valid
 pub use Rattle.queue_law.specs.Books.{IsInjected, IsValid, HasQueued}
@@ -54,6 +55,24 @@ pub record Safe (s : State) : Type 0 where
   -- an injector's end with 0 comes only of an accepted injection
   pub ends : (a : List ℕ) (x : Actor) → s.actors a ≡ Some x → x.life ≡ Over 0 → EndsWell s.books a x.program
 
--- However the calls interleave and wherever a program or the machine stops: each prefix of a legal history is safe.
+-- the start of a generation
+abbrev pub is_generation : Event → Bool
+is_generation (Start a program) = false
+is_generation (Act a own wrote) = false
+is_generation (Child parent own a program) = false
+is_generation (Generation sender clean lspawn rspawn) = true
+is_generation (Report slot letter text) = false
+is_generation (End a read ready status) = false
+is_generation (Stop a) = false
+is_generation (Moment m) = false
+is_generation (Halt how contents) = false
+
+-- What is claimed of histories so far is claimed of those in which no generation was started.
+abbrev pub IsCovered : List Event → Type 0
+IsCovered [] = Unit {0}
+IsCovered (event ∷ before) = IsCovered before × (is_generation event ≡ false)
+
+-- However the calls interleave and wherever a program or the machine stops: each prefix of a legal history is safe, if no
+-- generation was started in it.
 abbrev pub Headline : Type 0
-Headline = (d : Disk) (later before : List Event) → Legal d (later ++ before) → Safe (after d before)
+Headline = (d : Disk) (later before : List Event) → Legal d (later ++ before) → IsCovered before → Safe (after d before)

@@ -31,8 +31,9 @@ use Rattle.queue_paths.specs.Names.{Part, path}
 use Rattle.queue_paths.specs.Names.Name.{Of}
 use Rattle.queue_inject.specs.Table.{Next, has_input}
 use Rattle.queue_clean.specs.Table.{Next as CleansNext}
-use Rattle.send_core.specs.Table.{Next as SendsNext}
-use Rattle.local_spawn.specs.Table.{Next as AnswersNext}
+use Rattle.send_core.specs.Delivered.{delivered_at}
+use Rattle.send_core.specs.Table.{Next as SendsNext, desk_after, row_now}
+use Rattle.no_mailbox.specs.Table.{Next as AnswersNext}
 use Rattle.remote_spawn.specs.Table.{Next as SpawnsNext}
 use Rattle.world_events.specs.declared.event.Program.{Program}
 use Rattle.world_events.specs.declared.event.Program.TheVariants.{Injector, Cleaner, Sender, LocalSpawner, RemoteSpawner}
@@ -40,7 +41,7 @@ use Rattle.actor_names.specs.MailNames.{members}
 use Rattle.mail_world.specs.Pipework.{Pipework, Tenant, Slot, is_ready, Yields, no_pipework, slot_of, pipework_after, with_child, without_writer, with_generation, with_report}
 use Rattle.mail_world.specs.Pipework.Tenant.{Runs, Remote}
 -- the injections of the books
-pub use Rattle.queue_law.specs.Books.{own_call, last_read, Injection, Books, begun, accept, linked, booked, held_by}
+pub use Rattle.queue_law.specs.Books.{own_call, last_read, Injection, Books, begun, accept, linked, booked, entered_all, held_by}
 
 -- One event. `own` is an event of the actor's own past, and the start of a child is its parent's too. `wrote` is how many
 -- bytes a failed write had written, or a failed giving had given, which no program is told. A generation is its four
@@ -120,7 +121,7 @@ pub record State : Type 0 where
   pub books : Books
   pub pipework : Pipework
 
--- What they say after a call, by the program that made it. What a sender's mark means to them is still to come.
+-- What they say after a call, by the program that made it. A sender's calls enter nothing.
 abbrev pub booked_by : Books → List ℕ → Program → CallData → Answer → Books
 booked_by b a (Injector args) call answer = booked b a args call answer
 booked_by b a (Cleaner start) call answer = b
@@ -128,8 +129,17 @@ booked_by b a (Sender start) call answer = b
 booked_by b a (LocalSpawner start) call answer = b
 booked_by b a (RemoteSpawner start) call answer = b
 
--- What an event of an actor does to the disk, to the descriptors and to the books: a file call its effect, any other
--- nothing.
+-- What they say after a taking: a sender's enters those of whom the reports that it brings say that they were delivered.
+abbrev pub told_by : Books → Program → List Own → ℕ → Ready → GotData → Books
+told_by b (Injector args) past read ready came = b
+told_by b (Cleaner start) past read ready came = b
+told_by b (Sender start) past read ready came =
+    let d = desk_after None past in entered_all (delivered_at (row_now d read ready) came d) b
+told_by b (LocalSpawner start) past read ready came = b
+told_by b (RemoteSpawner start) past read ready came = b
+
+-- What an event of an actor does to the disk, to the descriptors and to the books: a file call its effect, a sender's taking what it
+-- enters, any other nothing.
 abbrev pub disk_after : Disk → ℕ → NeedData → GotData → ℕ → Disk
 disk_after d read (needs.File call) (Answered told) wrote = effect d read call told.answer wrote
 disk_after d read due came wrote = d
@@ -138,9 +148,10 @@ abbrev pub holder_after : (ℕ → Option (List ℕ)) → List ℕ → NeedData 
 holder_after holder a (needs.File call) (Answered told) = held_by holder a call told.answer
 holder_after holder a due came = holder
 
-abbrev pub books_after : Books → List ℕ → Program → NeedData → GotData → Books
-books_after b a program (needs.File call) (Answered told) = booked_by b a program call told.answer
-books_after b a program due came = b
+abbrev pub books_after : Books → List ℕ → Program → List Own → ℕ → Ready → NeedData → GotData → Books
+books_after b a program past read ready (needs.File call) (Answered told) = booked_by b a program call told.answer
+books_after b a program past read ready (needs.Take port) came = told_by b program past read ready came
+books_after b a program past read ready due came = b
 
 -- the state after an event of an actor, which is the newest of its own past then
 abbrev pub acted : State → List ℕ → Own → ℕ → Option Actor → State
@@ -150,7 +161,7 @@ acted s a own wrote (Some x) = record {
   holder = holder_after s.holder a own.due own.came;
   now = s.now;
   actors = put_at s.actors a (Some (record { program = x.program; past = own ∷ x.past; life = x.life }));
-  books = books_after s.books a x.program own.due own.came;
+  books = books_after s.books a x.program x.past own.read own.ready own.due own.came;
   pipework = pipework_after s.pipework a own.due own.came wrote;
 }
 
@@ -253,7 +264,7 @@ pub record MayRead (s : State) (a : List ℕ) (x : Actor) (read : ℕ) : Type 0 
   pub no_later : read ≤ s.now
   pub no_stall : s.now ≤ read + LONGEST_STALL
 
--- A program that a history may start so far: no member of a generation, until the law says how it fares.
+-- a program that starts alone: no member of a generation, whose four start together
 abbrev pub MayRun : Program → Type 0
 MayRun (Injector args) = Unit {0}
 MayRun (Cleaner start) = ⊥
@@ -396,10 +407,10 @@ abbrev pub IsRemoteSpawner : Program → Type 0
 IsRemoteSpawner (RemoteSpawner start) = Unit {0}
 IsRemoteSpawner other = ⊥
 
--- a generation starts only when no member of the old one lives
+-- A generation starts only when no member of the old one lives, and if no program that starts alone had one of their names.
 pub record MayBegin (s : State) (sender clean lspawn rspawn : Program) : Type 0 where
   pub over : (a : List ℕ) (x : Actor) → Contains members a → s.actors a ≡ Some x → x.life ≢ Alive
-  pub runs : MayRun sender × MayRun clean × MayRun lspawn × MayRun rspawn
+  pub apart : (a : List ℕ) (x : Actor) → Contains members a → s.actors a ≡ Some x → MayRun x.program → ⊥
   pub kinds : IsSender sender × IsCleaner clean × IsLocalSpawner lspawn × IsRemoteSpawner rspawn
 
 -- a report comes only for a slot in which the living remote spawner has a program without one

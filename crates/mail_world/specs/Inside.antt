@@ -1,6 +1,6 @@
 -- What the fields of a world mean, and what they keep.
 use Rattle.std.specs.Prelude.{◌≡◌, ℕ, ◌≤◌, ◌==◌, List, [], ◌∷◌, reverse, count_by, Bool, false, Option, Some, None, IsSome, IsSomeAnd, is_some, is_none, bytes_eq}
-use Rattle.std.specs.List.{list_any, slice_get}
+use Rattle.std.specs.List.{AllZip, list_any, slice_get}
 use Rattle.call_fs.specs.declared.calls.Fd.{Fd}
 use Rattle.call_fs.specs.Disk.{Disk}
 use Rattle.call_fs.specs.declared.modes.Mode.{Mode}
@@ -12,7 +12,8 @@ use Rattle.mail_world.specs.declared.actor.Actor.{Actor as Held}
 use Rattle.mail_world.specs.ByKind.{IsMail, Follows}
 use Rattle.mail_world.specs.History.{Event, Actor, State, latest, next_of}
 use Rattle.mail_world.specs.History.Life.{Alive}
-use Rattle.mail_world.specs.World.{Leads, Span, span_of, was_started, next_pid}
+use Rattle.mail_world.specs.Headline.{IsCovered}
+use Rattle.mail_world.specs.World.{Tells, Leads, Span, span_of, was_started, next_pid}
 use Rattle.mail_world.specs.World.Span.{Unborn, Lasting, OverAt}
 -- what kept events tell
 pub use Rattle.mail_world.specs.Known.{event_of, nowhere, known}
@@ -86,6 +87,10 @@ pub record IsOpenTo (d : Disk) (actors : List Held) (s : State) : Type 0 where
 abbrev pub IsLed : Disk → List Kept → ℕ → Type 0
 IsLed now events present = (opening : Disk) × (h : List Event) × Leads opening now events present h
 
+-- whatever history these events tell, no generation was started in it
+abbrev pub StartsNone : List Kept → Type 0
+StartsNone events = (h : List Event) → AllZip Tells (reverse events) h → IsCovered h
+
 -- What the fields of a world keep together: the disk, the places, the actors, the events with what they tell, the moment
 -- and the next process number.
 pub record IsWorld (disk : Option Disk) (places : List ℕ → Option ℕ) (actors : List Held) (s : State) (events : List Kept) (present next : ℕ) : Type 0 where
@@ -95,6 +100,7 @@ pub record IsWorld (disk : Option Disk) (places : List ℕ → Option ℕ) (acto
   pub kept : AreActors places actors s events present
   pub opens : OnTold disk (λ d. IsOpenTo d actors s)
   pub led : OnTold disk (λ d. IsLed d events present)
+  pub alone : StartsNone events
 
 -- not ended
 abbrev pub lives : Held → Bool

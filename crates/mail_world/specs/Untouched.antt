@@ -7,6 +7,7 @@ use Rattle.queue_law.specs.Injectors.{IsHeld}
 use Rattle.queue_law.specs.Steps.{Outside}
 use Rattle.world_events.specs.declared.event.Program.{Program}
 use Rattle.mail_world.specs.ByKind.{Leaves}
+use Rattle.mail_world.specs.Headline.{IsCovered}
 use Rattle.mail_world.specs.History.{Event, Actor, State, happens, after, Legal}
 use Rattle.mail_world.specs.History.Event.{Start, Act, Child, Generation, Report, End, Stop, Moment, Halt}
 
@@ -71,6 +72,6 @@ pub record LeavesRest (s : State) (e : Event) : Type 0 where
   pub accepted : (i : Injection) → IsInjected s.books i → i.accepted ≡ true → IsInjected (happens s e).books i
   pub sorted : is_halt e ≡ false → (n : ℕ) → IsSorted (about_in s n) → about_in (happens s e) n ≡ about_in s n
 
--- so does each event of a legal history
+-- so does each event of a legal history in which no generation was started
 abbrev pub EventsLeave : Type 0
-EventsLeave = (d : Disk) (e : Event) (before : List Event) → Legal d (e ∷ before) → LeavesRest (after d before) e
+EventsLeave = (d : Disk) (e : Event) (before : List Event) → Legal d (e ∷ before) → IsCovered (e ∷ before) → LeavesRest (after d before) e

@@ -5,8 +5,8 @@ ghost use Rattle.mail_world.specs.Readiness.{finds};
 use crate::Program;
 use crate::mailer::Mailer;
 use call_fs::{Got, INPUT_READY, Machine, Need, Ready};
-use local_spawn::LocalSpawn;
 use mail_bytes::Memory;
+use no_mailbox::NoMailbox;
 use queue_clean::Cleaner;
 use remote_spawn::RemoteSpawn;
 use send_core::Sender;
@@ -27,8 +27,8 @@ pub enum AnyMachine {
     Clean(Cleaner),
     /// A sender.
     Send(Sender),
-    /// A local spawner.
-    Local(LocalSpawn),
+    /// A local spawner. It finds no user.
+    Local(NoMailbox),
     /// A remote spawner.
     Remote(RemoteSpawn),
 }

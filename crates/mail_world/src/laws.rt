@@ -3,7 +3,7 @@ ghost use Rattle.mail_world.specs.Books.{AcceptedAreBooked, BooksAreTheModels};
 ghost use Rattle.mail_world.specs.Headline.{Headline};
 ghost use Rattle.mail_world.specs.Untouched.{EventsLeave};
 
-/// Every prefix of a legal history is safe.
+/// Every prefix of a legal history is safe, if no generation was started in it.
 pub fn headline()
     ensures { Headline }
 {}
@@ -13,14 +13,14 @@ pub fn books_are_the_models()
     ensures { BooksAreTheModels }
 {}
 
-/// A mail is accepted in the books exactly if the headline's books have its accepted injection.
+/// A mail is accepted in the books exactly if the headline's books have its accepted injection, if no generation was started.
 pub fn accepted_are_booked()
     ensures { AcceptedAreBooked }
 {}
 
-/// Each event of a legal history leaves what was accepted. Each except a machine stop also leaves what isn't the queue's, what
-/// other actors hold open, and all that concerns a preprocessed number; of these nothing is said after a machine stop, which
-/// closes each descriptor.
+/// Each event of a legal history in which no generation was started leaves what was accepted. Each except a machine stop also
+/// leaves what isn't the queue's, what other actors hold open, and all that concerns a preprocessed number; of these nothing is
+/// said after a machine stop, which closes each descriptor.
 pub fn events_leave()
     ensures { EventsLeave }
 {}

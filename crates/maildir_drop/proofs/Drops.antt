@@ -36,7 +36,7 @@ abbrev Writing : List ℕ → List ℕ → Fd → List ℕ → Disk → Type 0
 Writing name bytes fd left d =
     (k : ℕ) × (d.names name ≡ Some k) × (d.opens fd.0 ≡ Some (record { number = k; mode = Mode.Created })) × ((d.files k).bytes ++ left ≡ bytes)
 
-abbrev Rests : DropNames → List ℕ → Row → List ℕ → Disk → Type 0
+abbrev pub Rests : DropNames → List ℕ → Row → List ℕ → Disk → Type 0
 Rests names bytes (at.Create a) left d = left ≡ bytes
 Rests names bytes (at.Append a fd) left d = Writing (pair_at names a).tmp bytes fd left d
 Rests names bytes (at.Sync a fd) left d = Writing (pair_at names a).tmp bytes fd [] d
@@ -54,7 +54,7 @@ abbrev head_of : List ℕ → ℕ
 head_of [] = 0
 head_of (b ∷ bytes) = b
 
-abbrev Apart : DropNames → Type 0
+abbrev pub Apart : DropNames → Type 0
 Apart names = (a : Attempt) → (pair_at names a).new ≢ (pair_at names a).tmp
 
 heads_apart : (f : List ℕ) → codes "new/" ++ f ≢ codes "tmp/" ++ f
@@ -63,13 +63,13 @@ heads_apart f e = let h = ap head_of e in absurd (omega (arith, h))
 dirs_apart : (dir f : List ℕ) → dir ++ (codes "new/" ++ f) ≢ dir ++ (codes "tmp/" ++ f)
 dirs_apart dir f e = heads_apart f (append_cancel_left dir (codes "new/" ++ f) (codes "tmp/" ++ f) e)
 
-apart : (args : Arguments) → Apart (names_of args)
+pub apart : (args : Arguments) → Apart (names_of args)
 apart args First = dirs_apart args.dir (file_name args.moment args.pid args.host First)
 apart args Second = dirs_apart args.dir (file_name args.moment args.pid args.host Second)
 apart args Third = dirs_apart args.dir (file_name args.moment args.pid args.host Third)
 
 module _ (names : DropNames) (bytes : List ℕ) where
-  begins : (a : Attempt) (left : List ℕ) (d : Disk) → left ≡ bytes → Rests names bytes (begin_row names a) left d
+  pub begins : (a : Attempt) (left : List ℕ) (d : Disk) → left ≡ bytes → Rests names bytes (begin_row names a) left d
   begins a left d e = elim (is_name (pair_at names a).tmp) as (λ t. Rests names bytes (if t then at.Create a else failed a why.Defer) left d) [ true ↦ e | false ↦ tt ]
 
   takes : (a : Attempt) (left : List ℕ) (d : Disk) → left ≡ bytes → Rests names bytes (taken_row names a) left d
@@ -170,11 +170,11 @@ module _ (names : DropNames) (bytes : List ℕ) where
     unlinks a Dropped told e differ w fit applied = absurd fit
     unlinks a (Failed reason) told e differ w fit applied = tt
 
-    abbrev StepOf : Row → GotData → Type 0
+    abbrev pub StepOf : Row → GotData → Type 0
     StepOf row got = (e : Disk) → Rests names bytes row left d → Makes d now (due_at names row left) got e
         → Rests names bytes (moved names (record { row = row; left = left }) got).row (moved names (record { row = row; left = left }) got).left e
 
-    step : (row : Row) (got : GotData) → Apart names → MayCome (due_at names row left) got → StepOf row got
+    pub step : (row : Row) (got : GotData) → Apart names → MayCome (due_at names row left) got → StepOf row got
     step (at.Create a) got differ may = by_fit (call.CreateExcl (pair_at names a).tmp) (StepOf (at.Create a)) got may (λ told fit e r made. creates a told.answer e r fit made.0)
     step (at.Append a fd) got differ may = by_fit (call.Append fd (take 8192 left)) (StepOf (at.Append a fd)) got may (λ told fit e r made. appends a fd told.answer e r fit made.0)
     step (at.Sync a fd) got differ may = by_fit (call.Sync fd) (StepOf (at.Sync a fd)) got may (λ told fit e r made. syncs a fd told.answer e r fit made.0)

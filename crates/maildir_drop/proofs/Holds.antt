@@ -28,7 +28,7 @@ use Rattle.maildir_drop.specs.Table.{Place, appended, begin_row, create_row, due
 use Rattle.maildir_drop.proofs.Coming.{by_fit}
 
 -- what a row holds open
-abbrev HoldsRow : (ℕ → Option Mode) → Row → Type 0
+abbrev pub HoldsRow : (ℕ → Option Mode) → Row → Type 0
 HoldsRow h (at.Append attempt fd) = h fd.0 ≡ Some Mode.Created
 HoldsRow h (at.Sync attempt fd) = h fd.0 ≡ Some Mode.Created
 HoldsRow h (at.Close attempt fd) = h fd.0 ≡ Some Mode.Created
@@ -39,7 +39,7 @@ some_held : (o : Option Mode) (mode : Mode) → o ≡ Some mode → IsSome o
 some_held o mode e = ap is_some e
 
 module _ (names : DropNames) (h : ℕ → Option Mode) where
-  begins : (a : Attempt) → HoldsRow h (begin_row names a)
+  pub begins : (a : Attempt) → HoldsRow h (begin_row names a)
   begins a = elim (is_name (pair_at names a).tmp) as (λ t. HoldsRow h (if t then at.Create a else failed a why.Defer)) [ true ↦ tt | false ↦ tt ]
 
   takes : (a : Attempt) → HoldsRow h (taken_row names a)
@@ -78,10 +78,10 @@ module _ (names : DropNames) (left : List ℕ) (h : ℕ → Option Mode) where
   links a old new (answer.Refused reason) fit = tt
   links a old new told fit = absurd fit
 
-  abbrev StepOf : Row → GotData → Type 0
+  abbrev pub StepOf : Row → GotData → Type 0
   StepOf row got = HoldsRow (held_by h (due_at names row left) got) (moved names (record { row = row; left = left }) got).row
 
-  step : (row : Row) (got : GotData) → HoldsRow h row → MayCome (due_at names row left) got → StepOf row got
+  pub step : (row : Row) (got : GotData) → HoldsRow h row → MayCome (due_at names row left) got → StepOf row got
   step (at.Create a) got own may = by_fit (call.CreateExcl (pair_at names a).tmp) (StepOf (at.Create a)) got may (λ told fit. creates a (pair_at names a).tmp told.answer fit)
   step (at.Append a fd) got own may = by_fit (call.Append fd (take 8192 left)) (StepOf (at.Append a fd)) got may (λ told fit. appends a fd (take 8192 left) told.answer own fit)
   step (at.Sync a fd) got own may = by_fit (call.Sync fd) (StepOf (at.Sync a fd)) got may (λ told fit. syncs a fd told.answer own fit)
@@ -101,7 +101,7 @@ holds args (event ∷ before) run =
     subst (λ x. HoldsRow (held_by (held before) x event.came) (moved names p event.came).row) run.1.0
     (step names p.left (held before) p.row event.came (holds args before run.0) may)
 
-uses_row : (names : DropNames) (left : List ℕ) (h : ℕ → Option Mode) (row : Row) → HoldsRow h row → UsesHeld h (due_at names row left)
+pub uses_row : (names : DropNames) (left : List ℕ) (h : ℕ → Option Mode) (row : Row) → HoldsRow h row → UsesHeld h (due_at names row left)
 uses_row names left h (at.Create a) own = tt
 uses_row names left h (at.Append a fd) own = subst (λ o. IsSomeAnd o IsForAppend) (sym own) tt
 uses_row names left h (at.Sync a fd) own = some_held (h fd.0) Mode.Created own

@@ -36,7 +36,7 @@ use Rattle.maildir_drop.proofs.Coming.{by_fit}
 use Rattle.maildir_drop.specs.Table.{Place, answered, appended, begin_row, create_row, due_at, failed, is_complete, link_row, moved, next_row, place_after, sync_row}
 
 -- what a row rests on
-abbrev Caused : DropNames → List Own → Row → Type 0
+abbrev pub Caused : DropNames → List Own → Row → Type 0
 Caused names past (at.Create First) = Unit {0}
 Caused names past (at.Create Second) = HasCall past (IsTaken names First)
 Caused names past (at.Create Third) = HasCall past (IsTaken names First) × HasCall past (IsTaken names Second)
@@ -62,7 +62,7 @@ module _ (names : DropNames) (event : Own) (before : List Own) where
   later why.Defer h = deferred_later h
   later why.Memory h = inr h
 
-  begins : (a : Attempt) → Caused names (event ∷ before) (at.Create a) → Caused names (event ∷ before) (begin_row names a)
+  pub begins : (a : Attempt) → Caused names (event ∷ before) (at.Create a) → Caused names (event ∷ before) (begin_row names a)
   begins a h = by (is_name (pair_at names a).tmp) refl
     where
       by : (t : Bool) → is_name (pair_at names a).tmp ≡ t → Caused names (event ∷ before) (if t then at.Create a else failed a why.Defer)
@@ -114,10 +114,10 @@ module _ (names : DropNames) (event : Own) (before : List Own) where
   unlinked a Dropped h = inr h
   unlinked a (Failed reason) h = later reason h
 
-  abbrev After : Row → List ℕ → GotData → Type 0
+  abbrev pub After : Row → List ℕ → GotData → Type 0
   After row left got = event.came ≡ got → Caused names (event ∷ before) (moved names (record { row = row; left = left }) got).row
 
-  step : (row : Row) (left : List ℕ) → due_at names row left ≡ event.due → MayCome (due_at names row left) event.came → Caused names before row → After row left event.came
+  pub step : (row : Row) (left : List ℕ) → due_at names row left ≡ event.due → MayCome (due_at names row left) event.came → Caused names before row → After row left event.came
   step (at.Create a) left due may h =
       let c = call.CreateExcl (pair_at names a).tmp in
       by_fit c (After (at.Create a) left) event.came may (λ told fit is. creates c told due is a left told.answer refl refl fit h)

@@ -1,5 +1,5 @@
--- How a drop ended.
-use Rattle.std.specs.Prelude.{◌≡◌, ℕ, List, Option, Some, None}
+-- How a drop ended, and when nothing but its last unlink is left.
+use Rattle.std.specs.Prelude.{◌≡◌, ℕ, List, Bool, true, false, Option, Some, None}
 use Rattle.std.specs.Option.{option_map}
 use Rattle.maildir_drop.specs.declared.machine.MaildirDrop.{MaildirDrop}
 use Rattle.maildir_drop.specs.declared.names.DropNames.{DropNames}
@@ -36,3 +36,15 @@ end_at names row = None
 
 abbrev pub end_is : MaildirDrop → Option End → Type 0
 end_is machine result = option_map end_data result ≡ end_at machine.names machine.row
+
+-- its link was made, and only the unlink is left
+abbrev pub is_linked : Row → Bool
+is_linked (at.Unlink attempt Dropped) = true
+is_linked (at.Unlink attempt (Failed reason)) = false
+is_linked (at.Create attempt) = false
+is_linked (at.Append attempt fd) = false
+is_linked (at.Sync attempt fd) = false
+is_linked (at.Close attempt fd) = false
+is_linked (at.Link attempt) = false
+is_linked (at.Shut attempt fd reason) = false
+is_linked (at.Ended attempt outcome) = false

@@ -14,6 +14,6 @@ mod steps;
 
 pub use arguments::Arguments;
 pub use machine::MaildirDrop;
-pub use names::{DropNames, NamePair};
+pub use names::{DropNames, NamePair, is_name};
 pub use pieces::Pieces;
 pub use row::{Attempt, DEFER, End, Outcome, Row, Why};

@@ -37,7 +37,7 @@ impl MaildirDrop {
     ghost use Rattle.call_fs.specs.Program.{due_of, came_of, IsKind};
     ghost use Rattle.maildir_drop.specs.declared.arguments.Arguments.{Arguments};
     ghost use Rattle.maildir_drop.specs.Pieces.{joined};
-    ghost use Rattle.maildir_drop.specs.Ends.{end_data, end_is, end_with};
+    ghost use Rattle.maildir_drop.specs.Ends.{end_data, end_is, end_with, is_linked};
     ghost use Rattle.maildir_drop.specs.Stands.{Stands, due_now, place_of};
     ghost use Rattle.maildir_drop.specs.Table.{Next, appended, answered, link_due, moved};
 
@@ -95,6 +95,19 @@ impl MaildirDrop {
         }
     }
 
+    /// Whether its link was made, and only the unlink is left: whatever comes of that, it ends dropped.
+    pub fn is_linked(&self) -> bool
+        ensures { result ≡ is_linked self.now.row }
+    {
+        matches!(
+            self.row,
+            Row::Unlink {
+                outcome: Outcome::Dropped,
+                ..
+            }
+        )
+    }
+
     /// Tells it the moment, and what is ready. Takes no memory. The condition: a clock may tell the moment.
     pub fn look(&mut self, now: u64, ready: Ready)
         requires moment { IsMoment now }
@@ -149,6 +162,7 @@ impl MaildirDrop {
         ensures stands { (args : Arguments) (past : List Own) → Stands self.old args past → Stands self.new args
             (record { read = self.old.present; ready = self.old.ready; due = due_now self.old; came = came_of got.entry } ∷ past) }
         ensures goes { place_of self.new ≡ moved self.old.names (place_of self.old) (came_of got.entry) }
+        ensures names { self.new.names ≡ self.old.names }
     {
         self.go_on(&got);
         Ok(())

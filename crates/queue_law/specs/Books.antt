@@ -16,6 +16,8 @@ use Rattle.queue_paths.specs.Names.Name.{Of}
 use Rattle.queue_paths.specs.Names.Part.{Mess, Intd, Todo}
 use Rattle.queue_inject.specs.declared.injection.Arguments.{Arguments}
 use Rattle.queue_inject.specs.Texts.{message_text, intd_text}
+use Rattle.send_jobs.specs.declared.attempts.Attempt.{Attempt}
+use Rattle.send_jobs.specs.declared.channels.Channel.{Channel}
 use Rattle.queue_law.specs.Ledgers.{Spot, Ledger, no_ledger}
 
 -- a file call and what was told, as an event of a program's own past
@@ -77,6 +79,11 @@ with_delivered s i = record i { ledger = record i.ledger { delivered = s ∷ i.l
 
 abbrev pub delivered_in : Books → ℕ → Spot → Books
 delivered_in b n s = record { living = put b.living n (option_map (with_delivered s) (b.living n)); over = b.over }
+
+-- when these attempts, each on its channel, are reported delivered, one after the other
+abbrev pub entered_all : List (Channel × Attempt) → Books → Books
+entered_all [] b = b
+entered_all (e ∷ es) b = entered_all es (delivered_in b e.1.n (record { channel = e.0; place = e.1.place }))
 
 -- the same injection later on: its ledger may have grown, and all else is as it was
 pub record IsLater (i j : Injection) : Type 0 where

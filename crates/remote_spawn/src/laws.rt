@@ -3,6 +3,7 @@ ghost use Rattle.std.specs.Prelude.{◌≡◌, ◌≢◌, ◌≤◌, ◌↔◌, 
 ghost use Rattle.call_fs.specs.declared.past.ChildData.{ChildData};
 ghost use Rattle.call_fs.specs.declared.past.NeedData.TheVariants as needs;
 ghost use Rattle.call_fs.specs.declared.past.Own.{Own};
+ghost use Rattle.call_fs.specs.declared.program.Port.TheVariants as port;
 ghost use Rattle.call_fs.specs.declared.program.Ready.{Ready};
 ghost use Rattle.call_fs.specs.Past.{IsRunBy};
 ghost use Rattle.outside.specs.declared.spawner.Status.{Status};
@@ -10,8 +11,10 @@ ghost use Rattle.spawn_protocol.specs.Request.{HasRead, Reader};
 ghost use Rattle.spawn_protocol.specs.declared.request.Request.{Request};
 ghost use Rattle.remote_spawn.specs.Parts.{IsVerdict};
 ghost use Rattle.remote_spawn.specs.Reports.{IsReport, IsSuccess, report_of};
-ghost use Rattle.remote_spawn.specs.Causes.{IsEnded, IsFailed, IsOver, taken};
-ghost use Rattle.remote_spawn.specs.Counts.{IsAtRest, IsSettled, IsStart, asked, dealt_with};
+ghost use Rattle.spawner_parts.specs.Causes.{IsEnded, IsFailed, IsOver, taken};
+ghost use Rattle.spawner_parts.specs.Counts.{IsAtRest, IsSettled, asked, dealt_with};
+ghost use Rattle.spawner_parts.specs.Known.{last_read};
+ghost use Rattle.remote_spawn.specs.Starts.{IsStartOfOne};
 ghost use Rattle.remote_spawn.specs.Table.{Next};
 ghost use Rattle.remote_spawn.specs.Worked.{does, delivery, delivery_dues, refusals, refusal_dues};
 
@@ -59,7 +62,13 @@ pub fn requests_have_reports()
     // Programs are started in the order of the requests.
     ensures starts { (args : Unit {0}) (past : List Own) (now : ℕ) (ready : Ready) (requests : List Request) (reader : Reader) (program : ChildData)
         → IsRunBy (Next args) past → HasRead (taken past) requests reader → Next args past now ready ≡ needs.Start program
-        → IsStart past requests program }
+        → IsStartOfOne past requests program }
+{}
+
+/// A program is given the message as it was read.
+pub fn messages_are_given()
+    ensures { (args : Unit {0}) (past : List Own) (now : ℕ) (ready : Ready) (slot : ℕ) (bytes : List ℕ)
+        → IsRunBy (Next args) past → Next args past now ready ≡ needs.Give (port.Program slot) bytes → bytes ≡ last_read past }
 {}
 
 /// What a remote spawner does in two runs. In one a message is delivered. In the other it takes two bad requests at once, and

@@ -3,18 +3,19 @@ ghost use Rattle.std.specs.Prelude.{◌≡◌, ◌∷◌, [], List, ℕ, IfOk, O
 ghost use Rattle.call_fs.specs.Program.{due_of, came_of};
 ghost use Rattle.call_fs.specs.declared.past.Own.{Own};
 ghost use Rattle.mail_bytes.specs.Moments.{IsMoment};
-ghost use Rattle.remote_spawn.specs.Asked.{runs_in};
+ghost use Rattle.spawner_parts.specs.declared.row.Row.TheVariants as at;
+ghost use Rattle.spawner_parts.specs.Table.{act, row_now};
 ghost use Rattle.remote_spawn.specs.Stands.{Stands, due_now, gone_on};
-ghost use Rattle.remote_spawn.specs.Table.{Next, act, begun, due_at, ended_by, any_runs, greeting, is_asked, none_runs, resting, row_now, start_of, turning};
+ghost use Rattle.remote_spawn.specs.Table.{Next, due_from, remote, start_of};
 
-use crate::asked::{domain_of, runs_in};
-use crate::place::SLOTS;
-use crate::steps::{closed, exited, fed, gave, launched, opened, printed, read_on, took};
-use crate::{Place, Row};
-use call_fs::{Call, Child, Got, How, Machine, Need, PIECE, Port, Ready};
-use mail_bytes::{ByteText, Memory};
-use queue_limits::{DONE, MALFORMED};
-use spawn_protocol::{Inbox, Intake, Request};
+use crate::reports::report_of;
+use call_fs::{Child, Got, Machine, Need, Ready};
+use mail_bytes::Memory;
+use spawn_protocol::Request;
+use spawner_parts::{
+    Place, Row, begun, domain_of, exited, fed, gave, launched, need_at, opened, printed, read_on,
+    row_now, status_of, took, unread,
+};
 use std::alloc::Global;
 
 /// Nothing is ready.
@@ -23,8 +24,8 @@ const UNREADY: Ready = Ready {
     child: None,
 };
 
-/// The byte that it gives first: how many programs it runs at once.
-const GREETING: &[u8] = b"x";
+/// What is told of a program that couldn't be started.
+const CRASHED: &[u8] = b"Zqmail-remote crashed.\n";
 
 /// The remote spawner (qmail-rspawn(8)): the program that starts a remote program for each request of the sender, and tells
 /// what became of it, as a machine.
@@ -66,7 +67,7 @@ impl RemoteSpawn {
         ensures stands { (args : Unit {0}) (past : List Own) → Stands self.now args past
             → due_of result ≡ Next args past self.now.present self.now.ready }
     {
-        need_at(row_now(&self.place, &self.ready), &self.place)
+        need_from(row_now(&self.place, &self.ready), &self.place)
     }
 
     /// Hands in what came of its need. Then it stands for each past that it stood for and this event; after `Memory` it is
@@ -82,112 +83,13 @@ impl RemoteSpawn {
     }
 }
 
-/// What a remote spawner keeps at first.
-fn begun(alloc: Global) -> Place
-    ensures { result ≡ begun }
-{
-    Place {
-        row: Row::Greet,
-        inbox: Inbox::new(alloc),
-        request: Request {
-            slot: 0,
-            mess: ByteText::new(alloc),
-            sender: ByteText::new(alloc),
-            recipient: ByteText::new(alloc),
-        },
-        name: ByteText::new(alloc),
-        message: ByteText::new(alloc),
-        output: ByteText::new(alloc),
-        report: ByteText::new(alloc),
-        running: [false; SLOTS],
-    }
-}
-
-/// The row at which a remote spawner that keeps this is, with this ready.
-fn row_now(place: &Place, ready: &Ready) -> Row
-    ensures { result ≡ row_now place.now ready.now }
-{
-    match place.row {
-        Row::Idle if is_asked(place, ready) => Row::TakeInput,
-        Row::Idle => turning(place, ready.child),
-        row => row,
-    }
-}
-
-/// Whether requests are ready, and it takes any.
-fn is_asked(place: &Place, ready: &Ready) -> bool
-    ensures { result ≡ is_asked place.now ready.now }
-{
-    place.inbox.intake == Intake::Open && ready.links[0]
-}
-
-/// The row of the lowest program that has ended.
-fn turning(place: &Place, child: Option<u8>) -> Row
-    ensures { result ≡ turning place.now child }
-{
-    match child {
-        Some(slot) if runs_in(&place.running, slot) => Row::TakeOutput { slot },
-        _ => resting(place),
-    }
-}
-
-/// The row when nothing is to be done: an end, if no program is left and it takes no more requests.
-fn resting(place: &Place) -> Row
-    ensures { result ≡ resting place.now }
-{
-    if none_runs(&place.running) {
-        ended_by(place.inbox.intake)
-    } else {
-        Row::Idle
-    }
-}
-
-/// Whether no program runs.
-fn none_runs(running: &[bool]) -> bool
-    ensures { result ≡ none_runs running.now }
-{
-    !any_runs(running)
-}
-
-/// Whether a program runs.
-fn any_runs(running: &[bool]) -> bool
-    ensures { result ≡ any_runs running.now }
-{
-    running.iter().any(|runs| *runs)
-}
-
-/// How it ends when no program is left, if it takes no more requests.
-fn ended_by(intake: Intake) -> Row
-    ensures { result ≡ ended_by intake }
-{
-    match intake {
-        Intake::Open => Row::Idle,
-        Intake::Ended => Row::Ended { status: DONE },
-        Intake::TooLong => Row::Ended { status: MALFORMED },
-    }
-}
-
 /// What is done at a row.
-fn need_at(row: Row, place: &Place) -> Need<'_>
-    ensures { due_of result ≡ due_at row place.now }
+fn need_from(row: Row, place: &Place) -> Need<'_>
+    ensures { due_of result ≡ due_from row place.now }
 {
     match row {
-        Row::Greet => Need::Give(Port::Output, GREETING),
-        Row::Idle => Need::Wait,
-        Row::TakeInput => Need::Take(Port::Input),
-        Row::OpenMess => Need::File(Call::Open(place.name.as_slice(), How::Read)),
-        Row::ReadMess { fd } => Need::File(Call::ReadAt(
-            fd,
-            place.message.len() as u64,
-            PIECE as u64,
-        )),
-        Row::CloseMess { fd, .. } => Need::File(Call::Close(fd)),
         Row::Start => start_of(&place.request),
-        Row::Feed => Need::Give(Port::Program(place.request.slot), place.message.as_slice()),
-        Row::TakeOutput { slot } => Need::Take(Port::Program(slot)),
-        Row::TakeStatus { slot } => Need::Take(Port::Status(slot)),
-        Row::Report => Need::Give(Port::Output, place.report.as_slice()),
-        Row::Ended { status } => Need::Ended(status),
+        _ => need_at(row, place),
     }
 }
 
@@ -206,7 +108,7 @@ fn start_of(request: &Request) -> Need<'_>
 
 /// Where what came at a row leads. After an `Err` all is as before.
 fn act(place: &mut Place, alloc: Global, row: Row, got: &Got<'_>) -> Result<(), Memory>
-    ensures ok { OnOk result (place.new ≡ act row (came_of got.now) place.old) }
+    ensures ok { OnOk result (place.new ≡ act remote row (came_of got.now) place.old) }
     ensures err { OnErr result (place.new ≡ place.old) }
 {
     match row {
@@ -214,13 +116,26 @@ fn act(place: &mut Place, alloc: Global, row: Row, got: &Got<'_>) -> Result<(), 
         Row::TakeInput => took(place, alloc, got),
         Row::OpenMess => opened(place, alloc, got),
         Row::ReadMess { fd } => read_on(place, fd, got),
-        Row::CloseMess { whole, .. } => closed(place, alloc, whole),
-        Row::Start => launched(place, alloc, got),
+        Row::CloseMess { whole: false, .. } => unread(place, alloc),
+        Row::CloseMess { whole: true, .. } => {
+            place.row = Row::Start;
+            Ok(())
+        }
+        Row::Start => launched(place, alloc, got, CRASHED),
         Row::Feed => fed(place, alloc),
         Row::TakeOutput { slot } => printed(place, slot, got),
-        Row::TakeStatus { slot } => exited(place, alloc, slot, got),
+        Row::TakeStatus { slot } => ended(place, alloc, slot, got),
         Row::Idle | Row::Ended { .. } => Ok(()),
     }
+}
+
+/// After the taking of a program's status.
+fn ended(place: &mut Place, alloc: Global, slot: u8, got: &Got<'_>) -> Result<(), Memory>
+    ensures ok { OnOk result (place.new ≡ act remote (at.TakeStatus slot) (came_of got.now) place.old) }
+    ensures err { OnErr result (place.new ≡ place.old) }
+{
+    let report = report_of(alloc, status_of(got), place.output.as_slice())?;
+    exited(place, alloc, slot, report.as_slice())
 }
 
 impl Machine for RemoteSpawn {

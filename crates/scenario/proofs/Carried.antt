@@ -21,6 +21,7 @@ use Rattle.mail_world.specs.Acting.{MayMake}
 use Rattle.mail_world.specs.Readiness.{found_in}
 use Rattle.mail_world.proofs.Opens.{opens_by, fits_answer, owns_backs, closes_own, own_stays, owns_after}
 use Rattle.mail_world.specs.ByKind.{IsMail}
+use Rattle.mail_world.specs.Headline.{IsCovered}
 use Rattle.mail_world.proofs.Programs.{found_alone, mail_runs, program_uses, program_finds}
 use Rattle.mail_world.proofs.Worlds.{may_make}
 use Rattle.mail_world.proofs.Hands.{own_after}
@@ -211,6 +212,7 @@ started_carries s a program mail begun carries =
 -- A legal history that keeps this.
 pub record Goes (d : Disk) (h : List Event) : Type 0 where
   pub legal : Legal d h
+  pub covered : IsCovered h
   pub carries : Carries (after d h)
 
 may_read : (s : State) (a : List ℕ) (x : Actor) → Carries s → s.actors a ≡ Some x → x.life ≡ Alive → MayRead s a x s.now
@@ -240,6 +242,7 @@ goes_step d h plan a e x so is alive (inl (c, got, due, given, same)) =
           came = (given.fits, given.bytes);
         },
       );
+      covered = (so.covered, refl);
       carries =
           subst (λ (o : Option Actor). Carries (called s a s.now (found_in s a) c got 0 o)) (sym is)
           (called_carries s a x carries is c got alive due given.fits);
@@ -257,6 +260,7 @@ goes_step d h plan a e x so is alive (inr (status, due, same)) =
           due = due;
         },
       );
+      covered = (so.covered, refl);
       carries =
           subst (λ (o : Option Actor). Carries (finished s a (Over status) o)) (sym is)
           (finished_carries s a x (Over status) (λ e. absurd (cc)) carries is);
@@ -274,6 +278,7 @@ pub goes_started : (d : Disk) (h : List Event) (a : List ℕ) (program : Program
     → (after d h).actors a ≡ None → start_of program ≤ (after d h).now → Goes d (Start a program ∷ h)
 goes_started d h a program mail so new begun = record {
   legal = (so.legal, record { new = new; runs = mail_runs program mail });
+  covered = (so.covered, refl);
   carries = started_carries (after d h) a program mail begun so.carries;
 }
 
@@ -284,6 +289,7 @@ goes_stopped d h a x so is alive =
     let s = after d h in
     record {
       legal = (so.legal, record { actor = x; is = is; alive = alive });
+      covered = (so.covered, refl);
       carries = subst (λ (o : Option Actor). Carries (finished s a Stopped o)) (sym is)
           (finished_carries s a x Stopped (λ e. absurd (cc)) so.carries is);
     }
@@ -295,6 +301,7 @@ goes_moment d h m so moment later =
     let carries = so.carries in
     record {
       legal = (so.legal, record { moment = moment; no_earlier = later });
+      covered = (so.covered, refl);
       carries = record {
         finite = carries.finite;
         lasting = carries.lasting;
@@ -314,6 +321,7 @@ goes_halted d h how named so =
     let carries = so.carries in
     record {
       legal = (so.legal, halt_survives s.disk how named carries.lasting);
+      covered = (so.covered, refl);
       carries = record {
         finite = finite_halted (contents_by how s.disk named) s.disk carries.finite;
         lasting = lasting_halted (contents_by how s.disk named) s.disk;

@@ -12,11 +12,12 @@ use Rattle.mail_world.specs.declared.error.WorldError.TheVariants as error
 use Rattle.world_events.specs.declared.event.Event.{Event as Kept}
 use Rattle.world_events.specs.declared.event.Event.TheVariants as kept
 use Rattle.world_events.specs.declared.event.Program.TheVariants.{Injector}
-use Rattle.mail_world.specs.History.{Event, Legal, after}
+use Rattle.mail_world.specs.History.{Event, after}
 use Rattle.mail_world.specs.History.Event.{Start}
 use Rattle.mail_world.specs.Headline.{Headline}
 use Rattle.actor_names.specs.MailNames.{IsMailName}
 use Rattle.mail_world.specs.World.{Seen, IsHistory, GoesOn, was_started, started_world, mail, next_pid as kept_pid, pid_after}
+use Rattle.mail_world.proofs.Covered.{each_safe}
 use Rattle.mail_world.proofs.Lives.{started_is, starts_is}
 use Rattle.script_words.specs.declared.entry.Entry.{Entry}
 use Rattle.play_lines.specs.declared.line.Line.{Line}
@@ -114,6 +115,7 @@ mail_started d old new plan name message envelope text h playing good started go
       playing = record {
         is = now;
         planned = ap crash_plan disk ∙ playing.planned;
+        covered = (playing.covered, refl);
       };
       text = sym (append-nil text);
     }
@@ -216,7 +218,7 @@ is_played law opening lines w traced so = record {
   is_first = so.is_first;
   plays = so.plays;
   legal = so.playing.is.legal;
-  safe = λ later before is. law so.disk later before (subst (λ (h : List Event). Legal so.disk h) (sym is) so.playing.is.legal);
+  safe = each_safe law so.disk so.history so.playing.is.legal so.playing.covered;
 }
 
 abbrev pub is_begun : (opening : List Entry) (lines first later : List Line) (text rest printed : List ℕ) → lines ≡ first ++ later → IsPlayed opening first printed → printed ≡ text ++ rest → IsBegun opening lines text
@@ -240,7 +242,7 @@ nothing_begun law opening lines paths few =
         is_first = d.1;
         plays = (refl, refl, refl);
         legal = opens;
-        safe = λ later before is. law d.0 later before (subst (λ (h : List Event). Legal d.0 h) (sym is) opens);
+        safe = each_safe law d.0 [] opens tt;
       };
       text_is = refl;
     }

@@ -24,6 +24,7 @@ use Rattle.mail_world.specs.History.Life.{Alive, Over, Stopped}
 use Rattle.mail_world.specs.Readiness.{found_in}
 use Rattle.mail_world.specs.Known.{known}
 use Rattle.mail_world.proofs.Readies.{known_found, whole_call}
+use Rattle.mail_world.specs.Headline.{is_generation}
 use Rattle.mail_world.specs.World.{kept_call, Seen, Tells, IsHistory, GoesOn, IsStep, EndsAt, was_started, GoesByPlan}
 use Rattle.mail_world.proofs.Lives.{started_is, ended_is}
 use Rattle.crash_fs.proofs.CountedCalls.{done_by}
@@ -139,6 +140,7 @@ record Stepped (o d : Disk) (plan : Plan) (left : Option Plan) (events : List Ke
   pub steps : StepsTo plan (after o h) a (Happens event)
   pub planned : left ≡ Some (plan_by event plan)
   pub is : IsHistory o d events p (event ∷ h)
+  pub alone : is_generation event ≡ false
 
 call_steps : (o d d' : Disk) (plan : Plan) (left : Option Plan) (events : List Kept) (p : ℕ) (h : List Event) (a : List ℕ) (call : CallData) (got : Told) (e : Event)
     → IsHistory o d events p h → got.answer ≢ Refused Memory → CallKeepsPlan call (Some plan) left (Some d) (Some d') got.answer
@@ -179,6 +181,7 @@ call_steps o d d' plan left events p h a call got e was memory keeps is =
           disk = ap (λ (t : State). t.disk) (sym zero.1) ∙ at_w.disk;
           moment = ap (λ (t : State). t.now) (sym zero.1) ∙ at_w.moment;
         };
+        alone = refl;
       },
       record { actor = living.0; is = living.1; alive = living.2 ∙ may.reads.alive },
     )
@@ -215,6 +218,7 @@ end_steps o d d' plan left events p h a status e planned was is =
         steps = does plan s a p may.actor (needs.Ended status) (Happens f) may.reads.is may.reads.alive was.moment may.due (ap (λ q. Happens (End a q (found_in (after o h) a) status)) (sym was.moment));
         planned = planned;
         is = now;
+        alone = refl;
       },
       over_gone plan (after o (f ∷ h)) a over.0 over.1 (λ e. let both = sym over.2 ∙ e in absurd (cc)),
     )
@@ -272,7 +276,7 @@ stepped o old new plan a None h playing step same goes by memory =
     let got = one.told in
     let k : Kept = kept_call a old.present (found_in (after o h) a) call got in
     let event : new.events ≡ old.events ++ k ∷ [] =
-    step.2 ∙ ap (λ own. old.events ++ kept.Act a own ∷ []) one.is ∙ ap (λ ready. old.events ++ kept_call a old.present ready call got ∷ []) (known_found o old.events h a playing.is.legal playing.is.told) in
+    step.2 ∙ ap (λ own. old.events ++ kept.Act a own ∷ []) one.is ∙ ap (λ ready. old.events ++ kept_call a old.present ready call got ∷ []) (known_found o old.events h a playing.is.legal playing.covered playing.is.told) in
     let next = goes o h playing.is in
     let keeps = subst (λ (was : Option Plan). CallKeepsPlan call was (crash_plan new.disk) (Some (crash_disk old.disk)) (Some (crash_disk new.disk)) got.answer) playing.planned (by k event) in
     let done = call_steps o (crash_disk old.disk) (crash_disk new.disk) plan (crash_plan new.disk) old.events old.present h a call got next.0 playing.is
@@ -284,13 +288,14 @@ stepped o old new plan a None h playing step same goes by memory =
       playing = record {
         is = moved o (crash_disk new.disk) (old.events ++ k ∷ []) new.events old.present new.present (done.0.event ∷ h) (sym event) (sym same) done.0.is;
         planned = done.0.planned;
+        covered = (playing.covered, done.0.alone);
       };
       over = done.1;
     }
 stepped o old new plan a (Some status) h playing step same goes by memory =
     let k : Kept = kept.End a old.present (found_in (after o h) a) status in
     let event : new.events ≡ old.events ++ k ∷ [] =
-    step ∙ ap (λ ready. old.events ++ kept.End a old.present ready status ∷ []) (known_found o old.events h a playing.is.legal playing.is.told) in
+    step ∙ ap (λ ready. old.events ++ kept.End a old.present ready status ∷ []) (known_found o old.events h a playing.is.legal playing.covered playing.is.told) in
     let next = goes o h playing.is in
     let done = end_steps o (crash_disk old.disk) (crash_disk new.disk) plan (crash_plan new.disk) old.events old.present h a status next.0 (by k event ∙ playing.planned) playing.is
     (moved o (crash_disk new.disk) new.events (old.events ++ k ∷ []) new.present old.present (next.0 ∷ h) event same next.1) in
@@ -300,6 +305,7 @@ stepped o old new plan a (Some status) h playing step same goes by memory =
       playing = record {
         is = moved o (crash_disk new.disk) (old.events ++ k ∷ []) new.events old.present new.present (done.0.event ∷ h) (sym event) (sym same) done.0.is;
         planned = done.0.planned;
+        covered = (playing.covered, done.0.alone);
       };
       over = done.1;
     }

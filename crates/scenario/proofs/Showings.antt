@@ -12,7 +12,7 @@ use Rattle.mail_world.specs.Headline.Accounted.{Pending}
 use Rattle.mail_world.specs.World.{IsHistory}
 use Rattle.mail_world.specs.Books.{is_accepted, mails_of, told_life, life_in, entry_in, books_in}
 use Rattle.world_events.specs.declared.books.Entry.{Entry}
-use Rattle.mail_world.proofs.ModelBooks.{AreThere, mails_there}
+use Rattle.mail_world.proofs.ModelBooks.{alone_is, AreThere, mails_there}
 use Rattle.queue_states.specs.States.{is_there}
 use Rattle.queue_paths.specs.Names.Part.{Todo}
 use Rattle.scenario.specs.Shown.{AreNamesIn, AreNumbersIn, line_of, life_word, recipient_lines, mail_lines, life_of, entry_lines, pid_line, number_line, AllPending, IsShown}
@@ -46,7 +46,7 @@ each_mail : (s : State) (h : List Event) (mails : List (List ℕ × Arguments)) 
     → flat_map entry_lines (map (entry_in s h) mails) ≡ flat_map (λ mail. mail_lines s h mail.0 mail.1 (s.actors mail.0)) mails
 each_mail s h [] there = refl
 each_mail s h (mail ∷ mails) there =
-    ap (λ t. t ++ flat_map entry_lines (map (entry_in s h) mails)) (one_mail s h mail.0 mail.1 (s.actors mail.0) there.0)
+    ap (λ t. t ++ flat_map entry_lines (map (entry_in s h) mails)) (one_mail s h mail.0 mail.1 (s.actors mail.0) (alone_is (s.actors mail.0) there.0))
     ∙ ap (λ t. mail_lines s h mail.0 mail.1 (s.actors mail.0) ++ t) (each_mail s h mails there.1)
 
 pub is_shown : (d : Disk) (h : List Event) (now : Disk) (present : ℕ) (events : List Kept) (pids : List (List ℕ)) (numbers : List ℕ) (entries : List Entry)
@@ -64,5 +64,5 @@ is_shown d h now present events pids numbers entries history safe are_pids are_n
       text_is =
           ap (λ (now : Disk). pid_line pids ++ (flat_map (number_line now) numbers ++ flat_map entry_lines entries)) (sym history.disk)
           ∙ ap (λ l. pid_line pids ++ (flat_map (number_line s.disk) numbers ++ l))
-          (ap (flat_map entry_lines) are ∙ each_mail s h (mails_of h) (mails_there d (reverse events) h history.told));
+          (ap (flat_map entry_lines) are ∙ each_mail s h (mails_of h) (mails_there d (reverse events) h history.legal history.told));
     }

@@ -14,6 +14,7 @@ use Rattle.world_events.specs.declared.event.Event.TheVariants as kept
 use Rattle.mail_world.specs.History.{Event, Actor, Life, after}
 use Rattle.mail_world.specs.History.Event.{Stop, Moment, Halt}
 use Rattle.mail_world.specs.History.Life.{Alive, Over, Stopped}
+use Rattle.mail_world.specs.Headline.{is_generation}
 use Rattle.mail_world.specs.World.{Seen, IsHistory, GoesOn, GoesOnWith, IsStop, Tells, EndsAt, GoesByPlan, IsHalt, moment_world, was_started}
 use Rattle.mail_world.proofs.Lives.{ended_is}
 use Rattle.play_lines.specs.declared.line.Line.TheVariants as line
@@ -29,8 +30,8 @@ use Rattle.scenario.proofs.ScriptSteps.{last_told, stop_told, moment_told, moved
 -- one event more in the world, told by the one that was kept
 abbrev pub one_more : (d : Disk) (old new : Seen Crash) (plan : Plan) (k : Kept) (e : Event) (p : ℕ) (h : List Event) → IsPlaying d old plan h → GoesOn tells old new
     → crash_plan new.disk ≡ crash_plan old.disk → new.events ≡ old.events ++ k ∷ [] → new.present ≡ p
-    → ((f : Event) → Tells k f → f ≡ e) → IsPlaying d new plan (e ∷ h)
-one_more d old new plan k e p h playing goes same_plan events present told =
+    → ((f : Event) → Tells k f → f ≡ e) → is_generation e ≡ false → IsPlaying d new plan (e ∷ h)
+one_more d old new plan k e p h playing goes same_plan events present told alone =
     let next = goes d h playing.is in
     let is : IsHistory d (crash_disk new.disk) (old.events ++ k ∷ []) p (next.0 ∷ h) =
     moved d (crash_disk new.disk) new.events (old.events ++ k ∷ []) new.present p (next.0 ∷ h) events present next.1 in
@@ -38,6 +39,7 @@ one_more d old new plan k e p h playing goes same_plan events present told =
     record {
       is = subst (λ (e : Event). IsHistory d (crash_disk new.disk) new.events new.present (e ∷ h)) same next.1;
       planned = same_plan ∙ playing.planned;
+      covered = (playing.covered, alone);
     }
 
 -- no event, but another plan
@@ -49,6 +51,7 @@ replanned d old new plan left h playing disk events present planned =
       is = moved d (crash_disk new.disk) old.events new.events old.present new.present h (sym events) (sym present)
           (subst (λ (now : Disk). IsHistory d now old.events old.present h) same playing.is);
       planned = planned;
+      covered = playing.covered;
     }
 
 left_by : (o n : Option Plan) (plan : Plan) (change : Plan → Plan) → Meets o n (λ before after. after ≡ change before) → o ≡ Some plan → n ≡ Some (change plan)
@@ -75,7 +78,7 @@ is_gone a o x is over = subst (λ (o : Option Actor). StopComesTo a o (Is Refusa
 pub stop_played : (d : Disk) (old new : Seen Crash) (plan : Plan) (a text : List ℕ) (h : List Event) → IsPlaying d old plan h → IsStop a old new → GoesOn tells old new
     → GoesByPlan crash_plan tells old.disk new.disk old.events new.events → HasPlayed d new (line.Actor of_actor.Stop a) text text plan h
 stop_played d old new plan a text h playing stop goes by =
-    let now : IsPlaying d new plan (Stop a ∷ h) = one_more d old new plan (kept.Stop a) (Stop a) old.present h playing goes (by (kept.Stop a) stop.0) stop.0 stop.1 (stop_told a) in
+    let now : IsPlaying d new plan (Stop a ∷ h) = one_more d old new plan (kept.Stop a) (Stop a) old.present h playing goes (by (kept.Stop a) stop.0) stop.0 stop.1 (stop_told a) refl in
     let living = now.is.legal.1 in
     record {
       events = Stop a ∷ [];
@@ -119,7 +122,7 @@ halt_played d old new plan how text h playing halt goes by =
       events = Halt how next.0 ∷ [];
       own = [];
       plays = (named.0, named.1, ap (λ (contents : ℕ → List ℕ). Halt how contents ∷ []) named.2, refl);
-      playing = record { is = next.1; planned = by (kept.Halt how) halt.0 ∙ playing.planned };
+      playing = record { is = next.1; planned = by (kept.Halt how) halt.0 ∙ playing.planned; covered = (playing.covered, refl) };
       text = sym (append-nil text);
     }
 
@@ -165,7 +168,7 @@ pub moment_came : (d : Disk) (old new : Seen Crash) (plan : Plan) (m : ℕ) (tex
     → GoesByPlan crash_plan tells old.disk new.disk old.events new.events → HasPlayed d new (line.Moment of_moment.Moment m) text text plan h
 moment_came d old new plan m text h playing came goes by =
     let now : IsPlaying d new plan (Moment m ∷ h) =
-    one_more d old new plan (kept.Moment m) (Moment m) m h playing goes (by (kept.Moment m) (ap (λ (w : Seen Crash). w.events) came)) (ap (λ (w : Seen Crash). w.events) came) (ap (λ (w : Seen Crash). w.present) came) (moment_told m) in
+    one_more d old new plan (kept.Moment m) (Moment m) m h playing goes (by (kept.Moment m) (ap (λ (w : Seen Crash). w.events) came)) (ap (λ (w : Seen Crash). w.events) came) (ap (λ (w : Seen Crash). w.present) came) (moment_told m) refl in
     record {
       events = Moment m ∷ [];
       own = [];

@@ -10,12 +10,13 @@ use Rattle.call_fs.specs.declared.past.NeedData.TheVariants as needs
 use Rattle.mem_fs.specs.MemDisk.{bytes_at}
 use Rattle.queue_inject.specs.declared.injection.Arguments.{Arguments}
 use Rattle.world_events.specs.declared.event.Program.TheVariants.{Injector}
-use Rattle.mail_world.specs.History.{Event, call_act, Actor, Life, State, Legal, next_of, after}
+use Rattle.mail_world.specs.History.{Event, call_act, Actor, Life, State, next_of, after}
 use Rattle.mail_world.specs.History.Event.{Start, End, Stop, Moment, Halt}
 use Rattle.mail_world.specs.History.Life.{Alive, Over, Stopped}
 use Rattle.actor_names.specs.MailNames.{IsMailName, IsLetter, IsLetterOrDigit, members}
 use Rattle.mail_world.specs.Readiness.{found_in}
 use Rattle.mail_world.specs.World.{mail}
+use Rattle.mail_world.proofs.Covered.{each_safe}
 use Rattle.mail_world.proofs.Headline.{headline}
 use Rattle.mail_world.specs.Acting.{MayMake}
 use Rattle.script_words.specs.declared.entry.Entry.{Entry}
@@ -181,7 +182,7 @@ shows d h so =
         numbers = numbers.0;
         are_pids = pids.1;
         are_numbers = numbers.1;
-        pending = safe_pending s (headline d [] h so.legal);
+        pending = safe_pending s (headline d [] h so.legal so.covered);
         text_is = refl;
       },
     )
@@ -387,6 +388,7 @@ goes_first opening d paths first =
     let ready = is_ready opening d paths first in
     record {
       legal = first_opens opening d paths first;
+      covered = tt;
       carries = record {
         finite = ready.finite;
         lasting = ready.lasting;
@@ -407,7 +409,7 @@ is_played opening d lines end left text first plays so = record {
   is_first = first;
   plays = plays;
   legal = so.legal;
-  safe = λ later before is. headline d later before (subst (λ (h : List Event). Legal d h) (sym is) so.legal);
+  safe = each_safe headline d end so.legal so.covered;
 }
 
 -- entries and lines have a text, if they are fewer entries than numbers

@@ -13,7 +13,6 @@ use crate::printing::{put_escaped, put_line, put_number};
 use crash_fs::CrashDisk;
 use disk_numbers::{names_of, numbers_of, state_on};
 use mail_bytes::Memory;
-use mail_world::laws::headline;
 use mail_world::{Entry, Life, World};
 use queue_states::{put_count_line, put_state_line};
 use std::alloc::Global;
@@ -28,7 +27,7 @@ pub fn show(alloc: Global, world: &World<CrashDisk>, text: &mut Vec<u8>) -> Resu
     put_count_line(text, pids.len() as u64)?;
     let numbers = numbers_of(alloc, world.disk())?;
     put_states(text, world.disk(), &numbers)?;
-    headline();
+    world.history();
     put_mails(text, world.books().entries())
 }
 

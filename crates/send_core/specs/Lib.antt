@@ -8,6 +8,8 @@ pub mod Turn
 pub mod Finish
 -- its table
 pub mod Table
+-- which attempts the reports say were delivered
+pub mod Delivered
 -- its log
 pub mod Log
 -- which sender stands for which past

@@ -1,5 +1,5 @@
 -- A taking: each report enters its recipient, or nothing.
-use Rattle.std.proofs.Common.{◌≡◌, ◌⊎◌, inl, inr, ℕ, ◌≤◌, ◌<◌, List, [], ◌∷◌, length, Bool, true, false, Option, Some, None, refl, sym, ap, ◌∙◌, subst, ⊎_elim, arith}
+use Rattle.std.proofs.Common.{◌≡◌, inl, inr, ℕ, ◌≤◌, ◌<◌, List, [], ◌∷◌, length, Bool, true, false, Option, Some, None, refl, sym, ap, ◌∙◌, subst, ⊎_elim, arith}
 use Rattle.std.specs.Prelude.{◌==◌, if◌then◌else◌, nat_lt, All, Contains, IfSome}
 use Rattle.std.specs.Option.{option_map}
 use Rattle.std.proofs.lemmas.Bool.{cases_lt}
@@ -16,6 +16,7 @@ use Rattle.queue_paths.specs.Names.Name.{Of}
 use Rattle.queue_paths.specs.Names.Part.{Todo, Info}
 use Rattle.send_core.specs.declared.desk.Desk.{Desk}
 use Rattle.send_core.specs.declared.row.Row.TheVariants as at
+use Rattle.send_core.specs.Delivered.{delivered_all, delivered_by, delivered_if, delivered_in, delivered_when}
 use Rattle.send_core.specs.Desk.{deferred, due_on, link, settle, told, told_all, told_by, waits, with_reader}
 use Rattle.send_core.specs.Turn.{after_take, lost, took}
 use Rattle.send_jobs.specs.declared.attempts.Attempt.{Attempt}
@@ -43,14 +44,15 @@ use Rattle.queue_law.specs.Ledgers.{Spot}
 use Rattle.queue_law.specs.Books.{Injection, with_delivered}
 use Rattle.queue_law.specs.Routes.{lane_part, sender_of, spot_of}
 use Rattle.queue_law.specs.Numbers.{Queue, look, about, IsPreprocessed, Sound}
-use Rattle.queue_law.specs.Senders.{HasLane, LeadsOn, MayEnter, entered_queue}
+use Rattle.queue_law.specs.Rests.{IsClosed}
+use Rattle.queue_law.specs.Senders.{HasLane, MayEnter, entered_queue}
 use Rattle.queue_law.proofs.Readings.{records_are}
 use Rattle.queue_law.proofs.Sends.{entries_keep, lane_there, sorted_of_lane}
 use Rattle.sender_law.specs.Views.{files_of, records_at}
 use Rattle.sender_law.specs.Knows.{IsEntered, IsKnown, IsSettledIn, Serves}
 use Rattle.sender_law.specs.Rows.{RowStands}
 use Rattle.sender_law.specs.Stands.{Stands, StandsAt, SenderStands}
-use Rattle.sender_law.specs.Takings.{AllLead, LeadBy, TakingLeads, entered_all, entered_by, entered_if, entered_one, taken_by}
+use Rattle.sender_law.specs.Takings.{AllLead, TakingLeads, told_queue}
 use Rattle.sender_law.proofs.Apart.{apart_lane, fewer_unmarked}
 use Rattle.sender_law.proofs.Desks.{OnDesk, on_of, retried_on, stand}
 use Rattle.sender_law.proofs.Lanes.{AllServe, OnLane, lane_on, left_on, owed_on}
@@ -197,10 +199,15 @@ module _ (controls : Controls) where
       record { known = h.known; due = h.due; controls_are = h.controls_are; lanes = lane_on q Remote f d.slots h.lanes (owed_on q Remote d.slots.remote (h.lanes Remote) slot a m there refl entered); apart = apart_lane Remote f d.book.messages d.slots (λ n some. some) h.apart }
 
 module _ (controls : Controls) (now : ℕ) (a : List ℕ) (none : HaveNoNul controls) where
-  pub record Step (q r : Queue) (next : Desk) : Type 0 where
-    pub leads : (r ≡ q) ⊎ ((n : ℕ) × LeadsOn controls now a (Some n) q r)
-    pub sound : Sound controls r
-    pub on : OnDesk controls r next
+  -- what the entries es lead to from q, and where the desk is after them
+  pub record Steps (es : List (Channel × Attempt)) (q : Queue) (next : Desk) : Type 0 where
+    pub lead : AllLead controls now a es q
+    pub sound : Sound controls (told_queue es q)
+    pub on : OnDesk controls (told_queue es q) next
+
+  -- so it is of those that are left, from each queue that fits this desk
+  abbrev Later : List (Channel × Attempt) → Desk → Desk → Type 0
+  Later es d last = (r : Queue) → Sound controls r → OnDesk controls r d → Steps es r last
 
   if_room : (q : Queue) (c : Channel) (slot : ℕ) (t : Attempt) (d : Desk) (b : Bool) → OnDesk controls q d → attempt_in (lane c d.slots).slots slot ≡ Some t
       → IsEntered (about q t.n) c t.place
@@ -208,42 +215,34 @@ module _ (controls : Controls) (now : ℕ) (a : List ℕ) (none : HaveNoNul cont
   if_room q c slot t d true h there entered = waits_on controls q c slot t d h there entered
   if_room q c slot t d false h there entered = deferred_on controls q c slot t d h there
 
-  settled_on : (q : Queue) (c : Channel) (slot : ℕ) (t : Attempt) (d : Desk) (b : Bool) → Sound controls q → OnDesk controls q d → attempt_in (lane c d.slots).slots slot ≡ Some t
-      → Step q (entered_if b c t q) (settle b c t (record d { slots = at_lane c (reported slot) d.slots }))
-  settled_on q c slot t d true G h there =
+  settled_on : (q : Queue) (c : Channel) (slot : ℕ) (t : Attempt) (d : Desk) (b : Bool) (es : List (Channel × Attempt)) (last : Desk) → Sound controls q → OnDesk controls q d
+      → attempt_in (lane c d.slots).slots slot ≡ Some t → Later es (settle b c t (record d { slots = at_lane c (reported slot) d.slots })) last
+      → Steps (delivered_if b c t es) q last
+  settled_on q c slot t d true es last G h there later =
       let may = may_enter controls q c (lane c d.slots) none G (h.lanes c) slot t there in
       let s : Spot = record { channel = c; place = t.place } in
       let r : Queue = entered_queue q t.n s in
       let leads = entries_keep controls now q a G t.n s may in
+      let closed : IsClosed now q t.n = record { mess = may.mess; there = may.there; shut = inr (record { injection = may.injection; lives = may.lives; accepted = may.accepted }) } in
       let g = one_grown q t.n s in
       let on : OnDesk controls r d = record { known = known_all q r g d.book.messages h.known; due = due_all q r g d.book.messages h.due; controls_are = h.controls_are; lanes = λ ch. lane_grown q r g ch (lane ch d.slots) (h.lanes ch); apart = h.apart } in
-      let w = g.lives t.n may.injection may.lives in
       let v : Option Injection = option_map (with_delivered s) (q.books.living t.n) in
       let lives : r.books.living t.n ≡ Some (with_delivered s may.injection) = put_same q.books.living t.n v ∙ ap (option_map (with_delivered s)) may.lives in
       let entered : IsEntered (about r t.n) c t.place = record { injection = with_delivered s may.injection; lives = lives; delivered = inl refl } in
-      record {
-        leads = inr (t.n, leads);
-        sound = leads.sound;
-        on = if_room r c slot t d (nat_lt (length (lane c (at_lane c (reported slot) d.slots)).marks) 120) on there entered;
-      }
-  settled_on q c slot t d false G h there = record { leads = inl refl; sound = G; on = deferred_on controls q c slot t d h there }
+      let more = later r leads.sound (if_room r c slot t d (nat_lt (length (lane c (at_lane c (reported slot) d.slots)).marks) 120) on there entered) in
+      record { lead = (closed, leads, more.lead); sound = more.sound; on = more.on }
+  settled_on q c slot t d false es last G h there later = later q G (deferred_on controls q c slot t d h there)
 
-  told_on : (q : Queue) (c : Channel) (r : Report) (d : Desk) (o : Option Attempt) → attempt_in (lane c d.slots).slots r.slot ≡ o → Sound controls q → OnDesk controls q d
-      → Step q (entered_by o c r q) (told_by o c r d)
-  told_on q c r d None e G h = record { leads = inl refl; sound = G; on = h }
-  told_on q c r d (Some t) e G h = settled_on q c r.slot t d (counted r.letter == 75) G h e
+  told_on : (q : Queue) (c : Channel) (r : Report) (d : Desk) (o : Option Attempt) (es : List (Channel × Attempt)) (last : Desk) → attempt_in (lane c d.slots).slots r.slot ≡ o
+      → Sound controls q → OnDesk controls q d → Later es (told_by o c r d) last → Steps (delivered_by o c r es) q last
+  told_on q c r d None es last e G h later = later q G h
+  told_on q c r d (Some t) es last e G h later = settled_on q c r.slot t d (counted r.letter == 75) es last G h e later
 
-  pub record Steps (c : Channel) (rs : List Report) (d : Desk) (q : Queue) : Type 0 where
-    pub lead : AllLead controls now a c rs d q
-    pub sound : Sound controls (entered_all c rs d q)
-    pub on : OnDesk controls (entered_all c rs d q) (told_all c rs d)
-
-  told_all_on : (c : Channel) (rs : List Report) (d : Desk) (q : Queue) → Sound controls q → OnDesk controls q d → Steps c rs d q
+  told_all_on : (c : Channel) (rs : List Report) (d : Desk) (q : Queue) → Sound controls q → OnDesk controls q d → Steps (delivered_all c rs d) q (told_all c rs d)
   told_all_on c [] d q G h = record { lead = tt; sound = G; on = h }
   told_all_on c (r ∷ rs) d q G h =
-      let one = told_on q c r d (attempt_in (lane c d.slots).slots r.slot) refl G h in
-      let more = told_all_on c rs (told c r d) (entered_one c r d q) one.sound one.on in
-      record { lead = (one.leads, more.lead); sound = more.sound; on = more.on }
+      told_on q c r d (attempt_in (lane c d.slots).slots r.slot) (delivered_all c rs (told c r d)) (told_all c rs (told c r d)) refl G h
+      (λ z G h. told_all_on c rs (told c r d) z G h)
 
   with_reader_on : (q : Queue) (c : Channel) (reader : Reader) (d : Desk) → OnDesk controls q d → OnDesk controls q (with_reader c reader d)
   with_reader_on q Local reader d h = record { known = h.known; due = h.due; lanes = h.lanes; apart = h.apart; controls_are = h.controls_are }
@@ -257,17 +256,17 @@ module _ (controls : Controls) (now : ℕ) (a : List ℕ) (none : HaveNoNul cont
   lost_on q Local d h = stand controls now q a (at.Ended 82) d (λ ch. refl) h tt
   lost_on q Remote d h = stand controls now q a (at.Ended 83) d (λ ch. refl) h tt
 
-  pub record Taken (q : Queue) (c : Channel) (d : Desk) (w : Way) (bytes : List ℕ) : Type 0 where
-    pub lead : LeadBy controls now a w c bytes d q
-    pub sound : Sound controls (taken_by w c bytes d q)
-    pub stands : SenderStands controls now (taken_by w c bytes d q) a (took w bytes c d)
+  pub record Taken (es : List (Channel × Attempt)) (q : Queue) (next : Desk) : Type 0 where
+    pub lead : AllLead controls now a es q
+    pub sound : Sound controls (told_queue es q)
+    pub stands : SenderStands controls now (told_queue es q) a next
 
-  taken_on : (q : Queue) (c : Channel) (d : Desk) (w : Way) (bytes : List ℕ) → Sound controls q → OnDesk controls q d → Taken q c d w bytes
+  taken_on : (q : Queue) (c : Channel) (d : Desk) (w : Way) (bytes : List ℕ) → Sound controls q → OnDesk controls q d → Taken (delivered_when w c bytes d) q (took w bytes c d)
   taken_on q c d way.Fine bytes G h =
       let it = read_on (link c d).reader bytes in
       let all = told_all_on c it.0 (with_reader c it.1 d) q G (with_reader_on q c it.1 d h) in
       let next : Desk = told_all c it.0 (with_reader c it.1 d) in
-      let r : Queue = entered_all c it.0 (with_reader c it.1 d) q in
+      let r : Queue = told_queue (delivered_in c bytes d) q in
       record {
         lead = all.lead;
         sound = all.sound;

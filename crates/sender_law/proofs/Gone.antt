@@ -48,6 +48,7 @@ use Rattle.channel_law.specs.Tied.First.{Unwritten}
 use Rattle.channel_law.proofs.Passes.{done_all}
 use Rattle.channel_law.proofs.Counts.{all_where}
 use Rattle.channel_law.proofs.Ties.{others_kept}
+use Rattle.sender_law.proofs.Closes.{lane_closed, one_closed}
 use Rattle.sender_law.proofs.Others.{the_job}
 use Rattle.queue_law.specs.Books.{Injection, Books}
 use Rattle.queue_law.specs.Marks.{IsDelivered}
@@ -320,6 +321,7 @@ module _ (controls : Controls) (now : ℕ) (q : Queue) (a : List ℕ) (none : Ha
         let there : OnDesk controls (after answer.Done) (done_with c n d) = done_on controls q (after answer.Done) refl c n all.job d on all.over (one.gone refl) one.others in
         record {
           number = Some n;
+          closed = one_closed now q n (lane_closed controls now q n c G may.lane);
           leads = drops_keep controls now q a G read n c answer.Done wrote may fits;
           stands = done_stands c (after answer.Done) there;
         }
@@ -337,6 +339,7 @@ module _ (controls : Controls) (now : ℕ) (q : Queue) (a : List ℕ) (none : Ha
         let again = due_again_on controls r c n (later read) d grown (l.jobs n all.job (over_there n (lane c d.slots) all.job all.over)) (ended_on r c (lane c d.slots) l n all.job all.over) in
         record {
           number = Some n;
+          closed = one_closed now q n (lane_closed controls now q n c G may.lane);
           leads = drops_keep controls now q a G read n c told wrote may fits;
           stands = again_stands c r again;
         }

@@ -32,3 +32,55 @@ pub mod Scan
 pub mod Begins
 -- readings of files
 pub mod Readings
+-- numbers that no injector touches any more
+pub mod Closes
+-- a taking and a giving of a cleaner
+pub mod Goes
+-- what a sender knows after a pass
+pub mod Known
+-- the rows of a finish and of the sweep
+pub mod Points
+-- an answer that fits is one to its call
+pub mod Fits
+-- a todo pass inside a sender
+pub mod Passing
+-- what a sender gives its cleaner and takes from it
+pub mod Awaits
+-- it starts no program
+pub mod Programs
+-- when a sender waits for nothing
+pub mod Frees
+-- what others leave of a finish and of the sweep
+pub mod Alone
+-- steps that concern one number
+pub mod Far
+-- where a turn goes on
+pub mod Turning
+-- the events of a finish
+pub mod Finishing
+-- the events of a sweep
+pub mod Sweeping
+-- the events of a todo pass
+pub mod Todos
+-- the bytes of the spawners
+pub mod Starting
+-- controls of a disk
+pub mod Exist
+-- the reading of the control files
+pub mod Controls
+-- nobody changes a control file
+pub mod ControlsStay
+-- a sender past the control files stays past them
+pub mod PastControl
+-- what a sender has read of the control files
+pub mod ControlsRead
+-- what rows do to the requests that lie ready
+pub mod AskingRows
+-- the requests that lie ready
+pub mod Asking
+-- each event of a sender
+pub mod Whole
+-- what others leave a sender
+pub mod LeftAlone
+-- what steps of others spare
+pub mod Spares

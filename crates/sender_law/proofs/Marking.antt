@@ -50,6 +50,7 @@ use Rattle.sender_law.specs.Knows.Knows.{Stays, Leaves}
 use Rattle.sender_law.specs.Rows.{HasFile, IsFirstMark, MarkHolds, PointStands}
 use Rattle.sender_law.specs.Stands.{DueApart, LaneStands, SenderLeads, SenderStands, StandsAt}
 use Rattle.sender_law.proofs.Apart.{IsFewer, apart_lane, fewer_unmarked}
+use Rattle.sender_law.proofs.Closes.{none_closed}
 use Rattle.sender_law.proofs.Desks.{OnDesk, due_again_on, stand}
 use Rattle.sender_law.proofs.Entries.{Grows, due_all, known_all, lane_grown, serves_grown, entered_grown}
 use Rattle.sender_law.proofs.Gone.{lane_name, point_ended}
@@ -276,6 +277,7 @@ module _ (controls : Controls) (now : ℕ) (q : Queue) (a : List ℕ) (G : Sound
       let then_at = at_grown controls q r mark.Open m.channel d g h in
       record {
         number = None;
+        closed = none_closed now q;
         leads = reads_keep controls now q a G read opening (answer.Opened fd) wrote tt fits;
         stands = at_stands controls now r a (mark.Write fd) m d (record {
           known = then_at.known;
@@ -293,6 +295,7 @@ module _ (controls : Controls) (now : ℕ) (q : Queue) (a : List ℕ) (G : Sound
       → SenderLeads controls now a q (after opening told) (mark_over false m d)
   not_opened told h fits g = record {
     number = None;
+    closed = none_closed now q;
     leads = reads_keep controls now q a G read opening told wrote tt fits;
     stands = over_failed controls now (after opening told) a mark.Open m d first (at_grown controls q (after opening told) mark.Open m.channel d g h);
   }
@@ -319,6 +322,7 @@ module _ (controls : Controls) (now : ℕ) (q : Queue) (a : List ℕ) (G : Sound
       let there = at_grown controls q r (mark.Close fd written) m.channel d g h in
       record {
         number = None;
+        closed = none_closed now q;
         leads = reads_keep controls now q a G read (call.Close fd) answer.Done wrote holds fits;
         stands = by_written written r there;
       }

@@ -66,7 +66,7 @@ mark_has_job q row ch s l m w =
     l.jobs n job.0 job.1
 
 module _ (q r : Queue) (spares : SparesSorted q r) where
-  same_about : (n : ℕ) → IsSettledIn (about q n) → about r n ≡ about q n
+  pub same_about : (n : ℕ) → IsSettledIn (about q n) → about r n ≡ about q n
   same_about n h = spares.sorted n h.no_todo h.info h.info_there
 
   settled_kept : (n : ℕ) → IsSettledIn (about q n) → IsSettledIn (about r n)

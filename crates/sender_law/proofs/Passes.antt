@@ -51,6 +51,7 @@ use Rattle.sender_law.specs.Readings.{ReadsOn}
 use Rattle.sender_law.specs.Rows.{HasNoJob, HasNoMarks, HasText}
 use Rattle.sender_law.specs.Stands.{DueApart, SenderLeads, SenderStands, StandsAt}
 use Rattle.sender_law.proofs.Apart.{IsApart}
+use Rattle.sender_law.proofs.Closes.{none_closed}
 use Rattle.sender_law.proofs.Desks.{OnDesk, due_again_on, on_of, stand}
 use Rattle.sender_law.proofs.Entries.{Grows, serves_grown}
 use Rattle.sender_law.proofs.Gone.{desk_grown}
@@ -214,6 +215,7 @@ module _ (controls : Controls) (now : ℕ) (q : Queue) (a : List ℕ) (G : Sound
       let begins : ℕ = begun_at g begun read in
       record {
         number = None;
+        closed = none_closed now q;
         leads = w.leads;
         stands = busy_on controls now r a (file_read (read_on g (said (Answered told))) c n begins g read (said (Answered told)) d)
             (on_progress controls now r a c n begins read d (desk_grown controls q r d grows on) h.rests.0 h.rests.1.0 (serves_grown q r grows n c h.rests.1.1.0)

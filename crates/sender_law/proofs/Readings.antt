@@ -37,10 +37,10 @@ use Rattle.sender_law.proofs.Gone.{file_call}
 
 -- Pieces of a text
 
-split_at : (bytes before : List ℕ) → before ≡ take (length before) bytes → before ++ drop (length before) bytes ≡ bytes
+pub split_at : (bytes before : List ℕ) → before ≡ take (length before) bytes → before ++ drop (length before) bytes ≡ bytes
 split_at bytes before e = ap (λ t. t ++ drop (length before) bytes) e ∙ take-append-drop (length before) bytes
 
-piece_begins : (bytes before : List ℕ) (k : ℕ) → before ≡ take (length before) bytes
+pub piece_begins : (bytes before : List ℕ) (k : ℕ) → before ≡ take (length before) bytes
     → before ++ take k (drop (length before) bytes) ≡ take (length (before ++ take k (drop (length before) bytes))) bytes
 piece_begins bytes before k e =
     let rest : List ℕ = drop (length before) bytes in
@@ -48,7 +48,7 @@ piece_begins bytes before k e =
     let whole : front ++ drop k rest ≡ bytes = append_assoc before (take k rest) (drop k rest) ∙ ap (λ t. before ++ t) (take-append-drop k rest) ∙ split_at bytes before e in
     sym (take_at front (drop k rest) (length front) refl) ∙ ap (take (length front)) whole
 
-piece_ends : (bytes before : List ℕ) (k : ℕ) → before ≡ take (length before) bytes → k ≡ min PIECE (length (drop (length before) bytes))
+pub piece_ends : (bytes before : List ℕ) (k : ℕ) → before ≡ take (length before) bytes → k ≡ min PIECE (length (drop (length before) bytes))
     → length (take k (drop (length before) bytes)) < PIECE → before ++ take k (drop (length before) bytes) ≡ bytes
 piece_ends bytes before k e size lt =
     let rest : List ℕ = drop (length before) bytes in

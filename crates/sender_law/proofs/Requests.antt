@@ -35,7 +35,7 @@ use Rattle.sender_law.proofs.Arrive.{IsPlain}
 use Rattle.sender_law.proofs.Desks.{OnDesk, on_of, stand}
 use Rattle.sender_law.proofs.Lanes.{OnBoth, OnLane}
 
-the : {A : Type 0} (o : Option A) → IsSome o → (x : A) × (o ≡ Some x)
+pub the : {A : Type 0} (o : Option A) → IsSome o → (x : A) × (o ≡ Some x)
 the None h = absurd (cc)
 the (Some x) h = (x, refl)
 

@@ -49,6 +49,7 @@ use Rattle.sender_law.specs.Readings.{ReadsOn}
 use Rattle.sender_law.specs.Rows.{HasNoJobs, HasNoMarks, HasText, IsFound, IsLearned, StartStands}
 use Rattle.sender_law.specs.Scan.{IsScan}
 use Rattle.sender_law.specs.Stands.{SenderLeads, Stands, StandsAt}
+use Rattle.sender_law.proofs.Closes.{none_closed}
 use Rattle.sender_law.proofs.Desks.{OnDesk, on_of, stand}
 use Rattle.sender_law.proofs.Entries.{Grows, settled_grown}
 use Rattle.sender_law.proofs.Gone.{desk_grown, file_call}
@@ -263,6 +264,7 @@ module _ (controls : Controls) (now : ℕ) (q : Queue) (a : List ℕ) (G : Sound
       let t = stat_tells q (Of Todo n) told.answer told.bytes wrote fits in
       record {
         number = None;
+        closed = none_closed now q;
         leads = L;
         stands = stated (Of Todo n) told fits on h.rests.0 h.rests.1.0 (start.Scan split) (start.ReadInfo split n Opening)
             (λ e. (tt, tt))
@@ -278,6 +280,7 @@ module _ (controls : Controls) (now : ℕ) (q : Queue) (a : List ℕ) (G : Sound
       let r : Queue = after (call.Stat (path (Of Info n))) told.answer in
       record {
         number = None;
+        closed = none_closed now q;
         leads = L;
         stands = stated (Of Info n) told fits on h.rests.0 h.rests.1.0 (start.StatLocal split n (said (Answered told)).stat.moment) (start.Scan split)
             (λ e. (tt, learned_grown q r n d.book.read g h.rests.1.1))
@@ -295,6 +298,7 @@ module _ (controls : Controls) (now : ℕ) (q : Queue) (a : List ℕ) (G : Sound
       let l = learned_grown q r n d.book.read g h.rests.1.1 in
       record {
         number = None;
+        closed = none_closed now q;
         leads = L;
         stands = stated (Of LocalFile n) told fits on h.rests.0 h.rests.1.0 (start.StatRemote split n birth true) (start.StatRemote split n birth false)
             (λ e. let y = tells_fine (answered told.answer told.bytes).way (look q (Of LocalFile n)) e t in (tt, (l, (y.0, g.looks LocalFile n ∙ y.1))))
@@ -316,6 +320,7 @@ module _ (controls : Controls) (now : ℕ) (q : Queue) (a : List ℕ) (G : Sound
       let grown_desk = grown (Of RemoteFile n) told fits on h.rests.0 h.rests.1.0 in
       record {
         number = None;
+        closed = none_closed now q;
         leads = L;
         stands = stands_with controls now r a d grown_desk h.rests.0 h.rests.1.0 (remote_stated v split n birth local d.book)
             (remote_well controls now r a d grown_desk h.rests.0 h.rests.1.0 L.sound v split n birth local l on_local t);
@@ -331,6 +336,7 @@ module _ (controls : Controls) (now : ℕ) (q : Queue) (a : List ℕ) (G : Sound
       let s : Said = said (Answered told) in
       record {
         number = None;
+        closed = none_closed now q;
         leads = L;
         stands = stands_with controls now r a d grown_desk h.rests.0 h.rests.1.0 (scanned s.way s.bytes split d.book)
             (scanned_well controls now r a d grown_desk h.rests.0 h.rests.1.0 s.way s.bytes split);
@@ -348,6 +354,7 @@ module _ (controls : Controls) (now : ℕ) (q : Queue) (a : List ℕ) (G : Sound
       let s : Said = said (Answered told) in
       record {
         number = None;
+        closed = none_closed now q;
         leads = w.leads;
         stands = stands_with controls now r a d grown_desk h.rests.0 h.rests.1.0 (info_read (read_on g s) split n g s d.book)
             (read_well controls now r a d grown_desk h.rests.0 h.rests.1.0 (read_on g s) split n g s (found_grown q r n grows h.rests.1.1.0) w.reads);

@@ -54,6 +54,7 @@ use Rattle.channel_law.proofs.Ties.{at_itself, others_kept, unsure_kept}
 use Rattle.queue_law.specs.Books.{Books}
 use Rattle.queue_law.specs.Numbers.{Queue, Entry, find, look, about, Sound}
 use Rattle.queue_law.specs.Passes.{HasOpen}
+use Rattle.queue_law.specs.Rests.{IsClosed}
 use Rattle.queue_law.specs.Routes.{lane_part, sender_of}
 use Rattle.queue_law.specs.Senders.{LeadsOn, MayMark, called_queue}
 use Rattle.queue_law.proofs.Changes.{marks_one}
@@ -63,6 +64,7 @@ use Rattle.sender_law.specs.Views.{files_of, records_at}
 use Rattle.sender_law.specs.Knows.{IsEntered, IsKnown, IsSettledIn, Serves}
 use Rattle.sender_law.specs.Rows.{HasFile, IsFirstMark}
 use Rattle.sender_law.specs.Stands.{SenderLeads, SenderStands, StandsAt}
+use Rattle.sender_law.proofs.Closes.{lane_closed, one_closed}
 use Rattle.sender_law.proofs.Entries.{Grows}
 use Rattle.sender_law.proofs.Gone.{file_call, info_apart, lane_name, other_number, todo_apart}
 use Rattle.sender_law.proofs.Lanes.{AllServe, OnLane}
@@ -297,6 +299,9 @@ module _ (controls : Controls) (now : ℕ) (q : Queue) (a : List ℕ) (G : Sound
   leads : (told : Answer) (wrote : ℕ) → Fits q.disk writing told wrote → LeadsOn controls now a (Some m.n) q (after wrote told)
   leads told wrote fits = marks_keep controls now q a G read m.n m.channel fd m.place told wrote may fits
 
+  closed : (n : ℕ) → ◌≡◌ {A = Option ℕ} (Some m.n) (Some n) → IsClosed now q n
+  closed = one_closed now q m.n (lane_closed controls now q m.n m.channel G may.lane)
+
   open_then : (told : Answer) (wrote : ℕ) → (after wrote told).disk.opens ≡ q.disk.opens → (after wrote told).holder ≡ q.holder → HasOpen (after wrote told) a fd.0
   open_then told wrote e f = (
     record { number = file.file.number; mode = Mode.Opened how.Write },
@@ -354,11 +359,13 @@ module _ (controls : Controls) (now : ℕ) (q : Queue) (a : List ℕ) (G : Sound
       → SenderLeads controls now a q (after wrote told) (act_mark (mark.Write fd) m (answered told bytes) d)
   write_answer wrote answer.Done bytes fits = record {
     number = Some m.n;
+    closed = closed;
     leads = leads answer.Done wrote fits;
     stands = stand_then answer.Done wrote true (opens_same q.disk (q.disk.opens fd.0) g) refl (marked_at fits true);
   }
   write_answer zero (answer.Refused why.Fault) bytes fits = record {
     number = Some m.n;
+    closed = closed;
     leads = leads (answer.Refused why.Fault) 0 fits;
     stands = stand_then (answer.Refused why.Fault) 0 false (opens_same q.disk (q.disk.opens fd.0) (λ f. f)) refl
         (at_grown controls q (after 0 (answer.Refused why.Fault)) (mark.Close fd false) m.channel d
@@ -366,12 +373,14 @@ module _ (controls : Controls) (now : ℕ) (q : Queue) (a : List ℕ) (G : Sound
   }
   write_answer (suc zero) (answer.Refused why.Fault) bytes fits = record {
     number = Some m.n;
+    closed = closed;
     leads = leads (answer.Refused why.Fault) 1 fits;
     stands = stand_then (answer.Refused why.Fault) 1 false (opens_same q.disk (q.disk.opens fd.0) g) refl (marked_at fits.0 false);
   }
   write_answer (suc (suc k)) (answer.Refused why.Fault) bytes fits = absurd (let le = fits.1 in omega (arith, le))
   write_answer wrote (answer.Refused why.Memory) bytes fits = record {
     number = Some m.n;
+    closed = closed;
     leads = leads (answer.Refused why.Memory) wrote fits;
     stands = stand_then (answer.Refused why.Memory) wrote false refl refl
         (at_grown controls q (after wrote (answer.Refused why.Memory)) (mark.Close fd false) m.channel d

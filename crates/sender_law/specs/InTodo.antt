@@ -34,7 +34,10 @@ pub record IsExpected (w : About) (k : Known) : Type 0 where
   pub sender_is : k.sender ≡ sender_of injection.args
   pub files : (ch : Channel) → IsThereIf (has_file ch k) (w.parts (lane_part ch))
 
--- what it rests on at a row
+-- What it rests on at a row: of a pass that is over, nothing.
 abbrev pub TodoStands : Controls → ℕ → Queue → List ℕ → PassRow → Pass → Type 0
 TodoStands controls now q a todo.Answer p = IsExpected (about q p.n) (known_of p)
+TodoStands controls now q a todo.Done p = Unit {0}
+TodoStands controls now q a (todo.Left why) p = Unit {0}
+TodoStands controls now q a todo.Lost p = Unit {0}
 TodoStands controls now q a row p = PassGoesOn controls now q a p

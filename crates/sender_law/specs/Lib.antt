@@ -20,5 +20,25 @@ pub mod Readings
 pub mod Passes
 -- the scan of the info files
 pub mod Scan
+-- the control files as a disk holds them
+pub mod Control
+-- the text of each request
+pub mod Asking
 -- the laws
 pub mod Laws
+-- the commands that a sender gives its cleaner, over the queue
+pub mod Commands
+-- what a sender waits for, by its table
+pub mod Waits
+-- a todo pass inside a sender
+pub mod Searches
+-- the finish of a message and the sweep
+pub mod Points
+-- each event of a sender
+pub mod Whole
+-- the control files, which nobody changes, and what a sender has read of them
+pub mod ControlFiles
+-- what others leave a sender
+pub mod LeftAlone
+-- what steps of others spare
+pub mod Spares

@@ -20,6 +20,7 @@ use Rattle.send_known.specs.declared.messages.Messages.{Messages}
 use Rattle.send_steps.specs.declared.book.Book.{Book}
 use Rattle.todo_pass.specs.Table.{Pass}
 use Rattle.queue_law.specs.Numbers.{Queue, Entry, look, about}
+use Rattle.queue_law.specs.Rests.{IsClosed}
 use Rattle.queue_law.specs.Senders.{LeadsOn}
 use Rattle.queue_law.specs.Steps.{LeavesLater}
 use Rattle.sender_law.specs.Views.{files_of, first_at}
@@ -64,10 +65,11 @@ SenderStands controls now q a d = Stands controls now q a d.row d.book d.slots d
 abbrev pub StandsAt : Controls → ℕ → Queue → List ℕ → Row → Desk → Type 0
 StandsAt controls now q a row d = Stands controls now q a row d.book d.slots d.pass
 
--- What an event of a sender leads to: what holds of the queue holds then too, of all but one number nothing changed, and the sender has
--- what it relies on.
+-- What an event of a sender leads to: what holds of the queue holds then too, of all but one number nothing changed, which is one that no
+-- injector touches, and the sender has what it relies on.
 pub record SenderLeads (controls : Controls) (now : ℕ) (a : List ℕ) (q r : Queue) (next : Desk) : Type 0 where
   pub number : Option ℕ
+  pub closed : (n : ℕ) → number ≡ Some n → IsClosed now q n
   pub leads : LeadsOn controls now a number q r
   pub stands : SenderStands controls now r a next
 

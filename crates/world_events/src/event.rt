@@ -12,7 +12,7 @@ use std::alloc::Global;
 pub enum Program {
     /// An injector.
     Injector(Arguments),
-    /// A cleaner, which was started at this moment. No history starts one yet, and so none of the other members of a
+    /// A cleaner, which was started at this moment. No world starts one yet, and so none of the other members of a
     /// generation.
     Cleaner {
         /// The moment of its start.

@@ -1,7 +1,7 @@
 // Steps of a spawner, as data.
 ghost use Rattle.call_fs.specs.Columns.{IsMomentIn};
 
-use call_fs::{Answer, Call, Child, Fd, FsError, Got, How, Need, Port, Ready};
+use call_fs::{Answer, Call, Child, DeliveryWords, Fd, FsError, Got, How, Need, Port, Ready};
 
 /// What a spawner needs.
 #[derive(Clone, Copy)]
@@ -18,6 +18,8 @@ pub enum Due {
     Close(u64),
     /// To start the program of a slot, with a domain, a sender and a recipient.
     Start(u8, &'static [u8], &'static [u8], &'static [u8]),
+    /// To start the local delivery of a slot, with the words of its command line and the user's number.
+    Deliver(u8, DeliveryWords<'static>, u32),
     /// To give the program of a slot this message.
     Feed(u8, &'static [u8]),
     /// To take what the program of a slot printed.
@@ -135,8 +137,23 @@ fn is_started(child: Child<'_>, due: &Due) -> bool {
             },
             Due::Start(wanted, host, from, to),
         ) => slot == *wanted && domain == *host && sender == *from && recipient == *to,
+        (Child::Local { slot, words, uid }, Due::Deliver(wanted, texts, number)) => {
+            slot == *wanted && uid == *number && are_words(&words, texts)
+        }
         _ => false,
     }
+}
+
+/// Whether these are the words of a delivery.
+fn are_words(words: &DeliveryWords<'_>, wanted: &DeliveryWords<'static>) -> bool {
+    words.user == wanted.user
+        && words.home == wanted.home
+        && words.local == wanted.local
+        && words.dash == wanted.dash
+        && words.ext == wanted.ext
+        && words.domain == wanted.domain
+        && words.sender == wanted.sender
+        && words.line == wanted.line
 }
 
 /// What is handed in.

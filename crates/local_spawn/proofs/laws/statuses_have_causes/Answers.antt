@@ -1,11 +1,11 @@
-use Rattle.local_spawn.proofs.Ends.{ends, failed, settles}
+use Rattle.local_spawn.proofs.Ends.{ends, fails, settles}
 use Rattle.local_spawn.proofs.laws.statuses_have_causes.Goals as goal
 
 pub returns-clause-ends : goal.returns-clause-ends
 returns-clause-ends c = ends
 
 pub returns-clause-fails : goal.returns-clause-fails
-returns-clause-fails c = failed
+returns-clause-fails c = fails
 
 pub returns-clause-settles : goal.returns-clause-settles
 returns-clause-settles c = settles

@@ -1,4 +1,4 @@
-use Rattle.remote_spawn.proofs.Settled.{each, most, starts}
+use Rattle.remote_spawn.proofs.Tells.{each, most, starts}
 use Rattle.remote_spawn.proofs.laws.requests_have_reports.Goals as goal
 
 pub returns-clause-most : goal.returns-clause-most

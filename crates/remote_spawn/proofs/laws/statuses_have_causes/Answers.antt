@@ -1,6 +1,4 @@
-use Rattle.remote_spawn.proofs.Failures.{failed}
-use Rattle.remote_spawn.proofs.Reasons.{ends}
-use Rattle.remote_spawn.proofs.Settled.{settles}
+use Rattle.remote_spawn.proofs.Tells.{ends, failed, settles}
 use Rattle.remote_spawn.proofs.laws.statuses_have_causes.Goals as goal
 
 pub returns-clause-ends : goal.returns-clause-ends

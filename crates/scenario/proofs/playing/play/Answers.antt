@@ -34,6 +34,7 @@ loop-line-init g c =
     let playing : IsPlaying d c.in_ok-world.world no_plan [] = record {
       is = c.in_ok-world.ensures.begun (first_opens c.args.script.opening d (subst HaveEntryPaths entries.value entries.paths) first);
       planned = ap (λ (w : Seen Crash). crash_plan w.disk) world ∙ c.in_ok-first_disk.ensures.plan;
+      covered = tt;
     } in (
       refl,
       nothing_played c.args.script.opening d c.in_ok-world.world first playing,

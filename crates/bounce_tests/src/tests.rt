@@ -1,0 +1,3 @@
+mod notes;
+mod returns;
+mod steps;

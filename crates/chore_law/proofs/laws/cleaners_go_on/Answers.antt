@@ -1,5 +1,0 @@
-use Rattle.chore_law.proofs.Goes.{cleaners_go_on}
-use Rattle.chore_law.proofs.laws.cleaners_go_on.Goals as goal
-
-pub returns : goal.returns
-returns c = cleaners_go_on

@@ -1,5 +1,0 @@
-use Rattle.chore_law.proofs.Points.{finishes_lead}
-use Rattle.chore_law.proofs.laws.finishes_lead.Goals as goal
-
-pub returns : goal.returns
-returns c = finishes_lead

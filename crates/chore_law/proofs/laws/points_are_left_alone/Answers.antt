@@ -1,5 +1,0 @@
-use Rattle.chore_law.proofs.Alone.{points_are_left_alone}
-use Rattle.chore_law.proofs.laws.points_are_left_alone.Goals as goal
-
-pub returns : goal.returns
-returns c = points_are_left_alone

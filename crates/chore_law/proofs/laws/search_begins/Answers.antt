@@ -1,5 +1,0 @@
-use Rattle.chore_law.proofs.Passing.{search_begins}
-use Rattle.chore_law.proofs.laws.search_begins.Goals as goal
-
-pub returns : goal.returns
-returns c = search_begins

@@ -1,5 +1,0 @@
-use Rattle.chore_law.proofs.Points.{sweeps_lead}
-use Rattle.chore_law.proofs.laws.sweeps_lead.Goals as goal
-
-pub returns : goal.returns
-returns c = sweeps_lead

@@ -1,0 +1,22 @@
+-- what may come of a need
+pub mod Coming
+-- what a delivery holds open
+pub mod Holds
+-- going on to the next line
+pub mod LineSteps
+-- a step of the drop at work
+pub mod DropSteps
+-- deliveries that stand for a past
+pub mod Standing
+-- all that a past tells
+pub mod Deeds
+-- lines that are reached
+pub mod Reaching
+-- what a delivery has done
+pub mod Carrying
+-- what holds of the drop at work
+pub mod Dropped
+-- links are of files that are whole
+pub mod Whole
+-- why a delivery has ended as it did
+pub mod Causing

@@ -1,0 +1,104 @@
+-- What a local delivery met and did, by its past alone.
+use Rattle.std.specs.Prelude.{ℕ, List, [], ◌∷◌, ◌++◌}
+use Rattle.call_fs.specs.declared.calls.Answer.{Answer}
+use Rattle.call_fs.specs.declared.calls.Answer.TheVariants as answer
+use Rattle.call_fs.specs.declared.calls.CallData.{CallData}
+use Rattle.call_fs.specs.declared.calls.CallData.TheVariants as call
+use Rattle.call_fs.specs.declared.past.ChildData.{ChildData}
+use Rattle.call_fs.specs.declared.past.GotData.{GotData}
+use Rattle.call_fs.specs.declared.past.GotData.TheVariants as came
+use Rattle.call_fs.specs.declared.past.NeedData.{NeedData}
+use Rattle.call_fs.specs.declared.past.NeedData.TheVariants as needs
+use Rattle.call_fs.specs.declared.past.Own.{Own}
+use Rattle.call_fs.specs.declared.program.Port.TheVariants as port
+
+-- the bytes of its input
+abbrev pub taken_by : List ℕ → NeedData → GotData → List ℕ
+taken_by old (needs.Take port.Input) (came.Took bytes) = old ++ bytes
+taken_by old due got = old
+
+abbrev pub taken : List Own → List ℕ
+taken [] = []
+taken (event ∷ before) = taken_by (taken before) event.due event.came
+
+-- the names of the home that it was told, in order
+abbrev pub told_by : List (List ℕ) → CallData → Answer → List (List ℕ)
+told_by old (call.NextName dir after) (answer.Name name) = old ++ name ∷ []
+told_by old c told = old
+
+abbrev pub names_by : List (List ℕ) → NeedData → GotData → List (List ℕ)
+names_by old (needs.File c) (came.Answered told) = told_by old c told.answer
+names_by old due got = old
+
+abbrev pub told_names : List Own → List (List ℕ)
+told_names [] = []
+told_names (event ∷ before) = names_by (told_names before) event.due event.came
+
+-- what was read of the file that was opened last
+abbrev pub bytes_by : List ℕ → CallData → Answer → List ℕ → List ℕ
+bytes_by old (call.Open name how) (answer.Opened fd) bytes = []
+bytes_by old (call.ReadAt fd from most) (answer.Count count) bytes = old ++ bytes
+bytes_by old c told bytes = old
+
+abbrev pub read_by : List ℕ → NeedData → GotData → List ℕ
+read_by old (needs.File c) (came.Answered told) = bytes_by old c told.answer told.bytes
+read_by old due got = old
+
+abbrev pub bytes_read : List Own → List ℕ
+bytes_read [] = []
+bytes_read (event ∷ before) = read_by (bytes_read before) event.due event.came
+
+-- the links that were made, in order: from this name to that one
+abbrev pub LinkMade : Type 0
+LinkMade = List ℕ × List ℕ
+
+abbrev pub linked_by : List LinkMade → CallData → Answer → List LinkMade
+linked_by old (call.Link from to) answer.Done = old ++ (from, to) ∷ []
+linked_by old c told = old
+
+abbrev pub links_by : List LinkMade → NeedData → GotData → List LinkMade
+links_by old (needs.File c) (came.Answered told) = linked_by old c told.answer
+links_by old due got = old
+
+abbrev pub links : List Own → List LinkMade
+links [] = []
+links (event ∷ before) = links_by (links before) event.due event.came
+
+-- the commands that exited, in order, and with what
+abbrev pub Exited : Type 0
+Exited = List ℕ × ℕ
+
+abbrev pub exits_by : List Exited → NeedData → GotData → List Exited
+exits_by old (needs.Command text) (came.Ended code) = old ++ (text, code) ∷ []
+exits_by old due got = old
+
+abbrev pub exits : List Own → List Exited
+exits [] = []
+exits (event ∷ before) = exits_by (exits before) event.due event.came
+
+-- the programs that it started, in order
+abbrev pub starts_by : List ChildData → NeedData → GotData → List ChildData
+starts_by old (needs.Start child) (came.Started pid) = old ++ child ∷ []
+starts_by old due got = old
+
+abbrev pub starts : List Own → List ChildData
+starts [] = []
+starts (event ∷ before) = starts_by (starts before) event.due event.came
+
+-- what it gave to the program that it started, in order
+abbrev pub feeds_by : List (List ℕ) → NeedData → GotData → List (List ℕ)
+feeds_by old (needs.Give (port.Program d) bytes) came.Gave = old ++ bytes ∷ []
+feeds_by old due got = old
+
+abbrev pub feeds : List Own → List (List ℕ)
+feeds [] = []
+feeds (event ∷ before) = feeds_by (feeds before) event.due event.came
+
+-- with what that program exited
+abbrev pub statuses_by : List ℕ → NeedData → GotData → List ℕ
+statuses_by old (needs.Take (port.Status d)) (came.Ended code) = old ++ code ∷ []
+statuses_by old due got = old
+
+abbrev pub statuses : List Own → List ℕ
+statuses [] = []
+statuses (event ∷ before) = statuses_by (statuses before) event.due event.came

@@ -1,0 +1,283 @@
+-- What each row of a sender does to the requests that lie ready, and to what it knows of what is due.
+use Rattle.std.proofs.Common.{◌≡◌, ℕ, ◌-◌, List, [], ◌∷◌, Bool, true, false, Option, Some, None, refl, sym, subst}
+use Rattle.std.specs.Prelude.{◌||◌, if◌then◌else◌, is_some, nat_lt}
+use Rattle.call_fs.specs.declared.past.GotData.{GotData}
+use Rattle.mail_bytes.specs.Decimal.{digits}
+use Rattle.send_core.specs.declared.desk.Desk.{Desk}
+use Rattle.send_core.specs.declared.row.Point.TheVariants as point
+use Rattle.send_core.specs.declared.row.Row.TheVariants as at
+use Rattle.send_core.specs.Desk.{later, next_idle, past_finish, past_todo, stands_at, sweep_due, turn_counted, turn_over}
+use Rattle.send_core.specs.Finish.{busied, finish_at, forgot, looked_up, put_off_to, sweep_at, sweep_begun}
+use Rattle.send_core.specs.Start.{slots_by, start_at, started}
+use Rattle.send_core.specs.Turn.{is_done, known_of, todo_found, todo_named, todo_none, todo_on, todo_over, todo_went}
+use Rattle.send_core.proofs.Asked.{Asked}
+use Rattle.send_core.proofs.Known.{Each, Owed, Sound, sound_forgotten, sound_learned, sound_put_off}
+use Rattle.send_core.proofs.StartSays.{lands_control}
+use Rattle.send_jobs.specs.declared.slots.Slots.{Slots}
+use Rattle.send_known.specs.declared.known.Known.{Known}
+use Rattle.send_known.specs.declared.messages.Messages.{Messages}
+use Rattle.send_known.specs.Messages.{learned}
+use Rattle.send_steps.specs.declared.book.Book.{Book}
+use Rattle.send_steps.specs.declared.reading.Progress.{Progress}
+use Rattle.send_steps.specs.declared.reading.Progress.TheVariants.{Goes, Whole, Missing, Failed}
+use Rattle.send_steps.specs.declared.reading.Reading.{Reading}
+use Rattle.send_steps.specs.declared.reading.Reading.TheVariants.{Opening, Going, Closing, Shutting}
+use Rattle.send_steps.specs.declared.reply.Way.{Way}
+use Rattle.send_steps.specs.declared.reply.Way.TheVariants as way
+use Rattle.send_steps.specs.declared.rows.FinishRow.{FinishRow}
+use Rattle.send_steps.specs.declared.rows.FinishRow.TheVariants as finish
+use Rattle.send_steps.specs.declared.rows.Search.{Search}
+use Rattle.send_steps.specs.declared.rows.StartRow.{StartRow}
+use Rattle.send_steps.specs.declared.rows.StartRow.TheVariants as start
+use Rattle.send_steps.specs.declared.rows.SweepRow.{SweepRow}
+use Rattle.send_steps.specs.declared.rows.SweepRow.TheVariants as sweep
+use Rattle.send_steps.specs.Files.{message_number, sender_in}
+use Rattle.send_steps.specs.Readings.{read_on}
+use Rattle.send_steps.specs.Replies.{Said}
+use Rattle.send_steps.specs.Rows.{is_again}
+use Rattle.send_steps.specs.Start.{act_start, greeted_local, greeted_remote, info_read, remote_stated, scan_known, scanned}
+use Rattle.send_steps.specs.Sweep.{named, searched}
+use Rattle.todo_pass.specs.declared.row.Row.{Row as PassRow}
+use Rattle.todo_pass.specs.declared.row.Row.TheVariants as todo
+use Rattle.todo_pass.specs.Table.{Pass, answer_row, begun as pass_begun}
+use Rattle.sender_law.specs.Asking.{IsKnownAt}
+
+-- nothing is asked of a sender here
+abbrev pub Any : ℕ → List ℕ → Type 0
+Any n sender = Unit {0}
+
+any_each : (ks : List Known) → Each Any ks
+any_each [] = tt
+any_each (k ∷ ks) = (tt, any_each ks)
+
+abbrev pub OwedBoth : Messages → Type 0
+OwedBoth m = Owed m.local m.known × Owed m.remote m.known
+
+pub any_sound : (m : Messages) → OwedBoth m → Sound Any m
+any_sound m h = (any_each m.known, h.0, h.1)
+
+module _ (S : ℕ → List ℕ → Type 0) where
+  -- The requests are those of the attempts that are still to be given, and each message that is due is known.
+  abbrev pub Kept : Desk → Type 0
+  Kept d = (Asked S d.local.requests d.slots.local.left × Asked S d.remote.requests d.slots.remote.left) × OwedBoth d.book.messages
+
+  -- and the message whose file is read is known
+  abbrev pub Then : Desk → Type 0
+  Then d = Kept d × IsKnownAt d.row d.book.messages.known
+
+  then_if : (b : Bool) (x y : Desk) → Then x → Then y → Then (if b then x else y)
+  then_if true x y p q = p
+  then_if false x y p q = q
+
+  -- The end of a turn
+
+  counted_then : (turns : Option ℕ) (d : Desk) → Kept d → Then (turn_counted turns d)
+  counted_then None d h = (h, tt)
+  counted_then (Some k) d h = then_if (nat_lt 1 k) (record d { turns = Some (k - 1); row = at.Turn point.TakeLocal }) (record d { turns = Some 0; row = at.Ended 0 }) (h, tt) (h, tt)
+
+  over_then : (d : Desk) → Kept d → Then (turn_over d)
+  over_then d h = counted_then d.turns (record d { busy = false }) h
+
+  past_finish_then : (now : ℕ) (d : Desk) → Kept d → Then (past_finish now d)
+  past_finish_then now d h = then_if (sweep_due now d.swept) (stands_at d point.Sweep) (turn_over d) (h, tt) (over_then d h)
+
+  past_todo_then : (now : ℕ) (d : Desk) → Kept d → Then (past_todo now d)
+  past_todo_then now d h = then_if (is_some (next_idle now d) || sweep_due now d.swept) (stands_at d point.Finish) (turn_over d) (h, tt) (over_then d h)
+
+  -- The start
+
+  info_owed : (x : Progress) (split n : ℕ) (g : Reading) (s : Said) (b : Book) → OwedBoth b.messages → OwedBoth (info_read x split n g s b).messages
+  info_owed (Goes Opening) split n g s b h = h
+  info_owed (Goes (Going fd)) split n g s b h = h
+  info_owed (Goes (Closing fd)) split n g s b h = h
+  info_owed (Goes (Shutting fd)) split n g s b h = h
+  info_owed Whole split n g s b h = h
+  info_owed Missing split n g s b h = h
+  info_owed Failed split n g s b h = h
+
+  local_owed : (w : Way) (bytes : List ℕ) (b : Book) → OwedBoth b.messages → OwedBoth (greeted_local w bytes b).messages
+  local_owed way.Fine [] b h = h
+  local_owed way.Fine (byte ∷ rest) b h = h
+  local_owed way.Over bytes b h = h
+  local_owed way.Absent bytes b h = h
+  local_owed way.NoMemory bytes b h = h
+  local_owed way.Broken bytes b h = h
+
+  remote_owed : (w : Way) (bytes : List ℕ) (b : Book) → OwedBoth b.messages → OwedBoth (greeted_remote w bytes b).messages
+  remote_owed way.Fine [] b h = h
+  remote_owed way.Fine (byte ∷ rest) b h = h
+  remote_owed way.Over bytes b h = h
+  remote_owed way.Absent bytes b h = h
+  remote_owed way.NoMemory bytes b h = h
+  remote_owed way.Broken bytes b h = h
+
+  scan_owed : (w : Way) (text : List ℕ) (split : ℕ) (b : Book) → OwedBoth b.messages → OwedBoth (scanned w text split b).messages
+  scan_owed way.Fine text split b h = h
+  scan_owed way.Over text split b h = h
+  scan_owed way.Absent text split b h = h
+  scan_owed way.NoMemory text split b h = h
+  scan_owed way.Broken text split b h = h
+
+  learned_owed : (split n birth : ℕ) (local remote : Bool) (b : Book) → OwedBoth b.messages → OwedBoth (scan_known split n birth local remote b).messages
+  learned_owed split n birth local remote b h =
+      let w = sound_learned Any (record { n = n; birth = birth; finish_at = 0; local = local; remote = remote; sender = sender_in b.read }) 0 b.messages tt (any_sound b.messages h) in
+      (w.1, w.2)
+
+  stated_owed : (w : Way) (split n birth : ℕ) (local : Bool) (b : Book) → OwedBoth b.messages → OwedBoth (remote_stated w split n birth local b).messages
+  stated_owed way.Fine split n birth local b h = learned_owed split n birth local true b h
+  stated_owed way.Absent split n birth local b h = learned_owed split n birth local false b h
+  stated_owed way.Over split n birth local b h = h
+  stated_owed way.NoMemory split n birth local b h = h
+  stated_owed way.Broken split n birth local b h = h
+
+  start_owed : (row : StartRow) (s : Said) (b : Book) → OwedBoth b.messages → OwedBoth (act_start row s b).messages
+  start_owed (start.Control f g) s b h = let w = lands_control Any None (pass_begun 0) (read_on g s) f g s b (any_sound b.messages h) in (w.0.1, w.0.2)
+  start_owed start.GreetLocal s b h = local_owed s.way s.bytes b h
+  start_owed (start.GreetRemote limit) s b h = remote_owed s.way s.bytes b h
+  start_owed (start.Scan split) s b h = scan_owed s.way s.bytes split b h
+  start_owed (start.StatTodo split n) s b h = h
+  start_owed (start.ReadInfo split n g) s b h = info_owed (read_on g s) split n g s b h
+  start_owed (start.StatInfo split n) s b h = h
+  start_owed (start.StatLocal split n birth) s b h = h
+  start_owed (start.StatRemote split n birth local) s b h = stated_owed s.way split n birth local b h
+  start_owed start.Over s b h = h
+  start_owed (start.Ended status) s b h = h
+
+  -- what is still to be given, as the slots come to be
+  abbrev AskedIn : Slots → Desk → Type 0
+  AskedIn s d = Asked S d.local.requests s.local.left × Asked S d.remote.requests s.remote.left
+
+  abbrev pub HasNoneLeft : StartRow → Desk → Type 0
+  HasNoneLeft (start.GreetRemote limit) d = (d.slots.local.left ≡ []) × (d.slots.remote.left ≡ [])
+  HasNoneLeft row d = Unit {0}
+
+  slots_asked : (row : StartRow) (bytes : List ℕ) (d : Desk) → HasNoneLeft row d → AskedIn d.slots d → AskedIn (slots_by row bytes d) d
+  slots_asked (start.GreetRemote limit) bytes d none h = (subst (Asked S d.local.requests) none.0 h.0, subst (Asked S d.remote.requests) none.1 h.1)
+  slots_asked (start.Control f g) bytes d none h = h
+  slots_asked start.GreetLocal bytes d none h = h
+  slots_asked (start.Scan split) bytes d none h = h
+  slots_asked (start.StatTodo split n) bytes d none h = h
+  slots_asked (start.ReadInfo split n g) bytes d none h = h
+  slots_asked (start.StatInfo split n) bytes d none h = h
+  slots_asked (start.StatLocal split n birth) bytes d none h = h
+  slots_asked (start.StatRemote split n birth local) bytes d none h = h
+  slots_asked start.Over bytes d none h = h
+  slots_asked (start.Ended status) bytes d none h = h
+
+  start_row : (row : StartRow) (ks : List Known) → IsKnownAt (start_at row) ks
+  start_row (start.Control f g) ks = tt
+  start_row start.GreetLocal ks = tt
+  start_row (start.GreetRemote limit) ks = tt
+  start_row (start.Scan split) ks = tt
+  start_row (start.StatTodo split n) ks = tt
+  start_row (start.ReadInfo split n g) ks = tt
+  start_row (start.StatInfo split n) ks = tt
+  start_row (start.StatLocal split n birth) ks = tt
+  start_row (start.StatRemote split n birth local) ks = tt
+  start_row start.Over ks = tt
+  start_row (start.Ended status) ks = tt
+
+  pub started_then : (row : StartRow) (s : Said) (d : Desk) → HasNoneLeft row d → Kept d → Then (started row s d)
+  started_then row s d none h =
+      ((slots_asked row s.bytes d none h.0, start_owed row s d.book h.1), start_row (act_start row s d.book).row (act_start row s d.book).messages.known)
+
+  -- Preprocessing
+
+  none_then : (again : Bool) (last : List ℕ) (now : ℕ) (d : Desk) → Kept d → Then (todo_none again last now d)
+  none_then false (b ∷ bs) now d h = (h, tt)
+  none_then false [] now d h = past_todo_then now d h
+  none_then true last now d h = past_todo_then now d h
+
+  pub named_then : (w : Way) (text : List ℕ) (search : Search) (now : ℕ) (d : Desk) → Kept d → Then (todo_named w text search now d)
+  named_then way.Fine text search now d h = by (message_number text) where
+    by : (o : Option ℕ) → Then (todo_found o text search d)
+    by None = (h, tt)
+    by (Some n) = (h, tt)
+  named_then way.Over text search now d h = none_then (is_again search) d.last_left now d h
+  named_then way.Absent text search now d h = none_then (is_again search) d.last_left now d h
+  named_then way.NoMemory text search now d h = none_then (is_again search) d.last_left now d h
+  named_then way.Broken text search now d h = none_then (is_again search) d.last_left now d h
+
+  on_then : (row : PassRow) (p : Pass) (now : ℕ) (d : Desk) → Kept d → Then (todo_on row p now d)
+  on_then (todo.Left why) p now d h = past_todo_then now (record d { pass = p; last_left = digits p.n }) h
+  on_then todo.Lost p now d h = (h, tt)
+  on_then (todo.Clear t) p now d h = (h, tt)
+  on_then todo.StatMess p now d h = (h, tt)
+  on_then todo.OpenTodo p now d h = (h, tt)
+  on_then (todo.ReadTodo fd) p now d h = (h, tt)
+  on_then (todo.CloseTodo fd) p now d h = (h, tt)
+  on_then (todo.Create t) p now d h = (h, tt)
+  on_then (todo.Append t fd done) p now d h = (h, tt)
+  on_then (todo.Sync t fd) p now d h = (h, tt)
+  on_then (todo.Close t fd) p now d h = (h, tt)
+  on_then (todo.Shut fd why) p now d h = (h, tt)
+  on_then todo.Give p now d h = (h, tt)
+  on_then todo.Answer p now d h = (h, tt)
+  on_then todo.Done p now d h = (h, tt)
+
+  over_pass_then : (row : PassRow) (p : Pass) (now : ℕ) (d : Desk) → Kept d → Then (todo_over row p now d)
+  over_pass_then row p now d h =
+      let learnt : Desk = record d { pass = p; book = record d.book { messages = learned (known_of p) now d.book.messages } } in
+      let w = sound_learned Any (known_of p) now d.book.messages tt (any_sound d.book.messages h.1) in
+      then_if (is_done row) (past_todo now learnt) (todo_on row p now d) (past_todo_then now learnt (h.0, (w.1, w.2))) (on_then row p now d h)
+
+  pub went_then : (row : PassRow) (came : GotData) (p : Pass) (now : ℕ) (d : Desk) → Kept d → Then (todo_went row came p now d)
+  went_then todo.Answer came p now d h = over_pass_then (answer_row came) p now d h
+  went_then (todo.Left why) came p now d h = on_then p.row p now d h
+  went_then todo.Lost came p now d h = on_then p.row p now d h
+  went_then (todo.Clear t) came p now d h = on_then p.row p now d h
+  went_then todo.StatMess came p now d h = on_then p.row p now d h
+  went_then todo.OpenTodo came p now d h = on_then p.row p now d h
+  went_then (todo.ReadTodo fd) came p now d h = on_then p.row p now d h
+  went_then (todo.CloseTodo fd) came p now d h = on_then p.row p now d h
+  went_then (todo.Create t) came p now d h = on_then p.row p now d h
+  went_then (todo.Append t fd done) came p now d h = on_then p.row p now d h
+  went_then (todo.Sync t fd) came p now d h = on_then p.row p now d h
+  went_then (todo.Close t fd) came p now d h = on_then p.row p now d h
+  went_then (todo.Shut fd why) came p now d h = on_then p.row p now d h
+  went_then todo.Give came p now d h = on_then p.row p now d h
+  went_then todo.Done came p now d h = on_then p.row p now d h
+
+  -- Finish and sweep
+
+  pub finish_then : (row : FinishRow) (n now : ℕ) (d : Desk) → Kept d → Then (finish_at row n now d)
+  finish_then finish.OpenBounce n now d h = (h, tt)
+  finish_then (finish.CloseBounce fd) n now d h = (h, tt)
+  finish_then finish.UnlinkInfo n now d h = (h, tt)
+  finish_then finish.Give n now d h = (h, tt)
+  finish_then finish.Take n now d h = (h, tt)
+  finish_then finish.Later n now d h =
+      let w = sound_put_off Any n (later now) d.book.messages (any_sound d.book.messages h.1) in past_finish_then now (put_off_to n (later now) d) (h.0, (w.1, w.2))
+  finish_then finish.Over n now d h =
+      let w = sound_forgotten Any n d.book.messages (any_sound d.book.messages h.1) in past_finish_then now (forgot n d) (h.0, (w.1, w.2))
+  finish_then finish.Lost n now d h = (h, tt)
+
+  pub busied_kept : (row : FinishRow) (d : Desk) → Kept d → Kept (busied row d)
+  busied_kept finish.OpenBounce d h = h
+  busied_kept row d h = h
+
+  pub swept_then : (row : SweepRow) (d : Desk) → Kept d → Then (sweep_at row d)
+  swept_then sweep.Over d h = over_then d h
+  swept_then sweep.Lost d h = (h, tt)
+  swept_then row d h = (h, tt)
+
+  begun_kept : (row : SweepRow) (now : ℕ) (d : Desk) → Kept d → Kept (sweep_begun row now d)
+  begun_kept sweep.First now d h = h
+  begun_kept row now d h = h
+
+  same_named : (w : Way) (text : List ℕ) (b : Book) → (named w text b).messages ≡ b.messages
+  same_named way.Fine text b = refl
+  same_named way.Over text b = refl
+  same_named way.Absent text b = refl
+  same_named way.Broken text b = refl
+  same_named way.NoMemory text b = refl
+
+  same_searched : (row : SweepRow) (s : Said) (b : Book) → (searched row s b).messages ≡ b.messages
+  same_searched sweep.First s b = same_named s.way s.bytes b
+  same_searched (sweep.Next split) s b = same_named s.way s.bytes b
+  same_searched row s b = refl
+
+  pub looked_kept : (row : SweepRow) (s : Said) (now : ℕ) (d : Desk) → Kept d → Kept (looked_up row s (sweep_begun row now d))
+  looked_kept row s now d h =
+      let was : Kept (sweep_begun row now d) = begun_kept row now d h in
+      (was.0, subst OwedBoth (sym (same_searched row s (sweep_begun row now d).book)) was.1)

@@ -1,0 +1,26 @@
+-- The number that an event of a sender concerns is one that no injector touches any more.
+use Rattle.std.proofs.Common.{◌≡◌, inr, ℕ, Option, Some, None, subst}
+use Rattle.address_rules.specs.declared.controls.Controls.{Controls}
+use Rattle.send_jobs.specs.declared.channels.Channel.{Channel}
+use Rattle.queue_law.specs.Numbers.{IsTaken, Queue, Sound, about}
+use Rattle.queue_law.specs.Rests.{IsClosed}
+use Rattle.queue_law.specs.Senders.{HasLane}
+use Rattle.queue_law.proofs.Sends.{sorted_of_lane}
+
+pub none_closed : (now : ℕ) (q : Queue) (n : ℕ) → ◌≡◌ {A = Option ℕ} None (Some n) → IsClosed now q n
+none_closed now q n e = absurd (cc)
+
+pub one_closed : (now : ℕ) (q : Queue) (m : ℕ) → IsClosed now q m → (n : ℕ) → ◌≡◌ {A = Option ℕ} (Some m) (Some n) → IsClosed now q n
+one_closed now q m c n e = let same : m ≡ n = cc in subst (IsClosed now q) same c
+
+-- a number whose message is accepted, while that is there
+pub taken_closed : (controls : Controls) (now : ℕ) (q : Queue) (n : ℕ) → IsTaken controls (about q n) → IsClosed now q n
+taken_closed controls now q n h = record {
+  mess = h.mess;
+  there = h.mess_there;
+  shut = inr (record { injection = h.injection; lives = h.lives; accepted = h.accepted });
+}
+
+-- a preprocessed number, of which a channel file is there
+pub lane_closed : (controls : Controls) (now : ℕ) (q : Queue) (n : ℕ) (ch : Channel) → Sound controls q → HasLane (about q n) ch → IsClosed now q n
+lane_closed controls now q n ch G l = taken_closed controls now q n (sorted_of_lane controls (about q n) ch (G.fine n) l).taken

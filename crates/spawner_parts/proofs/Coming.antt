@@ -1,0 +1,71 @@
+-- What may come of what a spawner needs.
+use Rattle.std.proofs.Common.{ℕ, List}
+use Rattle.call_fs.specs.declared.calls.CallData.{CallData}
+use Rattle.call_fs.specs.declared.calls.Told.{Told}
+use Rattle.call_fs.specs.declared.past.GotData.{GotData}
+use Rattle.call_fs.specs.declared.past.GotData.TheVariants as came
+use Rattle.call_fs.specs.declared.past.ChildData.{ChildData}
+use Rattle.call_fs.specs.declared.past.NeedData.TheVariants as needs
+use Rattle.call_fs.specs.declared.past.NeedData.TheVariants.{File}
+use Rattle.call_fs.specs.declared.program.Port.{Port}
+use Rattle.call_fs.specs.declared.program.Port.TheVariants as port
+use Rattle.call_fs.specs.Columns.{IsAnswerTo}
+use Rattle.call_fs.specs.Program.{MayCome}
+
+-- of a file call only an answer to it
+pub by_fit : (c : CallData) (P : GotData → Type 0) (got : GotData) → MayCome (File c) got → ((told : Told) → IsAnswerTo c told.answer → P (came.Answered told)) → P got
+by_fit c P (came.Answered told) may f = f told may
+by_fit c P (came.Took bytes) may f = absurd may
+by_fit c P came.End may f = absurd may
+by_fit c P (came.Ended status) may f = absurd may
+by_fit c P came.Crashed may f = absurd may
+by_fit c P came.Gave may f = absurd may
+by_fit c P (came.Started pid) may f = absurd may
+by_fit c P came.Failed may f = absurd may
+by_fit c P came.Memory may f = absurd may
+
+-- What may come of gives, takings and starts
+
+pub by_give : (to : Port) (bytes : List ℕ) (P : GotData → Type 0) → P came.Gave → P came.Failed → (got : GotData) → MayCome (needs.Give to bytes) got → P got
+by_give to bytes P well ill came.Gave may = well
+by_give to bytes P well ill came.Failed may = ill
+by_give to bytes P well ill (came.Answered told) may = absurd may
+by_give to bytes P well ill (came.Took more) may = absurd may
+by_give to bytes P well ill came.End may = absurd may
+by_give to bytes P well ill (came.Ended status) may = absurd may
+by_give to bytes P well ill came.Crashed may = absurd may
+by_give to bytes P well ill (came.Started pid) may = absurd may
+by_give to bytes P well ill came.Memory may = absurd may
+
+pub by_input : (P : GotData → Type 0) → ((bytes : List ℕ) → P (came.Took bytes)) → P came.End → P came.Failed → (got : GotData) → MayCome (needs.Take port.Input) got → P got
+by_input P more end ill (came.Took bytes) may = more bytes
+by_input P more end ill came.End may = end
+by_input P more end ill came.Failed may = ill
+by_input P more end ill came.Gave may = absurd may
+by_input P more end ill (came.Answered told) may = absurd may
+by_input P more end ill (came.Ended status) may = absurd may
+by_input P more end ill came.Crashed may = absurd may
+by_input P more end ill (came.Started pid) may = absurd may
+by_input P more end ill came.Memory may = absurd may
+
+pub by_program : (slot : ℕ) (P : GotData → Type 0) → ((bytes : List ℕ) → P (came.Took bytes)) → P came.End → P came.Failed → (got : GotData) → MayCome (needs.Take (port.Program slot)) got → P got
+by_program slot P more end ill (came.Took bytes) may = more bytes
+by_program slot P more end ill came.End may = end
+by_program slot P more end ill came.Failed may = ill
+by_program slot P more end ill came.Gave may = absurd may
+by_program slot P more end ill (came.Answered told) may = absurd may
+by_program slot P more end ill (came.Ended status) may = absurd may
+by_program slot P more end ill came.Crashed may = absurd may
+by_program slot P more end ill (came.Started pid) may = absurd may
+by_program slot P more end ill came.Memory may = absurd may
+
+pub by_start : (program : ChildData) (P : GotData → Type 0) → ((pid : ℕ) → P (came.Started pid)) → P came.Failed → P came.Memory → (got : GotData) → MayCome (needs.Start program) got → P got
+by_start program P well ill memory (came.Started pid) may = well pid
+by_start program P well ill memory came.Failed may = ill
+by_start program P well ill memory came.Memory may = memory
+by_start program P well ill memory came.Gave may = absurd may
+by_start program P well ill memory (came.Answered told) may = absurd may
+by_start program P well ill memory (came.Took bytes) may = absurd may
+by_start program P well ill memory came.End may = absurd may
+by_start program P well ill memory (came.Ended status) may = absurd may
+by_start program P well ill memory came.Crashed may = absurd may

@@ -1,0 +1,312 @@
+-- An actor has ended or was stopped: what it held open is closed, and nothing else of the queue changed.
+use Rattle.std.proofs.Common.{◌≡◌, ◌≢◌, ◌⊎◌, inl, inr, ℕ, List, Bool, true, false, Option, Some, None, refl, sym, ap, ◌∙◌, subst, ⊎_elim, codes, if◌then◌else◌}
+use Rattle.std.proofs.lemmas.Bool.Decides.{eqb_tells}
+use Rattle.address_rules.specs.declared.controls.Controls.{Controls}
+use Rattle.call_fs.specs.Disk.{Open}
+use Rattle.call_fs.specs.Maps.{put_at}
+use Rattle.call_fs.proofs.Maps.{put_at_cases}
+use Rattle.call_fs.specs.declared.past.Own.{Own}
+use Rattle.call_fs.specs.declared.past.NeedData.TheVariants as needs
+use Rattle.call_fs.specs.declared.program.Port.TheVariants as port
+use Rattle.call_fs.specs.declared.program.Ready.{Ready}
+use Rattle.errand_law.specs.Errands.{Awaits, Link, loses}
+use Rattle.errand_law.specs.Errands.Awaits.{Over as Lost}
+use Rattle.errand_law.proofs.Links.{losses_keep}
+use Rattle.queue_inject.specs.declared.row.Row.TheVariants as inject
+use Rattle.queue_inject.specs.Table.{row_after}
+use Rattle.queue_clean.specs.Commands.{message_of}
+use Rattle.queue_clean.specs.Table.{Place, place_after}
+use Rattle.spawner_parts.specs.declared.row.Row.{Row as SpawnRow}
+use Rattle.spawner_parts.specs.declared.row.Row.TheVariants as spawn
+use Rattle.remote_spawn.specs.Table.{place_after as spawn_after}
+use Rattle.send_core.specs.declared.row.Row.{Row}
+use Rattle.send_core.specs.declared.row.Row.TheVariants as at
+use Rattle.send_core.specs.Table.{desk_after}
+use Rattle.send_core.specs.Turn.{known_of}
+use Rattle.send_steps.specs.declared.rows.FinishRow.TheVariants as finish
+use Rattle.todo_pass.specs.declared.row.Row.{Row as PassRow}
+use Rattle.todo_pass.specs.declared.row.Row.TheVariants as todo
+use Rattle.todo_pass.specs.Table.{Pass}
+use Rattle.queue_law.specs.Injectors.{IsHeld}
+use Rattle.queue_law.specs.Numbers.{Queue, About, about, IsPreprocessed}
+use Rattle.queue_law.specs.Cleaners.{Needs, IsBeside}
+use Rattle.queue_law.specs.Rests.{Spares, SparesNames}
+use Rattle.queue_law.specs.Steps.{Elsewhere}
+use Rattle.queue_law.proofs.Frame.{injector_frame, still_there}
+use Rattle.queue_law.proofs.Injectors.{injector_done, injector_over}
+use Rattle.queue_law.proofs.RestIsKept.{rest_is_kept}
+use Rattle.queue_law.proofs.Tests.{unless_same}
+use Rattle.sender_law.specs.InTodo.{IsExpected}
+use Rattle.sender_law.specs.ControlFiles.{LeavesControls}
+use Rattle.sender_law.specs.Stands.{SparesSorted}
+use Rattle.sender_law.specs.LeftAlone.{LeavesPass, LeavesRow}
+use Rattle.sender_law.proofs.Asking.{texts_keep}
+use Rattle.sender_law.proofs.ControlsRead.{controls_are_read}
+use Rattle.sender_law.proofs.ControlsStay.{controls_stay}
+use Rattle.sender_law.proofs.LeftAlone.{senders_are_left_alone}
+use Rattle.world_pipes.specs.Pipework.{Pipe, closed, without_writer, is_writer, writer}
+use Rattle.world_events.specs.declared.event.Program.{Program}
+use Rattle.world_events.specs.declared.event.Program.TheVariants.{Injector, Cleaner, Sender, LocalSpawner, RemoteSpawner}
+use Rattle.mail_world.specs.History.{Actor, Life, State, next_of, unless_by, shut_by, finished}
+use Rattle.mail_world.specs.History.Life.{Alive, Over, Stopped}
+use Rattle.mail_world.specs.Untouched.{queue}
+use Rattle.world_law.specs.Crew.{is_alive, is_well, awaits_by, awaits_in, place_in, lives_by, lives_in, link_in, IsNamed}
+use Rattle.world_law.specs.Fares.{FaresBy, SpawnerHolds}
+use Rattle.world_law.specs.Inv.{Inv, ErrandRests, ErrandsRest}
+use Rattle.world_law.specs.Laws.{EndsKeep, StopsKeep}
+
+-- Steps that change nothing that concerns a number
+
+module _ (q r : Queue) (same : (n : ℕ) → about r n ≡ about q n) where
+  leaves_pass : (row : PassRow) (p : Pass) → LeavesPass row p None q r
+  leaves_pass todo.Answer p = λ (h : IsExpected (about q p.n) (known_of p)). subst (λ (w : About). IsExpected w (known_of p)) (sym (same p.n)) h
+  leaves_pass todo.Done p = tt
+  leaves_pass (todo.Left why) p = tt
+  leaves_pass todo.Lost p = tt
+  leaves_pass row p = (λ e. absurd (cc), same p.n)
+
+  leaves_row : (row : Row) (p : Pass) → LeavesRow row p None q r
+  leaves_row at.InTodo p = leaves_pass p.row p
+  leaves_row (at.Finish finish.Give n) p = λ e. absurd (cc)
+  leaves_row (at.Sweep row) p = λ n is e. absurd (cc)
+  leaves_row row p = tt
+
+-- what such a step leaves of an errand, if it spares all closed numbers
+module _ (controls : Controls) (now : ℕ) (q r : Queue) (S : Spares now None q r) where
+  none : (n : ℕ) → None ≢ Some n
+  none n e = absurd (cc)
+
+  pub errands_spared : (cleans : Bool) (x : Link) → ErrandRests controls now q cleans x → ErrandRests controls now r cleans x
+  errands_spared cleans x E = record {
+    waits = E.waits;
+    errand = E.errand;
+    rests = λ lives command is.
+        let w = E.rests lives command is in
+        let n = message_of command in
+        record { closed = S.closed n (none n) w.closed; rest = subst (Needs controls command) (sym (S.abouts n (none n) w.closed)) w.rest };
+    asked = λ n is. S.closed n (none n) (E.asked n is);
+    told = λ n is well.
+        let w = E.told n is well in
+        record { closed = S.closed n (none n) w.closed; rest = subst (IsPreprocessed controls) (sym (S.abouts n (none n) w.closed)) w.rest };
+  }
+
+-- The sender is lost, or goes on, and the cleaner too
+
+module _ (controls : Controls) (now : ℕ) (q : Queue) (lives later : Bool) (x : Link) (still : later ≡ true → lives ≡ true) (E : ErrandRests controls now q lives x) where
+  errands_lost : ErrandRests controls now q later (loses x)
+  errands_lost = record {
+    waits = E.waits;
+    errand = losses_keep.lost E.waits x E.errand;
+    rests = λ alive. E.rests (still alive);
+    asked = λ n h. absurd (cc);
+    told = λ n h. absurd (cc);
+  }
+
+  errands_go_on : ErrandRests controls now q later x
+  errands_go_on = record { waits = E.waits; errand = E.errand; rests = λ alive. E.rests (still alive); asked = E.asked; told = E.told }
+
+  errands_by : (w : Awaits) → (w ≡ Lost) ⊎ (w ≡ x.awaits)
+      → ErrandRests controls now q later (record { awaits = w; place = x.place; given = x.given; answers = x.answers })
+  errands_by w is = ⊎_elim
+      (λ (lost : w ≡ Lost). subst (λ (v : Awaits). ErrandRests controls now q later (record { awaits = v; place = x.place; given = x.given; answers = x.answers })) (sym lost) errands_lost)
+      (λ (same : w ≡ x.awaits). subst (λ (v : Awaits). ErrandRests controls now q later (record { awaits = v; place = x.place; given = x.given; answers = x.answers })) (sym same) errands_go_on)
+      is
+
+  pub errands_at : (w : Awaits) (p : Place) (given answers : List ℕ) → (w ≡ Lost) ⊎ (w ≡ x.awaits) → p ≡ x.place → given ≡ x.given → answers ≡ x.answers
+      → ErrandRests controls now q later (record { awaits = w; place = p; given = given; answers = answers })
+  errands_at w p given answers is place same told =
+      subst (λ (z : Place). ErrandRests controls now q later (record { awaits = w; place = z; given = given; answers = answers })) (sym place)
+      (subst (λ (z : List ℕ). ErrandRests controls now q later (record { awaits = w; place = x.place; given = z; answers = answers })) (sym same)
+      (subst (λ (z : List ℕ). ErrandRests controls now q later (record { awaits = w; place = x.place; given = x.given; answers = z })) (sym told)
+      (errands_by w is)))
+
+-- a pipe that is shut has its bytes
+bytes_shut : (t : Bool) (p : Pipe) → (if t then closed p else p).bytes ≡ p.bytes
+bytes_shut true p = refl
+bytes_shut false p = refl
+
+-- An actor is over
+
+-- an injector that is at its end with 0
+abbrev IsDone : Program → List Own → Type 0
+IsDone (Injector args) past = row_after args past ≡ inject.Queued
+IsDone other past = Unit {0}
+
+done_at : (controls : Controls) (now : ℕ) (q : Queue) (a : List ℕ) (program : Program) (past : List Own) (life : Life) (read : ℕ) (ready : Ready)
+    → FaresBy controls now q a program past life → life ≡ Alive → next_of program past read ready ≡ needs.Ended 0 → IsDone program past
+done_at controls now q a (Injector args) past life read ready F alive next =
+    injector_done now q a args past (is_alive life) (is_well life) read ready F (ap is_alive alive) next
+done_at controls now q a other past life read ready F alive next = tt
+
+zero_of : (status : ℕ) → is_well (Over status) ≡ true → status ≡ 0
+zero_of status well = ⊎_elim (λ w. w.1) (λ w. let v = sym w.0 ∙ well in absurd (cc)) (eqb_tells status 0)
+
+-- what holds of an actor with this life
+abbrev with_life : Actor → Life → Actor
+with_life x life = record { program = x.program; past = x.past; life = life }
+
+-- of one that is over, only an injector's account of itself is asked
+fares_over : (controls : Controls) (now : ℕ) (q r : Queue) → r.books ≡ q.books → (a : List ℕ) (program : Program) (past : List Own) (old life : Life)
+    → is_alive life ≡ false → (is_well life ≡ true → IsDone program past) → FaresBy controls now q a program past old → FaresBy controls now r a program past life
+fares_over controls now q r same a (Injector args) past old life dead ends F =
+    injector_over now q r same a args past (is_alive old) (is_well old) (is_alive life) (is_well life) F (λ h. absurd (cc)) ends
+fares_over controls now q r same a (Cleaner start) past old Alive dead ends F = absurd (cc)
+fares_over controls now q r same a (Cleaner start) past old (Over status) dead ends F = tt
+fares_over controls now q r same a (Cleaner start) past old Stopped dead ends F = tt
+fares_over controls now q r same a (Sender start) past old Alive dead ends F = absurd (cc)
+fares_over controls now q r same a (Sender start) past old (Over status) dead ends F = tt
+fares_over controls now q r same a (Sender start) past old Stopped dead ends F = tt
+fares_over controls now q r same a (LocalSpawner start) past old life dead ends F = tt
+fares_over controls now q r same a (RemoteSpawner start) past old Alive dead ends F = absurd (cc)
+fares_over controls now q r same a (RemoteSpawner start) past old (Over status) dead ends F = tt
+fares_over controls now q r same a (RemoteSpawner start) past old Stopped dead ends F = tt
+
+awaits_over : (life : Life) (program : Program) (past : List Own) → is_alive life ≡ false → awaits_by life program past ≡ Lost
+awaits_over Alive program past dead = absurd (cc)
+awaits_over (Over status) program past dead = refl
+awaits_over Stopped program past dead = refl
+
+pub dead_cleaner : (program : Program) (life : Life) → is_alive life ≡ false → lives_by program life ≡ false
+dead_cleaner (Cleaner start) life dead = dead
+dead_cleaner other life dead = refl
+
+module _ (controls : Controls) (s : State) (I : Inv controls s) (a : List ℕ) (x : Actor) (is : s.actors a ≡ Some x) (life : Life)
+    (dead : is_alive life ≡ false) (ends : is_well life ≡ true → IsDone x.program x.past) where
+  abbrev before : Queue
+  before = queue s I.role
+
+  abbrev over : Queue
+  over = record { disk = shut_by a s.holder s.disk; holder = λ fd. unless_by a (s.holder fd) (s.holder fd); books = s.books; role = I.role }
+
+  still_open : (o : List ℕ) (fd : ℕ) (how : Open) → o ≢ a → IsHeld s.disk.opens s.holder o fd how → IsHeld over.disk.opens over.holder o fd how
+  still_open o fd how other h = record {
+    opened = ap (λ w. unless_by a w (s.disk.opens fd)) h.held ∙ unless_same o a None (s.disk.opens fd) other ∙ h.opened;
+    held = ap (λ w. unless_by a w (s.holder fd)) h.held ∙ unless_same o a None (s.holder fd) other ∙ h.held;
+  }
+
+  elsewhere : Elsewhere s.now a None before over
+  elsewhere = record {
+    looks = λ _ _. refl;
+    living = λ _ _. refl;
+    opens = still_open;
+    roles = λ _ _ _. refl;
+    apart = λ _ _ _ _ _ _ _ _ _ h. absurd (cc);
+    accepted = λ i h _. still_there s.books i h;
+  }
+
+  spares : Spares s.now None before over × SparesNames before over
+  spares = rest_is_kept.closed s.now a None before over elsewhere I.sound.suits (λ n h. absurd (cc))
+
+  spares_sorted : SparesSorted before over
+  spares_sorted = record { later = λ part n h. refl; sorted = λ n h info there. refl }
+
+  -- what others hold open, and have read
+
+  same_controls : LeavesControls before.disk over.disk
+  same_controls = record {
+    names = λ f. refl;
+    bytes = λ f i there. refl;
+    apart = λ f i there. let w = I.apart f i there in (record { name = w.0.name; there = w.0.there; unqueued = w.0.unqueued }, w.1);
+  }
+
+  holds_other : (o : List ℕ) → o ≢ a → (row : SpawnRow) → SpawnerHolds before o row → SpawnerHolds over o row
+  holds_other o other (spawn.ReadMess fd) h = (h.0, still_open o fd.0 h.0 other h.1)
+  holds_other o other (spawn.CloseMess fd whole) h = (h.0, still_open o fd.0 h.0 other h.1)
+  holds_other o other row h = tt
+
+  none_beside : (p : Place) → IsBeside None p
+  none_beside p n h = absurd (cc)
+
+  fares_other : (o : List ℕ) → o ≢ a → (program : Program) (past : List Own) (lasts : Life) → FaresBy controls s.now before o program past lasts
+      → FaresBy controls s.now over o program past lasts
+  fares_other o other (Injector args) past lasts F = injector_frame s.now a None before over elsewhere o other args past (is_alive lasts) (is_well lasts) F
+  fares_other o other (Cleaner start) past Alive F =
+      rest_is_kept.spared controls s.now None before over spares.0 spares.1 (place_after past) (none_beside (place_after past)) F
+  fares_other o other (Cleaner start) past (Over status) F = tt
+  fares_other o other (Cleaner start) past Stopped F = tt
+  fares_other o other (Sender start) past Alive F =
+      let d = desk_after None past in
+      record {
+        stands = senders_are_left_alone.others controls s.now o a None None before over d elsewhere other spares_sorted spares.0
+            (leaves_row before over (λ _. refl) d.row d.pass) F.stands;
+        control = controls_are_read.others before over o d.row d.book same_controls (λ fd how. still_open o fd how other) F.control;
+        texts = texts_keep.others controls s.now before over o d spares_sorted F.stands F.texts;
+      }
+  fares_other o other (Sender start) past (Over status) F = tt
+  fares_other o other (Sender start) past Stopped F = tt
+  fares_other o other (LocalSpawner start) past lasts F = tt
+  fares_other o other (RemoteSpawner start) past Alive F = holds_other o other (spawn_after past).row F
+  fares_other o other (RemoteSpawner start) past (Over status) F = tt
+  fares_other o other (RemoteSpawner start) past Stopped F = tt
+
+  -- the sender and the cleaner
+
+  abbrev actors_after : List ℕ → Option Actor
+  actors_after = put_at s.actors a (Some (with_life x life))
+
+  sender_after : (awaits_in (actors_after (codes "sender")) ≡ Lost) ⊎ (awaits_in (actors_after (codes "sender")) ≡ awaits_in (s.actors (codes "sender")))
+  sender_after = ⊎_elim
+      (λ (c : (codes "sender" ≡ a) × (actors_after (codes "sender") ≡ Some (with_life x life))). inl (ap awaits_in c.1 ∙ awaits_over life x.program x.past dead))
+      (λ (c : (codes "sender" ≢ a) × (actors_after (codes "sender") ≡ s.actors (codes "sender"))). inr (ap awaits_in c.1))
+      (put_at_cases s.actors a (Some (with_life x life)) (codes "sender"))
+
+  cleaner_after : place_in (actors_after (codes "clean")) ≡ place_in (s.actors (codes "clean"))
+  cleaner_after = ⊎_elim
+      (λ (c : (codes "clean" ≡ a) × (actors_after (codes "clean") ≡ Some (with_life x life))). ap place_in c.1 ∙ sym (ap place_in (ap s.actors c.0 ∙ is)))
+      (λ (c : (codes "clean" ≢ a) × (actors_after (codes "clean") ≡ s.actors (codes "clean"))). ap place_in c.1)
+      (put_at_cases s.actors a (Some (with_life x life)) (codes "clean"))
+
+  cleaner_lived : lives_in (actors_after (codes "clean")) ≡ true → lives_in (s.actors (codes "clean")) ≡ true
+  cleaner_lived lives = ⊎_elim
+      (λ (c : (codes "clean" ≡ a) × (actors_after (codes "clean") ≡ Some (with_life x life))). let w = sym (dead_cleaner x.program life dead) ∙ (sym (ap lives_in c.1) ∙ lives) in absurd (cc))
+      (λ (c : (codes "clean" ≢ a) × (actors_after (codes "clean") ≡ s.actors (codes "clean"))). sym (ap lives_in c.1) ∙ lives)
+      (put_at_cases s.actors a (Some (with_life x life)) (codes "clean"))
+
+  errands_over : ErrandsRest controls (finished s a life (Some x)) I.role
+  errands_over =
+      errands_at controls s.now over (lives_in (s.actors (codes "clean"))) (lives_in (actors_after (codes "clean"))) (link_in s) cleaner_lived
+      (errands_spared controls s.now before over spares.0 (lives_in (s.actors (codes "clean"))) (link_in s) I.errands)
+      (awaits_in (actors_after (codes "sender"))) (place_in (actors_after (codes "clean")))
+      ((without_writer s.pipework a).pipes (codes "clean") port.Input).bytes ((without_writer s.pipework a).pipes (codes "sender") port.Clean).bytes
+      sender_after cleaner_after
+      (bytes_shut (is_writer a (writer s.pipework (codes "clean") port.Input)) (s.pipework.pipes (codes "clean") port.Input))
+      (bytes_shut (is_writer a (writer s.pipework (codes "sender") port.Clean)) (s.pipework.pipes (codes "sender") port.Clean))
+
+  -- each actor afterwards
+  each_after : (P : Actor → List ℕ → Type 0) → P (with_life x life) a → ((o : List ℕ) (y : Actor) → o ≢ a → s.actors o ≡ Some y → P y o)
+      → (o : List ℕ) (y : Actor) → actors_after o ≡ Some y → P y o
+  each_after P own others o y h = ⊎_elim
+      (λ (c : (o ≡ a) × (actors_after o ≡ Some (with_life x life))).
+      let same : with_life x life ≡ y = (let w = c.1 in cc) in
+      subst (P y) (sym c.0) (subst (λ (z : Actor). P z a) same own))
+      (λ (c : (o ≢ a) × (actors_after o ≡ s.actors o)). others o y c.0 (sym c.1 ∙ h))
+      (put_at_cases s.actors a (Some (with_life x life)) o)
+
+  pub finished_keeps : Inv controls (finished s a life (Some x))
+  finished_keeps = record {
+    role = I.role;
+    moment = I.moment;
+    sound = record { suits = I.sound.suits; fine = I.sound.fine; over = I.sound.over };
+    crew = each_after (λ y o. IsNamed o y.program) (I.crew a x is) (λ o y other h. I.crew o y h);
+    fares = each_after (λ y o. FaresBy controls s.now over o y.program y.past y.life)
+        (fares_over controls s.now before over refl a x.program x.past x.life life dead ends (I.fares a x is))
+        (λ o y other h. fares_other o other y.program y.past y.life (I.fares o y h));
+    control = controls_stay.said controls before.disk over.disk same_controls I.control;
+    apart = same_controls.apart;
+    tenants = I.tenants;
+    errands = errands_over;
+  }
+
+pub stops_keep : StopsKeep
+stops_keep a controls s I may =
+    subst (λ (o : Option Actor). Inv controls (finished s a Stopped o)) (sym may.is)
+    (finished_keeps controls s I a may.actor may.is Stopped refl (λ h. absurd (cc)))
+
+-- an end comes of the actor's table
+pub ends_keep : EndsKeep
+ends_keep a read ready status controls s I may =
+    let x = may.actor in
+    subst (λ (o : Option Actor). Inv controls (finished s a (Over status) o)) (sym may.reads.is)
+    (finished_keeps controls s I a x may.reads.is (Over status) refl
+    (λ well. let zero_status : status ≡ 0 = zero_of status well in
+    done_at controls s.now (queue s I.role) a x.program x.past x.life read ready (I.fares a x may.reads.is) may.reads.alive (may.due ∙ ap needs.Ended zero_status)))

@@ -1,0 +1,110 @@
+-- A machine stop.
+use Rattle.std.proofs.Common.{◌≡◌, ℕ, List, [], Bool, true, false, Option, Some, None, option_map, refl, sym, ◌∙◌, subst, codes}
+use Rattle.address_rules.specs.declared.controls.Controls.{Controls}
+use Rattle.call_fs.specs.declared.crash_file_system.Survival.{Survival}
+use Rattle.call_fs.specs.Survival.{AllSurvive}
+use Rattle.call_fs.specs.declared.past.Own.{Own}
+use Rattle.errand_law.specs.Errands.{Awaits, Errand, Link}
+use Rattle.errand_law.specs.Errands.Awaits.{Over as Lost}
+use Rattle.errand_law.proofs.Links.{losses_keep}
+use Rattle.queue_clean.specs.Table.{Place}
+use Rattle.queue_law.specs.Numbers.{Queue}
+use Rattle.queue_law.specs.Steps.{after_halt}
+use Rattle.queue_law.proofs.Halts.{injector_halt, sound_after}
+use Rattle.queue_law.proofs.Looks.{mapped_some}
+use Rattle.sender_law.specs.ControlFiles.{LeavesControls}
+use Rattle.sender_law.proofs.ControlsStay.{controls_stay}
+use Rattle.world_events.specs.declared.event.Program.{Program}
+use Rattle.world_events.specs.declared.event.Program.TheVariants.{Injector, Cleaner, Sender, LocalSpawner, RemoteSpawner}
+use Rattle.mail_world.specs.History.{Actor, Life, State, cut_off, happens, stopped}
+use Rattle.mail_world.specs.History.Event.{Halt}
+use Rattle.mail_world.specs.History.Life.{Alive, Over, Stopped}
+use Rattle.mail_world.specs.Untouched.{queue}
+use Rattle.world_law.specs.Crew.{IsNamed, awaits_by, awaits_in, is_alive, is_well, link_in, lives_in, place_in}
+use Rattle.world_law.specs.Fares.{FaresBy}
+use Rattle.world_law.specs.Inv.{ErrandRests, Inv}
+use Rattle.world_law.specs.Laws.{HaltsKeep}
+use Rattle.world_law.proofs.Gone.{dead_cleaner}
+
+-- each actor that lived is stopped
+fares_stopped : (controls : Controls) (now : ℕ) (q : Queue) (contents : ℕ → List ℕ) (a : List ℕ) (program : Program) (past : List Own) (life : Life)
+    → FaresBy controls now q a program past life → FaresBy controls now (after_halt contents q) a program past (cut_off life)
+fares_stopped controls now q contents a (Injector args) past Alive F = injector_halt now q contents a args past true false F
+fares_stopped controls now q contents a (Injector args) past (Over status) F = injector_halt now q contents a args past false (is_well (Over status)) F
+fares_stopped controls now q contents a (Injector args) past Stopped F = injector_halt now q contents a args past false false F
+fares_stopped controls now q contents a (Cleaner began) past Alive F = tt
+fares_stopped controls now q contents a (Cleaner began) past (Over status) F = tt
+fares_stopped controls now q contents a (Cleaner began) past Stopped F = tt
+fares_stopped controls now q contents a (Sender began) past Alive F = tt
+fares_stopped controls now q contents a (Sender began) past (Over status) F = tt
+fares_stopped controls now q contents a (Sender began) past Stopped F = tt
+fares_stopped controls now q contents a (LocalSpawner began) past life F = tt
+fares_stopped controls now q contents a (RemoteSpawner began) past Alive F = tt
+fares_stopped controls now q contents a (RemoteSpawner began) past (Over status) F = tt
+fares_stopped controls now q contents a (RemoteSpawner began) past Stopped F = tt
+
+-- what the two come to
+
+stopped_awaits : (life : Life) (program : Program) (past : List Own) → awaits_by (cut_off life) program past ≡ Lost
+stopped_awaits Alive program past = refl
+stopped_awaits (Over status) program past = refl
+stopped_awaits Stopped program past = refl
+
+awaits_halted : (o : Option Actor) → awaits_in (option_map stopped o) ≡ Lost
+awaits_halted None = refl
+awaits_halted (Some x) = stopped_awaits x.life x.program x.past
+
+place_halted : (o : Option Actor) → place_in (option_map stopped o) ≡ place_in o
+place_halted None = refl
+place_halted (Some x) = refl
+
+stopped_dead : (life : Life) → is_alive (cut_off life) ≡ false
+stopped_dead Alive = refl
+stopped_dead (Over status) = refl
+stopped_dead Stopped = refl
+
+lives_halted : (o : Option Actor) → lives_in (option_map stopped o) ≡ false
+lives_halted None = refl
+lives_halted (Some x) = dead_cleaner x.program (cut_off x.life) (stopped_dead x.life)
+
+-- nothing is under way that is waited for
+halted_errands : (controls : Controls) (now : ℕ) (q r : Queue) (lives later : Bool) (x : Link) (w : Awaits) (p : Place) → ErrandRests controls now q lives x → w ≡ Lost → p ≡ x.place → later ≡ false
+    → ErrandRests controls now r later (record { awaits = w; place = p; given = []; answers = [] })
+halted_errands controls now q r lives later x w p E over place dead =
+    let left = losses_keep.halted E.waits x E.errand in
+    record {
+      waits = left.0;
+      errand = subst (λ (v : Awaits). Errand left.0 (record { awaits = v; place = p; given = []; answers = [] })) (sym over)
+          (subst (λ (z : Place). Errand left.0 (record { awaits = Lost; place = z; given = []; answers = [] })) (sym place) left.1);
+      rests = λ alive command h. absurd (cc (sym alive ∙ dead));
+      asked = λ n h. absurd (cc (sym over ∙ h));
+      told = λ n h. absurd (cc (sym over ∙ h));
+    }
+
+module _ (controls : Controls) (s : State) (I : Inv controls s) (contents : ℕ → List ℕ) (all : AllSurvive s.disk contents) where
+  abbrev after : Queue
+  after = after_halt contents (queue s I.role)
+
+  each_stopped : (P : List ℕ → Actor → Type 0) → ((a : List ℕ) (x : Actor) → s.actors a ≡ Some x → P a (stopped x)) → (a : List ℕ) (x : Actor) → option_map stopped (s.actors a) ≡ Some x → P a x
+  each_stopped P each a x is = let w = mapped_some stopped (s.actors a) x is in subst (P a) w.2 (each a w.0 w.1)
+
+  same_controls : LeavesControls s.disk after.disk
+  same_controls = controls_stay.halts s.disk contents all I.apart
+
+  halted_keeps : (how : Survival) → Inv controls (happens s (Halt how contents))
+  halted_keeps how = record {
+    role = I.role;
+    moment = I.moment;
+    sound = sound_after (queue s I.role) contents all controls I.sound;
+    crew = each_stopped (λ a x. IsNamed a x.program) (λ a x is. I.crew a x is);
+    fares = each_stopped (λ a x. FaresBy controls s.now after a x.program x.past x.life) (λ a x is. fares_stopped controls s.now (queue s I.role) contents a x.program x.past x.life (I.fares a x is));
+    control = controls_stay.said controls s.disk after.disk same_controls I.control;
+    apart = same_controls.apart;
+    tenants = λ a d b h. absurd (cc);
+    errands = halted_errands controls s.now (queue s I.role) after (lives_in (s.actors (codes "clean"))) (lives_in (option_map stopped (s.actors (codes "clean")))) (link_in s)
+        (awaits_in (option_map stopped (s.actors (codes "sender")))) (place_in (option_map stopped (s.actors (codes "clean")))) I.errands
+        (awaits_halted (s.actors (codes "sender"))) (place_halted (s.actors (codes "clean"))) (lives_halted (s.actors (codes "clean")));
+  }
+
+pub halts_keep : HaltsKeep
+halts_keep how contents controls s I all = halted_keeps controls s I contents all how

@@ -1,0 +1,124 @@
+-- Each event keeps what holds of the whole system, which so holds after each legal history; and each giving to a spawner is an attempt.
+use Rattle.std.proofs.Common.{◌≡◌, ℕ, List, [], ◌∷◌, ◌++◌, Option, Some, None, refl, sym, ap, ◌∙◌, subst, arith, IsSomeAnd}
+use Rattle.address_rules.specs.declared.controls.Controls.{Controls}
+use Rattle.call_fs.specs.Disk.{Disk}
+use Rattle.call_fs.specs.declared.past.NeedData.{NeedData}
+use Rattle.call_fs.specs.declared.past.NeedData.TheVariants as needs
+use Rattle.call_fs.specs.declared.past.Own.{Own}
+use Rattle.call_fs.specs.declared.program.Ready.{Ready}
+use Rattle.mail_bytes.specs.Moments.{IsMoment}
+use Rattle.queue_law.specs.Numbers.{Queue}
+use Rattle.send_core.specs.Table.{desk_after, due_at, port_of, row_now}
+use Rattle.send_jobs.specs.declared.channels.Channel.{Channel}
+use Rattle.sender_law.proofs.Asking.{requests_are_texts}
+use Rattle.sender_law.proofs.Exist.{controls_exist}
+use Rattle.world_events.specs.declared.event.Event.{Event as Kept}
+use Rattle.world_events.specs.declared.event.Program.{Program}
+use Rattle.world_events.specs.declared.event.Program.TheVariants.{Injector, Cleaner, Sender, LocalSpawner, RemoteSpawner}
+use Rattle.mail_world.specs.History.{Actor, Event, IsCleaner, IsLocalSpawner, IsRemoteSpawner, IsSender, Legal, Life, MayDo, MayRun, State, after, happens, next_of}
+use Rattle.mail_world.specs.History.Event.{Start, Act, Child, Generation, Report, End, Stop, Moment, Halt}
+use Rattle.mail_world.specs.History.Life.{Alive}
+use Rattle.mail_world.specs.Untouched.{queue}
+use Rattle.mail_world.specs.World.{IsHistory}
+use Rattle.world_law.specs.Fares.{FaresBy, SenderFares}
+use Rattle.world_law.specs.Headline.{AttemptsAreSound, DisksHaveControls, EachSafe, HasControls, Headline, IsAttempt, WorldsAreSafe}
+use Rattle.world_law.specs.Inv.{Inv}
+use Rattle.world_law.specs.Laws.{Always, IsKeptBy}
+use Rattle.world_law.proofs.Begins.{inv_begins}
+use Rattle.world_law.proofs.Children.{children_keep}
+use Rattle.world_law.proofs.Cleaning.{cleaners_keep}
+use Rattle.world_law.proofs.Gone.{ends_keep, stops_keep}
+use Rattle.world_law.proofs.Halted.{halts_keep}
+use Rattle.world_law.proofs.Injects.{injectors_keep}
+use Rattle.world_law.proofs.Later.{moments_keep, reports_keep}
+use Rattle.world_law.proofs.Locals.{locals_keep}
+use Rattle.world_law.proofs.Remotes.{remotes_keep}
+use Rattle.world_law.proofs.Safe.{inv_is_safe}
+use Rattle.world_law.proofs.SendersEvents.{senders_keep}
+use Rattle.world_law.proofs.Starts.{generations_keep, starts_keep}
+
+-- an event of an actor, by the program that it runs
+act_keeps : (a : List ℕ) (own : Own) (wrote : ℕ) (controls : Controls) (s : State) → Inv controls s → (may : MayDo s a own wrote) → (program : Program) → may.actor.program ≡ program
+    → Inv controls (happens s (Act a own wrote))
+act_keeps a own wrote controls s I may (Injector args) e = injectors_keep a own wrote controls s I may (subst MayRun (sym e) tt)
+act_keeps a own wrote controls s I may (Cleaner began) e = cleaners_keep a own wrote controls s I may (subst IsCleaner (sym e) tt)
+act_keeps a own wrote controls s I may (Sender began) e = senders_keep a own wrote controls s I may (subst IsSender (sym e) tt)
+act_keeps a own wrote controls s I may (LocalSpawner began) e = locals_keep a own wrote controls s I may (subst IsLocalSpawner (sym e) tt)
+act_keeps a own wrote controls s I may (RemoteSpawner began) e = remotes_keep a own wrote controls s I may (subst IsRemoteSpawner (sym e) tt)
+
+event_keeps : (e : Event) → IsKeptBy e
+event_keeps (Start a program) = starts_keep a program
+event_keeps (Act a own wrote) = λ controls s I may. act_keeps a own wrote controls s I may may.actor.program refl
+event_keeps (Child parent own a program) = children_keep parent own a program
+event_keeps (Generation sender clean lspawn rspawn) = generations_keep sender clean lspawn rspawn
+event_keeps (Report slot letter text) = reports_keep slot letter text
+event_keeps (End a read ready status) = ends_keep a read ready status
+event_keeps (Stop a) = stops_keep a
+event_keeps (Moment m) = moments_keep m
+event_keeps (Halt how contents) = halts_keep how contents
+
+pub always : Always
+always controls d [] has legal = inv_begins controls d has legal
+always controls d (e ∷ before) has legal = event_keeps e controls (after d before) (always controls d before has legal.0) legal.1
+
+legal_before : (d : Disk) (later before : List Event) → Legal d (later ++ before) → Legal d before
+legal_before d [] before legal = legal
+legal_before d (e ∷ later) before legal = legal_before d later before legal.0
+
+pub headline : Headline
+headline controls d later before has legal = inv_is_safe controls (after d before) (always controls d before has (legal_before d later before legal))
+
+happened_safe : (controls : Controls) (opening : Disk) (told : Option Disk) (events : List Kept) (present : ℕ) (h : List Event) → HasControls controls opening
+    → IsSomeAnd told (λ now. IsHistory opening now events present h) → EachSafe controls opening h
+happened_safe controls opening None events present h has happened = absurd happened
+happened_safe controls opening (Some now) events present h has happened = λ later before same.
+    headline controls opening later before has (subst (Legal opening) (sym same) happened.legal)
+
+pub worlds_are_safe : WorldsAreSafe
+worlds_are_safe controls opening w h has happened = happened_safe controls opening w.disk w.events w.present h has happened
+
+pub disks_have_controls : DisksHaveControls
+disks_have_controls d apart = let there = controls_exist d in (there.0, record { are = there.1; apart = apart })
+
+-- Attempts
+
+sender_fares : (controls : Controls) (now : ℕ) (q : Queue) (a : List ℕ) (program : Program) (past : List Own) (life : Life) (start : ℕ) → program ≡ Sender start → life ≡ Alive
+    → FaresBy controls now q a program past life → SenderFares controls now q a (desk_after None past)
+sender_fares controls now q a (Sender began) past Alive start is alive F = F
+sender_fares controls now q a (Sender began) past life start is alive F = absurd (cc)
+sender_fares controls now q a other past life start is alive F = absurd (cc)
+
+-- what is due to a sender
+due_of : (program : Program) (past : List Own) (read : ℕ) (ready : Ready) (start : ℕ) (due : NeedData) → program ≡ Sender start → next_of program past read ready ≡ due
+    → due_at (row_now (desk_after None past) read ready) (desk_after None past) ≡ due
+due_of program past read ready start due is next = subst (λ (p : Program). next_of p past read ready ≡ due) is next
+
+module _ (controls : Controls) (s : State) (I : Inv controls s) (a : List ℕ) (own : Own) (wrote : ℕ) (may : MayDo s a own wrote) (start : ℕ) (is : may.actor.program ≡ Sender start) where
+  attempted : (ch : Channel) (text : List ℕ) → own.due ≡ needs.Give (port_of ch) text → IsAttempt s may.actor.past ch text
+  attempted ch text given =
+      let x = may.actor in
+      let F = sender_fares controls s.now (queue s I.role) a x.program x.past x.life start is may.reads.alive (I.fares a x may.reads.is) in
+      let soon = may.reads.no_later in
+      let moment : IsMoment own.read = (let m = I.moment in omega (arith, m, soon)) in
+      let due = due_of x.program x.past own.read own.ready start (needs.Give (port_of ch) text) is (may.due ∙ given) in
+      let w = requests_are_texts controls s.now (queue s I.role) a (desk_after None x.past) own.read own.ready ch text soon moment F.stands F.texts due in
+      record {
+        attempt = w.attempt;
+        slot = w.slot;
+        injection = w.injection;
+        reads = w.reads;
+        lives = w.lives;
+        free = w.free;
+        text_is = w.is;
+        alone = w.alone;
+      }
+
+same_actor : (x y : Actor) → ◌≡◌ {A = Option Actor} (Some x) (Some y) → x ≡ y
+same_actor x y e = cc
+
+pub attempts_are_sound : AttemptsAreSound
+attempts_are_sound controls d a own wrote before has legal x is start program ch text given =
+    let may = legal.1 in
+    let same : may.actor ≡ x = same_actor may.actor x (sym may.reads.is ∙ is) in
+    subst (λ (y : Actor). IsAttempt (after d before) y.past ch text) same
+    (attempted controls (after d before) (always controls d before has legal.0) a own wrote may start (ap (λ (y : Actor). y.program) same ∙ program) ch text given)

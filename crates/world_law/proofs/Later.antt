@@ -1,0 +1,78 @@
+-- What time leaves, and a report of a remote program.
+use Rattle.std.proofs.Common.{◌≢◌, ℕ, ◌≤◌, ◌==◌, List, Bool, true, false, ◌&&◌, Option, Some, None, bytes_eq, codes, if◌then◌else◌}
+use Rattle.address_rules.specs.declared.controls.Controls.{Controls}
+use Rattle.call_fs.specs.declared.past.Own.{Own}
+use Rattle.errand_law.specs.Errands.{Link}
+use Rattle.queue_clean.specs.Commands.{message_of}
+use Rattle.queue_clean.specs.Table.{place_after}
+use Rattle.send_core.specs.Table.{desk_after}
+use Rattle.queue_law.specs.Numbers.{Queue}
+use Rattle.queue_law.proofs.Injectors.{injector_later}
+use Rattle.queue_law.proofs.Rests.{closed_later}
+use Rattle.queue_law.proofs.RestIsKept.{rest_is_kept}
+use Rattle.sender_law.proofs.LeftAlone.{senders_are_left_alone}
+use Rattle.world_events.specs.declared.event.Program.{Program}
+use Rattle.world_events.specs.declared.event.Program.TheVariants.{Injector, Cleaner, Sender, LocalSpawner, RemoteSpawner}
+use Rattle.world_pipes.specs.Pipework.{Tenant}
+use Rattle.world_pipes.specs.Pipework.Tenant.{Runs, Remote}
+use Rattle.mail_world.specs.History.{Life}
+use Rattle.mail_world.specs.History.Life.{Alive, Over, Stopped}
+use Rattle.mail_world.specs.Untouched.{queue}
+use Rattle.world_law.specs.Crew.{is_alive, is_well, lives_in, link_in}
+use Rattle.world_law.specs.Fares.{FaresBy}
+use Rattle.world_law.specs.Inv.{ErrandRests}
+use Rattle.world_law.specs.Laws.{MomentsKeep, ReportsKeep}
+
+fares_later : (controls : Controls) (now m : ℕ) → now ≤ m → (q : Queue) (a : List ℕ) (program : Program) (past : List Own) (life : Life)
+    → FaresBy controls now q a program past life → FaresBy controls m q a program past life
+fares_later controls now m later q a (Injector args) past life F = injector_later now m later q a args past (is_alive life) (is_well life) F
+fares_later controls now m later q a (Cleaner start) past Alive F = rest_is_kept.later controls now m later q (place_after past) F
+fares_later controls now m later q a (Cleaner start) past (Over status) F = tt
+fares_later controls now m later q a (Cleaner start) past Stopped F = tt
+fares_later controls now m later q a (Sender start) past Alive F =
+    record { stands = senders_are_left_alone.later controls now m later q a (desk_after None past) F.stands; control = F.control; texts = F.texts }
+fares_later controls now m later q a (Sender start) past (Over status) F = tt
+fares_later controls now m later q a (Sender start) past Stopped F = tt
+fares_later controls now m later q a (LocalSpawner start) past life F = tt
+fares_later controls now m later q a (RemoteSpawner start) past life F = F
+
+errands_later : (controls : Controls) (now m : ℕ) → now ≤ m → (q : Queue) (cleans : Bool) (x : Link) → ErrandRests controls now q cleans x → ErrandRests controls m q cleans x
+errands_later controls now m later q cleans x E = record {
+  waits = E.waits;
+  errand = E.errand;
+  rests = λ lives command is. let w = E.rests lives command is in record { closed = closed_later now m later q (message_of command) w.closed; rest = w.rest };
+  asked = λ n is. closed_later now m later q n (E.asked n is);
+  told = λ n is well. let w = E.told n is well in record { closed = closed_later now m later q n w.closed; rest = w.rest };
+}
+
+pub moments_keep : MomentsKeep
+moments_keep m controls s I may = record {
+  role = I.role;
+  moment = may.moment;
+  sound = I.sound;
+  crew = I.crew;
+  fares = λ a x h. fares_later controls s.now m may.no_earlier (queue s I.role) a x.program x.past x.life (I.fares a x h);
+  control = I.control;
+  apart = I.apart;
+  tenants = I.tenants;
+  errands = errands_later controls s.now m may.no_earlier (queue s I.role) (lives_in (s.actors (codes "clean"))) (link_in s) I.errands;
+}
+
+none_runs : (programs : List ℕ → ℕ → Option Tenant) → ((a : List ℕ) (d : ℕ) (b : List ℕ) → programs a d ≢ Some (Runs b)) → (t : Bool) (a : List ℕ) (d : ℕ) (b : List ℕ)
+    → (if t then Some (Remote true) else programs a d) ≢ Some (Runs b)
+none_runs programs none true a d b is = absurd (cc)
+none_runs programs none false a d b is = none a d b is
+
+-- it is put into a pipe of the remote spawner
+pub reports_keep : ReportsKeep
+reports_keep slot letter text controls s I may = record {
+  role = I.role;
+  moment = I.moment;
+  sound = I.sound;
+  crew = I.crew;
+  fares = I.fares;
+  control = I.control;
+  apart = I.apart;
+  tenants = λ b d. none_runs s.pipework.programs I.tenants (bytes_eq b (codes "rspawn") && (d == slot)) b d;
+  errands = I.errands;
+}

@@ -1,0 +1,40 @@
+-- what holds at the start
+pub mod Begins
+-- what time and a report leave
+pub mod Later
+-- the state is safe
+pub mod Safe
+-- an end and a stop
+pub mod Gone
+-- one actor that moves
+pub mod Moved
+-- the start of an injector and of a generation
+pub mod Starts
+-- a machine stop
+pub mod Halted
+-- a step that spares closed numbers
+pub mod Stepped
+-- the events of an injector
+pub mod Injects
+-- the events of the remote spawner
+pub mod Remotes
+-- the events of the local spawner
+pub mod Locals
+-- the events of the cleaner
+pub mod Cleaning
+-- what lies between the sender and its cleaner after an event of the sender
+pub mod SendersLink
+-- what the sender's steps leave of others
+pub mod SendersOthers
+-- the state after an event of the sender
+pub mod SendersPut
+-- the pipes of the sender
+pub mod SendersPipes
+-- the events of the sender
+pub mod SendersEvents
+-- no actor starts another one
+pub mod Children
+-- what holds after each legal history
+pub mod Histories
+-- the commands under way at a cleaner
+pub mod UnderWay

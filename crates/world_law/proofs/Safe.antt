@@ -1,0 +1,91 @@
+-- The invariant says that the state is safe.
+use Rattle.std.proofs.Common.{◌≡◌, ◌≢◌, ℕ, List, Bool, true, false, Some, None, is_some, refl, ap}
+use Rattle.address_rules.specs.declared.controls.Controls.{Controls}
+use Rattle.call_fs.specs.declared.past.Own.{Own}
+use Rattle.queue_paths.specs.Names.{Part}
+use Rattle.queue_paths.specs.Names.Name.{Of}
+use Rattle.queue_paths.specs.Names.Part.{Mess, Intd, Todo, Info, Local, Remote, Bounce}
+use Rattle.queue_states.specs.declared.state.State.TheVariants.{Other}
+use Rattle.queue_states.specs.States.{state_by, is_there, state_of}
+use Rattle.queue_law.specs.Claims.{InState}
+use Rattle.queue_law.specs.Claims.InState.{First, Second, Third, Fourth, Fifth}
+use Rattle.queue_law.specs.Numbers.{Entry, Queue, about, entry}
+use Rattle.queue_law.proofs.Accounted.{all_accounted}
+use Rattle.queue_law.proofs.Claims.{sound_is_safe}
+use Rattle.queue_law.proofs.Looks.{find_some, found, not_found}
+use Rattle.mail_world.specs.Headline.{IsBooked, EndsWell}
+use Rattle.mail_world.specs.History.{Life}
+use Rattle.mail_world.specs.History.Life.{Over}
+use Rattle.mail_world.specs.Untouched.{queue}
+use Rattle.world_events.specs.declared.event.Program.{Program}
+use Rattle.world_events.specs.declared.event.Program.TheVariants.{Injector}
+use Rattle.world_law.specs.Crew.{is_well}
+use Rattle.world_law.specs.Fares.{FaresBy}
+use Rattle.world_law.specs.Laws.{InvIsSafe}
+
+fourth : (mess intd todo info local remote bounce : Bool) → mess ≡ true → todo ≡ true → bounce ≡ false → state_by mess intd todo info local remote bounce ≢ Other
+fourth true true true info local remote false m t b = λ e. absurd (cc)
+fourth true false true info local remote false m t b = λ e. absurd (cc)
+fourth true intd false info local remote bounce m t b = absurd (cc)
+fourth true intd true info local remote true m t b = absurd (cc)
+fourth false intd todo info local remote bounce m t b = absurd (cc)
+
+fifth : (mess intd todo info local remote bounce : Bool) → mess ≡ true → intd ≡ false → todo ≡ false → info ≡ true → state_by mess intd todo info local remote bounce ≢ Other
+fifth true false false true local remote bounce m i t f = λ e. absurd (cc)
+fifth true true todo info local remote bounce m i t f = absurd (cc)
+fifth true false true info local remote bounce m i t f = absurd (cc)
+fifth true false false false local remote bounce m i t f = absurd (cc)
+fifth false intd todo info local remote bounce m i t f = absurd (cc)
+
+early : (mess intd todo info local remote bounce : Bool) → (mess ≡ false → intd ≡ false) → todo ≡ false → info ≡ false → local ≡ false → remote ≡ false → bounce ≡ false
+    → state_by mess intd todo info local remote bounce ≢ Other
+early true true false false false false false below t f l r b = λ e. absurd (cc)
+early true false false false false false false below t f l r b = λ e. absurd (cc)
+early false false false false false false false below t f l r b = λ e. absurd (cc)
+early false true todo info local remote bounce below t f l r b = let w = below refl in absurd (cc)
+early mess intd true info local remote bounce below t f l r b = absurd (cc)
+early mess intd false true local remote bounce below t f l r b = absurd (cc)
+early mess intd false false true remote bounce below t f l r b = absurd (cc)
+early mess intd false false false true bounce below t f l r b = absurd (cc)
+early mess intd false false false false true below t f l r b = absurd (cc)
+
+module _ (q : Queue) (n : ℕ) where
+  there : (part : Part) (y : Entry) → (about q n).parts part ≡ Some y → is_there q.disk part n ≡ true
+  there part y is = ap is_some (found q.disk.names q.disk.files (Of part n) y is).0
+
+  gone : (part : Part) → (about q n).parts part ≡ None → is_there q.disk part n ≡ false
+  gone part none = ap is_some (not_found q.disk.names q.disk.files (Of part n) none)
+
+  state_in : InState (about q n) → state_of q.disk n ≢ Other
+  state_in (First mess intd todo later) = early _ _ _ _ _ _ _ (λ _. gone Intd intd) (gone Todo todo) (gone Info (later Info refl)) (gone Local (later Local refl))
+      (gone Remote (later Remote refl)) (gone Bounce (later Bounce refl))
+  state_in (Second y mess intd todo later) = early _ _ _ _ _ _ _ (λ _. gone Intd intd) (gone Todo todo) (gone Info (later Info refl)) (gone Local (later Local refl))
+      (gone Remote (later Remote refl)) (gone Bounce (later Bounce refl))
+  state_in (Third y z mess intd todo later) = early _ _ _ _ _ _ _ (λ e. let w = there Mess y mess in absurd (cc)) (gone Todo todo) (gone Info (later Info refl))
+      (gone Local (later Local refl)) (gone Remote (later Remote refl)) (gone Bounce (later Bounce refl))
+  state_in (Fourth y z mess todo bounce) = fourth _ _ _ _ _ _ _ (there Mess y mess) (there Todo z todo) (gone Bounce bounce)
+  state_in (Fifth y z mess intd todo info) = fifth _ _ _ _ _ _ _ (there Mess y mess) (gone Intd intd) (gone Todo todo) (there Info z info)
+
+booked : (controls : Controls) (now : ℕ) (q : Queue) (a : List ℕ) (program : Program) (past : List Own) (life : Life) → FaresBy controls now q a program past life
+    → IsBooked q.books a program past
+booked controls now q a (Injector args) past life F = F.queued
+booked controls now q a other past life F = tt
+
+well : (controls : Controls) (now : ℕ) (q : Queue) (a : List ℕ) (program : Program) (past : List Own) (life : Life) → FaresBy controls now q a program past life
+    → life ≡ Over 0 → EndsWell q.books a program
+well controls now q a (Injector args) past life F over = F.queued (F.ends (ap is_well over))
+well controls now q a other past life F over = tt
+
+pub inv_is_safe : InvIsSafe
+inv_is_safe controls s I =
+    let q = queue s I.role in
+    let S = sound_is_safe controls q I.sound in
+    record {
+      states = λ n. state_in q n (S.states n);
+      numbers = λ n i h. S.numbers n (entry s.disk.files i) (find_some s.disk.names s.disk.files (Of Mess n) i h);
+      messages = λ i file lives accepted h. S.messages i (entry s.disk.files file) lives accepted (find_some s.disk.names s.disk.files (Of Mess i.number) file h);
+      valid = S.valid;
+      accounted = all_accounted controls q I.sound;
+      queued = λ a x h. booked controls s.now q a x.program x.past x.life (I.fares a x h);
+      ends = λ a x h over. well controls s.now q a x.program x.past x.life (I.fares a x h) over;
+    }

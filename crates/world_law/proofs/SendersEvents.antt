@@ -1,0 +1,295 @@
+-- The events of the sender: file calls, what it gives to its cleaner and to the spawners, and what it takes from them.
+use Rattle.std.proofs.Common.{◌≡◌, ◌⊎◌, inl, inr, ℕ, ◌≤◌, List, ◌∷◌, ◌++◌, length, take, drop, Option, Some, None, refl, sym, ap, ◌∙◌, subst, arith, codes}
+use Rattle.std.proofs.lemmas.List.{drop_at}
+use Rattle.address_rules.specs.declared.controls.Controls.{Controls}
+use Rattle.call_fs.specs.Apply.{Fits, IsReadBy}
+use Rattle.call_fs.specs.declared.calls.CallData.{CallData}
+use Rattle.call_fs.specs.declared.calls.Told.{Told}
+use Rattle.call_fs.specs.declared.past.GotData.{GotData}
+use Rattle.call_fs.specs.declared.past.GotData.TheVariants as got
+use Rattle.call_fs.specs.declared.past.NeedData.{NeedData}
+use Rattle.call_fs.specs.declared.past.NeedData.TheVariants as needs
+use Rattle.call_fs.specs.declared.past.Own.{Own}
+use Rattle.call_fs.specs.declared.program.Port.{Port}
+use Rattle.call_fs.specs.declared.program.Port.TheVariants as port
+use Rattle.errand_law.specs.Errands.{Awaits}
+use Rattle.errand_law.specs.Errands.Awaits.{Nothing, Answer}
+use Rattle.mail_bytes.specs.Moments.{IsMoment}
+use Rattle.queue_clean.specs.Commands.{ended, text_of}
+use Rattle.queue_law.specs.Numbers.{Queue}
+use Rattle.queue_law.specs.Senders.{called_queue}
+use Rattle.send_core.specs.Delivered.{delivered_at}
+use Rattle.send_core.specs.declared.desk.Desk.{Desk}
+use Rattle.send_core.specs.declared.row.Row.{Row}
+use Rattle.send_core.specs.declared.row.Row.TheVariants as at
+use Rattle.send_core.specs.Table.{desk_after, due_at, moved_by, row_now}
+use Rattle.send_jobs.specs.declared.channels.Channel.TheVariants.{Local, Remote}
+use Rattle.sender_law.specs.ControlFiles.{IsOnLink, LeavesControls}
+use Rattle.sender_law.specs.Stands.{StandsAt}
+use Rattle.sender_law.specs.Takings.{told_queue}
+use Rattle.sender_law.specs.Waits.{IsFree, awaits, awaits_at}
+use Rattle.sender_law.specs.Whole.{IsTold, SenderTakes, taken_at}
+use Rattle.sender_law.proofs.Arrive.{arrived}
+use Rattle.sender_law.proofs.Asking.{texts_keep}
+use Rattle.sender_law.proofs.Awaits.{arrives, gives, lost, takes}
+use Rattle.sender_law.proofs.ControlsRead.{controls_are_read}
+use Rattle.sender_law.proofs.ControlsStay.{controls_stay}
+use Rattle.sender_law.proofs.Frees.{free}
+use Rattle.sender_law.proofs.Programs.{StartsNone, starts_none}
+use Rattle.sender_law.proofs.Whole.{senders_keep as sender_keeps}
+use Rattle.todo_pass.specs.declared.row.Row.{Row as PassRow}
+use Rattle.todo_pass.specs.declared.row.Row.TheVariants as todo
+use Rattle.todo_pass.specs.Table.{Pass, due_at as due_in}
+use Rattle.world_pipes.specs.Pipework.{Pipework, pipework_after}
+use Rattle.world_events.specs.declared.event.Program.{Program}
+use Rattle.world_events.specs.declared.event.Program.TheVariants.{Sender}
+use Rattle.mail_world.specs.History.{Actor, ComesOf, IsSender, Life, State, acted, next_of}
+use Rattle.mail_world.specs.History.Life.{Alive}
+use Rattle.mail_world.specs.Untouched.{queue}
+use Rattle.world_law.specs.Crew.{IsNamed, awaits_in, link_in, lives_in}
+use Rattle.world_law.specs.Fares.{SenderFares}
+use Rattle.world_law.specs.Inv.{ErrandRests, Inv}
+use Rattle.world_law.specs.Laws.{SendersKeep}
+use Rattle.world_law.proofs.Gone.{errands_at}
+use Rattle.world_law.proofs.Moved.{IsSameLink}
+use Rattle.world_law.proofs.SendersLink.{IsBusy, answered_errands, asked_errands, cut_errands, given_rests, idle_at, idle_errands, told_by_link}
+use Rattle.world_law.proofs.SendersOthers.{others_fare, others_fare_on}
+use Rattle.world_law.proofs.SendersPipes.{IsOther, gives_same, takes_none, takes_same}
+use Rattle.world_law.proofs.SendersPut.{OthersFare, idle_by, sender, sent_keeps, texts_on, texts_told}
+
+-- What is due by its table
+
+-- it gives its cleaner no command
+abbrev GivesNone : NeedData → Type 0
+GivesNone (needs.Give port.Clean text) = ⊥
+GivesNone due = Unit {0}
+
+-- a pass takes from the cleaner alone
+pass_takes : (row : PassRow) (p : Pass) (from : Port) → due_in row p ≡ needs.Take from → port.Clean ≡ from
+pass_takes todo.Answer p from is = cc
+pass_takes row p from is = absurd (cc)
+
+told_other : (controls : Controls) (now : ℕ) (q : Queue) (row : Row) (came : GotData) (d : Desk) (from : Port) → IsOther from → due_at row d ≡ needs.Take from
+    → IsTold controls now q row came d
+told_other controls now q at.InTodo came d from it due = λ done. absurd (subst IsOther (sym (pass_takes d.pass.row d.pass from due)) it)
+told_other controls now q row came d from it due = tt
+
+-- a taking enters what its reports say, if it is from a spawner
+entered_is : (row : Row) (came : GotData) (d : Desk) (q : Queue) → taken_at row came d q ≡ told_queue (delivered_at row came d) q
+entered_is (at.TakeLink c) came d q = refl
+entered_is row came d q = refl
+
+none_entered : (row : Row) (came : GotData) (d : Desk) (q : Queue) → due_at row d ≡ needs.Take port.Clean → told_queue (delivered_at row came d) q ≡ q
+none_entered (at.TakeLink Local) came d q due = absurd (cc)
+none_entered (at.TakeLink Remote) came d q due = absurd (cc)
+none_entered row came d q due = refl
+
+module _ (controls : Controls) (s : State) (I : Inv controls s) (wrote began : ℕ) (past : List Own) (own : Own) (is : s.actors (codes "sender") ≡ Some (sender began past)) (soon : own.read ≤ s.now) where
+  abbrev name : List ℕ
+  name = codes "sender"
+
+  abbrev q : Queue
+  q = queue s I.role
+
+  abbrev d : Desk
+  d = desk_after None past
+
+  abbrev row : Row
+  row = row_now d own.read own.ready
+
+  abbrev next : GotData → Desk
+  next came = moved_by row own.read came d
+
+  abbrev event : NeedData → GotData → Own
+  event due came = record { read = own.read; ready = own.ready; due = due; came = came }
+
+  abbrev then_state : NeedData → GotData → State
+  then_state due came = acted s name (event due came) wrote (Some (sender began past))
+
+  abbrev pipes_then : NeedData → GotData → Pipework
+  pipes_then due came = pipework_after s.pipework name due came wrote
+
+  fares : SenderFares controls s.now q name d
+  fares = I.fares name (sender began past) is
+
+  moment : IsMoment own.read
+  moment = let m = I.moment in omega (arith, m, soon)
+
+  here : StandsAt controls s.now q name row d
+  here = arrived controls s.now own.read q name soon moment d own.ready fares.stands
+
+  waits_as : (link_in s).awaits ≡ awaits_at row d.pass
+  waits_as = ap awaits_in is ∙ sym (arrives d.row d own.read own.ready)
+
+  idle : (due : NeedData) → due_at row d ≡ due → IsBusy due → (link_in s).awaits ≡ Nothing
+  idle due e busy = waits_as ∙ idle_at d row (subst IsBusy (sym e) busy)
+
+  is_free : (due : NeedData) (came : GotData) → due_at row d ≡ due → GivesNone due → IsFree (awaits (next came))
+  is_free due came e none = free d own.read own.ready came (λ text given. subst GivesNone (sym e ∙ given) none)
+
+  same_controls : LeavesControls s.disk s.disk
+  same_controls = record { names = λ f. refl; bytes = λ f i there. refl; apart = I.apart }
+
+  -- what lies between the two then, over a queue
+  abbrev Between : Queue → Awaits → List ℕ → List ℕ → Type 0
+  Between r w given answers =
+      ErrandRests controls s.now r (lives_in (s.actors (codes "clean"))) (record { awaits = w; place = (link_in s).place; given = given; answers = answers })
+
+  abbrev Then : Queue → NeedData → GotData → Type 0
+  Then r due came = Between r (awaits (next came)) ((pipes_then due came).pipes (codes "clean") port.Input).bytes ((pipes_then due came).pipes name port.Clean).bytes
+
+  -- it does something else than to give to its cleaner or take from it
+  idle_then : (r : Queue) (due : NeedData) (came : GotData) → due_at row d ≡ due → IsBusy due → GivesNone due → IsSameLink s.pipework (pipes_then due came) → Then r due came
+  idle_then r due came e busy none same =
+      subst (λ (t : List ℕ). Between r (awaits (next came)) t ((pipes_then due came).pipes name port.Clean).bytes) (sym same.given)
+      (subst (λ (t : List ℕ). Between r (awaits (next came)) (link_in s).given t) (sym same.answers)
+      (idle_errands controls s.now q r (lives_in (s.actors (codes "clean"))) (lives_in (s.actors (codes "clean"))) (link_in s) I.errands (idle due e busy)
+      (awaits (next came)) (is_free due came e none)))
+
+  -- A file call
+
+  called : (call : CallData) (told : Told) → due_at row d ≡ needs.File call → Fits s.disk call told.answer wrote → IsReadBy s.disk call told
+      → Inv controls (then_state (needs.File call) (got.Answered told))
+  called call told due fits by =
+      let came : GotData = got.Answered told in
+      let reads = controls_are_read.calls controls q name d own.read own.ready call told wrote I.role I.control fares.control due fits by in
+      let l = sender_keeps.calls controls s.now q name d own.read own.ready call told wrote I.control.no_nul I.sound soon moment fares.stands due fits by reads.0 in
+      let r : Queue = called_queue q name own.read call told.answer wrote l.0 in
+      let read = controls_are_read.calls controls q name d own.read own.ready call told wrote l.0 I.control fares.control due fits by in
+      let none : (link_in s).awaits ≡ Nothing = idle (needs.File call) due tt in
+      sent_keeps controls s I r began (event (needs.File call) came ∷ past) (pipes_then (needs.File call) came) l.1.leads.sound
+      (controls_stay.outside s.disk r.disk l.1.leads.outside I.apart)
+      (λ o x other there.
+      others_fare controls s.now l.1.number q r l.1.leads.elsewhere I.sound.suits l.1.closed o other x.program x.past x.life (I.crew o x there)
+      (idle_by controls s I none o x.program x.past x.life there (I.crew o x there)) (I.fares o x there))
+      (record { stands = l.1.stands; control = read.1; texts = texts_on q r refl (next came) (texts_keep.goes_on controls s.now q name d own.read own.ready came soon moment fares.stands fares.texts) })
+      I.tenants
+      (idle_then r (needs.File call) came due tt tt (record { given = refl; answers = refl }))
+
+  -- A giving
+
+  gave : (to : Port) (bytes : List ℕ) (came : GotData) → due_at row d ≡ needs.Give to bytes → Then q (needs.Give to bytes) came → Inv controls (then_state (needs.Give to bytes) came)
+  gave to bytes came due errands =
+      sent_keeps controls s I q began (event (needs.Give to bytes) came ∷ past) (pipes_then (needs.Give to bytes) came) I.sound same_controls (λ o x other there. I.fares o x there)
+      (record {
+        stands = sender_keeps.gives controls s.now q name d own.read own.ready to bytes came soon moment fares.stands due;
+        control = controls_are_read.rest q name d own.read own.ready came (subst IsOnLink (sym due) tt);
+        texts = texts_keep.goes_on controls s.now q name d own.read own.ready came soon moment fares.stands fares.texts;
+      })
+      I.tenants errands
+
+  gave_other : (to : Port) (bytes : List ℕ) (came : GotData) → due_at row d ≡ needs.Give to bytes → IsOther to → GivesNone (needs.Give to bytes) → Inv controls (then_state (needs.Give to bytes) came)
+  gave_other to bytes came due it none = gave to bytes came due (idle_then q (needs.Give to bytes) came due tt none (gives_same s.pipework I.tenants wrote to bytes came it))
+
+  -- a command, whole or in part
+  gave_command : (bytes : List ℕ) (came : GotData) → due_at row d ≡ needs.Give port.Clean bytes → ComesOf s name (needs.Give port.Clean bytes) came wrote
+      → Inv controls (then_state (needs.Give port.Clean bytes) came)
+  gave_command bytes got.Gave due comes =
+      let g = gives d row bytes due in
+      gave port.Clean bytes got.Gave due
+      (subst (λ (t : List ℕ). Between q (awaits (next got.Gave)) ((link_in s).given ++ t) (link_in s).answers) (sym g.text_is)
+      (subst (λ (w : Awaits). Between q w ((link_in s).given ++ ended (text_of g.command)) (link_in s).answers) (sym (g.given own.read))
+      (asked_errands controls s.now q (lives_in (s.actors (codes "clean"))) (lives_in (s.actors (codes "clean"))) (link_in s) I.errands (waits_as ∙ g.idle) g.command
+      (given_rests controls s.now q name d row here g.command g.is))))
+  gave_command bytes got.Failed due comes =
+      let g = gives d row bytes due in
+      gave port.Clean bytes got.Failed due
+      (subst (λ (t : List ℕ). Between q (awaits (next got.Failed)) ((link_in s).given ++ take wrote t) (link_in s).answers) (sym g.text_is)
+      (subst (λ (w : Awaits). Between q w ((link_in s).given ++ take wrote (ended (text_of g.command))) (link_in s).answers) (sym (g.failed own.read))
+      (cut_errands controls s.now q (lives_in (s.actors (codes "clean"))) (lives_in (s.actors (codes "clean"))) (link_in s) I.errands (waits_as ∙ g.idle) g.command
+      (given_rests controls s.now q name d row here g.command g.is) wrote)))
+  gave_command bytes came due comes = absurd comes
+
+  -- A taking
+
+  abbrev told_then : GotData → Queue
+  told_then came = told_queue (delivered_at row came d) q
+
+  taking : (from : Port) (came : GotData) → due_at row d ≡ needs.Take from → IsTold controls s.now q row came d → SenderTakes controls s.now name q (told_then came) (next came)
+  taking from came due told = subst (λ (r : Queue). SenderTakes controls s.now name q r (next came)) (entered_is row came d q)
+      (sender_keeps.takes controls s.now q name d own.read own.ready from came I.control.no_nul I.sound soon moment fares.stands due told)
+
+  took : (from : Port) (came : GotData) → due_at row d ≡ needs.Take from → IsTold controls s.now q row came d → OthersFare controls s (told_then came) → Then (told_then came) (needs.Take from) came
+      → Inv controls (then_state (needs.Take from) came)
+  took from came due told others errands =
+      let t = taking from came due told in
+      sent_keeps controls s I (told_then came) began (event (needs.Take from) came ∷ past) (pipes_then (needs.Take from) came) t.sound same_controls others
+      (record {
+        stands = t.stands;
+        control = controls_are_read.rest (told_then came) name d own.read own.ready came (subst IsOnLink (sym due) tt);
+        texts = texts_told (delivered_at row came d) q (next came) (texts_keep.goes_on controls s.now q name d own.read own.ready came soon moment fares.stands fares.texts);
+      })
+      (takes_none s.pipework I.tenants wrote from came) errands
+
+  -- from a spawner
+  took_other : (from : Port) (came : GotData) → due_at row d ≡ needs.Take from → IsOther from → IsBusy (needs.Take from) → Inv controls (then_state (needs.Take from) came)
+  took_other from came due it busy =
+      let told = told_other controls s.now q row came d from it due in
+      let none : (link_in s).awaits ≡ Nothing = idle (needs.Take from) due busy in
+      took from came due told
+      (λ o x other there.
+      others_fare_on controls s.now o other x.program x.past x.life (I.crew o x there) (idle_by controls s I none o x.program x.past x.life there (I.crew o x there))
+      q (told_then came) (taking from came due told).leads I.sound (I.fares o x there))
+      (idle_then (told_then came) (needs.Take from) came due busy tt (takes_same s.pipework I.tenants wrote from came it))
+
+  -- from its cleaner, which enters nothing
+  module _ (due : due_at row d ≡ needs.Take port.Clean) where
+    answers_to : (link_in s).awaits ≡ Answer (takes d row due).0
+    answers_to = waits_as ∙ (takes d row due).1
+
+    others_same : (came : GotData) → OthersFare controls s (told_then came)
+    others_same came = subst (λ (r : Queue). OthersFare controls s r) (sym (none_entered row came d q due)) (λ o x other there. I.fares o x there)
+
+    lost_then : (came : GotData) → (came ≡ got.End) ⊎ (came ≡ got.Failed) → Between (told_then came) (awaits (next came)) (link_in s).given (link_in s).answers
+    lost_then came none = subst (λ (r : Queue). Between r (awaits (next came)) (link_in s).given (link_in s).answers) (sym (none_entered row came d q due))
+        (errands_at controls s.now q (lives_in (s.actors (codes "clean"))) (lives_in (s.actors (codes "clean"))) (link_in s) (λ h. h) I.errands (awaits (next came)) (link_in s).place (link_in s).given
+        (link_in s).answers (inl (lost d row own.read came due none)) refl refl refl)
+
+    took_answer : (came : GotData) → ComesOf s name (needs.Take port.Clean) came wrote → IsTold controls s.now q row came d → Inv controls (then_state (needs.Take port.Clean) came)
+    took_answer (got.Took bytes) comes told =
+        let rest = comes.1.0 in
+        took port.Clean (got.Took bytes) due told (others_same (got.Took bytes))
+        (subst (λ (t : List ℕ). Between (told_then (got.Took bytes)) (awaits (next (got.Took bytes))) (link_in s).given t) (sym (ap (drop (length bytes)) comes.1.1 ∙ drop_at bytes rest (length bytes) refl))
+        (answered_errands controls s.now q (told_then (got.Took bytes)) (lives_in (s.actors (codes "clean"))) (lives_in (s.actors (codes "clean"))) (link_in s) I.errands (takes d row due).0 answers_to
+        bytes rest comes.1.1 comes.0 (awaits (next (got.Took bytes))) (is_free (needs.Take port.Clean) (got.Took bytes) due tt)))
+    took_answer got.End comes told = took port.Clean got.End due told (others_same got.End) (lost_then got.End (inl refl))
+    took_answer got.Failed comes told = took port.Clean got.Failed due told (others_same got.Failed) (lost_then got.Failed (inr refl))
+    took_answer came comes told = absurd comes
+
+    answered : (came : GotData) → ComesOf s name (needs.Take port.Clean) came wrote → Inv controls (then_state (needs.Take port.Clean) came)
+    answered came comes = took_answer came comes
+        (told_by_link controls s.now q (lives_in (s.actors (codes "clean"))) (link_in s) I.errands (takes d row due).0 answers_to row d (s.pipework.pipes name port.Clean) came waits_as refl comes)
+
+  -- By what is due
+
+  by_due : (due : NeedData) (came : GotData) → due_at row d ≡ due → StartsNone due → ComesOf s name due came wrote → Inv controls (then_state due came)
+  by_due (needs.File call) (got.Answered told) e none comes = called call told e comes.0 comes.1
+  by_due (needs.File call) came e none comes = absurd comes
+  by_due (needs.Give port.Clean bytes) came e none comes = gave_command bytes came e comes
+  by_due (needs.Give to bytes) came e none comes = gave_other to bytes came e tt tt
+  by_due (needs.Take port.Clean) came e none comes = answered e came comes
+  by_due (needs.Take from) came e none comes = took_other from came e tt tt
+  by_due (needs.Start asked) came e none comes = absurd none
+  by_due (needs.Command text) came e none comes = absurd none
+  by_due needs.Wait came e none comes = absurd comes
+  by_due (needs.Ended status) came e none comes = absurd comes
+
+  sender_event : due_at row d ≡ own.due → ComesOf s name own.due own.came wrote → Inv controls (then_state own.due own.came)
+  sender_event due comes = by_due own.due own.came due (subst StartsNone due (starts_none d row)) comes
+
+by_program : (controls : Controls) (s : State) (I : Inv controls s) (a : List ℕ) (wrote : ℕ) (program : Program) (past : List Own) (life : Life) (own : Own) → IsSender program
+    → IsNamed a program → life ≡ Alive → s.actors a ≡ Some (record { program = program; past = past; life = life }) → own.read ≤ s.now → next_of program past own.read own.ready ≡ own.due
+    → ComesOf s a own.due own.came wrote → Inv controls (acted s a own wrote (Some (record { program = program; past = past; life = life })))
+by_program controls s I a wrote (Sender began) past Alive own it named alive is soon due comes =
+    subst (λ (b : List ℕ). Inv controls (acted s b own wrote (Some (sender began past)))) (sym named)
+    (sender_event controls s I wrote began past own
+    (subst (λ (b : List ℕ). s.actors b ≡ Some (sender began past)) named is) soon due
+    (subst (λ (b : List ℕ). ComesOf s b own.due own.came wrote) named comes))
+by_program controls s I a wrote (Sender began) past life own it named alive is soon due comes = absurd (cc)
+by_program controls s I a wrote other past life own it named alive is soon due comes = absurd it
+
+pub senders_keep : SendersKeep
+senders_keep a own wrote controls s I may it =
+    let x = may.actor in
+    subst (λ (o : Option Actor). Inv controls (acted s a own wrote o)) (sym may.reads.is)
+    (by_program controls s I a wrote x.program x.past x.life own it (I.crew a x may.reads.is) may.reads.alive may.reads.is may.reads.no_later may.due may.came)

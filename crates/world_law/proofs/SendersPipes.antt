@@ -1,0 +1,95 @@
+-- What the sender's givings and takings leave of the two pipes to and from its cleaner, and of the slots.
+use Rattle.std.proofs.Common.{◌≡◌, ◌≢◌, ℕ, ◌==◌, List, Bool, true, false, ◌&&◌, Option, Some, None, refl, ap, bytes_eq, codes, if◌then◌else◌}
+use Rattle.std.specs.Prelude.{take}
+use Rattle.call_fs.specs.declared.past.GotData.{GotData}
+use Rattle.call_fs.specs.declared.past.GotData.TheVariants as got
+use Rattle.call_fs.specs.declared.past.NeedData.TheVariants as needs
+use Rattle.call_fs.specs.declared.program.Port.{Port}
+use Rattle.call_fs.specs.declared.program.Port.TheVariants as port
+use Rattle.world_pipes.specs.Pipework.{Mouth, Pipe, Pipework, Slot, Tenant, child_output, closed, given, gives, input_of, is_by, is_port, mouth, pipework_after, put_pipe, taken}
+use Rattle.world_pipes.specs.Pipework.Tenant.{Runs, Remote}
+use Rattle.world_law.proofs.Moved.{IsSameLink, RunsNone}
+
+-- any port but that to the cleaner
+abbrev pub IsOther : Port → Type 0
+IsOther port.Clean = ⊥
+IsOther p = Unit {0}
+
+-- a pipe that is taken from elsewhere
+abbrev IsAway : Option Mouth → Port → Type 0
+IsAway None p = Unit {0}
+IsAway (Some to) p = is_port p to.port ≡ false
+
+off_by : (t u : Bool) (x y : Pipe) → u ≡ false → (if t && u then x else y) ≡ y
+off_by true u x y e = ap (λ (b : Bool). if b then x else y) e
+off_by false u x y e = refl
+
+away_same : (pipes : List ℕ → Port → Pipe) (to : Option Mouth) (change : Pipe → Pipe) (a : List ℕ) (p : Port) → IsAway to p → put_pipe pipes to change a p ≡ pipes a p
+away_same pipes None change a p away = refl
+away_same pipes (Some to) change a p away = off_by (bytes_eq a to.actor) (is_port p to.port) (change (pipes a p)) (pipes a p) away
+
+clean_away : (p : Port) → IsOther p → is_port port.Clean p ≡ false
+clean_away port.Clean it = absurd it
+clean_away p it = refl
+
+module _ (w : Pipework) (none : RunsNone w) where
+  -- nothing that a child takes in goes anywhere, since no actor runs in a slot
+  no_input : (o : Option Tenant) → ((b : List ℕ) → o ≢ Some (Runs b)) → input_of o ≡ None
+  no_input None lacks = refl
+  no_input (Some (Runs b)) lacks = absurd (lacks b refl)
+  no_input (Some (Remote t)) lacks = refl
+
+  -- what a child gives is taken by a port of a slot
+  slot_away : (t : Bool) (parent : List ℕ) (number : ℕ) (p : Port) → is_port p (port.Program number) ≡ false → IsAway (if t then Some (mouth parent (port.Program number)) else None) p
+  slot_away true parent number p off = off
+  slot_away false parent number p off = tt
+
+  child_away : (o : Option Slot) (p : Port) → ((number : ℕ) → is_port p (port.Program number) ≡ false) → IsAway (child_output w (codes "sender") o) p
+  child_away None p off = tt
+  child_away (Some slot) p off = slot_away (is_by (codes "sender") (w.programs slot.parent slot.number)) slot.parent slot.number p (off slot.number)
+
+  abbrev Given : Port → List ℕ → Type 0
+  Given p bytes = IsSameLink w (record { pipes = gives w (codes "sender") p bytes; programs = w.programs; slots = w.slots })
+
+  given_same : (p : Port) (bytes : List ℕ) → IsOther p → Given p bytes
+  given_same port.Clean bytes it = absurd it
+  given_same port.Lspawn bytes it = record { given = refl; answers = refl }
+  given_same port.Rspawn bytes it = record { given = refl; answers = refl }
+  given_same port.Input bytes it = record { given = refl; answers = refl }
+  given_same port.Todo bytes it = record { given = refl; answers = refl }
+  given_same (port.Status d) bytes it = record { given = refl; answers = refl }
+  given_same port.Output bytes it =
+      let to = child_output w (codes "sender") (w.slots (codes "sender")) in
+      record {
+        given = ap (λ (x : Pipe). x.bytes) (away_same w.pipes to (given bytes) (codes "clean") port.Input (child_away (w.slots (codes "sender")) port.Input (λ n. refl)));
+        answers = ap (λ (x : Pipe). x.bytes) (away_same w.pipes to (given bytes) (codes "sender") port.Clean (child_away (w.slots (codes "sender")) port.Clean (λ n. refl)));
+      }
+  given_same (port.Program d) bytes it =
+      let far : input_of (w.programs (codes "sender") d) ≡ None = no_input (w.programs (codes "sender") d) (none (codes "sender") d) in
+      record {
+        given = ap (λ (to : Option Mouth). (put_pipe w.pipes to (λ pipe. closed (given bytes pipe)) (codes "clean") port.Input).bytes) far;
+        answers = ap (λ (to : Option Mouth). (put_pipe w.pipes to (λ pipe. closed (given bytes pipe)) (codes "sender") port.Clean).bytes) far;
+      }
+
+  -- a giving by another port
+  pub gives_same : (wrote : ℕ) (p : Port) (bytes : List ℕ) (came : GotData) → IsOther p → IsSameLink w (pipework_after w (codes "sender") (needs.Give p bytes) came wrote)
+  gives_same wrote p bytes got.Gave it = given_same p bytes it
+  gives_same wrote p bytes got.Failed it = given_same p (take wrote bytes) it
+  gives_same wrote p bytes came it = record { given = refl; answers = refl }
+
+  -- and a taking by one
+  pub takes_same : (wrote : ℕ) (p : Port) (came : GotData) → IsOther p → IsSameLink w (pipework_after w (codes "sender") (needs.Take p) came wrote)
+  takes_same wrote p (got.Took bytes) it = record {
+    given = refl;
+    answers = ap (λ (x : Pipe). x.bytes) (away_same w.pipes (Some (mouth (codes "sender") p)) (taken bytes) (codes "sender") port.Clean (clean_away p it));
+  }
+  takes_same wrote p came it = record { given = refl; answers = refl }
+
+  put_none : (t : Bool) (a : List ℕ) (d : ℕ) (b : List ℕ) → (if t then None else w.programs a d) ≢ Some (Runs b)
+  put_none true a d b is = absurd (cc)
+  put_none false a d b is = none a d b is
+
+  pub takes_none : (wrote : ℕ) (p : Port) (came : GotData) → RunsNone (pipework_after w (codes "sender") (needs.Take p) came wrote)
+  takes_none wrote (port.Status d) (got.Ended status) = λ b e. put_none (bytes_eq b (codes "sender") && (e == d)) b e
+  takes_none wrote (port.Status d) got.Crashed = λ b e. put_none (bytes_eq b (codes "sender") && (e == d)) b e
+  takes_none wrote p came = none

@@ -1,0 +1,88 @@
+-- The state after an event of the sender: what it is enough to show.
+use Rattle.std.proofs.Common.{◌≡◌, ◌≢◌, ℕ, List, [], ◌∷◌, Some, None, refl, sym, ap, ◌∙◌, subst, codes}
+use Rattle.address_rules.specs.declared.controls.Controls.{Controls}
+use Rattle.call_fs.specs.declared.past.Own.{Own}
+use Rattle.call_fs.specs.Maps.{put_at}
+use Rattle.errand_law.specs.Errands.Awaits.{Nothing}
+use Rattle.queue_clean.specs.Table.{Place}
+use Rattle.queue_law.specs.Cleaners.{IsBeside}
+use Rattle.queue_law.specs.Numbers.{Queue, Sound}
+use Rattle.send_core.specs.declared.desk.Desk.{Desk}
+use Rattle.send_core.specs.Desk.{link}
+use Rattle.send_core.specs.Table.{desk_after}
+use Rattle.send_jobs.specs.declared.attempts.Attempt.{Attempt}
+use Rattle.send_jobs.specs.declared.channels.Channel.{Channel}
+use Rattle.send_jobs.specs.Sending.{lane}
+use Rattle.sender_law.specs.Asking.{AreTextsFor, IsTextFor, TextsStand}
+use Rattle.sender_law.specs.ControlFiles.{LeavesControls}
+use Rattle.sender_law.specs.Takings.{one_more, told_queue}
+use Rattle.sender_law.proofs.Asking.{texts_keep}
+use Rattle.sender_law.proofs.ControlsStay.{controls_stay}
+use Rattle.sender_law.proofs.Goes.{cleaners_go_on}
+use Rattle.world_events.specs.declared.event.Program.{Program}
+use Rattle.world_events.specs.declared.event.Program.TheVariants.{Cleaner, Sender}
+use Rattle.world_pipes.specs.Pipework.{Pipework}
+use Rattle.mail_world.specs.History.{Actor, Life, State}
+use Rattle.mail_world.specs.History.Life.{Alive}
+use Rattle.world_law.specs.Crew.{IsNamed, link_by, link_in, lives_in, place_in}
+use Rattle.world_law.specs.Fares.{FaresBy, SenderFares}
+use Rattle.world_law.specs.Inv.{ErrandRests, Inv}
+use Rattle.world_law.proofs.Moved.{RunsNone, each_put}
+use Rattle.world_law.proofs.SendersOthers.{IsIdle}
+
+-- The requests that lie ready are of what the books say.
+
+module _ (q r : Queue) (same : r.books ≡ q.books) where
+  text_on : (a : Attempt) (text : List ℕ) → IsTextFor q a text → IsTextFor r a text
+  text_on a text h = record { injection = h.injection; lives = ap (λ b. b.living a.n) same ∙ h.lives; slot = h.slot; is = h.is }
+
+  texts_for : (texts : List (List ℕ)) (left : List Attempt) → AreTextsFor q texts left → AreTextsFor r texts left
+  texts_for [] [] h = tt
+  texts_for (text ∷ texts) (a ∷ left) h = (text_on a text h.0, texts_for texts left h.1)
+  texts_for [] (a ∷ left) h = absurd h
+  texts_for (text ∷ texts) [] h = absurd h
+
+  pub texts_on : (d : Desk) → TextsStand q d → TextsStand r d
+  texts_on d h = record { texts = λ ch. texts_for (link ch d).requests (lane ch d.slots).left (h.texts ch); first = h.first; due = h.due; reads = h.reads }
+
+pub texts_told : (es : List (Channel × Attempt)) (q : Queue) (d : Desk) → TextsStand q d → TextsStand (told_queue es q) d
+texts_told [] q d h = texts_on q (told_queue [] q) refl d h
+texts_told (e ∷ es) q d h = texts_told es (one_more e q) d (texts_keep.enters q e.1.n (record { channel = e.0; place = e.1.place }) d h)
+
+-- The sender has one event more
+
+abbrev pub sender : ℕ → List Own → Actor
+sender began past = record { program = Sender began; past = past; life = Alive }
+
+abbrev pub sent : State → Queue → ℕ → List Own → Pipework → State
+sent s r began past w = record { disk = r.disk; holder = r.holder; now = s.now; actors = put_at s.actors (codes "sender") (Some (sender began past)); books = r.books; pipework = w }
+
+-- what holds of each other actor then
+abbrev pub OthersFare : Controls → State → Queue → Type 0
+OthersFare controls s r = (o : List ℕ) (x : Actor) → o ≢ codes "sender" → s.actors o ≡ Some x → FaresBy controls s.now r o x.program x.past x.life
+
+module _ (controls : Controls) (s : State) (I : Inv controls s) where
+  -- the cleaner, while the sender waits for nothing
+  pub idle_by : (link_in s).awaits ≡ Nothing → (o : List ℕ) (program : Program) (past : List Own) (life : Life) → s.actors o ≡ Some (record { program = program; past = past; life = life })
+      → IsNamed o program → IsIdle program past
+  idle_by idle o (Cleaner began) past life is named =
+      let there : s.actors (codes "clean") ≡ Some (record { program = Cleaner began; past = past; life = life }) = ap s.actors (sym named) ∙ is in
+      λ m. subst (λ (p : Place). IsBeside m p) (ap place_in there) (cleaners_go_on.beside I.errands.waits (link_in s) I.errands.errand idle m)
+  idle_by idle o program past life is named = tt
+
+  pub sent_keeps : (r : Queue) (began : ℕ) (past : List Own) (w : Pipework) → Sound controls r → LeavesControls s.disk r.disk → OthersFare controls s r
+      → SenderFares controls s.now r (codes "sender") (desk_after None past) → RunsNone w
+      → ErrandRests controls s.now r (lives_in (s.actors (codes "clean"))) (link_by (Some (sender began past)) (s.actors (codes "clean")) w)
+      → Inv controls (sent s r began past w)
+  unfolding put_at
+  sent_keeps r began past w G C others F none errands = record {
+    role = r.role;
+    moment = I.moment;
+    sound = G;
+    crew = each_put s.actors (codes "sender") (sender began past) (λ o z. IsNamed o z.program) refl (λ o z other is. I.crew o z is);
+    fares = each_put s.actors (codes "sender") (sender began past) (λ o z. FaresBy controls s.now r o z.program z.past z.life) F (λ o z other is. others o z other is);
+    control = controls_stay.said controls s.disk r.disk C I.control;
+    apart = C.apart;
+    tenants = none;
+    errands = errands;
+  }

@@ -1,0 +1,178 @@
+-- A step of one actor that spares each closed number: what it leaves of all the others.
+use Rattle.std.proofs.Common.{◌≡◌, ◌≢◌, ℕ, List, Option, Some, None, refl, sym, ap, ◌∙◌, subst, codes}
+use Rattle.address_rules.specs.declared.controls.Controls.{Controls}
+use Rattle.call_fs.specs.declared.past.Own.{Own}
+use Rattle.call_fs.specs.Maps.{put_at}
+use Rattle.errand_law.specs.Errands.Awaits.{Answer}
+use Rattle.queue_clean.specs.declared.command.Command.TheVariants.{Todo}
+use Rattle.queue_clean.specs.Table.{Place, place_after}
+use Rattle.spawner_parts.specs.declared.row.Row.{Row as SpawnRow}
+use Rattle.spawner_parts.specs.declared.row.Row.TheVariants as spawn
+use Rattle.remote_spawn.specs.Table.{place_after as spawn_after}
+use Rattle.send_core.specs.declared.row.Row.{Row}
+use Rattle.send_core.specs.declared.row.Row.TheVariants as at
+use Rattle.send_core.specs.Table.{desk_after}
+use Rattle.send_core.specs.Turn.{known_of}
+use Rattle.send_jobs.specs.declared.slots.Slots.{Slots}
+use Rattle.send_steps.specs.declared.book.Book.{Book}
+use Rattle.send_steps.specs.declared.rows.FinishRow.TheVariants as finish
+use Rattle.todo_pass.specs.declared.row.Row.{Row as PassRow}
+use Rattle.todo_pass.specs.declared.row.Row.TheVariants as todo
+use Rattle.todo_pass.specs.Disks.{HoldsTodo}
+use Rattle.todo_pass.specs.Table.{Pass}
+use Rattle.queue_law.specs.Cleaners.{CleanerStands, IsBeside}
+use Rattle.queue_law.specs.Numbers.{Queue, About, Sound, about}
+use Rattle.queue_law.specs.Rests.{IsClosed, Spares, SparesNames}
+use Rattle.queue_law.specs.Steps.{Elsewhere}
+use Rattle.queue_law.proofs.Frame.{injector_frame}
+use Rattle.queue_law.proofs.RestIsKept.{rest_is_kept}
+use Rattle.sender_law.specs.ControlFiles.{LeavesControls}
+use Rattle.sender_law.specs.InTodo.{IsExpected, PassGoesOn, TodoStands}
+use Rattle.sender_law.specs.LeftAlone.{LeavesPass, LeavesRow}
+use Rattle.sender_law.specs.Rows.{RowStands}
+use Rattle.sender_law.specs.Stands.{SenderStands, SparesSorted}
+use Rattle.sender_law.specs.Waits.{awaits_at, awaits_in as awaits_in_pass}
+use Rattle.sender_law.proofs.Asking.{texts_keep}
+use Rattle.sender_law.proofs.ControlsRead.{controls_are_read}
+use Rattle.sender_law.proofs.ControlsStay.{controls_stay}
+use Rattle.sender_law.proofs.LeftAlone.{senders_are_left_alone}
+use Rattle.world_events.specs.declared.event.Program.{Program}
+use Rattle.world_events.specs.declared.event.Program.TheVariants.{Injector, Cleaner, Sender, LocalSpawner, RemoteSpawner}
+use Rattle.mail_world.specs.History.{Actor, Life, State}
+use Rattle.mail_world.specs.History.Life.{Alive, Over, Stopped}
+use Rattle.mail_world.specs.Untouched.{queue}
+use Rattle.world_law.specs.Crew.{IsNamed, awaits_in, is_alive, is_well, link_in, lives_in}
+use Rattle.world_law.specs.Fares.{FaresBy, SpawnerHolds}
+use Rattle.world_law.specs.Inv.{ErrandsRest, Inv}
+use Rattle.world_law.proofs.Gone.{errands_spared}
+use Rattle.world_law.proofs.Moved.{IsSeenAs, each_put, put_errands}
+
+-- What it leaves a sender at its row
+
+module _ (controls : Controls) (now : ℕ) (q r : Queue) (a : List ℕ) (S : Spares now None q r) where
+  no_number : (n : ℕ) → None ≢ Some n
+  no_number n e = absurd (cc)
+
+  -- until the cleaner has the command of a pass, its number rests
+  held_pass : (p : Pass) → PassGoesOn controls now q a p → HoldsTodo p.row → (None ≢ Some p.n) × (about r p.n ≡ about q p.n)
+  held_pass p h holds = (no_number p.n, S.abouts p.n (no_number p.n) (h.stands.rests holds).closed)
+
+  pass_left : (row : PassRow) (p : Pass) → p.row ≡ row → TodoStands controls now q a row p → (row ≡ todo.Answer → IsClosed now q p.n) → LeavesPass row p None q r
+  pass_left todo.Answer p e h asked = λ (x : IsExpected (about q p.n) (known_of p)).
+      subst (λ (w : About). IsExpected w (known_of p)) (sym (S.abouts p.n (no_number p.n) (asked refl))) x
+  pass_left todo.Done p e h asked = tt
+  pass_left (todo.Left why) p e h asked = tt
+  pass_left todo.Lost p e h asked = tt
+  pass_left (todo.Clear t) p e h asked = held_pass p h (subst HoldsTodo (sym e) tt)
+  pass_left todo.StatMess p e h asked = held_pass p h (subst HoldsTodo (sym e) tt)
+  pass_left todo.OpenTodo p e h asked = held_pass p h (subst HoldsTodo (sym e) tt)
+  pass_left (todo.ReadTodo fd) p e h asked = held_pass p h (subst HoldsTodo (sym e) tt)
+  pass_left (todo.CloseTodo fd) p e h asked = held_pass p h (subst HoldsTodo (sym e) tt)
+  pass_left (todo.Create t) p e h asked = held_pass p h (subst HoldsTodo (sym e) tt)
+  pass_left (todo.Append t fd done) p e h asked = held_pass p h (subst HoldsTodo (sym e) tt)
+  pass_left (todo.Sync t fd) p e h asked = held_pass p h (subst HoldsTodo (sym e) tt)
+  pass_left (todo.Close t fd) p e h asked = held_pass p h (subst HoldsTodo (sym e) tt)
+  pass_left (todo.Shut fd why) p e h asked = held_pass p h (subst HoldsTodo (sym e) tt)
+  pass_left todo.Give p e h asked = held_pass p h (subst HoldsTodo (sym e) tt)
+
+  answer_closed : (p : Pass) → ((n : ℕ) → awaits_at at.InTodo p ≡ Answer (Todo n) → IsClosed now q n) → p.row ≡ todo.Answer → IsClosed now q p.n
+  answer_closed p asked e = asked p.n (ap (λ row. awaits_in_pass row p.n) e)
+
+  row_left : (row : Row) (b : Book) (s : Slots) (p : Pass) → RowStands controls now q a row b s p → ((n : ℕ) → awaits_at row p ≡ Answer (Todo n) → IsClosed now q n)
+      → LeavesRow row p None q r
+  row_left at.InTodo b s p h asked = pass_left p.row p refl h.1.1 (answer_closed p asked)
+  row_left (at.Finish finish.Give n) b s p h asked = no_number n
+  row_left (at.Sweep row) b s p h asked = λ n is. no_number n
+  row_left row b s p h asked = tt
+
+-- the state after a step, with this actor in its place
+abbrev pub stepped : State → List ℕ → Queue → Actor → State
+stepped s a r y = record { disk = r.disk; holder = r.holder; now = s.now; actors = put_at s.actors a (Some y); books = r.books; pipework = s.pipework }
+
+-- Each of the others, after a step that spares all closed numbers but the one in k
+
+module _ (controls : Controls) (s : State) (I : Inv controls s) (a : List ℕ) (r : Queue) (m k : Option ℕ) (E : Elsewhere s.now a m (queue s I.role) r)
+    (S : Spares s.now k (queue s I.role) r) (SS : SparesSorted (queue s I.role) r) (C : LeavesControls s.disk r.disk) (G : Sound controls r) where
+  abbrev before : Queue
+  before = queue s I.role
+
+  -- what it leaves another cleaner and another sender that live
+  abbrev pub LeavesCleaner : List ℕ → Type 0
+  LeavesCleaner o = (began : ℕ) (past : List Own) → s.actors o ≡ Some (record { program = Cleaner began; past = past; life = Alive })
+      → CleanerStands controls s.now before (place_after past) → CleanerStands controls s.now r (place_after past)
+
+  abbrev pub LeavesSender : List ℕ → Type 0
+  LeavesSender o = (began : ℕ) (past : List Own) → s.actors o ≡ Some (record { program = Sender began; past = past; life = Alive })
+      → SenderStands controls s.now before o (desk_after None past) → LeavesRow (desk_after None past).row (desk_after None past).pass k before r
+
+  holds_other : (o : List ℕ) → o ≢ a → (row : SpawnRow) → SpawnerHolds before o row → SpawnerHolds r o row
+  holds_other o other (spawn.ReadMess fd) h = (h.0, E.opens o fd.0 h.0 other h.1)
+  holds_other o other (spawn.CloseMess fd whole) h = (h.0, E.opens o fd.0 h.0 other h.1)
+  holds_other o other row h = tt
+
+  fares_other : (o : List ℕ) → o ≢ a → LeavesCleaner o → LeavesSender o → (program : Program) (past : List Own) (life : Life)
+      → s.actors o ≡ Some (record { program = program; past = past; life = life }) → FaresBy controls s.now before o program past life → FaresBy controls s.now r o program past life
+  fares_other o other cleaner sender (Injector args) past life is F = injector_frame s.now a m before r E o other args past (is_alive life) (is_well life) F
+  fares_other o other cleaner sender (Cleaner began) past Alive is F = cleaner began past is F
+  fares_other o other cleaner sender (Cleaner began) past (Over status) is F = tt
+  fares_other o other cleaner sender (Cleaner began) past Stopped is F = tt
+  fares_other o other cleaner sender (Sender began) past Alive is F =
+      let d = desk_after None past in
+      record {
+        stands = senders_are_left_alone.others controls s.now o a m k before r d E other SS S (sender began past is F.stands) F.stands;
+        control = controls_are_read.others before r o d.row d.book C (λ fd how. E.opens o fd how other) F.control;
+        texts = texts_keep.others controls s.now before r o d SS F.stands F.texts;
+      }
+  fares_other o other cleaner sender (Sender began) past (Over status) is F = tt
+  fares_other o other cleaner sender (Sender began) past Stopped is F = tt
+  fares_other o other cleaner sender (LocalSpawner began) past life is F = tt
+  fares_other o other cleaner sender (RemoteSpawner began) past Alive is F = holds_other o other (spawn_after past).row F
+  fares_other o other cleaner sender (RemoteSpawner began) past (Over status) is F = tt
+  fares_other o other cleaner sender (RemoteSpawner began) past Stopped is F = tt
+
+  pub led_keeps : ((o : List ℕ) → o ≢ a → LeavesCleaner o) → ((o : List ℕ) → o ≢ a → LeavesSender o) → (y : Actor) → IsNamed a y.program
+      → FaresBy controls s.now r a y.program y.past y.life → ErrandsRest controls (stepped s a r y) r.role → Inv controls (stepped s a r y)
+  led_keeps cleaners senders y named F errands = record {
+    role = r.role;
+    moment = I.moment;
+    sound = G;
+    crew = each_put s.actors a y (λ o z. IsNamed o z.program) named (λ o z _ is. I.crew o z is);
+    fares = each_put s.actors a y (λ o z. FaresBy controls s.now r o z.program z.past z.life) F
+        (λ o z other is. fares_other o other (cleaners o other) (senders o other) z.program z.past z.life is (I.fares o z is));
+    control = controls_stay.said controls s.disk r.disk C I.control;
+    apart = C.apart;
+    tenants = I.tenants;
+    errands = errands;
+  }
+
+-- So after one that spares all closed numbers
+
+module _ (controls : Controls) (s : State) (I : Inv controls s) (a : List ℕ) (r : Queue) (m : Option ℕ) (E : Elsewhere s.now a m (queue s I.role) r)
+    (S : Spares s.now None (queue s I.role) r) (N : SparesNames (queue s I.role) r) (SS : SparesSorted (queue s I.role) r) (C : LeavesControls s.disk r.disk)
+    (G : Sound controls r) where
+  abbrev here : Queue
+  here = queue s I.role
+
+  beside_none : (p : Place) → IsBeside None p
+  beside_none p n h = absurd (cc)
+
+  -- what a living sender waits for is what the link says
+  asked_closed : (o : List ℕ) (began : ℕ) (past : List Own) → s.actors o ≡ Some (record { program = Sender began; past = past; life = Alive })
+      → (n : ℕ) → awaits_at (desk_after None past).row (desk_after None past).pass ≡ Answer (Todo n) → IsClosed s.now here n
+  asked_closed o began past is n waits =
+      let named : o ≡ codes "sender" = I.crew o (record { program = Sender began; past = past; life = Alive }) is in
+      I.errands.asked n (ap awaits_in (ap s.actors (sym named) ∙ is) ∙ waits)
+
+  stepped_errands : (y : Actor) → IsSeenAs (s.actors a) y → ErrandsRest controls (stepped s a r y) r.role
+  stepped_errands y seen =
+      put_errands controls s.now r s.actors a y s.pipework s.pipework seen (record { given = refl; answers = refl })
+      (errands_spared controls s.now here r S (lives_in (s.actors (codes "clean"))) (link_in s) I.errands)
+
+  pub stepped_keeps : (y : Actor) → IsNamed a y.program → IsSeenAs (s.actors a) y → FaresBy controls s.now r a y.program y.past y.life
+      → Inv controls (stepped s a r y)
+  stepped_keeps y named seen F =
+      led_keeps controls s I a r m None E S SS C G
+      (λ o other began past is. rest_is_kept.spared controls s.now None here r S N (place_after past) (beside_none (place_after past)))
+      (λ o other began past is h.
+      let d = desk_after None past in row_left controls s.now here r o S d.row d.book d.slots d.pass h.rests (asked_closed o began past is))
+      y named F (stepped_errands y seen)

@@ -1,0 +1,5 @@
+use Rattle.world_law.proofs.Histories.{headline}
+use Rattle.world_law.proofs.laws.headline.Goals as goal
+
+pub returns : goal.returns
+returns c = headline

@@ -1,0 +1,91 @@
+-- What is claimed of each state, and the headline: no accepted message is lost.
+use Rattle.std.specs.Prelude.{◌≡◌, ◌≢◌, ℕ, List, ◌∷◌, ◌++◌, true, Option, Some, None}
+use Rattle.address_rules.specs.declared.controls.Controls.{Controls}
+use Rattle.call_fs.specs.Disk.{Disk, IsSynced}
+use Rattle.call_fs.specs.declared.past.NeedData.TheVariants as needs
+use Rattle.call_fs.specs.declared.past.Own.{Own}
+use Rattle.queue_paths.specs.Names.{path}
+use Rattle.queue_paths.specs.Names.Part.{Mess}
+use Rattle.queue_paths.specs.Names.Name.{Of}
+use Rattle.queue_inject.specs.Texts.{entered}
+use Rattle.queue_states.specs.declared.state.State.TheVariants.{Other}
+use Rattle.queue_states.specs.States.{state_of}
+use Rattle.channel_law.specs.Files.{IsOpen}
+use Rattle.channel_law.specs.Laws.{IsAlone}
+use Rattle.send_jobs.specs.declared.attempts.Attempt.{Attempt}
+use Rattle.send_jobs.specs.declared.channels.Channel.{Channel}
+use Rattle.send_jobs.specs.Sending.{lane}
+use Rattle.send_jobs.specs.Slots.{lowest}
+use Rattle.send_core.specs.Table.{desk_after, port_of}
+use Rattle.send_steps.specs.Requests.{request_of, to_slot}
+use Rattle.queue_law.specs.Accounts.{Accounted}
+use Rattle.queue_law.specs.Books.{Injection, IsInjected, IsValid}
+use Rattle.queue_law.specs.Numbers.Role.{AsOld}
+use Rattle.queue_law.specs.Routes.{Recipient, sender_of}
+use Rattle.sender_law.specs.Control.{AreControls}
+use Rattle.sender_law.specs.ControlFiles.{AreApart}
+use Rattle.sender_law.specs.Views.{files_of}
+use Rattle.mail_world.specs.Headline.{IsBooked, EndsWell}
+use Rattle.mail_world.specs.History.{Event, Actor, State, Legal, after}
+use Rattle.mail_world.specs.History.Event.{Act}
+use Rattle.mail_world.specs.History.Life.{Over}
+use Rattle.mail_world.specs.Untouched.{queue}
+use Rattle.mail_world.specs.World.{Happened, Seen}
+use Rattle.world_events.specs.declared.event.Program.TheVariants.{Sender}
+
+pub record Safe (controls : Controls) (s : State) : Type 0 where
+  -- each number is in one of the states S1 to S5
+  pub states : (n : ℕ) → state_of s.disk n ≢ Other
+  -- the name of a message is the file of its own number
+  pub numbers : (n i : ℕ) → s.disk.names (path (Of Mess n)) ≡ Some i → i ≡ n
+  -- while the life of an accepted injection lasts and its message is there, the message reads as entered, and all of it is on the disk
+  pub messages : (q : Injection) (i : ℕ) → s.books.living q.number ≡ Some q → q.accepted ≡ true → s.disk.names (path (Of Mess q.number)) ≡ Some i
+      → IsSynced (s.disk.files i) (entered q.args)
+  -- what was accepted is valid
+  pub valid : (q : Injection) → IsInjected s.books q → q.accepted ≡ true → IsValid q.args
+  -- each recipient of each accepted injection is pending, in todo or in its channel file, or was reported delivered
+  pub accounted : (q : Injection) → IsInjected s.books q → q.accepted ≡ true → (r : Recipient q.args) → Accounted controls s.disk s.books q r
+  -- an injector's Ok link to todo accepts its injection, however it ends
+  pub queued : (a : List ℕ) (x : Actor) → s.actors a ≡ Some x → IsBooked s.books a x.program x.past
+  -- an injector's end with 0 comes only of an accepted injection
+  pub ends : (a : List ℕ) (x : Actor) → s.actors a ≡ Some x → x.life ≡ Over 0 → EndsWell s.books a x.program
+
+-- The control files of an initial disk: what they say, each a file of its own.
+pub record HasControls (controls : Controls) (d : Disk) : Type 0 where
+  pub are : AreControls controls d
+  pub apart : AreApart d
+
+-- Each disk whose control files are apart has controls.
+abbrev pub DisksHaveControls : Type 0
+DisksHaveControls = (d : Disk) → AreApart d → (controls : Controls) × HasControls controls d
+
+-- However the calls interleave and wherever a program or the machine stops: each prefix of a legal history is safe.
+abbrev pub Headline : Type 0
+Headline = (controls : Controls) (d : Disk) (later before : List Event) → HasControls controls d → Legal d (later ++ before) → Safe controls (after d before)
+
+-- each prefix of a history is safe
+abbrev pub EachSafe : Controls → Disk → List Event → Type 0
+EachSafe controls opening h = (later before : List Event) → later ++ before ≡ h → Safe controls (after opening before)
+
+-- So is each prefix of what happened in a world, by what its disk tells, since it began with a disk of these controls.
+abbrev pub WorldsAreSafe : Type 0
+WorldsAreSafe = (controls : Controls) (opening : Disk) (w : Seen (Option Disk)) (h : List Event) → HasControls controls opening → Happened {D = Option Disk} (λ told. told) opening w h
+    → EachSafe controls opening h
+
+-- A request that a sender gives, also in part, is of a recipient whose record reads `T` in its channel file, with the text of that record,
+-- and no other attempt at that record is in flight.
+pub record IsAttempt (s : State) (past : List Own) (ch : Channel) (text : List ℕ) : Type 0 where
+  pub attempt : Attempt
+  pub slot : ℕ
+  pub injection : Injection
+  pub reads : IsOpen (files_of (queue s (λ _. AsOld)) ch) attempt
+  pub lives : s.books.living attempt.n ≡ Some injection
+  pub free : lowest (lane ch (desk_after None past).slots).slots ≡ Some slot
+  pub text_is : text ≡ to_slot slot (request_of attempt.n (sender_of injection.args) attempt.address)
+  pub alone : IsAlone attempt (lane ch (desk_after None past).slots)
+
+-- Each giving of a sender to a spawner is an attempt.
+abbrev pub AttemptsAreSound : Type 0
+AttemptsAreSound = (controls : Controls) (d : Disk) (a : List ℕ) (own : Own) (wrote : ℕ) (before : List Event) → HasControls controls d
+    → Legal d (Act a own wrote ∷ before) → (x : Actor) → (after d before).actors a ≡ Some x → (start : ℕ) → x.program ≡ Sender start
+    → (ch : Channel) (text : List ℕ) → own.due ≡ needs.Give (port_of ch) text → IsAttempt (after d before) x.past ch text

@@ -1,0 +1,79 @@
+-- What keeps the invariant: each event. So it holds after each legal history.
+use Rattle.std.specs.Prelude.{ℕ, List}
+use Rattle.address_rules.specs.declared.controls.Controls.{Controls}
+use Rattle.call_fs.specs.declared.crash_file_system.Survival.{Survival}
+use Rattle.call_fs.specs.Disk.{Disk}
+use Rattle.call_fs.specs.declared.past.Own.{Own}
+use Rattle.call_fs.specs.declared.program.Ready.{Ready}
+use Rattle.world_events.specs.declared.event.Program.{Program}
+use Rattle.mail_world.specs.History.{Event, State, Allowed, IsCleaner, IsLocalSpawner, IsRemoteSpawner, IsSender, Legal, MayDo, MayRun, Opening, after, happens, opening}
+use Rattle.mail_world.specs.History.Event.{Start, Act, Child, Generation, Report, End, Stop, Moment, Halt}
+use Rattle.world_law.specs.Headline.{HasControls, Safe}
+use Rattle.world_law.specs.Inv.{Inv}
+
+-- it holds at the start
+abbrev pub InvBegins : Type 0
+InvBegins = (controls : Controls) (d : Disk) → HasControls controls d → Opening d → Inv controls (opening d)
+
+-- it says that the state is safe
+abbrev pub InvIsSafe : Type 0
+InvIsSafe = (controls : Controls) (s : State) → Inv controls s → Safe controls s
+
+-- an event that may happen keeps it
+abbrev pub IsKeptBy : Event → Type 0
+IsKeptBy e = (controls : Controls) (s : State) → Inv controls s → Allowed s e → Inv controls (happens s e)
+
+abbrev pub MomentsKeep : Type 0
+MomentsKeep = (m : ℕ) → IsKeptBy (Moment m)
+
+abbrev pub ReportsKeep : Type 0
+ReportsKeep = (slot letter : ℕ) (text : List ℕ) → IsKeptBy (Report slot letter text)
+
+abbrev pub StopsKeep : Type 0
+StopsKeep = (a : List ℕ) → IsKeptBy (Stop a)
+
+abbrev pub EndsKeep : Type 0
+EndsKeep = (a : List ℕ) (read : ℕ) (ready : Ready) (status : ℕ) → IsKeptBy (End a read ready status)
+
+abbrev pub StartsKeep : Type 0
+StartsKeep = (a : List ℕ) (program : Program) → IsKeptBy (Start a program)
+
+abbrev pub GenerationsKeep : Type 0
+GenerationsKeep = (sender clean lspawn rspawn : Program) → IsKeptBy (Generation sender clean lspawn rspawn)
+
+-- a machine stop, whatever survives
+abbrev pub HaltsKeep : Type 0
+HaltsKeep = (how : Survival) (contents : ℕ → List ℕ) → IsKeptBy (Halt how contents)
+
+-- each event of an injector
+abbrev pub InjectorsKeep : Type 0
+InjectorsKeep = (a : List ℕ) (own : Own) (wrote : ℕ) (controls : Controls) (s : State) → Inv controls s → (may : MayDo s a own wrote)
+    → MayRun may.actor.program → Inv controls (happens s (Act a own wrote))
+
+-- so does each event of the local spawner
+abbrev pub LocalsKeep : Type 0
+LocalsKeep = (a : List ℕ) (own : Own) (wrote : ℕ) (controls : Controls) (s : State) → Inv controls s → (may : MayDo s a own wrote)
+    → IsLocalSpawner may.actor.program → Inv controls (happens s (Act a own wrote))
+
+-- and each event of the remote spawner
+abbrev pub RemotesKeep : Type 0
+RemotesKeep = (a : List ℕ) (own : Own) (wrote : ℕ) (controls : Controls) (s : State) → Inv controls s → (may : MayDo s a own wrote)
+    → IsRemoteSpawner may.actor.program → Inv controls (happens s (Act a own wrote))
+
+-- and each event of the cleaner
+abbrev pub CleanersKeep : Type 0
+CleanersKeep = (a : List ℕ) (own : Own) (wrote : ℕ) (controls : Controls) (s : State) → Inv controls s → (may : MayDo s a own wrote)
+    → IsCleaner may.actor.program → Inv controls (happens s (Act a own wrote))
+
+-- and each event of the sender: each file call, what it gives and takes
+abbrev pub SendersKeep : Type 0
+SendersKeep = (a : List ℕ) (own : Own) (wrote : ℕ) (controls : Controls) (s : State) → Inv controls s → (may : MayDo s a own wrote)
+    → IsSender may.actor.program → Inv controls (happens s (Act a own wrote))
+
+-- No program starts an actor yet, so the start of a child never comes.
+abbrev pub ChildrenKeep : Type 0
+ChildrenKeep = (parent : List ℕ) (own : Own) (a : List ℕ) (program : Program) → IsKeptBy (Child parent own a program)
+
+-- So it holds after each legal history.
+abbrev pub Always : Type 0
+Always = (controls : Controls) (d : Disk) (before : List Event) → HasControls controls d → Legal d before → Inv controls (after d before)

@@ -1,0 +1,12 @@
+-- the members of a generation, and what lies between the sender and its cleaner
+pub mod Crew
+-- what each actor has
+pub mod Fares
+-- the invariant
+pub mod Inv
+-- what is claimed of each state, and the headline
+pub mod Headline
+-- what keeps the invariant
+pub mod Laws
+-- the commands under way at a cleaner
+pub mod UnderWay
