@@ -5,8 +5,8 @@ use Rattle.std.specs.List.{AllZip}
 use Rattle.call_fs.specs.Disk.{Disk}
 use Rattle.mail_world.specs.History.{Event, State, Allowed, Opening, after, Legal}
 use Rattle.mail_world.specs.History.Event.{Start, Act, Child, Generation, Report, End, Stop, Moment, Halt}
-use Rattle.mail_world.specs.Headline.{IsCovered, is_generation, Headline}
-use Rattle.mail_world.specs.World.{Tells, EachSafe, starts_in}
+use Rattle.mail_world.specs.Waiting.{HasNoGeneration, is_generation}
+use Rattle.mail_world.specs.World.{Tells, starts_in}
 use Rattle.mail_world.specs.Inside.{StartsNone}
 use Rattle.world_events.specs.declared.event.Event.{Event as Kept}
 use Rattle.world_events.specs.declared.event.Event.TheVariants as kept
@@ -39,7 +39,7 @@ lone s (Stop a) allowed none = allowed
 lone s (Moment m) allowed none = allowed
 lone s (Halt how contents) allowed none = allowed
 
-pub covered : (d : Disk) (h : List Event) → Legal d h → IsCovered h → AreLone d h
+pub covered : (d : Disk) (h : List Event) → Legal d h → HasNoGeneration h → AreLone d h
 covered d [] legal none = legal
 covered d (e ∷ before) legal none = (covered d before legal.0 none.0, lone (after d before) e legal.1 none.1)
 
@@ -82,15 +82,11 @@ none_alone (e ∷ h) told = absurd told
 
 pub alone_push : (events : List Kept) (k : Kept) → keeps_generation k ≡ false → StartsNone events → StartsNone (events ++ k ∷ [])
 alone_push events k none alone h told = newest h (subst (λ (l : List Kept). AllZip Tells l h) (reverse-append events (k ∷ [])) told) where
-  newest : (h : List Event) → AllZip Tells (k ∷ reverse events) h → IsCovered h
+  newest : (h : List Event) → AllZip Tells (k ∷ reverse events) h → HasNoGeneration h
   newest [] told = absurd told
   newest (e ∷ h) told = (alone h told.1, tells_none k e none told.0)
 
 -- so is each prefix
-pub covered_before : (later before : List Event) → IsCovered (later ++ before) → IsCovered before
+pub covered_before : (later before : List Event) → HasNoGeneration (later ++ before) → HasNoGeneration before
 covered_before [] before none = none
 covered_before (e ∷ later) before none = covered_before later before none.0
-
--- and it is safe
-pub each_safe : Headline → (d : Disk) (h : List Event) → Legal d h → IsCovered h → EachSafe d h
-each_safe law d h legal none = λ later before is. law d later before (subst (Legal d) (sym is) legal) (covered_before later before (subst IsCovered (sym is) none))

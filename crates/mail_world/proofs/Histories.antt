@@ -19,10 +19,9 @@ use Rattle.world_events.specs.declared.event.Event.TheVariants as kept
 use Rattle.mail_world.specs.History.{Event, call_act, Actor, Life, State, next_of, FindsInputAlone, Allowed, MayRead, happens, called, finished, shut_by, after, latest, Opening, EachAllowed, Legal}
 use Rattle.mail_world.specs.History.Event.{Start, End, Stop, Moment, Halt}
 use Rattle.mail_world.specs.History.Life.{Alive}
-use Rattle.mail_world.specs.World.{kept_call, Tells, IsByName, Leads, IsHistory, EachSafe}
-use Rattle.mail_world.specs.Headline.{IsCovered, Headline}
+use Rattle.mail_world.specs.World.{kept_call, Tells, IsByName, Leads, IsHistory}
+use Rattle.mail_world.specs.Waiting.{HasNoGeneration}
 use Rattle.mail_world.specs.Inside.{StartsNone, IsLed, known}
-use Rattle.mail_world.proofs.Covered.{each_safe}
 use Rattle.mail_world.proofs.Known.{AreAlike, after_known, told_slots}
 use Rattle.mail_world.specs.ByKind.{IsMail}
 use Rattle.mail_world.proofs.Programs.{mail_runs, program_finds}
@@ -239,7 +238,7 @@ legal_by : (d : Disk) (h : List Event) → Opening d → EachAllowed d h → Leg
 legal_by d [] opens allowed = opens
 legal_by d (e ∷ h) opens allowed = (legal_by d h opens allowed.0, allowed.1)
 
-legal_opens : (d : Disk) (h : List Event) → Legal d h → Opening d
+pub legal_opens : (d : Disk) (h : List Event) → Legal d h → Opening d
 legal_opens d [] legal = legal
 legal_opens d (e ∷ h) legal = legal_opens d h legal.0
 
@@ -274,16 +273,14 @@ halt_goes_with (Some d) new events p how met o h is =
     let next = halt_leads (Some d) new events p how met o h (leads_of o d h events p is) in
     (next.0, history_of o h new (events ++ kept.Halt how ∷ []) p (Halt how next.0) (legal_opens o h is.legal) next.1)
 
--- what happened in a world is safe, if no generation was started
-pub history_safe : Headline → (told : Option Disk) (events : List Kept) (p : ℕ) → StartsNone events → (o : Disk) (h : List Event)
-    → IsSomeAnd told (λ d. IsHistory o d events p h) → EachSafe o h
-history_safe law None events p alone o h is = absurd is
-history_safe law (Some d) events p alone o h is = each_safe law o h is.legal (alone h is.told)
+-- in what happened in a world no generation was started
+pub history_alone : (told : Option Disk) (events : List Kept) (p : ℕ) → StartsNone events → (o : Disk) (h : List Event)
+    → IsSomeAnd told (λ d. IsHistory o d events p h) → HasNoGeneration h
+history_alone None events p alone o h is = absurd is
+history_alone (Some d) events p alone o h is = alone h is.told
 
--- what led to a world from an initial disk is legal, and safe
-pub led_safe : Headline → (told : Option Disk) (events : List Kept) (p : ℕ) → StartsNone events → OnTold told (λ d. IsLed d events p)
-    → OnTold told (λ d. (o : Disk) × (h : List Event) × Leads o d events p h × (Opening o → Legal o h × EachSafe o h))
-led_safe law None events p alone led = tt
-led_safe law (Some d) events p alone led = (led.0, led.1, led.2, λ opens. safe led.0 led.1 (legal_by led.0 led.1 opens led.2.allowed) (alone led.1 led.2.told)) where
-  safe : (o : Disk) (h : List Event) → Legal o h → IsCovered h → Legal o h × EachSafe o h
-  safe o h legal none = (legal, each_safe law o h legal none)
+-- nor in what led to a world, which is legal if it began with an initial disk
+pub led_legal : (told : Option Disk) (events : List Kept) (p : ℕ) → StartsNone events → OnTold told (λ d. IsLed d events p)
+    → OnTold told (λ d. (o : Disk) × (h : List Event) × Leads o d events p h × HasNoGeneration h × (Opening o → Legal o h))
+led_legal None events p alone led = tt
+led_legal (Some d) events p alone led = (led.0, led.1, led.2, alone led.1 led.2.told, λ opens. legal_by led.0 led.1 opens led.2.allowed)

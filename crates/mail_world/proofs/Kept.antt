@@ -31,6 +31,7 @@ use Rattle.queue_law.proofs.Tests.{unless_same}
 use Rattle.queue_law.proofs.Looks.{find_none, found, mapped_some}
 use Rattle.queue_law.specs.Numbers.{Role, Queue, NamesSuit, find, IsSorted, Sound, IsEarly}
 use Rattle.queue_law.specs.Injectors.{IsHeld}
+use Rattle.mail_world.specs.Waiting.{IsBooked}
 use Rattle.mail_world.specs.Untouched.{queue, about_in, LeavesBy, program_of, doer, LeavesRest, EventsLeave}
 use Rattle.queue_law.specs.Numbers.Role.{AsOld}
 use Rattle.queue_law.specs.Numbers.Phase.{Free}
@@ -38,7 +39,7 @@ use Rattle.queue_law.specs.Steps.{Elsewhere, Outside, after_halt}
 use Rattle.queue_law.proofs.Frame.{still_there, outside_same}
 use Rattle.queue_law.proofs.Step.{nothing_elsewhere}
 use Rattle.queue_law.proofs.Halts.{sound_after, early_after}
-use Rattle.mail_world.proofs.Programs.{program_starts_none, FaresBy, IsDone, fares_passes, fares_runs, fares_start, fares_frame, fares_halt, fares_later, fares_over, fares_done, queue_by, fares_calls, leaves_same}
+use Rattle.mail_world.proofs.Programs.{program_starts_none, FaresBy, IsDone, fares_passes, fares_runs, fares_start, fares_frame, fares_halt, fares_later, fares_over, fares_done, fares_booked, queue_by, fares_calls, leaves_same}
 
 -- what holds of an actor
 abbrev pub Fares : ℕ → Queue → List ℕ → Actor → Type 0
@@ -304,6 +305,13 @@ always controls d (e ∷ before) l = (kept controls (after d before) e (always c
 -- so it is after each history in which no generation was started
 pub runs_always : (d : Disk) (h : List Event) → AreLone d h → (a : List ℕ) (x : Actor) → (after d h).actors a ≡ Some x → MayRun x.program
 runs_always d h l = runs (controls_of []) (after d h) (always (controls_of []) d h l)
+
+-- and what its past has put into the books is there
+pub books_always : (d : Disk) (h : List Event) → AreLone d h → (a : List ℕ) (x : Actor) → (after d h).actors a ≡ Some x → IsBooked (after d h).books a x.program x.past
+books_always d h l a x is =
+    let s = after d h in
+    let I = always (controls_of []) d h l in
+    fares_booked s.now (queue s I.role) a x.program x.past x.life (I.actors a x is)
 
 -- and each event of a legal one leaves the rest
 pub events_leave : EventsLeave

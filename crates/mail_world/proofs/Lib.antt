@@ -9,8 +9,8 @@ pub mod Programs
 pub mod Owns
 -- each event
 pub mod Kept
--- each state is safe
-pub mod Headline
+-- each accepted message waits in todo
+pub mod Waiting
 -- what kept events tell, whatever the disk is
 pub mod Known
 -- what an actor finds ready

@@ -29,7 +29,7 @@ use Rattle.mail_world.specs.declared.any_machine.AnyMachine.TheVariants.{Mail, C
 use Rattle.mail_world.specs.Pipework.{Slot}
 use Rattle.mail_world.specs.History.{Actor, Life, State, InputIsFound, FindsInputAlone, MayFind, MayRun, next_of, latest, own_call, booked_by, held_by, cut_off}
 use Rattle.mail_world.specs.History.Life.{Alive, Over}
-use Rattle.mail_world.specs.Headline.{IsBooked, EndsWell}
+use Rattle.mail_world.specs.Waiting.{IsBooked}
 use Rattle.mail_world.specs.Readiness.{found_by, found_at, found_in, finds}
 use Rattle.mail_world.specs.declared.mailer.Mailer.{Mailer}
 use Rattle.mail_world.specs.ByKind.{IsMail, CanFind, HasRoom, Leaves, Follows, Mails, Cleans, Sends, Answers, Spawns}
@@ -208,14 +208,10 @@ fares_over now q r same a (Injector args) past old life F dead ends =
     injector_over now q r same a args past (is_alive old) (is_well old) (is_alive life) (is_well life) F (λ h. dead (alive_is life h)) (λ h. ends (well_is life h))
 fares_over now q r same a other past old life F dead ends = absurd F
 
--- what its past has put into the books, and what its end with 0 says
+-- what its past has put into the books
 pub fares_booked : (now : ℕ) (q : Queue) (a : List ℕ) (program : Program) (past : List Own) (life : Life) → FaresBy now q a program past life → IsBooked q.books a program past
 fares_booked now q a (Injector args) past life F = F.queued
 fares_booked now q a other past life F = absurd F
-
-pub fares_well : (now : ℕ) (q : Queue) (a : List ℕ) (program : Program) (past : List Own) (life : Life) → FaresBy now q a program past life → life ≡ Over 0 → EndsWell q.books a program
-fares_well now q a (Injector args) past life F over = F.queued (F.ends (ap is_well over))
-fares_well now q a other past life F over = absurd F
 
 -- the queue after a call of it
 abbrev pub queue_by : Queue → List ℕ → Program → (read : ℕ) → CallData → Answer → (wrote : ℕ) → (ℕ → Role) → Queue

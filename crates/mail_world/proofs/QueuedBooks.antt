@@ -33,13 +33,12 @@ use Rattle.world_events.specs.declared.event.Program.TheVariants.{Injector}
 use Rattle.mail_world.specs.History.{Event, Actor, Injection, Books, Life, State, MayRun, next_of, own_call, stopped, acted, finished, begun, accept, linked, booked, books_after, told_by, after}
 use Rattle.mail_world.specs.History.Event.{Start, Act, Child, Generation, Report, End, Stop, Moment, Halt}
 use Rattle.mail_world.specs.History.Life.{Over, Stopped}
-use Rattle.mail_world.specs.Headline.{IsBooked, HasQueued, Safe}
+use Rattle.mail_world.specs.Waiting.{IsBooked, HasQueued}
 use Rattle.mail_world.specs.World.{Tells}
 use Rattle.mail_world.specs.Books.{is_to_todo, is_accepting, is_accepting_by, is_accepted, AcceptedAreBooked}
 use Rattle.mail_world.proofs.BookedNumbers.{IsIn, among_option, injections_told}
-use Rattle.mail_world.proofs.Headline.{headline}
 use Rattle.mail_world.proofs.Covered.{AreLone, covered}
-use Rattle.mail_world.proofs.Kept.{runs_always}
+use Rattle.mail_world.proofs.Kept.{books_always, runs_always}
 use Rattle.mail_world.proofs.Owns.{IsPass, by_act, may_read}
 use Rattle.mail_world.proofs.Tests.{text_cases, same_text}
 
@@ -339,10 +338,11 @@ row_told d (k ∷ events) ((Moment m) ∷ h) legal told a agreed = row_told d ev
 row_told d (k ∷ events) ((Halt how contents) ∷ h) legal told a agreed = stopped_row ((after d h).actors a) (row_told d events h legal.0 told.1 a agreed)
 
 -- of an actor that has queued its message
-row_booked : (s : State) (a : List ℕ) (o : Option Actor) → Safe s → s.actors a ≡ o → HasRow o → (args : Arguments) × HasQueued s.books a args
-row_booked s a None safe is row = absurd row
-row_booked s a (Some x) safe is row =
-    let booked = subst (λ (program : Program). IsBooked s.books a program x.past) row.1 (safe.queued a x is) in
+row_booked : (s : State) (a : List ℕ) (o : Option Actor) → ((x : Actor) → s.actors a ≡ Some x → IsBooked s.books a x.program x.past) → s.actors a ≡ o → HasRow o
+    → (args : Arguments) × HasQueued s.books a args
+row_booked s a None queued is row = absurd row
+row_booked s a (Some x) queued is row =
+    let booked = subst (λ (program : Program). IsBooked s.books a program x.past) row.1 (queued x is) in
     (row.0, booked row.2)
 
 booked_row : (d : Disk) (events : List Kept) (h : List Event) → AreLone d h → AllZip Tells events h → (a : List ℕ) → (args : Arguments) × HasQueued (after d h).books a args → is_accepted a h ≡ true
@@ -355,7 +355,7 @@ pub accepted_booked : AcceptedAreBooked
 accepted_booked d events h legal none told =
     let lone = covered d h legal none in (
       λ a. (
-        λ agreed. row_booked (after d h) a ((after d h).actors a) (headline d [] h legal none) refl (row_told d (reverse events) h lone told a agreed),
+        λ agreed. row_booked (after d h) a ((after d h).actors a) (books_always d h lone a) refl (row_told d (reverse events) h lone told a agreed),
         λ w. booked_row d (reverse events) h lone told a w,
       ),
       λ q is. injections_told d (reverse events) h lone told q (⊎_elim (λ l. inl (q.number, l)) (λ o. inr o) is),

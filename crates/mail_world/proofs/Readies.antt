@@ -12,7 +12,7 @@ use Rattle.call_fs.specs.declared.past.NeedData.TheVariants as needs
 use Rattle.call_fs.specs.declared.past.GotData.{GotData}
 use Rattle.call_fs.specs.declared.past.Own.{Own}
 use Rattle.mail_world.specs.World.{Tells, ComesWhole, IsOwnOf}
-use Rattle.mail_world.specs.Headline.{IsCovered}
+use Rattle.mail_world.specs.Waiting.{HasNoGeneration}
 use Rattle.mail_world.specs.Known.{known}
 use Rattle.mail_world.specs.Readiness.{found_at, found_in}
 use Rattle.mail_world.proofs.Known.{after_known}
@@ -25,7 +25,7 @@ at_found : (s t : State) (a : List ℕ) (o : Option Actor) → ((x : Actor) → 
 at_found s t a None runs = refl
 at_found s t a (Some x) runs = mail_found t a x.program (runs x refl) ∙ sym (mail_found s a x.program (runs x refl))
 
-pub known_found : (o : Disk) (events : List Kept) (h : List Event) (a : List ℕ) → Legal o h → IsCovered h → AllZip Tells (reverse events) h → found_in (known events) a ≡ found_in (after o h) a
+pub known_found : (o : Disk) (events : List Kept) (h : List Event) (a : List ℕ) → Legal o h → HasNoGeneration h → AllZip Tells (reverse events) h → found_in (known events) a ≡ found_in (after o h) a
 known_found o events h a legal none told =
     let s = after o h in
     let t = known events in

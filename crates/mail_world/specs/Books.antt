@@ -25,7 +25,7 @@ use Rattle.mail_world.specs.ByKind.{injection_of}
 use Rattle.mail_world.specs.History.{Event, Actor, Life, State, Injection, after, Legal}
 use Rattle.mail_world.specs.History.Event.{Start, Act, Child, Generation, Report, End, Stop, Moment, Halt}
 use Rattle.mail_world.specs.History.Life.{Alive, Over, Stopped}
-use Rattle.mail_world.specs.Headline.{IsInjected, HasQueued, IsCovered}
+use Rattle.mail_world.specs.Waiting.{IsInjected, HasQueued, HasNoGeneration}
 use Rattle.mail_world.specs.World.{Tells}
 -- the books by the events that a world kept
 pub use Rattle.world_events.specs.Books.{entries_of, HasPlace, new_entry, entry_by, entered_by, queues, queues_by, mess_number, linked_number, number_by, newer, acted_on, left_as, cut_off, noted, books_of}
@@ -134,6 +134,6 @@ pub record IsOfMail (h : List Event) (q : Injection) : Type 0 where
 -- in which no generation was started.
 abbrev pub AcceptedAreBooked : Type 0
 AcceptedAreBooked =
-    (d : Disk) (events : List Kept) (h : List Event) → Legal d h → IsCovered h → AllZip Tells (reverse events) h
+    (d : Disk) (events : List Kept) (h : List Event) → Legal d h → HasNoGeneration h → AllZip Tells (reverse events) h
     → ((a : List ℕ) → (is_accepted a h ≡ true) ↔ ((args : Arguments) × HasQueued (after d h).books a args))
     × ((q : Injection) → IsInjected (after d h).books q → IsOfMail h q)

@@ -12,7 +12,7 @@ use Rattle.mail_world.specs.declared.actor.Actor.{Actor as Held}
 use Rattle.mail_world.specs.ByKind.{IsMail, Follows}
 use Rattle.mail_world.specs.History.{Event, Actor, State, latest, next_of}
 use Rattle.mail_world.specs.History.Life.{Alive}
-use Rattle.mail_world.specs.Headline.{IsCovered}
+use Rattle.mail_world.specs.Waiting.{HasNoGeneration}
 use Rattle.mail_world.specs.World.{Tells, Leads, Span, span_of, was_started, next_pid}
 use Rattle.mail_world.specs.World.Span.{Unborn, Lasting, OverAt}
 -- what kept events tell
@@ -89,7 +89,7 @@ IsLed now events present = (opening : Disk) × (h : List Event) × Leads opening
 
 -- whatever history these events tell, no generation was started in it
 abbrev pub StartsNone : List Kept → Type 0
-StartsNone events = (h : List Event) → AllZip Tells (reverse events) h → IsCovered h
+StartsNone events = (h : List Event) → AllZip Tells (reverse events) h → HasNoGeneration h
 
 -- What the fields of a world keep together: the disk, the places, the actors, the events with what they tell, the moment
 -- and the next process number.

@@ -2,8 +2,8 @@
 pub use Rattle.world_pipes.specs.Pipework
 -- histories: what happens, the state after it, and which are legal
 pub mod History
--- what is claimed of each state, and the headline
-pub mod Headline
+-- what is claimed of histories in which no generation was started
+pub mod Waiting
 -- what each event leaves as it was
 pub mod Untouched
 -- the history that a world keeps

@@ -7,7 +7,7 @@ use Rattle.queue_law.specs.Injectors.{IsHeld}
 use Rattle.queue_law.specs.Steps.{Outside}
 use Rattle.world_events.specs.declared.event.Program.{Program}
 use Rattle.mail_world.specs.ByKind.{Leaves}
-use Rattle.mail_world.specs.Headline.{IsCovered}
+use Rattle.mail_world.specs.Waiting.{HasNoGeneration}
 use Rattle.mail_world.specs.History.{Event, Actor, State, happens, after, Legal}
 use Rattle.mail_world.specs.History.Event.{Start, Act, Child, Generation, Report, End, Stop, Moment, Halt}
 
@@ -74,4 +74,4 @@ pub record LeavesRest (s : State) (e : Event) : Type 0 where
 
 -- so does each event of a legal history in which no generation was started
 abbrev pub EventsLeave : Type 0
-EventsLeave = (d : Disk) (e : Event) (before : List Event) → Legal d (e ∷ before) → IsCovered (e ∷ before) → LeavesRest (after d before) e
+EventsLeave = (d : Disk) (e : Event) (before : List Event) → Legal d (e ∷ before) → HasNoGeneration (e ∷ before) → LeavesRest (after d before) e

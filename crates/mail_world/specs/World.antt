@@ -23,7 +23,6 @@ use Rattle.world_events.specs.declared.event.Program.TheVariants.{Injector, Clea
 use Rattle.mail_world.specs.Pipework.{is_member}
 use Rattle.mail_world.specs.History.{Event, Actor, State, own_call, starts_program, next_of, after, EachAllowed, Legal}
 use Rattle.mail_world.specs.History.Event.{Start, Act, Child, Generation, Report, End, Stop, Moment, Halt}
-use Rattle.mail_world.specs.Headline.{Safe}
 use Rattle.mail_world.specs.Known.{known}
 use Rattle.mail_world.specs.Readiness.{found_in}
 
@@ -100,10 +99,6 @@ Happened tells opening w h = IsSomeAnd (tells w.disk) (λ now. IsHistory opening
 -- whatever happened in the old world, one event more happened in the new one
 abbrev pub GoesOn : {D : Type 0} → (D → Option Disk) → Seen D → Seen D → Type 0
 GoesOn tells old new = (opening : Disk) (h : List Event) → Happened tells opening old h → (e : Event) × Happened tells opening new (e ∷ h)
-
--- each prefix of a history is safe
-abbrev pub EachSafe : Disk → List Event → Type 0
-EachSafe opening h = (later before : List Event) → later ++ before ≡ h → Safe (after opening before)
 
 -- a start of that actor, with its generation if it is a member
 abbrev pub starts : List ℕ → Kept → Bool

@@ -1,11 +1,11 @@
 //! Laws of histories. Each is the contract of a function that does nothing.
 ghost use Rattle.mail_world.specs.Books.{AcceptedAreBooked, BooksAreTheModels};
-ghost use Rattle.mail_world.specs.Headline.{Headline};
+ghost use Rattle.mail_world.specs.Waiting.{MailsWait};
 ghost use Rattle.mail_world.specs.Untouched.{EventsLeave};
 
-/// Every prefix of a legal history is safe, if no generation was started in it.
-pub fn headline()
-    ensures { Headline }
+/// At each prefix of a legal history in which no generation was started, each accepted message waits in todo.
+pub fn mails_wait()
+    ensures { MailsWait }
 {}
 
 /// The books of a world say of each mail what each legal history of its events says.

@@ -2,8 +2,9 @@
 //!
 //! Each event of the world is one file call, or one start, end or stop, of one actor, or a moment that comes. It is
 //! appended to the history. If the disk tells and was an initial one, that is legal by the definition in
-//! `specs/History.antt`; and the headline, `specs/Headline.antt`, says that every prefix of a legal history is safe: no
-//! accepted message is lost. The world's books, `specs/Books.antt`, say what became of each mail.
+//! `specs/History.antt`. No world starts a generation yet, and so each accepted message waits in todo (`specs/Waiting.antt`).
+//! world_law says what holds of every legal history: no accepted message is lost. The world's books, `specs/Books.antt`,
+//! say what became of each mail.
 #![tactic(auto)]
 
 mod actor;

@@ -8,15 +8,16 @@ ghost use Rattle.call_fs.specs.Choices.{Halts};
 ghost use Rattle.call_fs.specs.Plan.{with_fault, with_pick};
 ghost use Rattle.mail_world.specs.History.{Opening, Legal, Event as Happening};
 ghost use Rattle.mail_world.specs.Kept.{events_of};
+ghost use Rattle.mail_world.specs.Waiting.{HasNoGeneration};
 ghost use Rattle.actor_names.specs.MailNames.{IsMailName};
-ghost use Rattle.mail_world.specs.World.{Leads, Happened, GoesOn, EachSafe, was_started, EndsAt, started_world, moment_world, IsStep, IsStop, GoesByPlan, IsHalt, GoesOnWith, IsAsBefore};
+ghost use Rattle.mail_world.specs.World.{Leads, Happened, GoesOn, was_started, EndsAt, started_world, moment_world, IsStep, IsStop, GoesByPlan, IsHalt, GoesOnWith, IsAsBefore};
 ghost use Rattle.mail_world.specs.Acting.{IsNoLiving};
 ghost use Rattle.mail_world.specs.Places.{place_of};
 ghost use Rattle.mail_world.specs.Books.{entries_of, books_of, books_in};
 
 use crate::actor::{Actor, cut_off_all, mail_of};
 use crate::any_machine::AnyMachine;
-use crate::laws::{books_are_the_models, headline};
+use crate::laws::books_are_the_models;
 use crate::mailer::Mailer;
 use crate::places::Places;
 use crate::{ActorName, Books, Event, History, Program, WorldError};
@@ -109,17 +110,16 @@ impl<D: CallFs> World<D> {
     }
 
     /// The events so far, the oldest first. In each world whose disk tells, they led to it from some disk, and each one
-    /// was allowed when it happened; if that disk was an initial one, their history is legal, and the queue was
-    /// safe at each prefix of it. So it was in each history that `Happened` since an initial disk.
+    /// was allowed when it happened; if that disk was an initial one, their history is legal. No generation was started in
+    /// it, nor in any history that `Happened` since an initial disk.
     pub fn history(&self) -> &History
         ensures events { events_of result.now ≡ self.now.events }
-        ensures safe { (opening : Disk) (h : List Happening)
-            → Happened D.disk opening self.now h → EachSafe opening h }
+        ensures alone { (opening : Disk) (h : List Happening)
+            → Happened D.disk opening self.now h → HasNoGeneration h }
         ensures happened { OnTold (D.disk self.now.disk) (λ now. (opening : Disk) × (h : List Happening)
             × Leads opening now self.now.events self.now.present h
-            × (Opening opening → Legal opening h × EachSafe opening h)) }
+            × HasNoGeneration h × (Opening opening → Legal opening h)) }
     {
-        headline();
         &self.history
     }
 

@@ -7,9 +7,15 @@ use Rattle.qmail_top.specs.declared.play_command.Failure.{Failure}
 use Rattle.qmail_top.specs.declared.play_command.Failure.TheVariants.{Memory, Output, Input, Malformed}
 use Rattle.play_lines.specs.Lines.{IsScript, IsBadLine, IsRefused, most_bytes}
 use Rattle.mem_fs.proofs.InTurn.{told_weaker}
+use Rattle.mail_world.proofs.Histories.{legal_opens}
+use Rattle.world_law.proofs.Alone.{stays_safe}
+use Rattle.world_law.proofs.Apart.{single_names_are_apart}
+use Rattle.world_law.proofs.Histories.{disks_have_controls}
+use Rattle.qmail_top.specs.SafePlays.{IsSafePrefixAtMost, PrintsSafely}
 use Rattle.qmail_top.specs.Command.{Counted, HasReason, status_of, IsReading, IsChecked}
-use Rattle.scenario.specs.Text.{BeginsAtMost, IsPrefixAtMost, script_line, IsTakenText, PrintsBadLine}
+use Rattle.scenario.specs.Text.{BeginsAtMost, IsPrefixAtMost, Prints, script_line, IsTakenText, PrintsBadLine}
 use Rattle.play_lines.proofs.Scripts.{no_refusal}
+use Rattle.scenario.proofs.SingleNames.{one_name}
 use Rattle.scenario.proofs.WholePlays.{prefix_at_most}
 
 -- a script that was read is all that its source had
@@ -75,10 +81,32 @@ completes Input (Some script) source sink cause checked = λ content is calm qui
 completes Malformed (Some script) source sink cause checked = λ content is calm quiet. absurd (no_refusal script content is (checked.refused refl))
 completes why None source sink cause checked = tt
 
+-- the history of a script is safe
+pub safely : (script text : List ℕ) → Prints script text → PrintsSafely script text
+safely script text prints =
+    let played = prints.played in
+    let apart = single_names_are_apart played.disk (legal_opens played.disk played.history played.legal) (one_name prints.content.opening played.disk played.is_first) in
+    let has = disks_have_controls played.disk apart in
+    record {
+      prints = prints;
+      controls = has.0;
+      has = has.1;
+      safe = stays_safe played.disk played.history played.legal played.alone;
+    }
+
+pub all_safely : (done : Type 0) (left old new : Option (List ℕ))
+    → OnTold left (λ script. Meets old new (λ before after. (text : List ℕ) × Prints script text × (after ≡ before ++ text)))
+    → OnTold left (λ script. done → Meets old new (λ before after. (text : List ℕ) × PrintsSafely script text × (after ≡ before ++ text)))
+all_safely done None old new prints = tt
+all_safely done (Some script) old new prints = λ is. told_weaker old new (λ before after taken. (taken.0, safely script taken.0 taken.1, taken.2)) prints
+
+prefix_safely : (script text : List ℕ) → IsPrefixAtMost script text → IsSafePrefixAtMost script text
+prefix_safely script text prefix = ⊎_elim (λ none. inl none) (λ some. inr (some.0, safely script some.0 some.1, some.2)) prefix
+
 -- what was taken of a script that wasn't played to its end is a prefix of its text
 pub front_taken : (why : Failure) (status : ℕ) (left old new : Option (List ℕ)) → status ≡ status_of why
     → OnTold left (λ script. why ≢ Malformed → Meets old new (λ before after. (text : List ℕ) × BeginsAtMost script text × (after ≡ before ++ text)))
-    → OnTold left (λ script. status ≢ 0 → status ≢ 91 → Meets old new (λ before after. (text : List ℕ) × IsPrefixAtMost script text × (after ≡ before ++ text)))
+    → OnTold left (λ script. status ≢ 0 → status ≢ 91 → Meets old new (λ before after. (text : List ℕ) × IsSafePrefixAtMost script text × (after ≡ before ++ text)))
 front_taken why status None old new is begins = tt
 front_taken why status (Some script) old new is begins = λ done malformed.
-    told_weaker old new (λ before after taken. (taken.0, prefix_at_most script taken.0 taken.1, taken.2)) (begins (λ same. malformed (is ∙ ap status_of same)))
+    told_weaker old new (λ before after taken. (taken.0, prefix_safely script taken.0 (prefix_at_most script taken.0 taken.1), taken.2)) (begins (λ same. malformed (is ∙ ap status_of same)))

@@ -1,2 +1,4 @@
 -- the words of the top call, and the causes of its exit statuses
 pub mod Command
+-- what a script prints, and that it is safe
+pub mod SafePlays

@@ -3,7 +3,8 @@ ghost use Rattle.std.specs.Prelude.{◌≡◌, ◌≢◌, ◌⊎◌, ◌++◌, �
 ghost use Rattle.mail_bytes.specs.Told.{Rose, Meets, OnTold};
 ghost use Rattle.play_lines.specs.Contents.{Content};
 ghost use Rattle.play_lines.specs.Lines.{IsScript, IsRefused, most_bytes};
-ghost use Rattle.scenario.specs.Text.{Prints, BeginsAtMost, IsPrefixAtMost, PrintsBadLine};
+ghost use Rattle.scenario.specs.Text.{Prints, BeginsAtMost, PrintsBadLine};
+ghost use Rattle.qmail_top.specs.SafePlays.{IsSafePrefixAtMost, PrintsSafely};
 ghost use Rattle.qmail_top.specs.Command.{IsReading, IsChecked, IsPrintedAtEnd, HasReason, NoneFailed, IsBeforeOutput, status_of};
 
 use crate::refusing::refuse;
@@ -28,10 +29,10 @@ pub fn play_script<M: Source, O: Sink>(alloc: Global, message: &mut M, out: &mut
 
     // what is printed
     ensures prints { OnTold (M.left message.old) (λ script. result ≡ DONE → Meets (O.taken out.old) (O.taken out.new)
-        (λ before after. (text : List ℕ) × Prints script text × (after ≡ before ++ text))) }
+        (λ before after. (text : List ℕ) × PrintsSafely script text × (after ≡ before ++ text))) }
     ensures begins { OnTold (M.left message.old) (λ script. result ≢ DONE → result ≢ MALFORMED
         → Meets (O.taken out.old) (O.taken out.new)
-        (λ before after. (text : List ℕ) × IsPrefixAtMost script text × (after ≡ before ++ text))) }
+        (λ before after. (text : List ℕ) × IsSafePrefixAtMost script text × (after ≡ before ++ text))) }
     ensures refuses { OnTold (M.left message.old) (λ script. result ≡ MALFORMED → Meets (O.taken out.old) (O.taken out.new)
         (λ before after. (text : List ℕ) × PrintsBadLine script text (Rose (O.faults out.old) (O.faults out.new))
         × (after ≡ before ++ text))) }

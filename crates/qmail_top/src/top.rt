@@ -5,8 +5,9 @@ ghost use Rattle.command_words.specs.declared.command.QueueWords.{QueueWords as 
 ghost use Rattle.command_words.specs.Reads.{IsNoCommand};
 ghost use Rattle.play_lines.specs.Contents.{Content};
 ghost use Rattle.play_lines.specs.Lines.{IsScript, IsRefused, most_bytes};
-ghost use Rattle.scenario.specs.Text.{Prints, IsPrefixAtMost, IsTakenText, PrintsBadLine};
+ghost use Rattle.scenario.specs.Text.{IsTakenText, PrintsBadLine};
 ghost use Rattle.audit_command.specs.Audited.{HasAudited};
+ghost use Rattle.qmail_top.specs.SafePlays.{IsSafePrefixAtMost, PrintsSafely};
 ghost use Rattle.qmail_top.specs.Command.{IsPlay, IsPrintedAtEnd, IsQueue, IsAudit, IsClean, HasRunQueue, NoneFailed, WasCleaned, usage_line};
 
 use crate::play_command::play_script;
@@ -107,14 +108,15 @@ pub fn qmail<
         → ¬ (Rose (M.faults message.old) (M.faults message.new)) → ¬ (Rose (O.faults out.old) (O.faults out.new))
         → (result ≡ DONE) ⊎ (result ≡ MEMORY)) }
 
-    // What `play` prints: the text of the script, whose history is legal, and safe at each prefix; or a prefix of that text;
-    // or the number of the first bad line; and nothing before the script was read to its end, or is too long.
+    // What `play` prints: the text of the script, whose history is legal, and safe at each prefix, with each accepted
+    // message in todo; or a prefix of that text; or the number of the first bad line; and nothing before the script was
+    // read to its end, or is too long.
     ensures prints { IsPlay words.now → OnTold (M.left message.old) (λ script. result ≡ DONE
         → Meets (O.taken out.old) (O.taken out.new)
-        (λ before after. (text : List ℕ) × Prints script text × (after ≡ before ++ text))) }
+        (λ before after. (text : List ℕ) × PrintsSafely script text × (after ≡ before ++ text))) }
     ensures begins { IsPlay words.now → OnTold (M.left message.old) (λ script. result ≢ DONE → result ≢ MALFORMED
         → Meets (O.taken out.old) (O.taken out.new)
-        (λ before after. (text : List ℕ) × IsPrefixAtMost script text × (after ≡ before ++ text))) }
+        (λ before after. (text : List ℕ) × IsSafePrefixAtMost script text × (after ≡ before ++ text))) }
     ensures refuses { IsPlay words.now → OnTold (M.left message.old) (λ script. result ≡ MALFORMED
         → Meets (O.taken out.old) (O.taken out.new)
         (λ before after. (text : List ℕ) × PrintsBadLine script text (Rose (O.faults out.old) (O.faults out.new))

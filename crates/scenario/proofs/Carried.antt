@@ -21,7 +21,7 @@ use Rattle.mail_world.specs.Acting.{MayMake}
 use Rattle.mail_world.specs.Readiness.{found_in}
 use Rattle.mail_world.proofs.Opens.{opens_by, fits_answer, owns_backs, closes_own, own_stays, owns_after}
 use Rattle.mail_world.specs.ByKind.{IsMail}
-use Rattle.mail_world.specs.Headline.{IsCovered}
+use Rattle.mail_world.specs.Waiting.{HasNoGeneration}
 use Rattle.mail_world.proofs.Programs.{found_alone, mail_runs, program_uses, program_finds}
 use Rattle.mail_world.proofs.Worlds.{may_make}
 use Rattle.mail_world.proofs.Hands.{own_after}
@@ -212,7 +212,7 @@ started_carries s a program mail begun carries =
 -- A legal history that keeps this.
 pub record Goes (d : Disk) (h : List Event) : Type 0 where
   pub legal : Legal d h
-  pub covered : IsCovered h
+  pub covered : HasNoGeneration h
   pub carries : Carries (after d h)
 
 may_read : (s : State) (a : List ℕ) (x : Actor) → Carries s → s.actors a ≡ Some x → x.life ≡ Alive → MayRead s a x s.now

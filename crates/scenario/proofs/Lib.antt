@@ -36,6 +36,8 @@ pub mod Carried
 pub mod FirstDisks
 -- and make one disk
 pub mod OneFirstDisk
+-- no file of it has two names
+pub mod SingleNames
 -- a history may begin with it
 pub mod Openings
 -- each script has a text

@@ -14,10 +14,8 @@ use Rattle.world_events.specs.declared.event.Event.TheVariants as kept
 use Rattle.world_events.specs.declared.event.Program.TheVariants.{Injector}
 use Rattle.mail_world.specs.History.{Event, after}
 use Rattle.mail_world.specs.History.Event.{Start}
-use Rattle.mail_world.specs.Headline.{Headline}
 use Rattle.actor_names.specs.MailNames.{IsMailName}
 use Rattle.mail_world.specs.World.{Seen, IsHistory, GoesOn, was_started, started_world, mail, next_pid as kept_pid, pid_after}
-use Rattle.mail_world.proofs.Covered.{each_safe}
 use Rattle.mail_world.proofs.Lives.{started_is, starts_is}
 use Rattle.script_words.specs.declared.entry.Entry.{Entry}
 use Rattle.play_lines.specs.declared.line.Line.{Line}
@@ -209,24 +207,24 @@ play_goes_on opening lines all one w v traced after text so printed is behind = 
   tracing = behind ∙ ap (λ t. traced_after t one) so.tracing ∙ sym (traced_push false lines one) ∙ ap (traced_through false) (sym is);
 }
 
--- the history of a play is legal and safe
-abbrev pub is_played : Headline → (opening : List Entry) (lines : List Line) (w : Seen Crash) (traced : Bool) (so : HavePlayed opening lines w traced) → IsPlayed opening lines so.text
-is_played law opening lines w traced so = record {
+-- the history of a play is legal
+abbrev pub is_played : (opening : List Entry) (lines : List Line) (w : Seen Crash) (traced : Bool) (so : HavePlayed opening lines w traced) → IsPlayed opening lines so.text
+is_played opening lines w traced so = record {
   disk = so.disk;
   history = so.history;
   left = so.left;
   is_first = so.is_first;
   plays = so.plays;
   legal = so.playing.is.legal;
-  safe = each_safe law so.disk so.history so.playing.is.legal so.playing.covered;
+  alone = so.playing.covered;
 }
 
 abbrev pub is_begun : (opening : List Entry) (lines first later : List Line) (text rest printed : List ℕ) → lines ≡ first ++ later → IsPlayed opening first printed → printed ≡ text ++ rest → IsBegun opening lines text
 is_begun opening lines first later text rest printed is played cut = record { first = first; later = later; lines_are = is; printed = printed; rest = rest; played = played; text_is = cut }
 
 -- nothing was played yet
-abbrev pub nothing_begun : Headline → (opening : List Entry) (lines : List Line) → HaveEntryPaths opening → length opening < 2 ^ 64 → IsBegun opening lines []
-nothing_begun law opening lines paths few =
+abbrev pub nothing_begun : (opening : List Entry) (lines : List Line) → HaveEntryPaths opening → length opening < 2 ^ 64 → IsBegun opening lines []
+nothing_begun opening lines paths few =
     let d = first_disk opening few in
     let opens = first_opens opening d.0 paths d.1 in
     record {
@@ -242,7 +240,7 @@ nothing_begun law opening lines paths few =
         is_first = d.1;
         plays = (refl, refl, refl);
         legal = opens;
-        safe = each_safe law d.0 [] opens tt;
+        alone = tt;
       };
       text_is = refl;
     }

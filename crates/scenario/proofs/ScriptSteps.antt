@@ -24,7 +24,7 @@ use Rattle.mail_world.specs.History.Life.{Alive, Over, Stopped}
 use Rattle.mail_world.specs.Readiness.{found_in}
 use Rattle.mail_world.specs.Known.{known}
 use Rattle.mail_world.proofs.Readies.{known_found, whole_call}
-use Rattle.mail_world.specs.Headline.{is_generation}
+use Rattle.mail_world.specs.Waiting.{is_generation}
 use Rattle.mail_world.specs.World.{kept_call, Seen, Tells, IsHistory, GoesOn, IsStep, EndsAt, was_started, GoesByPlan}
 use Rattle.mail_world.proofs.Lives.{started_is, ended_is}
 use Rattle.crash_fs.proofs.CountedCalls.{done_by}

@@ -1,28 +1,23 @@
 -- What was printed is what a history shows.
-use Rattle.std.proofs.Common.{◌≡◌, ℕ, List, [], ◌∷◌, ◌++◌, length, map, reverse, is_some, true, Option, Some, None, refl, sym, ap, ◌∙◌, subst, append_assoc}
+use Rattle.std.proofs.Common.{◌≡◌, ℕ, List, [], ◌∷◌, ◌++◌, length, map, reverse, is_some, Option, Some, None, refl, sym, ap, ◌∙◌, subst, append_assoc}
 use Rattle.std.specs.Prelude.{flat_map, codes, if◌then◌else◌, IsSome}
 use Rattle.queue_inject.specs.declared.injection.Arguments.{Arguments}
 use Rattle.queue_inject.specs.Texts.{recipients_of}
 use Rattle.call_fs.specs.Disk.{Disk}
 use Rattle.world_events.specs.declared.event.Event.{Event as Kept}
-use Rattle.mail_world.specs.History.{Event, Actor, Life, Injection, State, after}
+use Rattle.mail_world.specs.History.{Event, Actor, Life, State, after}
 use Rattle.mail_world.specs.History.Life.{Alive, Over, Stopped}
-use Rattle.mail_world.specs.Headline.{Accounted, Safe}
-use Rattle.mail_world.specs.Headline.Accounted.{Pending}
+use Rattle.mail_world.specs.Waiting.{AllWait, HasNoGeneration}
+use Rattle.mail_world.proofs.Waiting.{wait_alone}
 use Rattle.mail_world.specs.World.{IsHistory}
 use Rattle.mail_world.specs.Books.{is_accepted, mails_of, told_life, life_in, entry_in, books_in}
 use Rattle.world_events.specs.declared.books.Entry.{Entry}
 use Rattle.mail_world.proofs.ModelBooks.{alone_is, AreThere, mails_there}
-use Rattle.queue_states.specs.States.{is_there}
-use Rattle.queue_paths.specs.Names.Part.{Todo}
 use Rattle.scenario.specs.Shown.{AreNamesIn, AreNumbersIn, line_of, life_word, recipient_lines, mail_lines, life_of, entry_lines, pid_line, number_line, AllPending, IsShown}
 
--- a recipient that is accounted for is pending
-there : (s : State) (q : Injection) (recipient : ℕ) → Accounted s q recipient → is_there s.disk Todo q.number ≡ true
-there s q recipient (Pending lives pending) = ap is_some pending.there
-
-pub safe_pending : (s : State) → Safe s → AllPending s
-safe_pending s safe = λ q recipient is accepted inside. there s q recipient (safe.accounted q is accepted recipient inside)
+-- if each accepted message waits in todo, each of its recipients is pending
+pub all_pending : (s : State) → AllWait s → AllPending s
+all_pending s wait = λ q recipient is accepted inside. ap is_some (wait q is accepted).1.there
 
 -- three texts, one after the other
 pub joined : (old first second third a b e : List ℕ) → first ≡ old ++ a → second ≡ first ++ b → third ≡ second ++ e → third ≡ old ++ (a ++ (b ++ e))
@@ -50,17 +45,17 @@ each_mail s h (mail ∷ mails) there =
     ∙ ap (λ t. mail_lines s h mail.0 mail.1 (s.actors mail.0) ++ t) (each_mail s h mails there.1)
 
 pub is_shown : (d : Disk) (h : List Event) (now : Disk) (present : ℕ) (events : List Kept) (pids : List (List ℕ)) (numbers : List ℕ) (entries : List Entry)
-    → IsHistory d now events present h → Safe (after d h) → AreNamesIn now (codes "pid") pids → AreNumbersIn now numbers
+    → IsHistory d now events present h → HasNoGeneration h → AreNamesIn now (codes "pid") pids → AreNumbersIn now numbers
     → entries ≡ books_in d h
     → IsShown d h (pid_line pids ++ (flat_map (number_line now) numbers ++ flat_map entry_lines entries))
-is_shown d h now present events pids numbers entries history safe are_pids are_numbers are =
+is_shown d h now present events pids numbers entries history alone are_pids are_numbers are =
     let s = after d h in
     record {
       pids = pids;
       numbers = numbers;
       are_pids = subst (λ (now : Disk). AreNamesIn now (codes "pid") pids) (sym history.disk) are_pids;
       are_numbers = subst (λ (now : Disk). AreNumbersIn now numbers) (sym history.disk) are_numbers;
-      pending = safe_pending s safe;
+      pending = all_pending s (wait_alone d h history.legal alone);
       text_is =
           ap (λ (now : Disk). pid_line pids ++ (flat_map (number_line now) numbers ++ flat_map entry_lines entries)) (sym history.disk)
           ∙ ap (λ l. pid_line pids ++ (flat_map (number_line s.disk) numbers ++ l))

@@ -14,7 +14,7 @@ use Rattle.world_events.specs.declared.event.Event.TheVariants as kept
 use Rattle.mail_world.specs.History.{Event, Actor, Life, after}
 use Rattle.mail_world.specs.History.Event.{Stop, Moment, Halt}
 use Rattle.mail_world.specs.History.Life.{Alive, Over, Stopped}
-use Rattle.mail_world.specs.Headline.{is_generation}
+use Rattle.mail_world.specs.Waiting.{is_generation}
 use Rattle.mail_world.specs.World.{Seen, IsHistory, GoesOn, GoesOnWith, IsStop, Tells, EndsAt, GoesByPlan, IsHalt, moment_world, was_started}
 use Rattle.mail_world.proofs.Lives.{ended_is}
 use Rattle.play_lines.specs.declared.line.Line.TheVariants as line

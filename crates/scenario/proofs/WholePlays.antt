@@ -16,8 +16,7 @@ use Rattle.mail_world.specs.History.Life.{Alive, Over, Stopped}
 use Rattle.actor_names.specs.MailNames.{IsMailName, IsLetter, IsLetterOrDigit, members}
 use Rattle.mail_world.specs.Readiness.{found_in}
 use Rattle.mail_world.specs.World.{mail}
-use Rattle.mail_world.proofs.Covered.{each_safe}
-use Rattle.mail_world.proofs.Headline.{headline}
+use Rattle.mail_world.proofs.Waiting.{wait_alone}
 use Rattle.mail_world.specs.Acting.{MayMake}
 use Rattle.script_words.specs.declared.entry.Entry.{Entry}
 use Rattle.play_lines.specs.declared.line.Line.{Line}
@@ -50,7 +49,7 @@ use Rattle.crash_fs.proofs.LeastFree.{is_unused}
 use Rattle.scenario.proofs.Openings.{first_opens, is_ready}
 use Rattle.play_lines.proofs.SaidContents.{said_paths, said_few}
 use Rattle.scenario.proofs.ScriptSteps.{alive_waits}
-use Rattle.scenario.proofs.Showings.{safe_pending}
+use Rattle.scenario.proofs.Showings.{all_pending}
 
 -- Steps
 
@@ -182,7 +181,7 @@ shows d h so =
         numbers = numbers.0;
         are_pids = pids.1;
         are_numbers = numbers.1;
-        pending = safe_pending s (headline d [] h so.legal so.covered);
+        pending = all_pending s (wait_alone d h so.legal so.covered);
         text_is = refl;
       },
     )
@@ -409,7 +408,7 @@ is_played opening d lines end left text first plays so = record {
   is_first = first;
   plays = plays;
   legal = so.legal;
-  safe = each_safe headline d end so.legal so.covered;
+  alone = so.covered;
 }
 
 -- entries and lines have a text, if they are fewer entries than numbers

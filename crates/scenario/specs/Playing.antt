@@ -13,7 +13,7 @@ use Rattle.mail_world.specs.declared.error.WorldError.TheVariants as error
 use Rattle.world_events.specs.declared.event.Event.{Event as Kept}
 use Rattle.world_events.specs.declared.event.Event.TheVariants as kept
 use Rattle.mail_world.specs.History.{Event, IsLiving, after}
-use Rattle.mail_world.specs.Headline.{IsCovered}
+use Rattle.mail_world.specs.Waiting.{HasNoGeneration}
 use Rattle.mail_world.specs.World.{Seen, IsHistory}
 use Rattle.play_lines.specs.declared.line.Line.{Line}
 use Rattle.scenario.specs.Played.{Refusal, IsRefusalOf, StepsTo, Plays, plan_by, plan_after}
@@ -46,7 +46,7 @@ lacked_memory (kept.Halt how) = false
 pub record IsPlaying (d : Disk) (w : Seen Crash) (plan : Plan) (h : List Event) : Type 0 where
   pub is : IsHistory d (crash_disk w.disk) w.events w.present h
   pub planned : crash_plan w.disk ≡ Some plan
-  pub covered : IsCovered h
+  pub covered : HasNoGeneration h
 
 -- whether an actor is over after a step that answered so
 abbrev pub IsOverBy : Option ℕ → Disk → Plan → List ℕ → List Event → Type 0

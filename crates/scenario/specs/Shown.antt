@@ -11,7 +11,7 @@ pub use Rattle.disk_numbers.specs.Numbers.{AreNumbersIn}
 pub use Rattle.queue_states.specs.Lines.{line_of, count_line, state_line}
 use Rattle.mail_world.specs.History.{Event, Life, State, Actor, Injection, after}
 use Rattle.mail_world.specs.History.Life.{Alive, Over, Stopped}
-use Rattle.mail_world.specs.Headline.{IsInjected}
+use Rattle.mail_world.specs.Waiting.{IsInjected}
 use Rattle.mail_world.specs.Books.{is_accepted, mails_of}
 use Rattle.world_events.specs.declared.books.Entry.{Entry}
 use Rattle.world_events.specs.declared.books.Life.{Life as ToldLife}

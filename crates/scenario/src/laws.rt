@@ -1,5 +1,5 @@
 //! Laws of scripts. Each is the contract of a function that does nothing.
-ghost use Rattle.std.specs.Prelude.{◌≡◌, ◌<◌, ◌^◌, List, ℕ, length};
+ghost use Rattle.std.specs.Prelude.{◌≡◌, ◌<◌, ◌^◌, List, ℕ, Some, length};
 ghost use Rattle.call_fs.specs.Disk.{Disk};
 ghost use Rattle.script_words.specs.declared.entry.Entry.{Entry};
 ghost use Rattle.play_lines.specs.declared.line.Line.{Line};
@@ -8,10 +8,12 @@ ghost use Rattle.play_lines.specs.Lines.{IsScript};
 ghost use Rattle.scenario.specs.FirstDisk.{IsFirstDisk};
 ghost use Rattle.scenario.specs.Text.{IsPlayed, Prints, BeginsToPrint, IsPrefix};
 
-/// Entries make one disk, if they are fewer than the numbers of files.
+/// Entries make one disk, if they are fewer than the numbers of files; no file of it has two names.
 pub fn one_disk()
     ensures some { (opening : List Entry) → length opening < 2 ^ 64 → (d : Disk) × IsFirstDisk opening d }
     ensures one { (opening : List Entry) (d e : Disk) → IsFirstDisk opening d → IsFirstDisk opening e → d ≡ e }
+    ensures names { (opening : List Entry) (d : Disk) → IsFirstDisk opening d
+        → (a b : List ℕ) (n : ℕ) → d.names a ≡ Some n → d.names b ≡ Some n → a ≡ b }
 {}
 
 /// Each script prints a text, and what it begins to print is a prefix of one.

@@ -25,7 +25,6 @@ use crate::{PlayError, Script};
 use call_fs::{Answer, FsError, GotData, Survival, Taken};
 use crash_fs::CrashDisk;
 use mail_bytes::{ByteText, Memory};
-use mail_world::laws::headline;
 use mail_world::{ActorName, Event, History, World, WorldError};
 use outside::{Gave, Sink};
 use play_lines::{Alone, Line, OfActor, OfCount, OfMoment, OfSurvival, OfWord};
@@ -47,8 +46,6 @@ pub fn play<O: Sink>(alloc: Global, script: Script, out: &mut O) -> Result<(), P
     ensures begun { OnErr result (Meets (O.taken out.old) (O.taken out.new)
         (λ before after. (text : List ℕ) × IsBegun script.opening script.lines text × (after ≡ before ++ text))) }
 {
-    // the history that is played is safe
-    headline();
     let mut world = World::new(alloc, first_disk(alloc, script.opening())?)?;
     let mut traced = false;
     for line in script.lines() {

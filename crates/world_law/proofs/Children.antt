@@ -24,7 +24,8 @@ use Rattle.spawner_parts.specs.declared.row.Row.TheVariants as remote
 use Rattle.spawner_parts.specs.Table.{row_now as remote_now}
 use Rattle.world_events.specs.declared.event.Program.{Program}
 use Rattle.world_events.specs.declared.event.Program.TheVariants.{Injector, Cleaner, Sender, LocalSpawner, RemoteSpawner}
-use Rattle.mail_world.specs.History.{IsProgramOf, next_of}
+use Rattle.mail_world.specs.History.{Allowed, IsProgramOf, State, next_of}
+use Rattle.mail_world.specs.History.Event.{Child}
 use Rattle.world_law.specs.Laws.{ChildrenKeep}
 
 -- what is due starts no actor
@@ -69,7 +70,11 @@ bears_none (Sender began) past read ready =
 bears_none (LocalSpawner began) past read ready = local_bears (local_now (local_after past) ready) (local_after past)
 bears_none (RemoteSpawner began) past read ready = remote_bears (remote_now (remote_after past) ready) (remote_after past)
 
-pub children_keep : ChildrenKeep
-children_keep parent own a program controls s I may =
+-- the start of a child never comes
+pub never_born : (parent : List ℕ) (own : Own) (a : List ℕ) (program : Program) (s : State) → Allowed s (Child parent own a program) → ⊥
+never_born parent own a program s may =
     let x = may.actor in
-    absurd (subst BearsNone (may.due ∙ may.starts) (bears_none x.program x.past own.read own.ready) may.pid program may.is)
+    subst BearsNone (may.due ∙ may.starts) (bears_none x.program x.past own.read own.ready) may.pid program may.is
+
+pub children_keep : ChildrenKeep
+children_keep parent own a program controls s I may = absurd (never_born parent own a program s may)

@@ -1,5 +1,5 @@
 -- Each event keeps what holds of the whole system, which so holds after each legal history; and each giving to a spawner is an attempt.
-use Rattle.std.proofs.Common.{◌≡◌, ℕ, List, [], ◌∷◌, ◌++◌, Option, Some, None, refl, sym, ap, ◌∙◌, subst, arith, IsSomeAnd}
+use Rattle.std.proofs.Common.{◌≡◌, ℕ, List, [], ◌∷◌, Option, Some, None, refl, sym, ap, ◌∙◌, subst, arith, IsSomeAnd}
 use Rattle.address_rules.specs.declared.controls.Controls.{Controls}
 use Rattle.call_fs.specs.Disk.{Disk}
 use Rattle.call_fs.specs.declared.past.NeedData.{NeedData}
@@ -20,6 +20,7 @@ use Rattle.mail_world.specs.History.Event.{Start, Act, Child, Generation, Report
 use Rattle.mail_world.specs.History.Life.{Alive}
 use Rattle.mail_world.specs.Untouched.{queue}
 use Rattle.mail_world.specs.World.{IsHistory}
+use Rattle.mail_world.proofs.Waiting.{legal_before}
 use Rattle.world_law.specs.Fares.{FaresBy, SenderFares}
 use Rattle.world_law.specs.Headline.{AttemptsAreSound, DisksHaveControls, EachSafe, HasControls, Headline, IsAttempt, WorldsAreSafe}
 use Rattle.world_law.specs.Inv.{Inv}
@@ -60,10 +61,6 @@ event_keeps (Halt how contents) = halts_keep how contents
 pub always : Always
 always controls d [] has legal = inv_begins controls d has legal
 always controls d (e ∷ before) has legal = event_keeps e controls (after d before) (always controls d before has legal.0) legal.1
-
-legal_before : (d : Disk) (later before : List Event) → Legal d (later ++ before) → Legal d before
-legal_before d [] before legal = legal
-legal_before d (e ∷ later) before legal = legal_before d later before legal.0
 
 pub headline : Headline
 headline controls d later before has legal = inv_is_safe controls (after d before) (always controls d before has (legal_before d later before legal))

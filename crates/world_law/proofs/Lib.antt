@@ -36,5 +36,11 @@ pub mod SendersEvents
 pub mod Children
 -- what holds after each legal history
 pub mod Histories
+-- control files that are apart
+pub mod Apart
+-- what holds if no generation was started
+pub mod Alone
+-- what each event leaves
+pub mod Leaves
 -- the commands under way at a cleaner
 pub mod UnderWay

@@ -22,14 +22,14 @@ use Rattle.world_law.specs.Laws.{LocalsKeep}
 use Rattle.world_law.proofs.Moved.{IsSameLink, IsSeenAs, moved_keeps}
 
 -- what it does: a giving of a report, a taking of requests, or nothing
-abbrev IsLocal : NeedData → Type 0
+abbrev pub IsLocal : NeedData → Type 0
 IsLocal (needs.Give port.Output bytes) = Unit {0}
 IsLocal (needs.Take port.Input) = Unit {0}
 IsLocal needs.Wait = Unit {0}
 IsLocal (needs.Ended status) = Unit {0}
 IsLocal other = ⊥
 
-local_due : (row : Row) (p : Place) → IsLocal (due_at row p)
+pub local_due : (row : Row) (p : Place) → IsLocal (due_at row p)
 local_due at.Greet p = tt
 local_due at.Idle p = tt
 local_due at.TakeInput p = tt

@@ -76,7 +76,7 @@ module _ (q : Queue) (a : List ℕ) where
   turn_holds p None = rest_holds p
   turn_holds p (Some slot) = holds_if (runs_in p.running slot) (at.TakeOutput slot) (resting p) tt (rest_holds p)
 
-  arrive_holds : (row : Row) (p : Place) (ready : Ready) → Holds row → Holds (arrive row p ready)
+  pub arrive_holds : (row : Row) (p : Place) (ready : Ready) → Holds row → Holds (arrive row p ready)
   arrive_holds at.Idle p ready h = holds_if (is_asked p ready) at.TakeInput (turning p ready.child) tt (turn_holds p ready.child)
   arrive_holds at.Greet p ready h = h
   arrive_holds at.TakeInput p ready h = h

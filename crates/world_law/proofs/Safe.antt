@@ -9,18 +9,19 @@ use Rattle.queue_states.specs.declared.state.State.TheVariants.{Other}
 use Rattle.queue_states.specs.States.{state_by, is_there, state_of}
 use Rattle.queue_law.specs.Claims.{InState}
 use Rattle.queue_law.specs.Claims.InState.{First, Second, Third, Fourth, Fifth}
-use Rattle.queue_law.specs.Numbers.{Entry, Queue, about, entry}
+use Rattle.queue_law.specs.Numbers.{Entry, Queue, Role, Sound, about, entry}
 use Rattle.queue_law.proofs.Accounted.{all_accounted}
 use Rattle.queue_law.proofs.Claims.{sound_is_safe}
 use Rattle.queue_law.proofs.Looks.{find_some, found, not_found}
-use Rattle.mail_world.specs.Headline.{IsBooked, EndsWell}
-use Rattle.mail_world.specs.History.{Life}
+use Rattle.mail_world.specs.Waiting.{IsBooked}
+use Rattle.mail_world.specs.History.{Actor, Life, State}
 use Rattle.mail_world.specs.History.Life.{Over}
 use Rattle.mail_world.specs.Untouched.{queue}
 use Rattle.world_events.specs.declared.event.Program.{Program}
 use Rattle.world_events.specs.declared.event.Program.TheVariants.{Injector}
 use Rattle.world_law.specs.Crew.{is_well}
 use Rattle.world_law.specs.Fares.{FaresBy}
+use Rattle.world_law.specs.Headline.{EndsWell, Safe}
 use Rattle.world_law.specs.Laws.{InvIsSafe}
 
 fourth : (mess intd todo info local remote bounce : Bool) → mess ≡ true → todo ≡ true → bounce ≡ false → state_by mess intd todo info local remote bounce ≢ Other
@@ -76,16 +77,26 @@ well : (controls : Controls) (now : ℕ) (q : Queue) (a : List ℕ) (program : P
 well controls now q a (Injector args) past life F over = F.queued (F.ends (ap is_well over))
 well controls now q a other past life F over = tt
 
-pub inv_is_safe : InvIsSafe
-inv_is_safe controls s I =
-    let q = queue s I.role in
-    let S = sound_is_safe controls q I.sound in
+-- what holds of the queue says that the state is safe, if its actors have ended as they say
+pub safe_by : (controls : Controls) (s : State) (role : ℕ → Role) → Sound controls (queue s role)
+    → ((a : List ℕ) (x : Actor) → s.actors a ≡ Some x → IsBooked s.books a x.program x.past)
+    → ((a : List ℕ) (x : Actor) → s.actors a ≡ Some x → x.life ≡ Over 0 → EndsWell s.books a x.program) → Safe controls s
+safe_by controls s role sound queued ends =
+    let q = queue s role in
+    let S = sound_is_safe controls q sound in
     record {
       states = λ n. state_in q n (S.states n);
       numbers = λ n i h. S.numbers n (entry s.disk.files i) (find_some s.disk.names s.disk.files (Of Mess n) i h);
       messages = λ i file lives accepted h. S.messages i (entry s.disk.files file) lives accepted (find_some s.disk.names s.disk.files (Of Mess i.number) file h);
       valid = S.valid;
-      accounted = all_accounted controls q I.sound;
-      queued = λ a x h. booked controls s.now q a x.program x.past x.life (I.fares a x h);
-      ends = λ a x h over. well controls s.now q a x.program x.past x.life (I.fares a x h) over;
+      accounted = all_accounted controls q sound;
+      queued = queued;
+      ends = ends;
     }
+
+pub inv_is_safe : InvIsSafe
+inv_is_safe controls s I =
+    let q = queue s I.role in
+    safe_by controls s I.role I.sound
+    (λ a x h. booked controls s.now q a x.program x.past x.life (I.fares a x h))
+    (λ a x h over. well controls s.now q a x.program x.past x.life (I.fares a x h) over)

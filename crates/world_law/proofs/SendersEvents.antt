@@ -69,17 +69,17 @@ pass_takes : (row : PassRow) (p : Pass) (from : Port) → due_in row p ≡ needs
 pass_takes todo.Answer p from is = cc
 pass_takes row p from is = absurd (cc)
 
-told_other : (controls : Controls) (now : ℕ) (q : Queue) (row : Row) (came : GotData) (d : Desk) (from : Port) → IsOther from → due_at row d ≡ needs.Take from
+pub told_other : (controls : Controls) (now : ℕ) (q : Queue) (row : Row) (came : GotData) (d : Desk) (from : Port) → IsOther from → due_at row d ≡ needs.Take from
     → IsTold controls now q row came d
 told_other controls now q at.InTodo came d from it due = λ done. absurd (subst IsOther (sym (pass_takes d.pass.row d.pass from due)) it)
 told_other controls now q row came d from it due = tt
 
 -- a taking enters what its reports say, if it is from a spawner
-entered_is : (row : Row) (came : GotData) (d : Desk) (q : Queue) → taken_at row came d q ≡ told_queue (delivered_at row came d) q
+pub entered_is : (row : Row) (came : GotData) (d : Desk) (q : Queue) → taken_at row came d q ≡ told_queue (delivered_at row came d) q
 entered_is (at.TakeLink c) came d q = refl
 entered_is row came d q = refl
 
-none_entered : (row : Row) (came : GotData) (d : Desk) (q : Queue) → due_at row d ≡ needs.Take port.Clean → told_queue (delivered_at row came d) q ≡ q
+pub none_entered : (row : Row) (came : GotData) (d : Desk) (q : Queue) → due_at row d ≡ needs.Take port.Clean → told_queue (delivered_at row came d) q ≡ q
 none_entered (at.TakeLink Local) came d q due = absurd (cc)
 none_entered (at.TakeLink Remote) came d q due = absurd (cc)
 none_entered row came d q due = refl

@@ -19,19 +19,25 @@ use Rattle.send_jobs.specs.Slots.{lowest}
 use Rattle.send_core.specs.Table.{desk_after, port_of}
 use Rattle.send_steps.specs.Requests.{request_of, to_slot}
 use Rattle.queue_law.specs.Accounts.{Accounted}
-use Rattle.queue_law.specs.Books.{Injection, IsInjected, IsValid}
+use Rattle.queue_law.specs.Books.{Books, HasQueued, Injection, IsInjected, IsValid}
 use Rattle.queue_law.specs.Numbers.Role.{AsOld}
 use Rattle.queue_law.specs.Routes.{Recipient, sender_of}
 use Rattle.sender_law.specs.Control.{AreControls}
 use Rattle.sender_law.specs.ControlFiles.{AreApart}
 use Rattle.sender_law.specs.Views.{files_of}
-use Rattle.mail_world.specs.Headline.{IsBooked, EndsWell}
-use Rattle.mail_world.specs.History.{Event, Actor, State, Legal, after}
+use Rattle.mail_world.specs.History.{Event, Actor, Opening, State, Legal, after}
 use Rattle.mail_world.specs.History.Event.{Act}
 use Rattle.mail_world.specs.History.Life.{Over}
 use Rattle.mail_world.specs.Untouched.{queue}
+use Rattle.mail_world.specs.Waiting.{EachWaiting, HasNoGeneration, IsBooked}
 use Rattle.mail_world.specs.World.{Happened, Seen}
-use Rattle.world_events.specs.declared.event.Program.TheVariants.{Sender}
+use Rattle.world_events.specs.declared.event.Program.{Program}
+use Rattle.world_events.specs.declared.event.Program.TheVariants.{Injector, Sender}
+
+-- what a program's end with 0 says: an injector's, that it has an accepted injection
+abbrev pub EndsWell : Books → List ℕ → Program → Type 0
+EndsWell b a (Injector args) = HasQueued b a args
+EndsWell b a other = Unit {0}
 
 pub record Safe (controls : Controls) (s : State) : Type 0 where
   -- each number is in one of the states S1 to S5
@@ -59,6 +65,10 @@ pub record HasControls (controls : Controls) (d : Disk) : Type 0 where
 abbrev pub DisksHaveControls : Type 0
 DisksHaveControls = (d : Disk) → AreApart d → (controls : Controls) × HasControls controls d
 
+-- On an initial disk on which no file has two names they are apart.
+abbrev pub SingleNamesAreApart : Type 0
+SingleNamesAreApart = (d : Disk) → Opening d → ((a b : List ℕ) (i : ℕ) → d.names a ≡ Some i → d.names b ≡ Some i → a ≡ b) → AreApart d
+
 -- However the calls interleave and wherever a program or the machine stops: each prefix of a legal history is safe.
 abbrev pub Headline : Type 0
 Headline = (controls : Controls) (d : Disk) (later before : List Event) → HasControls controls d → Legal d (later ++ before) → Safe controls (after d before)
@@ -66,6 +76,15 @@ Headline = (controls : Controls) (d : Disk) (later before : List Event) → HasC
 -- each prefix of a history is safe
 abbrev pub EachSafe : Controls → Disk → List Event → Type 0
 EachSafe controls opening h = (later before : List Event) → later ++ before ≡ h → Safe controls (after opening before)
+
+-- If no generation was started that is so whatever the control files are, and whichever controls are meant.
+abbrev pub SafeWithoutGenerations : Type 0
+SafeWithoutGenerations = (controls : Controls) (d : Disk) (h : List Event) → Legal d h → HasNoGeneration h → EachSafe controls d h
+
+-- Each prefix of a history is safe, whatever controls are meant, and after each of them each accepted message waits in todo.
+pub record StaysSafe (opening : Disk) (h : List Event) : Type 0 where
+  pub safe : (controls : Controls) → EachSafe controls opening h
+  pub waiting : EachWaiting opening h
 
 -- So is each prefix of what happened in a world, by what its disk tells, since it began with a disk of these controls.
 abbrev pub WorldsAreSafe : Type 0

@@ -8,5 +8,7 @@ pub mod Inv
 pub mod Headline
 -- what keeps the invariant
 pub mod Laws
+-- what each event leaves as it was
+pub mod Leaves
 -- the commands under way at a cleaner
 pub mod UnderWay

@@ -1,5 +1,6 @@
 // Laws of the whole system. Each is the contract of a function that does nothing.
-ghost use Rattle.world_law.specs.Headline.{AttemptsAreSound, DisksHaveControls, Headline, WorldsAreSafe};
+ghost use Rattle.world_law.specs.Headline.{AttemptsAreSound, DisksHaveControls, Headline, SafeWithoutGenerations, SingleNamesAreApart, WorldsAreSafe};
+ghost use Rattle.world_law.specs.Leaves.{EventsLeave};
 ghost use Rattle.world_law.specs.Laws.{Always, ChildrenKeep, CleanersKeep, EndsKeep, GenerationsKeep, HaltsKeep, InjectorsKeep, InvBegins, InvIsSafe, LocalsKeep, MomentsKeep, RemotesKeep, ReportsKeep, SendersKeep, StartsKeep, StopsKeep};
 ghost use Rattle.world_law.specs.UnderWay.{CommandsRest};
 
@@ -80,14 +81,29 @@ pub fn headline()
     ensures { Headline }
 {}
 
+/// If no generation was started that holds whatever the control files are.
+pub fn safe_without_generations()
+    ensures { SafeWithoutGenerations }
+{}
+
 /// So is each prefix of what happened in a world, by what its disk tells.
 pub fn worlds_are_safe()
     ensures { WorldsAreSafe }
 {}
 
+/// Each event of a legal history leaves what was accepted, and most else that isn't its own.
+pub fn events_leave()
+    ensures { EventsLeave }
+{}
+
 /// Each disk whose control files are apart has controls.
 pub fn disks_have_controls()
     ensures { DisksHaveControls }
+{}
+
+/// So has each initial disk on which no file has two names.
+pub fn single_names_are_apart()
+    ensures { SingleNamesAreApart }
 {}
 
 /// Each giving of a sender to a spawner is an attempt at a record that reads `T`, with the text of that record, and no other attempt

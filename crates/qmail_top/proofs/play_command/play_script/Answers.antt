@@ -2,7 +2,7 @@ use Rattle.std.proofs.Common.{[], ◌∷◌, Contains, refl, sym, ◌∙◌, ap,
 use Rattle.qmail_top.specs.declared.play_command.Failure.{Failure}
 use Rattle.qmail_top.specs.declared.play_command.Failure.TheVariants.{Memory, Output, Input, Malformed}
 use Rattle.qmail_top.specs.Command.{status_of}
-use Rattle.qmail_top.proofs.Commands.{completes, malformed_why, status_reached, front_taken}
+use Rattle.qmail_top.proofs.Commands.{completes, malformed_why, status_reached, front_taken, all_safely}
 use Rattle.qmail_top.proofs.play_command.play_script.Goals as goal
 
 -- the status of a failure is one of those
@@ -30,3 +30,7 @@ returns-in-Err-clause-reached g c =
 pub returns-in-Err-clause-begins : goal.returns-in-Err-clause-begins
 returns-in-Err-clause-begins g c =
     front_taken c.in-Err.why c.status_of.result (g.M.Source.left c.args.message.now) (g.O.Sink.taken c.args.out.now) (g.O.Sink.taken c.play_message.new.out) c.status_of.ensures c.in-Err.ensures.begins
+
+pub returns-in-Ok-clause-prints : goal.returns-in-Ok-clause-prints
+returns-in-Ok-clause-prints g c =
+    all_safely _ (g.M.Source.left c.args.message.now) (g.O.Sink.taken c.args.out.now) (g.O.Sink.taken c.play_message.new.out) c.in-Ok.ensures.prints

@@ -21,7 +21,7 @@ pub returns-in_err-first_disk-clause-begun : goal.returns-in_err-first_disk-clau
 returns-in_err-first_disk-clause-begun g c =
     let p = err_from_is_err_and c.from_residual.result c.from_residual.ensures.1 in
     let entries = c.opening.ensures in
-    let begun = nothing_begun c.headline.ensures c.args.script.opening c.args.script.lines (subst HaveEntryPaths entries.value entries.paths)
+    let begun = nothing_begun c.args.script.opening c.args.script.lines (subst HaveEntryPaths entries.value entries.paths)
     (subst (λ (l : List Entry). length l < 2 ^ 64) entries.value entries.few) in
     rw p.1 (took_none (g.O.Sink.taken c.args.out.now) _ (λ x. ([], begun, sym (append-nil x))))
 
@@ -53,7 +53,7 @@ returns-in_err-text-clause-begun g c =
     (λ x y e. (
       so.text,
       is_begun c.args.script.opening c.args.script.lines (take i items) (drop i items) so.text [] so.text (sym c.lines-line-items.ensures ∙ sym (take-append-drop i items))
-          (is_played c.headline.ensures c.args.script.opening (take i items) c.loop-line.world c.loop-line.traced so) (sym (append-nil so.text)),
+          (is_played c.args.script.opening (take i items) c.loop-line.world c.loop-line.traced so) (sym (append-nil so.text)),
       e,
     ))
     c.loop-line.invariant.2)
@@ -67,7 +67,7 @@ returns-clause-played g c =
     (λ x y e. (
       so.text,
       subst (λ (l : List Line). IsPlayed c.args.script.opening l so.text) (take_all i items c.loop-line-test.false ∙ c.lines-line-items.ensures)
-          (is_played c.headline.ensures c.args.script.opening (take i items) c.loop-line.world c.loop-line.traced so),
+          (is_played c.args.script.opening (take i items) c.loop-line.world c.loop-line.traced so),
       e,
     ))
     c.loop-line.invariant.2
@@ -90,7 +90,7 @@ returns-in_err-give-clause-begun g c =
     (λ x y z took more. (
       so.text ++ take more.0 own,
       is_begun c.args.script.opening c.args.script.lines first (drop (i + 1) items) (so.text ++ take more.0 own) (drop more.0 own) (so.text ++ own) whole
-          (is_played c.headline.ensures c.args.script.opening first c.printed.new.world (traced_after c.loop-line.traced one) next)
+          (is_played c.args.script.opening first c.printed.new.world (traced_after c.loop-line.traced one) next)
           (ap (λ t. so.text ++ t) (sym (take-append-drop more.0 own)) ∙ sym (append_assoc so.text (take more.0 own) (drop more.0 own))),
       more.1 ∙ ap (λ t. t ++ take more.0 c.deref.result.now) took ∙ append_assoc x so.text (take more.0 c.deref.result.now) ∙ ap (λ t. x ++ (so.text ++ take more.0 t)) c.deref.ensures.value,
     ))
@@ -122,6 +122,6 @@ returns-clause-silent g c =
     let i = c.loop-line.line-index in (
       so.text,
       subst (λ (l : List Line). IsPlayed c.args.script.opening l so.text) (take_all i items c.loop-line-test.false ∙ c.lines-line-items.ensures)
-          (is_played c.headline.ensures c.args.script.opening (take i items) c.loop-line.world c.loop-line.traced so),
+          (is_played c.args.script.opening (take i items) c.loop-line.world c.loop-line.traced so),
       c.loop-line.invariant.3,
     )

@@ -1,0 +1,56 @@
+-- What is claimed of histories in which no generation was started: each accepted message waits in todo.
+use Rattle.std.specs.Prelude.{◌≡◌, ℕ, List, [], ◌∷◌, ◌++◌, Bool, true, false, Some}
+use Rattle.call_fs.specs.Disk.{Disk, IsSynced}
+use Rattle.queue_paths.specs.Names.{path}
+use Rattle.queue_paths.specs.Names.Part.{Todo}
+use Rattle.queue_paths.specs.Names.Name.{Of}
+use Rattle.queue_inject.specs.declared.row.Row.TheVariants as Row
+use Rattle.queue_inject.specs.Table.{row_after}
+use Rattle.queue_inject.specs.Texts.{todo_of}
+use Rattle.call_fs.specs.declared.past.Own.{Own}
+use Rattle.world_events.specs.declared.event.Program.{Program}
+use Rattle.world_events.specs.declared.event.Program.TheVariants.{Injector}
+use Rattle.mail_world.specs.History.{Event, Injection, Books, State, after, Legal}
+use Rattle.mail_world.specs.History.Event.{Start, Act, Child, Generation, Report, End, Stop, Moment, Halt}
+-- injections, and what is valid
+pub use Rattle.queue_law.specs.Books.{IsInjected, IsValid, HasQueued}
+
+-- todo is there, with the injection's text, and all of it is on the disk
+pub record IsPending (d : Disk) (q : Injection) : Type 0 where
+  pub file : ℕ
+  pub there : d.names (path (Of Todo q.number)) ≡ Some file
+  pub text : IsSynced (d.files file) (todo_of q.args)
+
+-- what the past of a program has put into the books: if an injector has queued its message, its accepted injection
+abbrev pub IsBooked : Books → List ℕ → Program → List Own → Type 0
+IsBooked b a (Injector args) past = row_after args past ≡ Row.Queued → HasQueued b a args
+IsBooked b a other past = Unit {0}
+
+-- the life of each accepted injection lasts, and todo has it
+abbrev pub AllWait : State → Type 0
+AllWait s = (q : Injection) → IsInjected s.books q → q.accepted ≡ true → (s.books.living q.number ≡ Some q) × IsPending s.disk q
+
+-- so it is at each prefix of a history
+abbrev pub EachWaiting : Disk → List Event → Type 0
+EachWaiting opening h = (later before : List Event) → later ++ before ≡ h → AllWait (after opening before)
+
+-- the start of a generation
+abbrev pub is_generation : Event → Bool
+is_generation (Start a program) = false
+is_generation (Act a own wrote) = false
+is_generation (Child parent own a program) = false
+is_generation (Generation sender clean lspawn rspawn) = true
+is_generation (Report slot letter text) = false
+is_generation (End a read ready status) = false
+is_generation (Stop a) = false
+is_generation (Moment m) = false
+is_generation (Halt how contents) = false
+
+-- no generation was started
+abbrev pub HasNoGeneration : List Event → Type 0
+HasNoGeneration [] = Unit {0}
+HasNoGeneration (event ∷ before) = HasNoGeneration before × (is_generation event ≡ false)
+
+-- Only a generation takes a message out of todo.
+abbrev pub MailsWait : Type 0
+MailsWait = (d : Disk) (h : List Event) → Legal d h → HasNoGeneration h → EachWaiting d h

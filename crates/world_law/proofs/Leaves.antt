@@ -1,0 +1,338 @@
+-- What each event of a legal history leaves.
+use Rattle.std.proofs.Common.{◌≡◌, ◌≢◌, inl, ℕ, List, true, Option, Some, None, refl, sym, ap, ◌∙◌, subst, arith}
+use Rattle.address_rules.specs.declared.controls.Controls.{Controls}
+use Rattle.call_fs.specs.Disk.{Disk, Open}
+use Rattle.call_fs.specs.declared.calls.CallData.{CallData}
+use Rattle.call_fs.specs.declared.calls.Told.{Told}
+use Rattle.call_fs.specs.declared.past.GotData.{GotData}
+use Rattle.call_fs.specs.declared.past.GotData.TheVariants as got
+use Rattle.call_fs.specs.declared.past.NeedData.{NeedData}
+use Rattle.call_fs.specs.declared.past.NeedData.TheVariants as needs
+use Rattle.call_fs.specs.declared.past.Own.{Own}
+use Rattle.call_fs.specs.declared.program.Port.{Port}
+use Rattle.call_fs.specs.declared.program.Port.TheVariants as port
+use Rattle.mail_bytes.specs.Moments.{IsMoment}
+use Rattle.no_mailbox.specs.Table.{place_after as local_after, row_now as local_now}
+use Rattle.queue_paths.specs.Names.Name.{Of}
+use Rattle.queue_inject.specs.declared.injection.Arguments.{Arguments}
+use Rattle.queue_law.specs.Books.{Books, Injection, IsInjected, IsLater}
+use Rattle.queue_law.specs.Injectors.{IsHeld}
+use Rattle.queue_law.specs.Numbers.{IsSorted, Queue, find}
+use Rattle.queue_law.specs.Senders.{OnlyReads}
+use Rattle.queue_law.specs.Steps.{Outside}
+use Rattle.queue_law.proofs.Cleaners.{cleaners_keep as calls_keep}
+use Rattle.queue_law.proofs.Injectors.{injector_calls}
+use Rattle.queue_law.proofs.Frame.{about_same, outside_same, still_there}
+use Rattle.queue_law.proofs.Sends.{reads_keep}
+use Rattle.queue_law.proofs.Tests.{unless_same}
+use Rattle.remote_spawn.specs.Table.{due_from, place_after as remote_after}
+use Rattle.send_core.specs.Delivered.{delivered_at}
+use Rattle.send_core.specs.Table.{desk_after, due_at, row_now}
+use Rattle.send_core.specs.declared.desk.Desk.{Desk}
+use Rattle.send_core.specs.declared.row.Row.{Row}
+use Rattle.sender_law.specs.Takings.{LeadsThrough, told_queue}
+use Rattle.sender_law.specs.Takings.LeadsThrough.{Goes, Stays}
+use Rattle.sender_law.proofs.ControlsRead.{controls_are_read}
+use Rattle.sender_law.proofs.Whole.{senders_keep as sender_keeps}
+use Rattle.spawner_parts.specs.Table.{row_now as remote_now}
+use Rattle.spawner_parts.specs.declared.place.Place.{Place}
+use Rattle.spawner_parts.specs.declared.row.Row.{Row as SpawnRow}
+use Rattle.spawner_parts.specs.declared.row.Row.TheVariants as spawn
+use Rattle.world_events.specs.declared.event.Program.{Program}
+use Rattle.world_events.specs.declared.event.Program.TheVariants.{Injector, Cleaner, Sender, LocalSpawner, RemoteSpawner}
+use Rattle.mail_world.specs.History.{Actor, Allowed, ComesOf, Event, Life, MayDo, MayRead, State, acted, after, finished, happens, next_of, unless_by}
+use Rattle.mail_world.specs.History.Event.{Start, Act, Child, Generation, Report, End, Stop, Moment, Halt}
+use Rattle.mail_world.specs.History.Life.{Alive, Over, Stopped}
+use Rattle.mail_world.specs.Untouched.{IsOther, about_in, doer, program_of, queue}
+use Rattle.world_law.specs.Fares.{SenderFares, SpawnerHolds}
+use Rattle.world_law.specs.Inv.{Inv}
+use Rattle.world_law.specs.Leaves.{EventsLeave, IsSparing, LeavesMost, LeavesOutside}
+use Rattle.world_law.proofs.Children.{never_born}
+use Rattle.world_law.proofs.Histories.{always}
+use Rattle.world_law.proofs.Locals.{IsLocal, local_due}
+use Rattle.world_law.proofs.Remotes.{arrive_holds}
+use Rattle.world_law.proofs.SendersEvents.{entered_is, none_entered, told_other}
+use Rattle.world_law.proofs.SendersPipes.{IsOther as IsOfSpawner}
+
+-- what an event of this actor, with this program, leaves of a state
+record Leaves (p : Option Program) (a : List ℕ) (s t : State) : Type 0 where
+  outside : LeavesOutside p s.disk t.disk
+  opens : (o : List ℕ) (fd : ℕ) (how : Open) → o ≢ a → IsHeld s.disk.opens s.holder o fd how → IsHeld t.disk.opens t.holder o fd how
+  accepted : (i : Injection) → IsInjected s.books i → i.accepted ≡ true → (j : Injection) × IsInjected t.books j × IsLater i j
+  sorted : IsSparing p → (n : ℕ) → IsSorted (about_in s n) → about_in t n ≡ about_in s n
+
+-- the disk with the same names and files
+outside_by : (p : Option Program) (d : Disk) (opens : ℕ → Option Open) → LeavesOutside p d (record { dirs = d.dirs; names = d.names; files = d.files; opens = opens })
+outside_by None d opens = outside_same d opens
+outside_by (Some (Injector args)) d opens = outside_same d opens
+outside_by (Some (Sender since)) d opens = outside_same d opens
+outside_by (Some (LocalSpawner since)) d opens = outside_same d opens
+outside_by (Some (RemoteSpawner since)) d opens = outside_same d opens
+outside_by (Some (Cleaner since)) d opens = record { names = λ name free. inl refl; files = λ i. refl; unqueued = λ i out x is. out.unqueued x is }
+
+-- Nothing of the queue changes
+
+module _ (p : Option Program) (a : List ℕ) (s : State) where
+  idle : (t : State) → t.disk ≡ s.disk → t.holder ≡ s.holder → t.books ≡ s.books → Leaves p a s t
+  idle t disk holder books = record {
+    outside = subst (LeavesOutside p s.disk) (sym disk) (outside_by p s.disk s.disk.opens);
+    opens = λ o fd how other h. record { opened = ap (λ (d : Disk). d.opens fd) disk ∙ h.opened; held = ap (λ (f : ℕ → Option (List ℕ)). f fd) holder ∙ h.held };
+    accepted = λ i h accepted. subst (λ (b : Books). (j : Injection) × IsInjected b j × IsLater i j) (sym books) (still_there s.books i h);
+    sorted = λ sparing n h i. record { parts = λ part. find (disk i).names (disk i).files (Of part n); living = (books i).living n };
+  }
+
+  -- an end or a stop closes what the actor holds
+  ended : (life : Life) (x : Actor) → Leaves p a s (finished s a life (Some x))
+  ended life x = record {
+    outside = outside_by p s.disk (λ fd. unless_by a (s.holder fd) (s.disk.opens fd));
+    opens = λ o fd how other h. record {
+      opened = ap (λ w. unless_by a w (s.disk.opens fd)) h.held ∙ unless_same o a None (s.disk.opens fd) other ∙ h.opened;
+      held = ap (λ w. unless_by a w (s.holder fd)) h.held ∙ unless_same o a None (s.holder fd) other ∙ h.held;
+    };
+    accepted = λ i h accepted. still_there s.books i h;
+    sorted = λ sparing n h. refl;
+  }
+
+-- An event of an actor
+
+-- it is no file call, or it is none and no taking either
+abbrev IsNoFile : NeedData → Type 0
+IsNoFile (needs.File c) = ⊥
+IsNoFile due = Unit {0}
+
+abbrev IsNoTaking : NeedData → Type 0
+IsNoTaking (needs.File c) = ⊥
+IsNoTaking (needs.Take from) = ⊥
+IsNoTaking due = Unit {0}
+
+later_still : (b : Books) (i j : Injection) → IsLater i j → (k : Injection) × IsInjected b k × IsLater j k → (k : Injection) × IsInjected b k × IsLater i k
+later_still b i j l w = (
+  w.0,
+  w.1,
+  record {
+    number_is = w.2.number_is ∙ l.number_is;
+    actor_is = w.2.actor_is ∙ l.actor_is;
+    args_are = w.2.args_are ∙ l.args_are;
+    accepted_is = w.2.accepted_is ∙ l.accepted_is;
+    delivered = λ x h. w.2.delivered x (l.delivered x h);
+  },
+)
+
+-- through all that a taking enters
+through : (controls : Controls) (now : ℕ) (a : List ℕ) (q r : Queue) → LeadsThrough controls now a q r → (i : Injection) → IsInjected q.books i → i.accepted ≡ true
+    → (j : Injection) × IsInjected r.books j × IsLater i j
+through controls now a q r (Stays z) i h accepted = still_there z.books i h
+through controls now a q r (Goes x y z n closed leads rest) i h accepted =
+    let w = leads.elsewhere.accepted i h accepted in
+    later_still z.books i w.0 w.2 (through controls now a y z rest w.0 w.1 (w.2.accepted_is ∙ accepted))
+
+module _ (controls : Controls) (s : State) (I : Inv controls s) (a : List ℕ) (own : Own) (wrote : ℕ) where
+  abbrev q : Queue
+  q = queue s I.role
+
+  abbrev event : NeedData → GotData → Own
+  event due came = record { read = own.read; ready = own.ready; due = due; came = came }
+
+  abbrev actor : Program → List Own → Actor
+  actor program past = record { program = program; past = past; life = Alive }
+
+  abbrev Then : Program → List Own → NeedData → GotData → Type 0
+  Then program past due came = Leaves (Some program) a s (acted s a (event due came) wrote (Some (actor program past)))
+
+  abbrev Runs : Program → List Own → Type 0
+  Runs program past = MayRead s a (actor program past) own.read
+
+  passed : (program : Program) (past : List Own) (due : NeedData) (came : GotData) → IsNoTaking due → Then program past due came
+  passed program past (needs.File c) came none = absurd none
+  passed program past (needs.Take from) came none = absurd none
+  passed program past (needs.Give to bytes) came none = idle (Some program) a s _ refl refl refl
+  passed program past (needs.Start asked) came none = idle (Some program) a s _ refl refl refl
+  passed program past (needs.Command text) came none = idle (Some program) a s _ refl refl refl
+  passed program past needs.Wait came none = idle (Some program) a s _ refl refl refl
+  passed program past (needs.Ended status) came none = idle (Some program) a s _ refl refl refl
+
+  -- a file call is answered
+  answered : (P : GotData → Type 0) (c : CallData) (came : GotData) → ComesOf s a (needs.File c) came wrote
+      → ((told : Told) → ComesOf s a (needs.File c) (got.Answered told) wrote → P (got.Answered told)) → P came
+  answered P c (got.Answered told) comes then = then told comes
+  answered P c (got.Took bytes) comes then = absurd comes
+  answered P c got.End comes then = absurd comes
+  answered P c (got.Ended status) comes then = absurd comes
+  answered P c got.Crashed comes then = absurd comes
+  answered P c got.Gave comes then = absurd comes
+  answered P c (got.Started pid) comes then = absurd comes
+  answered P c got.Failed comes then = absurd comes
+  answered P c got.Memory comes then = absurd comes
+
+  -- An injector
+
+  injector_left : (args : Arguments) (past : List Own) → Runs (Injector args) past → (due : NeedData) (came : GotData) → next_of (Injector args) past own.read own.ready ≡ due
+      → ComesOf s a due came wrote → Then (Injector args) past due came
+  injector_left args past may (needs.File c) came next comes = answered (Then (Injector args) past (needs.File c)) c came comes
+      (λ told fits.
+      let w = injector_calls controls s.now q a args past own.read own.ready c told wrote I.sound (I.fares a (actor (Injector args) past) may.is) may.no_earlier may.no_stall next fits.0 in
+      record { outside = w.outside; opens = w.elsewhere.opens; accepted = w.elsewhere.accepted; sorted = λ sparing. w.sorted })
+  injector_left args past may (needs.Take from) came next comes = idle (Some (Injector args)) a s _ refl refl refl
+  injector_left args past may due came next comes = passed (Injector args) past due came tt
+
+  -- The cleaner
+
+  cleaner_left : (since : ℕ) (past : List Own) → Runs (Cleaner since) past → (due : NeedData) (came : GotData) → next_of (Cleaner since) past own.read own.ready ≡ due
+      → ComesOf s a due came wrote → Then (Cleaner since) past due came
+  cleaner_left since past may (needs.File c) came next comes = answered (Then (Cleaner since) past (needs.File c)) c came comes
+      (λ told fits.
+      let w = calls_keep controls s.now q a past own.read own.ready c told wrote I.sound (I.fares a (actor (Cleaner since) past) may.is) may.no_later next fits.0 in
+      record { outside = w.outside; opens = w.elsewhere.opens; accepted = w.elsewhere.accepted; sorted = λ sparing. absurd sparing })
+  cleaner_left since past may (needs.Take from) came next comes = idle (Some (Cleaner since)) a s _ refl refl refl
+  cleaner_left since past may due came next comes = passed (Cleaner since) past due came tt
+
+  -- The sender
+
+  module _ (since : ℕ) (past : List Own) (may : Runs (Sender since) past) where
+    abbrev d : Desk
+    d = desk_after None past
+
+    abbrev row : Row
+    row = row_now d own.read own.ready
+
+    sender_fares : SenderFares controls s.now q a d
+    sender_fares = I.fares a (actor (Sender since) past) may.is
+
+    moment : IsMoment own.read
+    moment = let m = I.moment in let soon = may.no_later in omega (arith, m, soon)
+
+    sender_called : (c : CallData) (told : Told) → due_at row d ≡ needs.File c → ComesOf s a (needs.File c) (got.Answered told) wrote
+        → Then (Sender since) past (needs.File c) (got.Answered told)
+    sender_called c told due comes =
+        let reads = controls_are_read.calls controls q a d own.read own.ready c told wrote I.role I.control sender_fares.control due comes.0 comes.1 in
+        let l = sender_keeps.calls controls s.now q a d own.read own.ready c told wrote I.control.no_nul I.sound may.no_later moment sender_fares.stands due comes.0 comes.1 reads.0 in
+        let w = l.1.leads in
+        record { outside = w.outside; opens = w.elsewhere.opens; accepted = w.elsewhere.accepted; sorted = λ sparing. absurd sparing }
+
+    -- what a taking enters
+    abbrev Enters : GotData → Type 0
+    Enters came = (i : Injection) → IsInjected s.books i → i.accepted ≡ true → (j : Injection) × IsInjected (told_queue (delivered_at row came d) q).books j × IsLater i j
+
+    took_left : (from : Port) (came : GotData) → Enters came → Then (Sender since) past (needs.Take from) came
+    took_left from came enters = record {
+      outside = outside_by (Some (Sender since)) s.disk s.disk.opens;
+      opens = λ o fd how other h. h;
+      accepted = enters;
+      sorted = λ sparing. absurd sparing;
+    }
+
+    entered_other : (from : Port) (came : GotData) → IsOfSpawner from → due_at row d ≡ needs.Take from → Enters came
+    entered_other from came it due =
+        let t = sender_keeps.takes controls s.now q a d own.read own.ready from came I.control.no_nul I.sound may.no_later moment sender_fares.stands due (told_other controls s.now q row came d from it due) in
+        subst (λ (r : Queue). (i : Injection) → IsInjected s.books i → i.accepted ≡ true → (j : Injection) × IsInjected r.books j × IsLater i j) (entered_is row came d q)
+        (through controls s.now a q _ t.leads)
+
+    sender_took : (from : Port) (came : GotData) → due_at row d ≡ needs.Take from → Then (Sender since) past (needs.Take from) came
+    sender_took port.Clean came due = took_left port.Clean came
+        (λ i h accepted. subst (λ (r : Queue). (j : Injection) × IsInjected r.books j × IsLater i j) (sym (none_entered row came d q due)) (still_there s.books i h))
+    sender_took from came due = took_left from came (entered_other from came tt due)
+
+    sender_left : (due : NeedData) (came : GotData) → next_of (Sender since) past own.read own.ready ≡ due → ComesOf s a due came wrote → Then (Sender since) past due came
+    sender_left (needs.File c) came next comes = answered (Then (Sender since) past (needs.File c)) c came comes (λ told comes. sender_called c told next comes)
+    sender_left (needs.Take from) came next comes = sender_took from came next
+    sender_left due came next comes = passed (Sender since) past due came tt
+
+  -- The local spawner, which calls no file
+
+  local_files : (due : NeedData) → IsLocal due → IsNoFile due
+  local_files (needs.File c) is = absurd is
+  local_files due is = tt
+
+  local_passed : (since : ℕ) (past : List Own) (due : NeedData) (came : GotData) → IsNoFile due → Then (LocalSpawner since) past due came
+  local_passed since past (needs.File c) came none = absurd none
+  local_passed since past (needs.Take from) came none = idle (Some (LocalSpawner since)) a s _ refl refl refl
+  local_passed since past due came none = passed (LocalSpawner since) past due came tt
+
+  local_left : (since : ℕ) (past : List Own) (due : NeedData) (came : GotData) → next_of (LocalSpawner since) past own.read own.ready ≡ due → Then (LocalSpawner since) past due came
+  local_left since past due came next =
+      let p = local_after past in
+      local_passed since past due came (local_files due (subst IsLocal next (local_due (local_now p own.ready) p)))
+
+  -- The remote spawner, which reads messages
+
+  abbrev OnlyReadsOf : NeedData → Type 0
+  OnlyReadsOf (needs.File c) = OnlyReads q a c
+  OnlyReadsOf due = Unit {0}
+
+  only_reads : (row : SpawnRow) (p : Place) (c : CallData) → SpawnerHolds q a row → due_from row p ≡ needs.File c → OnlyReads q a c
+  only_reads spawn.OpenMess p c h due = subst OnlyReadsOf due tt
+  only_reads (spawn.ReadMess fd) p c h due = subst OnlyReadsOf due tt
+  only_reads (spawn.CloseMess fd whole) p c h due = subst OnlyReadsOf due h.1.held
+  only_reads row p c h due = absurd (cc)
+
+  remote_left : (since : ℕ) (past : List Own) → Runs (RemoteSpawner since) past → (due : NeedData) (came : GotData) → next_of (RemoteSpawner since) past own.read own.ready ≡ due
+      → ComesOf s a due came wrote → Then (RemoteSpawner since) past due came
+  remote_left since past may (needs.File c) came next comes = answered (Then (RemoteSpawner since) past (needs.File c)) c came comes
+      (λ told fits.
+      let p = remote_after past in
+      let holds = arrive_holds q a p.row p own.ready (I.fares a (actor (RemoteSpawner since) past) may.is) in
+      let w = reads_keep controls s.now q a I.sound own.read c told.answer wrote (only_reads (remote_now p own.ready) p c holds next) fits.0 in
+      record { outside = w.outside; opens = w.elsewhere.opens; accepted = w.elsewhere.accepted; sorted = λ sparing n h. about_same s.now a None q _ w.elsewhere n (λ e. absurd (cc)) })
+  remote_left since past may (needs.Take from) came next comes = idle (Some (RemoteSpawner since)) a s _ refl refl refl
+  remote_left since past may due came next comes = passed (RemoteSpawner since) past due came tt
+
+  by_program : (program : Program) (past : List Own) → Runs program past → next_of program past own.read own.ready ≡ own.due → ComesOf s a own.due own.came wrote → Then program past own.due own.came
+  by_program (Injector args) past may next comes = injector_left args past may own.due own.came next comes
+  by_program (Cleaner since) past may next comes = cleaner_left since past may own.due own.came next comes
+  by_program (Sender since) past may next comes = sender_left since past may own.due own.came next comes
+  by_program (LocalSpawner since) past may next comes = local_left since past own.due own.came next
+  by_program (RemoteSpawner since) past may next comes = remote_left since past may own.due own.came next comes
+
+  by_life : (program : Program) (past : List Own) (life : Life) → life ≡ Alive → MayRead s a (record { program = program; past = past; life = life }) own.read
+      → next_of program past own.read own.ready ≡ own.due → ComesOf s a own.due own.came wrote
+      → Leaves (Some program) a s (acted s a own wrote (Some (record { program = program; past = past; life = life })))
+  by_life program past Alive alive may next comes = by_program program past may next comes
+  by_life program past (Over status) alive may next comes = absurd (cc)
+  by_life program past Stopped alive may next comes = absurd (cc)
+
+  act_leaves : (may : MayDo s a own wrote) → Leaves (program_of (s.actors a)) a s (acted s a own wrote (s.actors a))
+  act_leaves may =
+      let x = may.actor in
+      subst (λ (o : Option Actor). Leaves (program_of o) a s (acted s a own wrote o)) (sym may.reads.is)
+      (by_life x.program x.past x.life may.reads.alive may.reads may.due may.came)
+
+-- Any event
+
+of_actor : (s : State) (e : Event) (a : List ℕ) → ((o : List ℕ) → IsOther e o → o ≢ a) → Leaves (doer s e) a s (happens s e) → LeavesMost s e
+of_actor s e a other w = record {
+  outside = λ is. w.outside;
+  opens = λ o fd how apart h. w.opens o fd how (other o apart) h;
+  accepted = w.accepted;
+  sorted = λ is sparing. w.sorted sparing;
+}
+
+-- an event of no actor, after which disk, descriptors and books are the same
+of_none : (s : State) (e : Event) → doer s e ≡ None → (happens s e).disk ≡ s.disk → (happens s e).holder ≡ s.holder → (happens s e).books ≡ s.books → LeavesMost s e
+of_none s e none disk holder books = record {
+  outside = λ is. subst (λ (p : Option Program). LeavesOutside p s.disk (happens s e).disk) (sym none) (subst (Outside s.disk) (sym disk) (outside_same s.disk s.disk.opens));
+  opens = λ o fd how other h. record { opened = ap (λ (d : Disk). d.opens fd) disk ∙ h.opened; held = ap (λ (f : ℕ → Option (List ℕ)). f fd) holder ∙ h.held };
+  accepted = λ i h accepted. subst (λ (b : Books). (j : Injection) × IsInjected b j × IsLater i j) (sym books) (still_there s.books i h);
+  sorted = λ is sparing n h i. record { parts = λ part. find (disk i).names (disk i).files (Of part n); living = (books i).living n };
+}
+
+over_leaves : (s : State) (a : List ℕ) (life : Life) (x : Actor) → s.actors a ≡ Some x → Leaves (program_of (s.actors a)) a s (finished s a life (s.actors a))
+over_leaves s a life x is = subst (λ (o : Option Actor). Leaves (program_of o) a s (finished s a life o)) (sym is) (ended (Some x.program) a s life x)
+
+leaves : (controls : Controls) (s : State) (I : Inv controls s) (e : Event) → Allowed s e → LeavesMost s e
+leaves controls s I (Start a program) may = of_none s (Start a program) refl refl refl refl
+leaves controls s I (Act a own wrote) may = of_actor s (Act a own wrote) a (λ o other. other) (act_leaves controls s I a own wrote may)
+leaves controls s I (Child parent own a program) may = absurd (never_born parent own a program s may)
+leaves controls s I (Generation sender clean lspawn rspawn) may = of_none s (Generation sender clean lspawn rspawn) refl refl refl refl
+leaves controls s I (Report slot letter text) may = of_none s (Report slot letter text) refl refl refl refl
+leaves controls s I (End a read ready status) may = of_actor s (End a read ready status) a (λ o other. other) (over_leaves s a (Over status) may.actor may.reads.is)
+leaves controls s I (Stop a) may = of_actor s (Stop a) a (λ o other. other) (over_leaves s a Stopped may.actor may.is)
+leaves controls s I (Moment m) may = of_none s (Moment m) refl refl refl refl
+leaves controls s I (Halt how contents) may = record {
+  outside = λ e. absurd (cc);
+  opens = λ o fd how other h. absurd other;
+  accepted = λ i h accepted. still_there s.books i h;
+  sorted = λ e. absurd (cc);
+}
+
+pub events_leave : EventsLeave
+events_leave controls d e before has legal = leaves controls (after d before) (always controls d before has legal.0) e legal.1
