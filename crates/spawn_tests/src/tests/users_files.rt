@@ -166,31 +166,3 @@ fn local_parts_have_their_lines(rt: HostRuntime) {
         assert!(rt; are_found(rt.alloc(), users), "{:?}", users.0);
     }
 }
-
-/// A file of so many lines, of which the last one is a simple one for `z`.
-fn many_lines(alloc: Global, count: usize) -> Option<Vec<u8>> {
-    let mut bytes = Vec::new(alloc);
-    for _ in 1..count {
-        bytes
-            .extend_from_slice(b"+user-:user:1000:1000:/home/user:-:pre:\n")
-            .ok()?;
-    }
-    bytes.extend_from_slice(b"=z:z:1:1:h:::\n.\n").ok()?;
-    Some(bytes)
-}
-
-/// Whether the last of 10,000 lines is found.
-fn is_last_found(alloc: Global) -> bool {
-    match many_lines(alloc, 10_000) {
-        Some(bytes) => match Assign::read(alloc, bytes.as_slice()) {
-            Ok(assign) => is_found(&assign, b"z", Some((9999, 1))),
-            Err(_) => false,
-        },
-        None => false,
-    }
-}
-
-#[test]
-fn many_lines_are_read(rt: HostRuntime) {
-    assert!(rt; is_last_found(rt.alloc()));
-}

@@ -1,0 +1,2 @@
+-- a delivery that runs over a disk
+pub mod Deliveries

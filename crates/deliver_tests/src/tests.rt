@@ -1,0 +1,7 @@
+mod cases;
+mod commands;
+mod forwards;
+mod homes;
+mod instructions;
+mod messages;
+mod running;
