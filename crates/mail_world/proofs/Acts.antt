@@ -1,30 +1,37 @@
 -- What the world knows and has open, as one actor makes a call, ends, or starts.
 use Rattle.std.proofs.Common.{◌≡◌, ◌≢◌, ℕ, List, [], ◌∷◌, ◌++◌, length, true, false, if◌then◌else◌, Option, Some, None, refl, sym, ap, ◌∙◌, subst, ⊎_elim, arith, bytes_eq, reverse}
 use Rattle.std.proofs.lemmas.Bool.Decides.{eqb_tells}
+use Rattle.std.specs.List.{slice_get}
+use Rattle.call_fs.specs.declared.past.NeedData.{NeedData}
 use Rattle.call_fs.specs.declared.past.NeedData.TheVariants as needs
+use Rattle.call_fs.specs.declared.past.GotData.{GotData}
 use Rattle.call_fs.specs.declared.past.GotData.TheVariants.{Answered}
+use Rattle.call_fs.specs.declared.past.GotData.TheVariants as came
+use Rattle.call_fs.specs.declared.past.Own.{Own}
+use Rattle.call_fs.specs.Program.{MayCome}
 use Rattle.call_fs.specs.declared.calls.CallData.{CallData}
 use Rattle.call_fs.specs.declared.calls.CallData.TheVariants as call
 use Rattle.call_fs.specs.declared.calls.Answer.{Answer}
-use Rattle.call_fs.specs.declared.calls.Told.{Told}
 use Rattle.call_fs.specs.declared.calls.Answer.TheVariants as told
 use Rattle.call_fs.specs.declared.program.Ready.{Ready}
-use Rattle.call_fs.specs.Columns.{IsAnswerTo}
 use Rattle.call_fs.specs.Maps.{put}
 use Rattle.world_events.specs.declared.event.Program.{Program}
 use Rattle.mail_world.specs.declared.actor.Actor.{Actor as Held}
 use Rattle.world_events.specs.declared.event.Event.{Event as Kept}
 use Rattle.world_events.specs.declared.event.Event.TheVariants as kept
-use Rattle.mail_world.specs.History.{State, Actor, Life, next_of, start_of, called, finished, happens, held_by, unless_by}
+use Rattle.mail_world.specs.History.{State, Actor, Life, next_of, start_of, acted, finished, happens, held_by, holder_after, unless_by}
 use Rattle.mail_world.specs.History.Event.{Start}
 use Rattle.mail_world.specs.History.Life.{Alive, Over, Stopped}
-use Rattle.mail_world.specs.World.{kept_call, span_of, ends, starts, starts_in}
-use Rattle.mail_world.specs.ByKind.{IsMail, Follows}
-use Rattle.mail_world.specs.Inside.{event_of, span_by, IsMember, IsStranger, is_by}
+use Rattle.mail_world.specs.World.{span_of, ends, starts, starts_in}
+use Rattle.mail_world.specs.ByKind.{Follows}
+use Rattle.mail_world.specs.Wired.{seat}
+use Rattle.mail_world.specs.Inside.{event_of, RunsAt, unowed, StandsFor, span_by, IsMember, IsStranger, is_by}
+use Rattle.mail_world.specs.Acting.{IsOwed}
 use Rattle.call_fs.proofs.Maps.{put_same, put_other, put_at_same, put_at_other}
 use Rattle.queue_law.proofs.Tests.{same_text, other_text}
 use Rattle.mail_world.proofs.Spans.{span_push, span_stays, span_begins, span_ends}
 use Rattle.mail_world.proofs.Crew.{ActsAlone, StartsAlone}
+use Rattle.mail_world.proofs.Lists.{get_last}
 
 -- the descriptors of others
 others_put : (h : ℕ → Option (List ℕ)) (b : List ℕ) (k : ℕ) (v : Option (List ℕ)) (fd : ℕ) → is_by b v ≡ false → is_by b (h fd) ≡ false → is_by b (put h k v fd) ≡ false
@@ -54,12 +61,28 @@ held_other h a b c (told.Name name) fd apart was = was
 held_other h a b c told.NoName fd apart was = was
 held_other h a b c (told.Refused why) fd apart was = was
 
--- a call is its actor's alone
-pub call_alone : (s : State) (a : List ℕ) (x : Actor) (p : ℕ) (ready : Ready) (c : CallData) (got : Told)
-    → ActsAlone a s (called s a p ready c got 0 (Some x)) (kept_call a p ready c got)
-call_alone s a x p ready c got = record {
+own_other : (h : ℕ → Option (List ℕ)) (a b : List ℕ) (due : NeedData) (came : GotData) (fd : ℕ) → b ≢ a → is_by b (h fd) ≡ false → is_by b (holder_after h a due came fd) ≡ false
+own_other h a b (needs.File c) (Answered got) fd apart was = held_other h a b c got.answer fd apart was
+own_other h a b (needs.File c) (came.Took bytes) fd apart was = was
+own_other h a b (needs.File c) came.End fd apart was = was
+own_other h a b (needs.File c) (came.Ended status) fd apart was = was
+own_other h a b (needs.File c) came.Crashed fd apart was = was
+own_other h a b (needs.File c) came.Gave fd apart was = was
+own_other h a b (needs.File c) (came.Started pid) fd apart was = was
+own_other h a b (needs.File c) came.Failed fd apart was = was
+own_other h a b (needs.File c) came.Memory fd apart was = was
+own_other h a b (needs.Take port) came fd apart was = was
+own_other h a b (needs.Give port bytes) came fd apart was = was
+own_other h a b (needs.Start asked) came fd apart was = was
+own_other h a b (needs.Command bytes) came fd apart was = was
+own_other h a b needs.Wait came fd apart was = was
+own_other h a b (needs.Ended status) came fd apart was = was
+
+-- what an actor does is its alone
+pub own_alone : (s : State) (a : List ℕ) (x : Actor) (own : Own) → ActsAlone a s (acted s a own 0 (Some x)) (kept.Act a own)
+own_alone s a x own = record {
   actors = λ b apart. put_at_other s.actors a _ b apart;
-  holder = λ b apart fd was. held_other s.holder a b c got.answer fd apart was;
+  holder = λ b apart fd was. own_other s.holder a b own.due own.came fd apart was;
   no_start = λ b apart. refl;
   no_end = λ b apart. refl;
 }
@@ -108,73 +131,96 @@ start_alone s a program = record {
   start = λ b. refl;
 }
 
--- the actor that made a call
-pub call_member : (s : State) (events : List Kept) (p : ℕ) (x y : Held) (ready : Ready) (c : CallData) (got : Told) (m : IsMember s events p x)
-    → x.ended ≡ None → y.name ≡ x.name → y.ended ≡ x.ended
-    → next_of m.actor.program m.actor.past p ready ≡ needs.File c → IsAnswerTo c got.answer
-    → Follows y.machine m.actor.program ((record { read = p; ready = ready; due = needs.File c; came = Answered got }) ∷ m.actor.past)
-    → IsMember (called s x.name p ready c got 0 (Some m.actor)) (events ++ kept_call x.name p ready c got ∷ []) p y
-call_member s events p x y ready c got m alive name ended due kind follows =
-    let k : Kept = kept_call x.name p ready c got in
-    let t = called s x.name p ready c got 0 (Some m.actor) in
+-- the actor that did something
+pub own_member : (s : State) (events : List Kept) (p : ℕ) (x y : Held) (own : Own) (m : IsMember s events p x)
+    → x.ended ≡ None → y.name ≡ x.name → y.ended ≡ x.ended → own.read ≡ p
+    → next_of m.actor.program m.actor.past own.read own.ready ≡ own.due → MayCome own.due own.came
+    → StandsFor y m.actor.program (own ∷ m.actor.past) → ((at : ℕ) → y.owed ≡ Some at → IsOwed y own (length events) at)
+    → IsMember (acted s x.name own 0 (Some m.actor)) (events ++ kept.Act x.name own ∷ []) p y
+own_member s events p x y own m alive name ended read due may follows owes =
+    let k : Kept = kept.Act x.name own in
+    let t = acted s x.name own 0 (Some m.actor) in
     record {
-      actor = record { program = m.actor.program; past = (record { read = p; ready = ready; due = needs.File c; came = Answered got }) ∷ m.actor.past; life = m.actor.life };
+      actor = record { program = m.actor.program; past = own ∷ m.actor.past; life = m.actor.life };
       is = ap t.actors name ∙ put_at_same s.actors x.name _;
-      follows = follows;
-      mail = m.mail;
-      run = (m.run, (due, kind));
-      in_order = omega arith;
+      follows = λ e. follows;
+      owes = λ e at is. let o = owes at is in record {
+        own = own;
+        before = m.actor.past;
+        newest = refl;
+        there = ap (slice_get (events ++ k ∷ [])) o.here ∙ get_last events k ∙ ap (λ (a : List ℕ). Some (kept.Act a own)) (sym name);
+        read = o.read;
+        found = o.found;
+        looked = o.looked;
+        due = o.due;
+        kind = o.kind;
+        within = o.within;
+      };
+      runs = subst (λ (a : List ℕ). RunsAt (seat a) m.actor.program) (sym name) m.runs;
+      run = (m.run, (due, may));
+      in_order = omega (arith, read);
       alive = λ e. m.alive alive;
       spans = ap (λ (a : List ℕ). span_of a (reverse (events ++ k ∷ []))) name ∙ span_stays events k x.name refl refl ∙ m.spans ∙ ap span_by (sym ended);
+      closed = λ at e. let both : ◌≡◌ {A = Option ℕ} None (Some at) = sym (ended ∙ alive) ∙ e in absurd (cc);
+      dead = λ at e. let both : ◌≡◌ {A = Option ℕ} None (Some at) = sym (ended ∙ alive) ∙ e in absurd (cc);
     }
 
 -- the actor that ended or was stopped
 pub finish_member : (s : State) (events : List Kept) (p : ℕ) (x y : Held) (k : Kept) (life : Life) (m : IsMember s events p x) → Finishes x.name k life
-    → x.ended ≡ None → y.name ≡ x.name → y.ended ≡ Some (length events) → Follows y.machine m.actor.program m.actor.past
+    → x.ended ≡ None → y.name ≡ x.name → y.ended ≡ Some (length events) → y.descriptors.items ≡ []
     → IsMember (finished s x.name life (Some m.actor)) (events ++ k ∷ []) p y
-finish_member s events p x y k life m f alive name ended follows =
+finish_member s events p x y k life m f alive name ended none =
     let t = finished s x.name life (Some m.actor) in
     record {
       actor = record { program = m.actor.program; past = m.actor.past; life = life };
       is = ap t.actors name ∙ put_at_same s.actors x.name _;
-      follows = follows;
-      mail = m.mail;
+      follows = λ e. let both : ◌≡◌ {A = Option ℕ} None (Some (length events)) = sym e ∙ ended in absurd (cc);
+      owes = λ e at is. let both : ◌≡◌ {A = Option ℕ} None (Some (length events)) = sym e ∙ ended in absurd (cc);
+      runs = subst (λ (a : List ℕ). RunsAt (seat a) m.actor.program) (sym name) m.runs;
       run = m.run;
       in_order = m.in_order;
       alive = λ e. let both : ◌≡◌ {A = Option ℕ} None (Some (length events)) = sym e ∙ ended in absurd (cc);
+      closed = λ at e. none;
+      dead = λ at e. f.dead;
       spans = ap (λ (a : List ℕ). span_of a (reverse (events ++ k ∷ []))) name ∙ span_push events k x.name
           ∙ span_ends x.name k (length events) (span_of x.name (reverse events)) (m.spans ∙ ap span_by alive) f.mine ∙ ap span_by (sym ended);
     }
 
 -- a new actor
-pub start_member : (s : State) (events : List Kept) (p : ℕ) (y : Held) (a : List ℕ) (program : Program) → IsMail program
-    → IsStranger s events a → y.name ≡ a → y.ended ≡ None → Follows y.machine program [] → start_of program ≡ p
+pub start_member : (s : State) (events : List Kept) (p : ℕ) (y : Held) (a : List ℕ) (program : Program) → RunsAt (seat a) program
+    → IsStranger s events a → y.name ≡ a → y.ended ≡ None → y.owed ≡ None → Follows y.machine program [] → start_of program ≡ p
     → IsMember (happens s (Start a program)) (events ++ kept.Start a program ∷ []) p y
-start_member s events p y a program mail stranger name ended follows now =
+start_member s events p y a program runs stranger name ended paid follows now =
     let k : Kept = kept.Start a program in
     let t = happens s (Start a program) in
     record {
       actor = record { program = program; past = []; life = Alive };
       is = ap t.actors name ∙ put_at_same s.actors a _;
-      follows = follows;
-      mail = mail;
+      follows = λ e. subst (λ (o : Option ℕ). Follows y.machine program (unowed o [])) (sym paid) follows;
+      owes = λ e at is. let both : ◌≡◌ {A = Option ℕ} None (Some at) = sym paid ∙ is in absurd (cc);
+      runs = subst (λ (a : List ℕ). RunsAt (seat a) program) (sym name) runs;
       run = tt;
+      closed = λ at e. let both : ◌≡◌ {A = Option ℕ} None (Some at) = sym ended ∙ e in absurd (cc);
+      dead = λ at e. let both : ◌≡◌ {A = Option ℕ} None (Some at) = sym ended ∙ e in absurd (cc);
       in_order = omega arith;
       alive = λ e. refl;
       spans = ap (λ (a : List ℕ). span_of a (reverse (events ++ k ∷ []))) name ∙ span_push events k a
           ∙ span_begins a k (length events) (span_of a (reverse events)) stranger.unborn (same_text a) ∙ ap span_by (sym ended);
     }
 
--- a machine that looked stands as before
+-- a machine that looked, and owes nothing, stands as before
 pub look_member : (s : State) (events : List Kept) (p : ℕ) (x y : Held) (m : IsMember s events p x)
-    → y.name ≡ x.name → y.ended ≡ x.ended → Follows y.machine m.actor.program m.actor.past → IsMember s events p y
-look_member s events p x y m name ended follows = record {
+    → x.ended ≡ None → y.name ≡ x.name → y.ended ≡ x.ended → y.owed ≡ None → Follows y.machine m.actor.program m.actor.past → IsMember s events p y
+look_member s events p x y m alive name ended paid follows = record {
   actor = m.actor;
   is = ap s.actors name ∙ m.is;
-  follows = follows;
-  mail = m.mail;
+  follows = λ e. subst (λ (o : Option ℕ). Follows y.machine m.actor.program (unowed o m.actor.past)) (sym paid) follows;
+  owes = λ e at is. let both : ◌≡◌ {A = Option ℕ} None (Some at) = sym paid ∙ is in absurd (cc);
+  runs = subst (λ (a : List ℕ). RunsAt (seat a) m.actor.program) (sym name) m.runs;
   run = m.run;
   in_order = m.in_order;
   alive = λ e. m.alive (sym ended ∙ e);
   spans = ap (λ (a : List ℕ). span_of a (reverse events)) name ∙ m.spans ∙ ap span_by (sym ended);
+  closed = λ at e. let both : ◌≡◌ {A = Option ℕ} None (Some at) = sym (ended ∙ alive) ∙ e in absurd (cc);
+  dead = λ at e. let both : ◌≡◌ {A = Option ℕ} None (Some at) = sym (ended ∙ alive) ∙ e in absurd (cc);
 }

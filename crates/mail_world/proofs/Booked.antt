@@ -5,8 +5,6 @@ use Rattle.std.specs.List.{slice_get}
 use Rattle.std.specs.Option.{option_map}
 use Rattle.std.proofs.lemmas.List.{reverse-append, map-append, length-append, length-map}
 use Rattle.std.proofs.lemmas.Option.{slice_get-map, get_or_from_slice_get}
-use Rattle.call_fs.specs.Disk.{Disk}
-use Rattle.call_fs.specs.declared.program.Ready.{Ready}
 use Rattle.call_fs.specs.declared.crash_file_system.Survival.{Survival}
 use Rattle.queue_inject.specs.declared.injection.Arguments.{Arguments}
 use Rattle.world_events.specs.declared.event.Event.{Event as Kept}
@@ -15,13 +13,15 @@ use Rattle.world_events.specs.declared.event.Program.TheVariants.{Injector}
 use Rattle.mail_world.specs.declared.actor.Actor.{Actor as Held}
 use Rattle.world_events.specs.declared.books.Entry.{Entry}
 use Rattle.world_events.specs.declared.books.Life.TheVariants as told
-use Rattle.mail_world.specs.History.{State}
-use Rattle.mail_world.specs.Inside.{AreActors}
-use Rattle.mail_world.specs.Acting.{AreCutOff, HasActed, IsFinished}
+use Rattle.mail_world.specs.Acting.{AreCutOff}
 use Rattle.mail_world.specs.Books.{new_entry, entered_by, acted_on, left_as, cut_off, noted, books_of, AreBooked}
 use Rattle.mail_world.proofs.Tests.{other_text}
 use Rattle.mail_world.proofs.Lists.{some_last, some_at}
 use Rattle.mail_world.proofs.Crew.{apart_by}
+
+-- each actor stands at its place
+abbrev pub ArePlaced : (List ℕ → Option ℕ) → List Held → Type 0
+ArePlaced places actors = (i : ℕ) (x : Held) → slice_get actors i ≡ Some x → places x.name ≡ Some i
 
 -- one event more
 pub books_push : (events : List Kept) (k : Kept) → books_of (reverse (events ++ k ∷ [])) ≡ map (noted k) (books_of (reverse events)) ++ entered_by k
@@ -130,15 +130,15 @@ books_more entries events k are none =
     ∙ ap (λ l. map (noted k) (books_of (reverse events)) ++ l) (sym none) ∙ sym (books_push events k)
 
 -- one actor acts, ends or is stopped
-note_keeps : (places : List ℕ → Option ℕ) (actors : List Held) (s : State) (events : List Kept) (p i : ℕ) (x y : Held) (entries : List Entry) (e : Entry) (k : Kept)
-    → AreActors places actors s events p → AreBooked entries actors events → slice_get actors i ≡ Some x → y.name ≡ x.name → IsOwnOf x.name k → slice_get entries i ≡ Some e
+note_keeps : (places : List ℕ → Option ℕ) (actors : List Held) (events : List Kept) (p i : ℕ) (x y : Held) (entries : List Entry) (e : Entry) (k : Kept)
+    → ArePlaced places actors → AreBooked entries actors events → slice_get actors i ≡ Some x → y.name ≡ x.name → IsOwnOf x.name k → slice_get entries i ≡ Some e
     → AreBooked (set entries i (noted k e)) (set actors i y) (events ++ k ∷ [])
-note_keeps places actors s events p i x y entries e k crew booked is name mine at =
+note_keeps places actors events p i x y entries e k crew booked is name mine at =
     let actor : Entry → List ℕ = λ e. e.actor in
     let named : Held → List ℕ = λ x. x.name in
     let others = λ (j : ℕ) (z : Entry) (apart : j ≢ i) (there : slice_get entries j ≡ Some z).
     let w = paired actor named entries actors j z booked.names there in
-    let other : w.0.name ≢ x.name = apart_by places x.name w.0.name i j (crew.placed i x is) (crew.placed j w.0 w.1) apart in
+    let other : w.0.name ≢ x.name = apart_by places x.name w.0.name i j (crew i x is) (crew j w.0 w.1) apart in
     noted_other k x.name z mine (λ same. other (sym w.2 ∙ same)) in
     record {
       are = set_is_map (noted k) entries i e at others ∙ books_more entries events k booked.are (begins_none k x.name mine);
@@ -162,34 +162,50 @@ entry_within entries actors events i booked within =
     omega arith
 
 -- the books took the newest event into account, which is that actor's
-own_keeps : (places : List ℕ → Option ℕ) (actors : List Held) (s : State) (events later : List Kept) (p i : ℕ) (x y : Held) (entries now : List Entry) (k r : Kept)
-    → AreActors places actors s events p → AreBooked entries actors events → slice_get actors i ≡ Some x → y.name ≡ x.name → IsOwnOf x.name k → later ≡ events ++ k ∷ []
+own_keeps : (places : List ℕ → Option ℕ) (actors : List Held) (events later : List Kept) (p i : ℕ) (x y : Held) (entries now : List Entry) (k r : Kept)
+    → ArePlaced places actors → AreBooked entries actors events → slice_get actors i ≡ Some x → y.name ≡ x.name → IsOwnOf x.name k → later ≡ events ++ k ∷ []
     → r ≡ get_or later (length later - 1) r → ((e : Entry) → slice_get entries i ≡ Some e → now ≡ set entries i (noted r e)) → AreBooked now (set actors i y) later
-own_keeps places actors s events later p i x y entries now k r crew booked is name mine event read noted_it =
+own_keeps places actors events later p i x y entries now k r crew booked is name mine event read noted_it =
     let at = paired (λ (x : Held). x.name) (λ (e : Entry). e.actor) actors entries i x (sym booked.names) is in
     let newest : r ≡ k = newest_is later events k r event read in
     let here : now ≡ set entries i (noted k at.0) = noted_it at.0 at.1 ∙ ap (λ (k : Kept). set entries i (noted k at.0)) newest in
     subst (λ (l : List Kept). AreBooked now (set actors i y) l) (sym event)
     (subst (λ (l : List Entry). AreBooked l (set actors i y) (events ++ k ∷ [])) (sym here)
-    (note_keeps places actors s events p i x y entries at.0 k crew booked is name mine at.1))
+    (note_keeps places actors events p i x y entries at.0 k crew booked is name mine at.1))
 
--- a step of an actor
-pub step_booked : (did : Option ℕ) (old new : Option Disk) (places : List ℕ → Option ℕ) (actors : List Held) (s : State) (events later : List Kept) (p i : ℕ) (x y : Held)
-    (ready : Ready) (entries now : List Entry) (r : Kept)
-    → AreActors places actors s events p → AreBooked entries actors events → slice_get actors i ≡ Some x → HasActed did old new x y events later p ready
+-- a mail did something, ended or was stopped
+pub mail_booked : (places : List ℕ → Option ℕ) (actors : List Held) (events later : List Kept) (p i : ℕ) (x y : Held) (entries now : List Entry) (k r : Kept)
+    → ArePlaced places actors → AreBooked entries actors events → slice_get actors i ≡ Some x → y.name ≡ x.name → IsOwnOf x.name k → later ≡ events ++ k ∷ []
     → r ≡ get_or later (length later - 1) r → ((e : Entry) → slice_get entries i ≡ Some e → now ≡ set entries i (noted r e)) → AreBooked now (set actors i y) later
-step_booked None old new places actors s events later p i x y ready entries now r crew booked is acted read noted_it =
-    own_keeps places actors s events later p i x y entries now _ r crew booked is acted.name refl acted.event read noted_it
-step_booked (Some status) old new places actors s events later p i x y ready entries now r crew booked is acted read noted_it =
-    own_keeps places actors s events later p i x y entries now _ r crew booked is acted.over.name refl acted.over.event read noted_it
+mail_booked places actors events later p i x y entries now k r placed booked is name mine event read noted_it =
+    own_keeps places actors events later p i x y entries now k r placed booked is name mine event read noted_it
 
--- a stop of an actor
-pub stop_booked : (old new : Option Disk) (places : List ℕ → Option ℕ) (actors : List Held) (s : State) (events later : List Kept) (p i : ℕ) (x y : Held)
-    (entries now : List Entry) (r : Kept)
-    → AreActors places actors s events p → AreBooked entries actors events → slice_get actors i ≡ Some x → IsFinished (kept.Stop x.name) old new x y events later
-    → r ≡ get_or later (length later - 1) r → ((e : Entry) → slice_get entries i ≡ Some e → now ≡ set entries i (noted r e)) → AreBooked now (set actors i y) later
-stop_booked old new places actors s events later p i x y entries now r crew booked is over read noted_it =
-    own_keeps places actors s events later p i x y entries now (kept.Stop x.name) r crew booked is over.name refl over.event read noted_it
+-- a member of a generation did something, ended or was stopped
+pub other_booked : (mails : List Held) (events later : List Kept) (a : List ℕ) (entries : List Entry) (k : Kept)
+    → AreBooked entries mails events → ((j : ℕ) (z : Held) → slice_get mails j ≡ Some z → z.name ≢ a) → IsOwnOf a k → later ≡ events ++ k ∷ [] → AreBooked entries mails later
+other_booked mails events later a entries k booked apart mine event =
+    subst (λ (l : List Kept). AreBooked entries mails l) (sym event) (record {
+      are = sym (map_still (noted k) entries (λ i e h.
+          let w = paired (λ (e : Entry). e.actor) (λ (x : Held). x.name) entries mails i e booked.names h in
+          noted_other k a e mine (λ same. apart i w.0 w.1 (sym w.2 ∙ same))))
+          ∙ books_more entries events k booked.are (begins_none k a mine);
+      names = booked.names;
+    })
+
+-- a generation started
+pub begun_booked : (mails : List Held) (events : List Kept) (p : ℕ) (entries : List Entry) → AreBooked entries mails events → AreBooked entries mails (events ++ kept.Generation p ∷ [])
+begun_booked mails events p entries booked = record {
+  are = sym (map_still (noted (kept.Generation p)) entries (λ i e h. refl)) ∙ books_more entries events (kept.Generation p) booked.are refl;
+  names = booked.names;
+}
+
+-- the report of a remote program came
+pub report_booked : (mails : List Held) (events : List Kept) (slot letter : ℕ) (text : List ℕ) (entries : List Entry)
+    → AreBooked entries mails events → AreBooked entries mails (events ++ kept.Report slot letter text ∷ [])
+report_booked mails events slot letter text entries booked = record {
+  are = sym (map_still (noted (kept.Report slot letter text)) entries (λ i e h. refl)) ∙ books_more entries events (kept.Report slot letter text) booked.are refl;
+  names = booked.names;
+}
 
 -- an actor's machine looked
 pub look_booked : (actors : List Held) (events : List Kept) (i : ℕ) (x y : Held) (entries : List Entry)

@@ -10,15 +10,16 @@ use Rattle.mail_world.specs.declared.actor.Actor.{Actor as Held}
 use Rattle.world_events.specs.declared.event.Event.{Event as Kept}
 use Rattle.world_events.specs.declared.event.Event.TheVariants as kept
 use Rattle.call_fs.specs.declared.crash_file_system.Survival.{Survival}
-use Rattle.mail_world.specs.declared.any_machine.AnyMachine.{AnyMachine}
 use Rattle.mail_world.specs.History.{State, Actor, stopped}
 use Rattle.mail_world.specs.World.{span_after, span_of, ends, starts, was_started}
-use Rattle.mail_world.specs.ByKind.{Follows}
-use Rattle.mail_world.specs.Inside.{span_by, IsMember, IsStranger, AreActors, is_by}
+use Rattle.call_fs.specs.declared.past.Own.{Own}
+use Rattle.mail_world.specs.Wired.{seat}
+use Rattle.mail_world.specs.Inside.{RunsAt, Owes, span_by, IsMember, IsStranger, AreActors, is_by}
 use Rattle.mail_world.specs.Acting.{ended_by, IsCutOff, AreCutOff}
 use Rattle.call_fs.proofs.Maps.{put_at_same, put_at_other}
 use Rattle.queue_law.proofs.Tests.{text_cases, same_text, other_text}
-use Rattle.mail_world.proofs.Lists.{each_set, some_set, each_push, some_push, some_last, some_at, some_within}
+use Rattle.mail_world.proofs.Halts.{never_alive}
+use Rattle.mail_world.proofs.Lists.{get_still, each_set, some_set, each_push, some_push, some_last, some_at, some_within}
 use Rattle.mail_world.proofs.Spans.{span_push, span_stays}
 
 -- an event leaves each actor but one as it was
@@ -31,20 +32,38 @@ pub record ActsAlone (a : List ℕ) (s t : State) (k : Kept) : Type 0 where
 pub started_push : (events : List Kept) (k : Kept) (a : List ℕ) → was_started (events ++ k ∷ []) a ≡ (was_started events a || starts a k)
 started_push events k a = list_any-append (starts a) events (k ∷ []) ∙ ap (λ b. was_started events a || b) (or-false (starts a k))
 
+-- what it owes stays in the history
+pub owes_still : (x : Held) (events : List Kept) (k : Kept) (past : List Own) (at : ℕ) → Owes x events past at → Owes x (events ++ k ∷ []) past at
+owes_still x events k past at o = record {
+  own = o.own;
+  before = o.before;
+  newest = o.newest;
+  there = get_still events k at _ o.there;
+  read = o.read;
+  found = o.found;
+  looked = o.looked;
+  due = o.due;
+  kind = o.kind;
+  within = o.within;
+}
+
 -- another actor
-other_member : (s t : State) (events : List Kept) (k : Kept) (p : ℕ) (a : List ℕ) (x : Held) → ActsAlone a s t k → x.name ≢ a → IsMember s events p x → IsMember t (events ++ k ∷ []) p x
+pub other_member : (s t : State) (events : List Kept) (k : Kept) (p : ℕ) (a : List ℕ) (x : Held) → ActsAlone a s t k → x.name ≢ a → IsMember s events p x → IsMember t (events ++ k ∷ []) p x
 other_member s t events k p a x acts apart m = record {
   actor = m.actor;
   is = acts.actors x.name apart ∙ m.is;
   follows = m.follows;
-  mail = m.mail;
+  owes = λ lives at is. owes_still x events k m.actor.past at (m.owes lives at is);
+  runs = m.runs;
   run = m.run;
   in_order = m.in_order;
   alive = m.alive;
   spans = span_stays events k x.name (acts.no_start x.name apart) (acts.no_end x.name apart) ∙ m.spans;
+  closed = m.closed;
+  dead = m.dead;
 }
 
-other_stranger : (s t : State) (events : List Kept) (k : Kept) (a b : List ℕ) → ActsAlone a s t k → b ≢ a → IsStranger s events b → IsStranger t (events ++ k ∷ []) b
+pub other_stranger : (s t : State) (events : List Kept) (k : Kept) (a b : List ℕ) → ActsAlone a s t k → b ≢ a → IsStranger s events b → IsStranger t (events ++ k ∷ []) b
 other_stranger s t events k a b acts apart m = record {
   unknown = acts.actors b apart ∙ m.unknown;
   unborn = span_stays events k b (acts.no_start b apart) (acts.no_end b apart) ∙ m.unborn;
@@ -95,11 +114,14 @@ crew_waits places actors s t events k p q later crew same holder no_end no_start
     actor = m.actor;
     is = ap (λ (f : List ℕ → Option Actor). f x.name) same ∙ m.is;
     follows = m.follows;
-    mail = m.mail;
+    owes = λ lives at is. owes_still x events k m.actor.past at (m.owes lives at is);
+    runs = m.runs;
     run = m.run;
     in_order = omega arith;
     alive = m.alive;
     spans = span_stays events k x.name (no_start x.name) (no_end x.name) ∙ m.spans;
+    closed = m.closed;
+    dead = m.dead;
   };
   named = crew.named;
   strangers = λ a none. let m = crew.strangers a none in record {
@@ -132,7 +154,7 @@ span_cut : (a : List ℕ) (how : Survival) (n : ℕ) (o : Option ℕ) → span_a
 span_cut a how n None = refl
 span_cut a how n (Some at) = refl
 
-none_alive : (n : ℕ) (o : Option ℕ) → ended_by n o ≡ None → ⊥
+pub none_alive : (n : ℕ) (o : Option ℕ) → ended_by n o ≡ None → ⊥
 none_alive n None h = cc
 none_alive n (Some at) h = cc
 
@@ -140,13 +162,16 @@ halt_member : (s t : State) (events : List Kept) (how : Survival) (p : ℕ) (x y
 halt_member s t events how p x y halted cut m = record {
   actor = stopped m.actor;
   is = ap t.actors cut.name ∙ halted.actors x.name ∙ ap (option_map stopped) m.is;
-  follows = subst (λ (machine : AnyMachine). Follows machine m.actor.program m.actor.past) (sym cut.machine) m.follows;
-  mail = m.mail;
+  follows = λ e. absurd (none_alive (length events) x.ended (sym cut.ended ∙ e));
+  owes = λ e at is. absurd (none_alive (length events) x.ended (sym cut.ended ∙ e));
+  runs = subst (λ (a : List ℕ). RunsAt (seat a) m.actor.program) (sym cut.name) m.runs;
   run = m.run;
   in_order = m.in_order;
   alive = λ e. absurd (none_alive (length events) x.ended (sym cut.ended ∙ e));
   spans = ap (λ (a : List ℕ). span_of a (reverse (events ++ kept.Halt how ∷ []))) cut.name ∙ span_push events (kept.Halt how) x.name
       ∙ ap (span_after x.name (kept.Halt how) (length events)) m.spans ∙ span_cut x.name how (length events) x.ended ∙ ap span_by (sym cut.ended);
+  closed = λ at e. cut.descriptors;
+  dead = λ at e. never_alive m.actor.life;
 }
 
 -- the machine stops

@@ -17,7 +17,7 @@ use Rattle.call_fs.specs.Past.{Uses, held}
 use Rattle.world_events.specs.declared.event.Program.{Program}
 use Rattle.mail_world.specs.declared.actor.Actor.{Actor as Held}
 use Rattle.world_events.specs.declared.event.Event.{Event as Kept}
-use Rattle.mail_world.specs.History.{State, Actor, Life, stopped, called, finished, happens, held_by, unless_by, shut_by}
+use Rattle.mail_world.specs.History.{State, Actor, Life, stopped, acted, called, finished, happens, held_by, unless_by, shut_by}
 use Rattle.mail_world.specs.History.Event.{Start, Moment}
 use Rattle.mail_world.specs.History.Life.{Alive}
 use Rattle.mail_world.specs.Inside.{IsMember, AreActors, HasOpen, IsOpenTo, IsOwn, Owns, AreApart, has, is_by}
@@ -30,7 +30,9 @@ use Rattle.mail_world.proofs.Opens.{Opens, ClosesOwn, closes_own, own_stays, own
 use Rattle.mail_world.proofs.Crew.{Halted, apart_by, was_there}
 use Rattle.mail_world.proofs.Halts.{never_alive}
 use Rattle.queue_law.proofs.Looks.{mapped_some}
+use Rattle.call_fs.specs.declared.past.Own.{Own}
 use Rattle.mail_world.proofs.Acts.{freed, kept_on}
+use Rattle.mail_world.proofs.Passes.{IsPassing}
 
 -- what is held stays open
 held_stays : (d e : Disk) (h g : ℕ → Option (List ℕ)) (a : List ℕ) (c : CallData) (answer : Answer) → Opens d e h g a c answer
@@ -133,6 +135,44 @@ call_opens places actors s events p i x y m d e ready c got crew is alive name l
             apart = old.apart;
             owns = λ actor known lives fd mode is. own_stays d e s.holder t.holder x.name z.name c answer fd mode opens closes apart
                 (old.owns actor (sym (put_at_other s.actors x.name _ z.name apart) ∙ known) lives fd mode is);
+          });
+    }
+
+-- what passes between programs opens nothing
+pub pass_opens : (places : List ℕ → Option ℕ) (actors : List Held) (s : State) (events : List Kept) (p i : ℕ) (x y : Held) (m : IsMember s events p x) (d : Disk) (own : Own)
+    → AreActors places actors s events p → slice_get actors i ≡ Some x → m.actor.life ≡ Alive
+    → y.name ≡ x.name → y.descriptors.items ≡ x.descriptors.items → IsPassing own.due own.came
+    → IsOpenTo d actors s → IsOpenTo d (set actors i y) (acted s x.name own 0 (Some m.actor))
+pass_opens places actors s events p i x y m d own crew is alive name list passes open_to =
+    let t = acted s x.name own 0 (Some m.actor) in
+    let mine = open_to.each i x is in
+    let past = m.actor.past in
+    let now : Actor = record { program = m.actor.program; past = own ∷ past; life = m.actor.life } in
+    let same : t.holder ≡ s.holder = passes.holder s.holder x.name in
+    let holds : held (own ∷ past) ≡ held past = passes.held (held past) in
+    let owned : Owns d t.holder x.name (held now.past) =
+    subst (λ (h : ℕ → Option (List ℕ)). Owns d h x.name (held now.past)) (sym same)
+    (subst (λ (m : ℕ → Option Mode). Owns d s.holder x.name m) (sym holds) (mine.owns m.actor m.is alive)) in
+    record {
+      held = λ fd b at. open_to.held fd b (ap (λ (h : ℕ → Option (List ℕ)). h fd) (sym same) ∙ at);
+      each = each_set (λ j (z : Held). HasOpen d t z) actors i y
+          (record {
+            lists = λ fd. ap (has fd) list ∙ mine.lists fd ∙ ap (λ (h : ℕ → Option (List ℕ)). is_by x.name (h fd)) (sym same) ∙ ap (λ (a : List ℕ). is_by a (t.holder fd)) (sym name);
+            apart = subst AreApart (sym list) mine.apart;
+            owns = λ actor at lives.
+                let both : ◌≡◌ {A = Option Actor} (Some now) (Some actor) = sym (put_at_same s.actors x.name (Some now)) ∙ ap t.actors (sym name) ∙ at in
+                let one : now ≡ actor = cc in
+                subst (λ (a : List ℕ). Owns d t.holder a (held actor.past)) (sym name)
+                (subst (λ (z : Actor). Owns d t.holder x.name (held z.past)) one owned);
+          })
+          (λ j z other at.
+          let old = open_to.each j z at in
+          let apart : z.name ≢ x.name = apart_by places x.name z.name i j (crew.placed i x is) (crew.placed j z at) other in
+          record {
+            lists = λ fd. old.lists fd ∙ ap (λ (h : ℕ → Option (List ℕ)). is_by z.name (h fd)) (sym same);
+            apart = old.apart;
+            owns = λ actor known lives. subst (λ (h : ℕ → Option (List ℕ)). Owns d h z.name (held actor.past)) (sym same)
+                (old.owns actor (sym (put_at_other s.actors x.name _ z.name apart) ∙ known) lives);
           });
     }
 

@@ -1,5 +1,5 @@
 -- What led to a world's disk goes on with one event more; and if it began with an opening disk, it is legal.
-use Rattle.std.proofs.Common.{◌≡◌, ℕ, ◌≤◌, List, [], ◌∷◌, ◌++◌, Option, Some, None, IsSomeAnd, refl, sym, ap, ◌∙◌, subst, arith}
+use Rattle.std.proofs.Common.{◌≡◌, ◌≢◌, ℕ, ◌≤◌, List, [], ◌∷◌, ◌++◌, true, Option, Some, None, IsSomeAnd, refl, sym, ap, ◌∙◌, subst, arith, codes, reverse, false}
 use Rattle.std.proofs.lemmas.List.{reverse-append}
 use Rattle.std.specs.List.{AllZip}
 use Rattle.call_fs.specs.declared.calls.CallData.{CallData}
@@ -14,17 +14,23 @@ use Rattle.call_fs.specs.Apply.{effect, Fits, Apply, IsReadBy}
 use Rattle.call_fs.specs.declared.past.NeedData.TheVariants as needs
 use Rattle.mail_bytes.specs.Told.{OnTold, Meets}
 use Rattle.world_events.specs.declared.event.Program.{Program}
+use Rattle.world_events.specs.declared.event.Program.TheVariants.{Cleaner, Sender, LocalSpawner, RemoteSpawner}
+use Rattle.call_fs.specs.declared.past.Own.{Own}
 use Rattle.world_events.specs.declared.event.Event.{Event as Kept}
 use Rattle.world_events.specs.declared.event.Event.TheVariants as kept
-use Rattle.mail_world.specs.History.{Event, call_act, Actor, Life, State, next_of, FindsInputAlone, Allowed, MayRead, happens, called, finished, shut_by, after, latest, Opening, EachAllowed, Legal}
-use Rattle.mail_world.specs.History.Event.{Start, End, Stop, Moment, Halt}
+use Rattle.mail_world.specs.History.{Event, call_act, Actor, Life, State, next_of, acted, MayRun, MayFind, MayReport, Allowed, MayRead, happens, called, finished, shut_by, after, latest, Opening, EachAllowed, Legal}
+use Rattle.mail_world.specs.History.Event.{Start, Act, Generation, Report, End, Stop, Moment, Halt}
 use Rattle.mail_world.specs.History.Life.{Alive}
 use Rattle.mail_world.specs.World.{kept_call, Tells, IsByName, Leads, IsHistory}
-use Rattle.mail_world.specs.Waiting.{HasNoGeneration}
-use Rattle.mail_world.specs.Inside.{StartsNone, IsLed, known}
-use Rattle.mail_world.proofs.Known.{AreAlike, after_known, told_slots}
+use Rattle.mail_world.specs.Pipework.{Pipework, is_member}
+use Rattle.mail_world.specs.Wired.{AreWholeGivings}
+use Rattle.mail_world.specs.Acting.{IsNoAct, Brings}
+use Rattle.mail_world.specs.Inside.{IsLed, known}
+use Rattle.mail_world.proofs.Known.{AreAlike, after_known, told_slots, known_pipework}
+use Rattle.mail_world.proofs.Members.{contained_member}
+use Rattle.mail_world.proofs.Passes.{NoActorRuns, passing, comes_of}
 use Rattle.mail_world.specs.ByKind.{IsMail}
-use Rattle.mail_world.proofs.Programs.{mail_runs, program_finds}
+use Rattle.mail_world.proofs.Programs.{mail_runs}
 
 history_push : (o d : Disk) (events : List Kept) (p : ℕ) (h : List Event) (k : Kept) (e : Event)
     → Leads o d events p h → Tells k e → Allowed (after o h) e → IsByName (after o h).disk e
@@ -52,10 +58,13 @@ finished_now : (s : State) (a : List ℕ) (life : Life) (o : Option Actor) → (
 finished_now s a life None = refl
 finished_now s a life (Some x) = refl
 
+-- it may find this ready in each state, if nobody started it
+abbrev pub FindsIn : List ℕ → Actor → Ready → Type 0
+FindsIn a x ready = (s : State) → s.pipework.slots a ≡ None → MayFind s a x.program x.past ready
+
 -- a living actor that has read no moment after the present one
 pub record IsActing (s : State) (a : List ℕ) (present : ℕ) (x : Actor) : Type 0 where
   pub is : s.actors a ≡ Some x
-  pub mail : IsMail x.program
   pub alive : x.life ≡ Alive
   pub in_order : latest x.program x.past ≤ present
 
@@ -69,7 +78,7 @@ may_read s t a p x same now acts = record {
 }
 
 call_goes_on : (o d d' : Disk) (events : List Kept) (p : ℕ) (h : List Event) (a : List ℕ) (x : Actor) (ready : Ready) (call : CallData) (got : Told)
-    → Leads o d events p h → IsActing (known events) a p x → FindsInputAlone ready → next_of x.program x.past p ready ≡ needs.File call → Apply d p call got.answer d' → IsReadBy d call got
+    → Leads o d events p h → IsActing (known events) a p x → FindsIn a x ready → next_of x.program x.past p ready ≡ needs.File call → Apply d p call got.answer d' → IsReadBy d call got
     → (e : Event) × Leads o d' (events ++ kept_call a p ready call got ∷ []) p (e ∷ h)
 call_goes_on o d d' events p h a x ready call got is acts alone due applied bytes =
     let s = after o h in
@@ -80,7 +89,7 @@ call_goes_on o d d' events p h a x ready call got is acts alone due applied byte
     let allowed : Allowed s e = record {
       actor = x;
       reads = reads;
-      finds = program_finds s a x.program acts.mail x.past ready (told_slots o events h is.told a) alone;
+      finds = alone s (told_slots o events h is.told a);
       due = due;
       came = (
         subst (λ (d : Disk). Fits d call got.answer w) (sym is.disk) applied.1,
@@ -95,6 +104,35 @@ call_goes_on o d d' events p h a x ready call got is acts alone due applied byte
         named = next.named;
         disk = called_disk s a p ready call got w (s.actors a) x reads.is ∙ ap (λ (d : Disk). effect d p call got.answer w) is.disk ∙ sym applied.2;
         moment = called_now s a p ready call got w (s.actors a) ∙ is.moment;
+      },
+    )
+
+-- what passes between programs
+pass_goes_on : (o d : Disk) (events : List Kept) (p : ℕ) (h : List Event) (a : List ℕ) (x : Actor) (own : Own) (pid most : ℕ)
+    → Leads o d events p h → IsActing (known events) a p x → FindsIn a x own.ready → own.read ≡ p → next_of x.program x.past own.read own.ready ≡ own.due → IsNoAct own.due
+    → AreWholeGivings (reverse events) → NoActorRuns (known events).pipework → 1 ≤ most → Brings (known events).pipework pid most a own.due own.came
+    → (e : Event) × Leads o d (events ++ kept.Act a own ∷ []) p (e ∷ h)
+pass_goes_on o d events p h a x own pid most is acts finds read due pass whole none many brings =
+    let s = after o h in
+    let e : Event = Act a own 0 in
+    let k : Kept = kept.Act a own in
+    let reads : MayRead s a x own.read = subst (MayRead s a x) (sym read) (may_read s (known events) a p x (after_known o events h is.told) is.moment acts) in
+    let passes = passing own.due own.came pass in
+    let allowed : Allowed s e = record {
+      actor = x;
+      reads = reads;
+      finds = finds s (told_slots o events h is.told a);
+      due = due;
+      came = comes_of s (known events).pipework pid most a own.due own.came (known_pipework o events h is.told whole) none many brings;
+    } in
+    let next = history_push o d events p h k e is refl allowed tt in (
+      e,
+      record {
+        allowed = next.allowed;
+        told = next.told;
+        named = next.named;
+        disk = ap (λ (m : Option Actor). (acted s a own 0 m).disk) reads.is ∙ passes.disk s.disk own.read 0 ∙ is.disk;
+        moment = ap (λ (m : Option Actor). (acted s a own 0 m).now) reads.is ∙ is.moment;
       },
     )
 
@@ -116,13 +154,13 @@ finish_goes_on o d events p h a x life k e is there tells allowed named over =
     }
 
 end_goes_on : (o d : Disk) (events : List Kept) (p : ℕ) (h : List Event) (a : List ℕ) (x : Actor) (ready : Ready) (status : ℕ)
-    → Leads o d events p h → IsActing (known events) a p x → FindsInputAlone ready → next_of x.program x.past p ready ≡ needs.Ended status
+    → Leads o d events p h → IsActing (known events) a p x → FindsIn a x ready → next_of x.program x.past p ready ≡ needs.Ended status
     → (e : Event) × Leads o (shut_by a (known events).holder d) (events ++ kept.End a p ready status ∷ []) p (e ∷ h)
 end_goes_on o d events p h a x ready status is acts alone due =
     let s = after o h in
     let e : Event = End a p ready status in
     let reads : MayRead s a x p = may_read s (known events) a p x (after_known o events h is.told) is.moment acts in
-    let allowed : Allowed s e = record { actor = x; reads = reads; finds = program_finds s a x.program acts.mail x.past ready (told_slots o events h is.told a) alone; due = due } in
+    let allowed : Allowed s e = record { actor = x; reads = reads; finds = alone s (told_slots o events h is.told a); due = due } in
     (e, finish_goes_on o d events p h a x (Life.Over status) (kept.End a p ready status) e is acts.is refl allowed tt refl)
 
 stop_goes_on : (o d : Disk) (events : List Kept) (p : ℕ) (h : List Event) (a : List ℕ) (x : Actor)
@@ -159,6 +197,43 @@ start_goes_on o d events p h a program mail is new =
     let next = history_push o d events p h (kept.Start a program) e is refl allowed tt in
     (e, record { allowed = next.allowed; told = next.told; named = next.named; disk = is.disk; moment = is.moment })
 
+-- who has a member's name lives no more, and started with its generation
+abbrev pub AreGone : State → Type 0
+AreGone s = (a : List ℕ) (x : Actor) → is_member a ≡ true → s.actors a ≡ Some x → (x.life ≢ Alive) × (MayRun x.program → ⊥)
+
+-- a generation starts when no member of the one before lives
+generation_goes_on : (o d : Disk) (events : List Kept) (p : ℕ) (h : List Event)
+    → Leads o d events p h → AreGone (known events)
+    → (e : Event) × Leads o d (events ++ kept.Generation p ∷ []) p (e ∷ h)
+generation_goes_on o d events p h is gone =
+    let s = after o h in
+    let e : Event = Generation (Sender p) (Cleaner p) (LocalSpawner p) (RemoteSpawner p) in
+    let same = after_known o events h is.told in
+    let allowed : Allowed s e = record {
+      over = λ a x among there. (gone a x (contained_member a among) (ap (λ (m : List ℕ → Option Actor). m a) (sym same.actors) ∙ there)).0;
+      apart = λ a x among there. (gone a x (contained_member a among) (ap (λ (m : List ℕ → Option Actor). m a) (sym same.actors) ∙ there)).1;
+      kinds = (tt, tt, tt, tt);
+    } in
+    let told : Tells (kept.Generation p) e = (p, refl, record { sender_is = refl; clean_is = refl; lspawn_is = refl; rspawn_is = refl }) in
+    let next = history_push o d events p h (kept.Generation p) e is told allowed tt in
+    (e, record { allowed = next.allowed; told = next.told; named = next.named; disk = is.disk; moment = is.moment })
+
+-- a report of a remote program that has none
+report_goes_on : (o d : Disk) (events : List Kept) (p : ℕ) (h : List Event) (slot letter : ℕ) (text : List ℕ)
+    → Leads o d events p h → AreWholeGivings (reverse events) → MayReport (known events) slot
+    → (e : Event) × Leads o d (events ++ kept.Report slot letter text ∷ []) p (e ∷ h)
+report_goes_on o d events p h slot letter text is whole may =
+    let s = after o h in
+    let e : Event = Report slot letter text in
+    let same = after_known o events h is.told in
+    let pipes = known_pipework o events h is.told whole in
+    let allowed : Allowed s e = record {
+      lives = record { actor = may.lives.actor; is = ap (λ (m : List ℕ → Option Actor). m (codes "rspawn")) same.actors ∙ may.lives.is; alive = may.lives.alive };
+      runs = ap (λ (w : Pipework). w.programs (codes "rspawn") slot) pipes ∙ may.runs;
+    } in
+    let next = history_push o d events p h (kept.Report slot letter text) e is refl allowed tt in
+    (e, record { allowed = next.allowed; told = next.told; named = next.named; disk = is.disk; moment = is.moment })
+
 halt_goes_on : (o d e : Disk) (events : List Kept) (p : ℕ) (h : List Event) (how : Survival) (halts : Halts how d e)
     → Leads o d events p h → Leads o e (events ++ kept.Halt how ∷ []) p (Halt how (contents_by how d halts.numbers) ∷ h)
 halt_goes_on o d e events p h how halts is =
@@ -175,14 +250,14 @@ abbrev pub LeadsOn : Option Disk → Option Disk → List Kept → List Kept →
 LeadsOn old new events later p q = (o : Disk) (h : List Event) → IsSomeAnd old (λ d. Leads o d events p h) → (e : Event) × IsSomeAnd new (λ d. Leads o d later q (e ∷ h))
 
 pub call_told : (old new : Option Disk) (events : List Kept) (p : ℕ) (a : List ℕ) (x : Actor) (ready : Ready) (call : CallData) (got : Told)
-    → IsActing (known events) a p x → FindsInputAlone ready → next_of x.program x.past p ready ≡ needs.File call → Meets old new (λ d d'. Apply d p call got.answer d' × IsReadBy d call got)
+    → IsActing (known events) a p x → FindsIn a x ready → next_of x.program x.past p ready ≡ needs.File call → Meets old new (λ d d'. Apply d p call got.answer d' × IsReadBy d call got)
     → LeadsOn old new events (events ++ kept_call a p ready call got ∷ []) p p
 call_told (Some d) (Some d') events p a x ready call got acts alone due met o h is = call_goes_on o d d' events p h a x ready call got is acts alone due met.0 met.1
 call_told (Some d) None events p a x ready call got acts alone due met o h is = absurd met
 call_told None new events p a x ready call got acts alone due met o h is = absurd is
 
 pub end_told : (old new : Option Disk) (events : List Kept) (p : ℕ) (a : List ℕ) (x : Actor) (ready : Ready) (status : ℕ)
-    → IsActing (known events) a p x → FindsInputAlone ready → next_of x.program x.past p ready ≡ needs.Ended status → Meets old new (λ d d'. d' ≡ shut_by a (known events).holder d)
+    → IsActing (known events) a p x → FindsIn a x ready → next_of x.program x.past p ready ≡ needs.Ended status → Meets old new (λ d d'. d' ≡ shut_by a (known events).holder d)
     → LeadsOn old new events (events ++ kept.End a p ready status ∷ []) p p
 end_told (Some d) (Some d') events p a x ready status acts alone due met o h is =
     let next = end_goes_on o d events p h a x ready status is acts alone due in
@@ -198,6 +273,23 @@ stop_told (Some d) (Some d') events p a x acts met o h is =
     (next.0, subst (λ (d : Disk). Leads o d (events ++ kept.Stop a ∷ []) p (next.0 ∷ h)) (sym met) next.1)
 stop_told (Some d) None events p a x acts met o h is = absurd met
 stop_told None new events p a x acts met o h is = absurd is
+
+pub pass_told : (told : Option Disk) (events : List Kept) (p : ℕ) (a : List ℕ) (x : Actor) (own : Own) (pid most : ℕ)
+    → IsActing (known events) a p x → FindsIn a x own.ready → own.read ≡ p → next_of x.program x.past own.read own.ready ≡ own.due → IsNoAct own.due
+    → AreWholeGivings (reverse events) → NoActorRuns (known events).pipework → 1 ≤ most → Brings (known events).pipework pid most a own.due own.came
+    → LeadsOn told told events (events ++ kept.Act a own ∷ []) p p
+pass_told (Some d) events p a x own pid most acts finds read due pass whole none many brings o h is = pass_goes_on o d events p h a x own pid most is acts finds read due pass whole none many brings
+pass_told None events p a x own pid most acts finds read due pass whole none many brings o h is = absurd is
+
+pub generation_told : (told : Option Disk) (events : List Kept) (p : ℕ) → AreGone (known events)
+    → LeadsOn told told events (events ++ kept.Generation p ∷ []) p p
+generation_told (Some d) events p gone o h is = generation_goes_on o d events p h is gone
+generation_told None events p gone o h is = absurd is
+
+pub report_told : (told : Option Disk) (events : List Kept) (p slot letter : ℕ) (text : List ℕ) → AreWholeGivings (reverse events) → MayReport (known events) slot
+    → LeadsOn told told events (events ++ kept.Report slot letter text ∷ []) p p
+report_told (Some d) events p slot letter text whole may o h is = report_goes_on o d events p h slot letter text is whole may
+report_told None events p slot letter text whole may o h is = absurd is
 
 pub moment_told : (told : Option Disk) (events : List Kept) (p m : ℕ) → IsMoment m → p ≤ m → LeadsOn told told events (events ++ kept.Moment m ∷ []) p m
 moment_told (Some d) events p m moment later o h is = moment_goes_on o d events p m h moment later is
@@ -273,14 +365,8 @@ halt_goes_with (Some d) new events p how met o h is =
     let next = halt_leads (Some d) new events p how met o h (leads_of o d h events p is) in
     (next.0, history_of o h new (events ++ kept.Halt how ∷ []) p (Halt how next.0) (legal_opens o h is.legal) next.1)
 
--- in what happened in a world no generation was started
-pub history_alone : (told : Option Disk) (events : List Kept) (p : ℕ) → StartsNone events → (o : Disk) (h : List Event)
-    → IsSomeAnd told (λ d. IsHistory o d events p h) → HasNoGeneration h
-history_alone None events p alone o h is = absurd is
-history_alone (Some d) events p alone o h is = alone h is.told
-
--- nor in what led to a world, which is legal if it began with an initial disk
-pub led_legal : (told : Option Disk) (events : List Kept) (p : ℕ) → StartsNone events → OnTold told (λ d. IsLed d events p)
-    → OnTold told (λ d. (o : Disk) × (h : List Event) × Leads o d events p h × HasNoGeneration h × (Opening o → Legal o h))
-led_legal None events p alone led = tt
-led_legal (Some d) events p alone led = (led.0, led.1, led.2, alone led.1 led.2.told, λ opens. legal_by led.0 led.1 opens led.2.allowed)
+-- what led to a world is legal, if it began with an initial disk
+pub led_legal : (told : Option Disk) (events : List Kept) (p : ℕ) → OnTold told (λ d. IsLed d events p)
+    → OnTold told (λ d. (o : Disk) × (h : List Event) × Leads o d events p h × (Opening o → Legal o h))
+led_legal None events p led = tt
+led_legal (Some d) events p led = (led.0, led.1, led.2, λ opens. legal_by led.0 led.1 opens led.2.allowed)

@@ -4,15 +4,24 @@ use Rattle.std.proofs.lemmas.List.{reverse-append}
 use Rattle.std.specs.List.{AllZip}
 use Rattle.std.specs.Option.{option_map}
 use Rattle.call_fs.specs.declared.past.Own.{Own}
+use Rattle.call_fs.specs.declared.past.NeedData.{NeedData}
+use Rattle.call_fs.specs.declared.past.NeedData.TheVariants as needs
+use Rattle.call_fs.specs.declared.program.Port.{Port}
+use Rattle.call_fs.specs.declared.past.ChildData.{ChildData}
+use Rattle.call_fs.specs.declared.past.ChildData.TheVariants as child
+use Rattle.call_fs.specs.declared.past.GotData.{GotData}
+use Rattle.call_fs.specs.declared.past.GotData.TheVariants as got
+use Rattle.mail_world.specs.Pipework.{Pipework, pipework_after, without_writer, with_generation, with_report, no_pipework}
 use Rattle.call_fs.specs.Disk.{Disk}
 use Rattle.call_fs.specs.Maps.{put_at}
 use Rattle.world_events.specs.declared.event.Event.{Event as Kept}
 use Rattle.world_events.specs.declared.event.Event.TheVariants as kept
 use Rattle.world_events.specs.declared.event.Program.{Program}
 use Rattle.world_events.specs.declared.event.Program.TheVariants.{Cleaner, Sender, LocalSpawner, RemoteSpawner}
-use Rattle.mail_world.specs.History.{Event, Actor, Life, State, newborn, stopped, happens, acted, finished, after, holder_after, unless_by}
+use Rattle.mail_world.specs.History.{Event, Actor, Life, State, newborn, stopped, happens, acted, finished, after, holder_after, unless_by, report_text}
 use Rattle.mail_world.specs.History.Event.{Start, Act, Child, Generation, Report, End, Stop, Moment, Halt}
 use Rattle.mail_world.specs.World.{Tells, AreMembers}
+use Rattle.mail_world.specs.Wired.{GivesWhole, IsWholeGiving, AreWholeGivings}
 use Rattle.mail_world.specs.Inside.{event_of, nowhere, known}
 
 -- the same actors, holders and moment
@@ -134,6 +143,94 @@ told_slots d events h told a = slots_told d (reverse events) h told a
 -- what is known is so after each history that is told
 pub after_known : (d : Disk) (events : List Kept) (h : List Event) → AllZip Tells (reverse events) h → AreAlike (after d h) (known events)
 after_known d events h told = told_alike d (reverse events) h told
+
+-- The pipes and slots, if no giving failed: then no event hides how much was given.
+
+took_alike : (pipework : Pipework) (a : List ℕ) (port : Port) (came : GotData) (w v : ℕ) → pipework_after pipework a (needs.Take port) came w ≡ pipework_after pipework a (needs.Take port) came v
+took_alike pipework a port (got.Answered told) w v = refl
+took_alike pipework a port (got.Took bytes) w v = refl
+took_alike pipework a port got.End w v = refl
+took_alike pipework a port (got.Ended status) w v = refl
+took_alike pipework a port got.Crashed w v = refl
+took_alike pipework a port got.Gave w v = refl
+took_alike pipework a port (got.Started pid) w v = refl
+took_alike pipework a port got.Failed w v = refl
+took_alike pipework a port got.Memory w v = refl
+
+begun_alike : (pipework : Pipework) (a : List ℕ) (asked : ChildData) (came : GotData) (w v : ℕ) → pipework_after pipework a (needs.Start asked) came w ≡ pipework_after pipework a (needs.Start asked) came v
+begun_alike pipework a (child.Bounce room) came w v = refl
+begun_alike pipework a (child.Forward uid room) came w v = refl
+begun_alike pipework a (child.Local slot words uid) came w v = refl
+begun_alike pipework a (child.Remote slot domain sender recipient) (got.Answered told) w v = refl
+begun_alike pipework a (child.Remote slot domain sender recipient) (got.Took bytes) w v = refl
+begun_alike pipework a (child.Remote slot domain sender recipient) got.End w v = refl
+begun_alike pipework a (child.Remote slot domain sender recipient) (got.Ended status) w v = refl
+begun_alike pipework a (child.Remote slot domain sender recipient) got.Crashed w v = refl
+begun_alike pipework a (child.Remote slot domain sender recipient) got.Gave w v = refl
+begun_alike pipework a (child.Remote slot domain sender recipient) (got.Started pid) w v = refl
+begun_alike pipework a (child.Remote slot domain sender recipient) got.Failed w v = refl
+begun_alike pipework a (child.Remote slot domain sender recipient) got.Memory w v = refl
+
+wrote_alike : (pipework : Pipework) (a : List ℕ) (due : NeedData) (came : GotData) (w v : ℕ) → GivesWhole due came → pipework_after pipework a due came w ≡ pipework_after pipework a due came v
+wrote_alike pipework a (needs.Give port bytes) (got.Answered told) w v whole = refl
+wrote_alike pipework a (needs.Give port bytes) (got.Took some) w v whole = refl
+wrote_alike pipework a (needs.Give port bytes) got.End w v whole = refl
+wrote_alike pipework a (needs.Give port bytes) (got.Ended status) w v whole = refl
+wrote_alike pipework a (needs.Give port bytes) got.Crashed w v whole = refl
+wrote_alike pipework a (needs.Give port bytes) got.Gave w v whole = refl
+wrote_alike pipework a (needs.Give port bytes) (got.Started pid) w v whole = refl
+wrote_alike pipework a (needs.Give port bytes) got.Failed w v whole = absurd whole
+wrote_alike pipework a (needs.Give port bytes) got.Memory w v whole = refl
+wrote_alike pipework a (needs.Take port) came w v whole = took_alike pipework a port came w v
+wrote_alike pipework a (needs.Start asked) came w v whole = begun_alike pipework a asked came w v
+wrote_alike pipework a (needs.File call) came w v whole = refl
+wrote_alike pipework a (needs.Command bytes) came w v whole = refl
+wrote_alike pipework a needs.Wait came w v whole = refl
+wrote_alike pipework a (needs.Ended status) came w v whole = refl
+
+acted_pipework : (s t : State) (a : List ℕ) (own : Own) (w v : ℕ) (x : Option Actor) → GivesWhole own.due own.came → s.pipework ≡ t.pipework → (acted s a own w x).pipework ≡ (acted t a own v x).pipework
+acted_pipework s t a own w v None whole same = same
+acted_pipework s t a own w v (Some x) whole same =
+    ap (λ (p : Pipework). pipework_after p a own.due own.came w) same ∙ wrote_alike t.pipework a own.due own.came w v whole
+
+finished_pipework : (s t : State) (a : List ℕ) (life : Life) (x : Option Actor) → s.pipework ≡ t.pipework → (finished s a life x).pipework ≡ (finished t a life x).pipework
+finished_pipework s t a life None same = same
+finished_pipework s t a life (Some x) same = ap (λ (p : Pipework). without_writer p a) same
+
+happens_pipework : (s t : State) (k : Kept) (e : Event) → Tells k e → IsWholeGiving k → AreAlike s t → s.pipework ≡ t.pipework → (happens s e).pipework ≡ (happens t (event_of k)).pipework
+happens_pipework s t k (Start a program) told whole c same = subst (λ (k : Kept). s.pipework ≡ (happens t (event_of k)).pipework) (sym told) same
+happens_pipework s t k (Act a own wrote) told whole c same =
+    let gives = subst IsWholeGiving told whole in
+    subst (λ (k : Kept). (happens s (Act a own wrote)).pipework ≡ (happens t (event_of k)).pipework) (sym told)
+    (subst (λ (x : Option Actor). (acted s a own wrote (s.actors a)).pipework ≡ (acted t a own 0 x).pipework)
+    (ap (λ (m : List ℕ → Option Actor). m a) c.actors) (acted_pipework s t a own wrote 0 (s.actors a) gives same))
+happens_pipework s t k (Child parent own a program) told whole c same = absurd told
+happens_pipework s t k (Generation sender clean lspawn rspawn) told whole c same =
+    subst (λ (k : Kept). (happens s (Generation sender clean lspawn rspawn)).pipework ≡ (happens t (event_of k)).pipework) (sym told.1) (ap with_generation same)
+happens_pipework s t k (Report slot letter text) told whole c same =
+    subst (λ (k : Kept). (happens s (Report slot letter text)).pipework ≡ (happens t (event_of k)).pipework) (sym told)
+    (ap (λ (p : Pipework). with_report p slot (report_text letter text)) same)
+happens_pipework s t k (End a read ready status) told whole c same =
+    subst (λ (k : Kept). (happens s (End a read ready status)).pipework ≡ (happens t (event_of k)).pipework) (sym told)
+    (subst (λ (x : Option Actor). (finished s a (Life.Over status) (s.actors a)).pipework ≡ (finished t a (Life.Over status) x).pipework)
+    (ap (λ (m : List ℕ → Option Actor). m a) c.actors) (finished_pipework s t a (Life.Over status) (s.actors a) same))
+happens_pipework s t k (Stop a) told whole c same =
+    subst (λ (k : Kept). (happens s (Stop a)).pipework ≡ (happens t (event_of k)).pipework) (sym told)
+    (subst (λ (x : Option Actor). (finished s a Life.Stopped (s.actors a)).pipework ≡ (finished t a Life.Stopped x).pipework)
+    (ap (λ (m : List ℕ → Option Actor). m a) c.actors) (finished_pipework s t a Life.Stopped (s.actors a) same))
+happens_pipework s t k (Moment m) told whole c same = subst (λ (k : Kept). s.pipework ≡ (happens t (event_of k)).pipework) (sym told) same
+happens_pipework s t k (Halt how contents) told whole c same = subst (λ (k : Kept). no_pipework ≡ (happens t (event_of k)).pipework) (sym told) refl
+
+pipework_told : (d : Disk) (events : List Kept) (h : List Event) → AllZip Tells events h → AreWholeGivings events → (after d h).pipework ≡ (after nowhere (map event_of events)).pipework
+pipework_told d [] [] told whole = refl
+pipework_told d [] (e ∷ h) told whole = absurd told
+pipework_told d (k ∷ events) [] told whole = absurd told
+pipework_told d (k ∷ events) (e ∷ h) told whole =
+    happens_pipework (after d h) (after nowhere (map event_of events)) k e told.0 whole.0 (told_alike d events h told.1) (pipework_told d events h told.1 whole.1)
+
+-- what is known of the pipes and slots is so after each history that is told
+pub known_pipework : (d : Disk) (events : List Kept) (h : List Event) → AllZip Tells (reverse events) h → AreWholeGivings (reverse events) → (after d h).pipework ≡ (known events).pipework
+known_pipework d events h told whole = pipework_told d (reverse events) h told whole
 
 -- what is known after one event more
 pub known_push : (events : List Kept) (k : Kept) → known (events ++ k ∷ []) ≡ happens (known events) (event_of k)

@@ -13,6 +13,31 @@ pub mod Kept
 pub mod Waiting
 -- what kept events tell, whatever the disk is
 pub mod Known
+-- what an event changes of the pipes that are kept
+pub mod Wires
+pub mod Feeds
+pub mod Piped
+-- what an actor finds by its pipes
+pub mod Found
+-- a generation starts
+pub mod Begun
+-- the actor at a place
+pub mod Noted
+-- the order of starts
+pub mod Starting
+pub mod Crewing
+-- who is the next one in a turn
+pub mod Turns
+-- the report of a remote program
+pub mod Reported
+-- the first member that lives
+pub mod Firsts
+-- idle turns
+pub mod Idles
+-- what an actor passes on, and what it owes
+pub mod Passed
+-- a step, by all that a world keeps
+pub mod Steps
 -- what an actor finds ready
 pub mod Readies
 -- a history goes on with one event more
@@ -33,12 +58,13 @@ pub mod Crew
 pub mod Acts
 -- what the actors have open
 pub mod Hands
--- the names of members
+-- the names of members, and where they stand
 pub mod Members
+pub mod Seats
+-- what passes by pipes and slots
+pub mod Passes
 -- histories without generations
 pub mod Covered
--- a map whose keys are texts
-pub mod Index
 -- what a world keeps
 pub mod Worlds
 -- how many actors live

@@ -1,6 +1,7 @@
 -- Lists by their places.
-use Rattle.std.proofs.Common.{◌≡◌, ◌≢◌, ◌⊎◌, inl, inr, ℕ, zero, suc, List, [], ◌∷◌, ◌++◌, ◌<◌, length, take, drop, set, Option, Some, None, IsSomeAnd, refl, sym, ap, ◌∙◌, append-nil, subst, ⊎_elim, arith}
+use Rattle.std.proofs.Common.{◌≡◌, ◌≢◌, ◌⊎◌, inl, inr, ℕ, zero, suc, List, [], ◌∷◌, ◌++◌, ◌+◌, ◌<◌, ◌≤◌, length, take, drop, set, Option, Some, None, IsSomeAnd, refl, sym, ap, ◌∙◌, append-nil, subst, ⊎_elim, arith}
 use Rattle.std.proofs.lemmas.List.{drop_all, take_all}
+use Rattle.std.specs.Prelude.{All}
 use Rattle.std.specs.List.{slice_get}
 
 -- what stands at a place after one item was changed
@@ -70,7 +71,57 @@ some_within [] i h = absurd (omega arith)
 some_within (x ∷ xs) zero h = (x, refl)
 some_within (x ∷ xs) (suc i) h = some_within xs i (omega arith)
 
+-- an item that was changed twice, and one that wasn't
+pub set_again : {X : Type 0} (xs : List X) (i : ℕ) (x y : X) → set (set xs i x) i y ≡ set xs i y
+set_again [] i x y = refl
+set_again (z ∷ zs) zero x y = refl
+set_again {X} (z ∷ zs) (suc i) x y = ap (λ (l : List X). z ∷ l) (set_again zs i x y)
+
+pub set_same : {X : Type 0} (xs : List X) (i : ℕ) (x : X) → slice_get xs i ≡ Some x → set xs i x ≡ xs
+set_same [] i x is = absurd cc
+set_same {X} (z ∷ zs) zero x is = let same : z ≡ x = cc in ap (λ (y : X). y ∷ zs) (sym same)
+set_same {X} (z ∷ zs) (suc i) x is = ap (λ (l : List X). z ∷ l) (set_same zs i x is)
+
 -- a whole list that was written over another one of its length
 pub written_back : {X : Type 0} (n : ℕ) (old new : List X) → length new ≡ length old → n ≡ length old → take n (new ++ drop (length new) old) ≡ new
 written_back {X} n old new same is =
     ap (λ (rest : List X). take n (new ++ rest)) (drop_all (length new) old (omega arith)) ∙ ap (take n) (append-nil new) ∙ take_all n new (omega arith)
+
+pub get_still : {X : Type 0} (xs : List X) (y : X) (j : ℕ) (z : X) → slice_get xs j ≡ Some z → slice_get (xs ++ y ∷ []) j ≡ Some z
+get_still [] y j z h = absurd cc
+get_still (x ∷ xs) y zero z h = h
+get_still (x ∷ xs) y (suc j) z h = get_still xs y j z h
+
+pub get_last : {X : Type 0} (xs : List X) (y : X) → slice_get (xs ++ y ∷ []) (length xs) ≡ Some y
+get_last [] y = refl
+get_last (x ∷ xs) y = get_last xs y
+
+-- what stands in the rest of a list
+pub get_drop : {X : Type 0} (n : ℕ) (xs : List X) (j : ℕ) → slice_get (drop n xs) j ≡ slice_get xs (n + j)
+get_drop zero xs j = let e : j ≡ 0 + j = omega arith in ap (slice_get xs) e
+get_drop (suc n) [] j = refl
+get_drop (suc n) (x ∷ xs) j = let e : suc (n + j) ≡ suc n + j = omega arith in get_drop n xs j ∙ ap (slice_get (x ∷ xs)) e
+
+-- a change within it, and one before it
+pub drop_set : {X : Type 0} (n : ℕ) (xs : List X) (j : ℕ) (y : X) → drop n (set xs (n + j) y) ≡ set (drop n xs) j y
+drop_set zero xs j y = let e : 0 + j ≡ j = omega arith in ap (λ (k : ℕ). set xs k y) e
+drop_set (suc n) [] j y = refl
+drop_set {X} (suc n) (x ∷ xs) j y =
+    let e : suc n + j ≡ suc (n + j) = omega arith in ap (λ (k : ℕ). drop (suc n) (set {A = X} (x ∷ xs) k y)) e ∙ drop_set n xs j y
+
+pub drop_before : {X : Type 0} (n : ℕ) (xs : List X) (i : ℕ) (y : X) → i < n → drop n (set xs i y) ≡ drop n xs
+drop_before zero xs i y lt = absurd (omega arith)
+drop_before (suc n) [] i y lt = refl
+drop_before (suc n) (x ∷ xs) zero y lt = refl
+drop_before (suc n) (x ∷ xs) (suc i) y lt = drop_before n xs i y (omega arith)
+
+pub drop_push : {X : Type 0} (n : ℕ) (xs : List X) (y : X) → n ≤ length xs → drop n (xs ++ y ∷ []) ≡ drop n xs ++ y ∷ []
+drop_push zero xs y le = refl
+drop_push (suc n) [] y le = absurd (omega arith)
+drop_push (suc n) (x ∷ xs) y le = drop_push n xs y (omega arith)
+
+-- a list is what comes before an item, the item, and the rest
+pub split_at : {X : Type 0} (xs : List X) (i : ℕ) (x : X) → slice_get xs i ≡ Some x → xs ≡ take i xs ++ x ∷ drop (suc i) xs
+split_at [] i x is = absurd cc
+split_at {X} (y ∷ ys) zero x is = let same : y ≡ x = cc in ap (λ (z : X). z ∷ ys) same
+split_at {X} (y ∷ ys) (suc i) x is = ap (λ (rest : List X). y ∷ rest) (split_at ys i x is)

@@ -49,19 +49,18 @@ use Rattle.call_fs.specs.declared.past.NeedData.TheVariants.{File, Take, Give, S
 use Rattle.call_fs.specs.declared.past.GotData.{GotData}
 use Rattle.call_fs.specs.declared.past.GotData.TheVariants as got
 use Rattle.call_fs.specs.Program.{IsKind, IsWithin}
-use Rattle.mail_world.specs.Acting.{IsAct, IsCarried, most_read, HasFew}
+use Rattle.mail_world.specs.Acting.{IsNoAct, IsCall}
+use Rattle.world_events.specs.Reads.{most_read, HasFew}
 
--- a need that is a call or an end is no other one
-pub calls_or_ends : (n : Need) (due : NeedData) → IsAct due → due_of n ≡ due → ((c : Call) → n ≡ need.File c → ⊥) → ((status : ℕ) → n ≡ need.Ended status → ⊥) → ⊥
-calls_or_ends n due acts is no_call no_status = by_need n (subst IsAct (sym is) acts) no_call no_status where
-  by_need : (n : Need) → IsAct (due_of n) → ((c : Call) → n ≡ need.File c → ⊥) → ((status : ℕ) → n ≡ need.Ended status → ⊥) → ⊥
-  by_need (need.File c) act no_file no_end = no_file c refl
-  by_need (need.Take port) act no_file no_end = act
-  by_need (need.Give port bytes) act no_file no_end = act
-  by_need (need.Start child) act no_file no_end = act
-  by_need (need.Command bytes) act no_file no_end = act
-  by_need need.Wait act no_file no_end = act
-  by_need (need.Ended status) act no_file no_end = no_end status refl
+-- a need that is neither a call nor an end
+pub no_act : (n : Need) → ((c : Call) → n ≡ need.File c → ⊥) → ((status : ℕ) → n ≡ need.Ended status → ⊥) → IsNoAct (due_of n)
+no_act (need.File c) no_file no_end = absurd (no_file c refl)
+no_act (need.Take port) no_file no_end = tt
+no_act (need.Give port bytes) no_file no_end = tt
+no_act (need.Start child) no_file no_end = tt
+no_act (need.Command bytes) no_file no_end = tt
+no_act need.Wait no_file no_end = tt
+no_act (need.Ended status) no_file no_end = absurd (no_end status refl)
 
 -- What is fed
 
@@ -242,7 +241,7 @@ read_made (Some d) None now c answer into bytes is made read = absurd made
 read_made (Some d) (Some e) now c answer into bytes is made read =
     (made, subst (λ (bytes : List ℕ). IsReadBy d c (record { answer = answer; bytes = bytes })) (sym is) read)
 
--- What a world carries out
+-- What an actor does
 
 -- what its machine was told and what came of its need are its event
 pub own_is : (m : AnyMachine) (own : Own) (past : List Own) → present_of m ≡ own.read → found_of m ≡ own.ready → need_of m ≡ own.due → with_own m own.came past ≡ own ∷ past
@@ -256,37 +255,37 @@ on_is_ok (Ok x) ok p = p
 on_is_ok (Err e) ok p = let h = ok in absurd (cc)
 
 -- what came is of the kind of what was due
-pub carried_kind : (due : NeedData) (came : GotData) → IsCarried due came → IsKind due came
-carried_kind (File c) (got.Answered told) carried = carried.1
-carried_kind (File c) (got.Took bytes) carried = absurd carried
-carried_kind (File c) got.End carried = absurd carried
-carried_kind (File c) (got.Ended status) carried = absurd carried
-carried_kind (File c) got.Crashed carried = absurd carried
-carried_kind (File c) got.Gave carried = absurd carried
-carried_kind (File c) (got.Started pid) carried = absurd carried
-carried_kind (File c) got.Failed carried = absurd carried
-carried_kind (File c) got.Memory carried = absurd carried
-carried_kind (Take port) came carried = absurd carried
-carried_kind (Give port bytes) came carried = absurd carried
-carried_kind (Start child) came carried = absurd carried
-carried_kind (Command bytes) came carried = absurd carried
-carried_kind Wait came carried = absurd carried
-carried_kind (Ended status) came carried = absurd carried
+pub call_kind : (due : NeedData) (came : GotData) → IsCall due came → IsKind due came
+call_kind (File c) (got.Answered told) call = call.1
+call_kind (File c) (got.Took bytes) call = absurd call
+call_kind (File c) got.End call = absurd call
+call_kind (File c) (got.Ended status) call = absurd call
+call_kind (File c) got.Crashed call = absurd call
+call_kind (File c) got.Gave call = absurd call
+call_kind (File c) (got.Started pid) call = absurd call
+call_kind (File c) got.Failed call = absurd call
+call_kind (File c) got.Memory call = absurd call
+call_kind (Take port) came call = absurd call
+call_kind (Give port bytes) came call = absurd call
+call_kind (Start child) came call = absurd call
+call_kind (Command bytes) came call = absurd call
+call_kind Wait came call = absurd call
+call_kind (Ended status) came call = absurd call
 
 -- and no taking of too much
-pub carried_within : (most : ℕ) (due : NeedData) (came : GotData) → IsCarried due came → IsWithin most came
-carried_within most (File c) (got.Answered told) carried = tt
-carried_within most (File c) (got.Took bytes) carried = absurd carried
-carried_within most (File c) got.End carried = absurd carried
-carried_within most (File c) (got.Ended status) carried = absurd carried
-carried_within most (File c) got.Crashed carried = absurd carried
-carried_within most (File c) got.Gave carried = absurd carried
-carried_within most (File c) (got.Started pid) carried = absurd carried
-carried_within most (File c) got.Failed carried = absurd carried
-carried_within most (File c) got.Memory carried = absurd carried
-carried_within most (Take port) came carried = absurd carried
-carried_within most (Give port bytes) came carried = absurd carried
-carried_within most (Start child) came carried = absurd carried
-carried_within most (Command bytes) came carried = absurd carried
-carried_within most Wait came carried = absurd carried
-carried_within most (Ended status) came carried = absurd carried
+pub call_within : (most : ℕ) (due : NeedData) (came : GotData) → IsCall due came → IsWithin most came
+call_within most (File c) (got.Answered told) call = tt
+call_within most (File c) (got.Took bytes) call = absurd call
+call_within most (File c) got.End call = absurd call
+call_within most (File c) (got.Ended status) call = absurd call
+call_within most (File c) got.Crashed call = absurd call
+call_within most (File c) got.Gave call = absurd call
+call_within most (File c) (got.Started pid) call = absurd call
+call_within most (File c) got.Failed call = absurd call
+call_within most (File c) got.Memory call = absurd call
+call_within most (Take port) came call = absurd call
+call_within most (Give port bytes) came call = absurd call
+call_within most (Start child) came call = absurd call
+call_within most (Command bytes) came call = absurd call
+call_within most Wait came call = absurd call
+call_within most (Ended status) came call = absurd call

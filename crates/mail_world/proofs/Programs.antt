@@ -1,5 +1,5 @@
 -- What each program of the world keeps to. A new program is one case of each of these.
-use Rattle.std.proofs.Common.{◌≡◌, ◌≢◌, ℕ, ◌+◌, ◌≤◌, List, [], ◌∷◌, true, false, Option, Some, None, refl, sym, ap, subst}
+use Rattle.std.proofs.Common.{◌≡◌, ◌≢◌, ◌⊎◌, inl, inr, ℕ, ◌+◌, ◌≤◌, List, [], ◌∷◌, true, false, Option, Some, None, refl, sym, ap, subst}
 use Rattle.address_rules.specs.declared.controls.Controls.{Controls}
 use Rattle.call_fs.specs.declared.calls.CallData.{CallData}
 use Rattle.call_fs.specs.declared.calls.Answer.{Answer}
@@ -30,9 +30,11 @@ use Rattle.mail_world.specs.Pipework.{Slot}
 use Rattle.mail_world.specs.History.{Actor, Life, State, InputIsFound, FindsInputAlone, MayFind, MayRun, next_of, latest, own_call, booked_by, held_by, cut_off}
 use Rattle.mail_world.specs.History.Life.{Alive, Over}
 use Rattle.mail_world.specs.Waiting.{IsBooked}
-use Rattle.mail_world.specs.Readiness.{found_by, found_at, found_in, finds}
+use Rattle.mail_world.specs.Readiness.{found_by, found_at, found_in}
+use Rattle.mail_world.specs.World.{most_of}
+use Rattle.call_fs.specs.declared.file_system.TheConstants.{PIECE}
 use Rattle.mail_world.specs.declared.mailer.Mailer.{Mailer}
-use Rattle.mail_world.specs.ByKind.{IsMail, CanFind, HasRoom, Leaves, Follows, Mails, Cleans, Sends, Answers, Spawns}
+use Rattle.mail_world.specs.ByKind.{IsMail, CanFind, takes_of, Leaves, Follows, Mails, Cleans, Sends, Answers, Spawns}
 use Rattle.queue_clean.specs.Machine.{Machine as Cleaning}
 use Rattle.send_core.specs.Stands.{Machine as Sending}
 use Rattle.no_mailbox.specs.declared.machine.NoMailbox.{NoMailbox}
@@ -85,47 +87,46 @@ program_alone s a other mail = absurd mail
 pub found_alone : (s : State) (a : List ℕ) (x : Actor) → s.actors a ≡ Some x → IsMail x.program → FindsInputAlone (found_in s a)
 found_alone s a x is mail = subst FindsInputAlone (sym (ap (found_at s a) is)) (program_alone s a x.program mail)
 
+-- what lies in its pipes, and which of its programs has ended, each program may find, if it is no child
+pub found_finds : (s t : State) (a : List ℕ) (program : Program) (past : List Own) → s.pipework.slots a ≡ None → MayFind s a program past (found_by t a program)
+found_finds s t a (Injector args) past none = ((refl, refl), subst (λ (slot : Option Slot). InputIsFound s.pipework a slot past INPUT_READY) (sym none) tt)
+found_finds s t a (Cleaner start) past none = (refl, refl)
+found_finds s t a (Sender start) past none = (_, _, _, refl, refl)
+found_finds s t a (LocalSpawner start) past none = (refl, refl)
+found_finds s t a (RemoteSpawner start) past none = refl
+
 -- each injector finds the same
 pub mail_found : (s : State) (a : List ℕ) (program : Program) → MayRun program → found_by s a program ≡ INPUT_READY
 mail_found s a (Injector args) runs = refl
 mail_found s a other runs = absurd runs
 
--- what the machine of a mail finds is what its program finds
-mailer_finds : (m : Mailer) (s : State) (a : List ℕ) (program : Program) (past : List Own) → IsMail program → Mails m program past → INPUT_READY ≡ found_by s a program
-mailer_finds m s a (Injector args) past mail f = refl
-mailer_finds m s a other past mail f = absurd mail
+-- how many bytes a machine may be handed is how many its program takes at once, if it takes any
+mail_takes : (m : Mailer) (program : Program) (past : List Own) → Mails m program past → IsMail program
+mail_takes m (Injector args) past f = tt
+mail_takes m other past f = absurd f
 
--- and no other machine is that of a mail
-cleaner_is_none : (m : Cleaning) (program : Program) (past : List Own) → IsMail program → Cleans m program past → ⊥
-cleaner_is_none m (Cleaner start) past mail f = mail
-cleaner_is_none m other past mail f = f
+clean_takes : (m : Cleaning) (program : Program) (past : List Own) → Cleans m program past → PIECE ≡ most_of program
+clean_takes m (Cleaner start) past f = refl
+clean_takes m other past f = absurd f
 
-sender_is_none : (m : Sending) (program : Program) (past : List Own) → IsMail program → Sends m program past → ⊥
-sender_is_none m (Sender start) past mail f = mail
-sender_is_none m other past mail f = f
+send_takes : (m : Sending) (program : Program) (past : List Own) → Sends m program past → 18446744073709551615 ≡ most_of program
+send_takes m (Sender start) past f = refl
+send_takes m other past f = absurd f
 
-local_is_none : (m : NoMailbox) (program : Program) (past : List Own) → IsMail program → Answers m program past → ⊥
-local_is_none m (LocalSpawner start) past mail f = mail
-local_is_none m other past mail f = f
+local_takes : (m : NoMailbox) (program : Program) (past : List Own) → Answers m program past → 18446744073709551615 ≡ most_of program
+local_takes m (LocalSpawner start) past f = refl
+local_takes m other past f = absurd f
 
-remote_is_none : (m : RemoteSpawn) (program : Program) (past : List Own) → IsMail program → Spawns m program past → ⊥
-remote_is_none m (RemoteSpawner start) past mail f = mail
-remote_is_none m other past mail f = f
+remote_takes : (m : RemoteSpawn) (program : Program) (past : List Own) → Spawns m program past → 18446744073709551615 ≡ most_of program
+remote_takes m (RemoteSpawner start) past f = refl
+remote_takes m other past f = absurd f
 
-pub machine_found : (m : AnyMachine) (s : State) (a : List ℕ) (program : Program) (past : List Own) → IsMail program → Follows m program past → finds m ≡ found_by s a program
-machine_found (Mail mailer) s a program past mail f = mailer_finds mailer s a program past mail f
-machine_found (Clean cleaner) s a program past mail f = absurd (cleaner_is_none cleaner program past mail f)
-machine_found (Send sender) s a program past mail f = absurd (sender_is_none sender program past mail f)
-machine_found (Local spawner) s a program past mail f = absurd (local_is_none spawner program past mail f)
-machine_found (Remote spawner) s a program past mail f = absurd (remote_is_none spawner program past mail f)
-
--- and it takes no memory
-pub machine_has_room : (m : AnyMachine) (program : Program) (past : List Own) → IsMail program → Follows m program past → HasRoom m
-machine_has_room (Mail mailer) program past mail f = tt
-machine_has_room (Clean cleaner) program past mail f = tt
-machine_has_room (Send sender) program past mail f = absurd (sender_is_none sender program past mail f)
-machine_has_room (Local spawner) program past mail f = absurd (local_is_none spawner program past mail f)
-machine_has_room (Remote spawner) program past mail f = absurd (remote_is_none spawner program past mail f)
+pub machine_takes : (m : AnyMachine) (program : Program) (past : List Own) → Follows m program past → IsMail program ⊎ (takes_of m ≡ most_of program)
+machine_takes (Mail mailer) program past f = inl (mail_takes mailer program past f)
+machine_takes (Clean cleaner) program past f = inr (clean_takes cleaner program past f)
+machine_takes (Send sender) program past f = inr (send_takes sender program past f)
+machine_takes (Local spawner) program past f = inr (local_takes spawner program past f)
+machine_takes (Remote spawner) program past f = inr (remote_takes spawner program past f)
 
 -- one that a history may start starts no program
 pub program_starts_none : (program : Program) (past : List Own) (now : ℕ) (ready : Ready) (asked : ChildData) → MayRun program → next_of program past now ready ≡ needs.Start asked → ⊥
@@ -141,7 +142,7 @@ program_finds s a other mail past ready none alone = absurd mail
 
 -- How it fares
 
--- what holds of an actor; no history starts a member of a generation yet
+-- what holds of an actor, as long as no generation was started
 abbrev pub FaresBy : ℕ → Queue → List ℕ → Program → List Own → Life → Type 0
 FaresBy now q a (Injector args) past life = InjectorFares now q a args past (is_alive life) (is_well life)
 FaresBy now q a other past life = ⊥

@@ -42,6 +42,7 @@ gone_exactly {T} places actors s events p a (why.Gone b here) crew none name at 
           let same = h.0 in
           cc),
     )
+gone_exactly {T} places actors s events p a (why.Alive b) crew none name at = absurd none
 gone_exactly {T} places actors s events p a (why.NotWaiting b) crew none name at = absurd none
 gone_exactly {T} places actors s events p a why.Unknown crew none name at = (λ e. absurd (cc), λ h. let both : Unborn ≡ OverAt at = sym (crew.strangers a none).unborn ∙ h.1 in absurd (cc))
 gone_exactly {T} places actors s events p a why.Taken crew none name at = absurd none

@@ -1,6 +1,6 @@
 -- The machine of an actor, by its kind. A new program is one case of each of these, and of `next_of` and its neighbours in
 -- History.antt.
-use Rattle.std.specs.Prelude.{◌≡◌, ℕ, List, ◌∷◌, Bool, true, Option, Some, None}
+use Rattle.std.specs.Prelude.{◌≡◌, ℕ, List, ◌∷◌, Bool, true, false, not, ◌&&◌, Option, Some, None}
 use Rattle.call_fs.specs.declared.file_system.TheConstants.{PIECE}
 use Rattle.call_fs.specs.declared.program.Ready.{Ready}
 use Rattle.call_fs.specs.declared.past.NeedData.{NeedData}
@@ -14,7 +14,7 @@ use Rattle.queue_inject.specs.Machine.{due_now}
 use Rattle.queue_inject.specs.Stands.{Stands}
 use Rattle.queue_clean.specs.Machine.{Machine as Cleaning, due_now as cleaning_due}
 use Rattle.queue_clean.specs.Stands.{Stands as CleansAfter}
-use Rattle.send_core.specs.Stands.{Machine as Sending, Stands as SendsAfter, due_now as sending_due}
+use Rattle.send_core.specs.Stands.{Machine as Sending, Stands as SendsAfter, due_now as sending_due, row_of, gone_on, is_search, is_between}
 use Rattle.no_mailbox.specs.declared.machine.NoMailbox.{NoMailbox}
 use Rattle.no_mailbox.specs.Stands.{Stands as AnswersAfter, due_now as answering_due}
 use Rattle.remote_spawn.specs.declared.machine.RemoteSpawn.{RemoteSpawn}
@@ -29,7 +29,7 @@ use Rattle.mail_world.specs.declared.any_machine.AnyMachine.TheVariants.{Mail, C
 -- what an injector is started with
 pub use Rattle.world_events.specs.Programs.{injection_of}
 
--- A program that a world runs so far. Its input is ready at any point, and it takes, gives and starts nothing.
+-- The program of a mail. Its input is ready at any point, and it takes, gives and starts nothing.
 abbrev pub IsMail : Program → Type 0
 IsMail (Injector args) = Unit {0}
 IsMail other = ⊥
@@ -154,6 +154,27 @@ Follows (Remote spawner) program past = Spawns spawner program past
 -- what is due and what came of it as the newest event of a past
 abbrev pub with_own : AnyMachine → GotData → List Own → List Own
 with_own machine came past = (record { read = present_of machine; ready = found_of machine; due = need_of machine; came = came }) ∷ past
+
+-- what is due and what came of it as an event
+abbrev pub own_of : AnyMachine → GotData → Own
+own_of machine came = record { read = present_of machine; ready = found_of machine; due = need_of machine; came = came }
+
+-- Idle turns of a sender
+
+-- its next step is the search of todo, and it has done nothing else in this turn
+abbrev pub searches : AnyMachine → Bool
+searches (Send sender) = is_search (row_of sender) && not sender.desk.busy
+searches other = false
+
+-- it stands between two turns, or has ended
+abbrev pub is_through : AnyMachine → Bool
+is_through (Send sender) = is_between sender.desk.row
+is_through other = false
+
+-- what a sender becomes once this came of its need
+abbrev pub HasGone : AnyMachine → GotData → AnyMachine → Type 0
+HasGone (Send sender) came new = new ≡ Send (gone_on sender came)
+HasGone other came new = Unit {0}
 
 -- What isn't the queue's
 

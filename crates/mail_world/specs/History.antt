@@ -40,6 +40,8 @@ use Rattle.world_events.specs.declared.event.Program.TheVariants.{Injector, Clea
 use Rattle.actor_names.specs.MailNames.{members}
 use Rattle.mail_world.specs.Pipework.{Pipework, Tenant, Slot, is_ready, Yields, no_pipework, slot_of, pipework_after, with_child, without_writer, with_generation, with_report}
 use Rattle.mail_world.specs.Pipework.Tenant.{Runs, Remote}
+-- whether an actor's event started a program
+pub use Rattle.world_events.specs.Starting.{starts_program}
 -- the injections of the books
 pub use Rattle.queue_law.specs.Books.{own_call, last_read, Injection, Books, begun, accept, linked, booked, entered_all, held_by}
 
@@ -61,11 +63,6 @@ pub data Event : Type 0 where
 -- an actor's file call
 abbrev pub call_act : List ℕ → ℕ → Ready → CallData → Told → ℕ → Event
 call_act a read ready call told wrote = Act a (own_call read ready call told) wrote
-
--- an actor's event started a program
-abbrev pub starts_program : NeedData → GotData → Bool
-starts_program (needs.Start asked) (Started pid) = true
-starts_program due came = false
 
 -- how many programs an event starts: each takes a process number, a remote program too
 abbrev pub started_by : Event → ℕ

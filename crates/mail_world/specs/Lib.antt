@@ -16,11 +16,19 @@ pub mod Readiness
 pub mod World
 -- the machines of actors
 pub mod ByKind
+-- the pipes that a world keeps
+pub mod Wired
+-- the members of a generation, as they are kept
+pub mod Crew
+-- generations in a world
+pub mod Generations
 -- what the fields of a world mean
 pub mod Inside
 -- one step of an actor
 pub mod Acting
--- where each actor stands
-pub mod Places
+-- where each mail stands
+pub use Rattle.world_events.specs.Places
 -- what became of each injection
 pub mod Books
+-- who started, as it is kept
+pub mod Starts

@@ -7,8 +7,6 @@ use Rattle.call_fs.specs.declared.program.Ready.{Ready}
 use Rattle.call_fs.specs.declared.program.TheConstants.{INPUT_READY}
 use Rattle.world_events.specs.declared.event.Program.{Program}
 use Rattle.world_events.specs.declared.event.Program.TheVariants.{Injector, Cleaner, Sender, LocalSpawner, RemoteSpawner}
-use Rattle.mail_world.specs.declared.any_machine.AnyMachine.{AnyMachine}
-use Rattle.mail_world.specs.declared.any_machine.AnyMachine.TheVariants.{Mail}
 use Rattle.mail_world.specs.Pipework.{Tenant, is_ready}
 use Rattle.mail_world.specs.Pipework.Tenant.{Runs, Remote}
 use Rattle.mail_world.specs.History.{Actor, Life, State}
@@ -60,8 +58,3 @@ found_at s a (Some x) = found_by s a x.program
 -- what that actor finds ready
 abbrev pub found_in : State → List ℕ → Ready
 found_in s a = found_at s a (s.actors a)
-
--- what the machine of an actor finds ready, as long as no pipe is kept
-abbrev pub finds : AnyMachine → Ready
-finds (Mail mailer) = INPUT_READY
-finds other = input_alone false

@@ -6,25 +6,31 @@ use Rattle.call_fs.specs.declared.calls.Told.{Told}
 use Rattle.call_fs.specs.declared.program.Ready.{Ready}
 use Rattle.call_fs.specs.declared.past.NeedData.{NeedData}
 use Rattle.call_fs.specs.declared.past.Own.{Own}
-use Rattle.call_fs.specs.declared.past.NeedData.TheVariants.{File}
+use Rattle.call_fs.specs.declared.past.NeedData.TheVariants.{File, Take, Give, Command}
+use Rattle.call_fs.specs.declared.past.NeedData.TheVariants.{Start as StartOf}
+use Rattle.call_fs.specs.declared.past.ChildData.TheVariants as child
+use Rattle.call_fs.specs.declared.program.Port.TheVariants as port
+use Rattle.call_fs.specs.declared.file_system.TheConstants.{PIECE}
 use Rattle.call_fs.specs.declared.past.GotData.{GotData}
-use Rattle.call_fs.specs.declared.past.GotData.TheVariants.{Answered}
+use Rattle.call_fs.specs.declared.past.GotData.TheVariants.{Answered, Gave, Started, Failed}
 use Rattle.call_fs.specs.declared.crash_file_system.Survival.{Survival}
 use Rattle.call_fs.specs.Choices.{AreNamed, contents_by}
 use Rattle.call_fs.specs.Plan.{Plan, CallKeepsPlan}
 use Rattle.call_fs.specs.Disk.{Disk}
 use Rattle.queue_inject.specs.declared.injection.Arguments.{Arguments}
-use Rattle.queue_inject.specs.declared.injection.InputEnd.TheVariants.{Whole}
-use Rattle.received_line.specs.declared.line.Invoked.TheVariants.{Uid}
 use Rattle.world_events.specs.declared.event.Event.{Event as Kept}
 use Rattle.world_events.specs.declared.event.Event.TheVariants as kept
 use Rattle.world_events.specs.declared.event.Program.{Program}
 use Rattle.world_events.specs.declared.event.Program.TheVariants.{Injector, Cleaner, Sender, LocalSpawner, RemoteSpawner}
+use Rattle.world_pipes.specs.Pipes.{offered}
 use Rattle.mail_world.specs.Pipework.{is_member}
-use Rattle.mail_world.specs.History.{Event, Actor, State, own_call, starts_program, next_of, after, EachAllowed, Legal}
+use Rattle.mail_world.specs.History.{Event, Actor, State, own_call, TenantEnds, next_of, after, EachAllowed, Legal}
 use Rattle.mail_world.specs.History.Event.{Start, Act, Child, Generation, Report, End, Stop, Moment, Halt}
 use Rattle.mail_world.specs.Known.{known}
 use Rattle.mail_world.specs.Readiness.{found_in}
+-- how many programs an event starts, and what the injector of a mail is started with
+pub use Rattle.world_events.specs.Starting.{starts_in}
+pub use Rattle.world_events.specs.Mails.{mail}
 
 -- an actor's file call, as it is kept
 abbrev pub kept_call : List ℕ → ℕ → Ready → CallData → Told → Kept
@@ -147,17 +153,6 @@ span_of a (event ∷ before) = span_after a event (length before) (span_of a bef
 abbrev pub EndsAt : List Kept → List ℕ → ℕ → Type 0
 EndsAt events a at = span_of a (reverse events) ≡ OverAt at
 
--- how many programs an event starts
-abbrev pub starts_in : Kept → ℕ
-starts_in (kept.Start b program) = 1
-starts_in (kept.Act b own) = if starts_program own.due own.came then 1 else 0
-starts_in (kept.Generation start) = 4
-starts_in (kept.Report slot letter text) = 0
-starts_in (kept.End b read ready status) = 0
-starts_in (kept.Stop b) = 0
-starts_in (kept.Moment m) = 0
-starts_in (kept.Halt how) = 0
-
 -- the process number of the next actor after so many starts: 77 and on; it stands still at the last u32
 abbrev pub pid_after : ℕ → ℕ
 pid_after starts = min (77 + starts) (2 ^ 32 - 1)
@@ -165,19 +160,6 @@ pid_after starts = min (77 + starts) (2 ^ 32 - 1)
 -- the process number of the next actor
 abbrev pub next_pid : List Kept → ℕ
 next_pid events = pid_after (sum_by starts_in events)
-
--- what the injector of a mail is started with
-abbrev pub mail : ℕ → ℕ → List ℕ → List ℕ → Arguments
-mail pid start message envelope = record {
-  uid = 1000;
-  pid = pid;
-  invoked = Uid 1000;
-  start = start;
-  message = message;
-  message_end = Whole;
-  envelope = envelope;
-  envelope_end = Whole;
-}
 
 -- the world after the start of a mail
 abbrev pub started_world : {D : Type 0} → Seen D → List ℕ → List ℕ → List ℕ → Seen D
@@ -187,25 +169,39 @@ started_world old name message envelope = record {
   present = old.present;
 }
 
--- what may come of what is due to an actor in a world: nothing fails there but a file call, and no other thing is due so far
-abbrev pub ComesWhole : NeedData → GotData → Type 0
-ComesWhole (File call) came = (told : Told) × (came ≡ Answered told)
-ComesWhole due came = ⊥
+-- how many bytes a program takes at once: a cleaner a piece, any other all that lies there
+abbrev pub most_of : Program → ℕ
+most_of (Cleaner start) = PIECE
+most_of other = 18446744073709551615
 
--- an event of that actor at this moment: what was due, with all that it finds ready, and what came of it
-pub record IsOwnOf (s : State) (present : ℕ) (a : List ℕ) (own : Own) : Type 0 where
+-- What comes of what is due to an actor in a world whose next process number is this: of a file call an answer; of a taking all
+-- that lies there; a giving goes well, and so does the start of a remote program. No other program is started yet, and no
+-- command is run.
+abbrev pub ComesWhole : State → ℕ → List ℕ → Program → NeedData → GotData → Type 0
+ComesWhole s pid a program (File call) came = (told : Told) × (came ≡ Answered told)
+ComesWhole s pid a program (Take (port.Status d)) came = TenantEnds s (s.pipework.programs a d) came
+ComesWhole s pid a program (Take port) came = offered (most_of program) (s.pipework.pipes a port) ≡ Some came
+ComesWhole s pid a program (Give port bytes) came = came ≡ Gave
+ComesWhole s pid a program (StartOf (child.Remote slot domain sender recipient)) came = came ≡ Started pid
+ComesWhole s pid a program (StartOf asked) came = came ≡ Failed
+ComesWhole s pid a program (Command bytes) came = came ≡ Failed
+ComesWhole s pid a program due came = ⊥
+
+-- An event of that actor at this moment, in a world whose next process number is this: what was due, with all that it finds
+-- ready, and what came of it.
+pub record IsOwnOf (s : State) (pid present : ℕ) (a : List ℕ) (own : Own) : Type 0 where
   pub actor : Actor
   pub is : s.actors a ≡ Some actor
   pub read : own.read ≡ present
   pub ready : own.ready ≡ found_in s a
   pub due : next_of actor.program actor.past present (found_in s a) ≡ own.due
-  pub came : ComesWhole own.due own.came
+  pub came : ComesWhole s pid a actor.program own.due own.came
 
 -- A step of that actor appends one event: what it did, or the end that was told. It finds ready what the events so far
 -- tell.
 abbrev pub IsStep : {D : Type 0} → List ℕ → Option ℕ → Seen D → Seen D → Type 0
 IsStep a None old new =
-    (own : Own) × IsOwnOf (known old.events) old.present a own × (new.events ≡ old.events ++ kept.Act a own ∷ [])
+    (own : Own) × IsOwnOf (known old.events) (next_pid old.events) old.present a own × (new.events ≡ old.events ++ kept.Act a own ∷ [])
 IsStep a (Some status) old new = new.events ≡ old.events ++ kept.End a old.present (found_in (known old.events) a) status ∷ []
 
 -- a stop of that actor appends one event, and the present moment stays

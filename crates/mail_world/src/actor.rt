@@ -1,5 +1,5 @@
 // One actor: its machine, and what it has open.
-ghost use Rattle.std.specs.Prelude.{◌≡◌, ◌++◌, ◌∷◌, ◌+◌, ◌<◌, [], List, ℕ, IfOk, IsOk, IsTrue, OnOk, OnErr, Some, None, false, length, vec_len, vec_capacity};
+ghost use Rattle.std.specs.Prelude.{◌≡◌, ◌++◌, ◌∷◌, ◌+◌, ◌<◌, ◌≢◌, [], List, ℕ, IfOk, IfSome, IsSome, IsNone, IsTrue, IsOk, OnOk, OnErr, Some, None, length, vec_len, vec_capacity};
 ghost use Rattle.call_fs.specs.Program.{IsKind, IsWithin, came_of};
 ghost use Rattle.call_fs.specs.declared.past.NeedData.TheVariants.{File};
 ghost use Rattle.mail_bytes.specs.Moments.{IsMoment};
@@ -8,24 +8,25 @@ ghost use Rattle.call_fs.specs.declared.past.Own.{Own};
 ghost use Rattle.world_events.specs.declared.event.Program.{Program};
 ghost use Rattle.world_events.specs.declared.event.Program.TheVariants.{Injector as Injecting};
 ghost use Rattle.mail_world.specs.History.{next_of};
-ghost use Rattle.mail_world.specs.World.{mail, GoesByPlan};
-ghost use Rattle.mail_world.specs.ByKind.{Follows, present_of, found_of, looked_of, need_of, takes_of, with_own, HasRoom as TakesNone};
-ghost use Rattle.mail_world.specs.Acting.{MayAct, AreOpen, due_by, IsStated, IsReadAt, IsMade, IsPlannedCame, IsCutOff, AreCutOff, HasActed, HasLooked, IsFinished, opened_by, open_after, without, shut};
+ghost use Rattle.mail_world.specs.World.{GoesByPlan};
+ghost use Rattle.mail_world.specs.ByKind.{Follows, present_of, found_of, looked_of, need_of, takes_of, with_own, own_of, searches, HasGone};
+ghost use Rattle.mail_world.specs.Acting.{MayAct, IsSeated, IsNoAct, AreOpen, AreAsBefore, due_by, IsStated, IsReadAt, IsMade, IsUntouched, IsPlannedCame, IsCutOff, AreCutOff, HasStepped, HasGiven, HasLooked, HasIdled, IsFinished, opened_by, open_after, without, shut};
+ghost use Rattle.mail_world.specs.Inside.{StandsFor, Owes};
+ghost use Rattle.mail_world.specs.Generations.{idled_in};
 ghost use Rattle.world_events.specs.declared.event.Event.TheVariants as kept;
 ghost use Rattle.mail_world.specs.Kept.{events_of, HasRoom};
 
 use crate::any_machine::AnyMachine;
-use crate::kept_read::{kept_read, room_to_read};
-use crate::mailer::MAIL_USER;
+use crate::feeding::{exchange, shut_after};
 use crate::{ActorName, Did, Event, History};
 use call_fs::{
     Answer, CallData, CallFs, Fd, Got, GotData, Machine, Need, NeedData, Own, PIECE, Ready, Told,
     perform,
 };
-use mail_bytes::{ByteText, Memory};
-use queue_inject::{Arguments, InputEnd};
-use received_line::Invoked;
+use mail_bytes::Memory;
 use std::alloc::Global;
+use world_events::{kept_read, need_data, room_to_read};
+use world_pipes::Mouths;
 
 /// An actor of the world.
 #[derive(Drop)]
@@ -38,15 +39,32 @@ pub struct Actor {
     pub descriptors: Vec<Fd>,
     /// The index of its end or stop in the history, if it has ended.
     pub ended: Option<u64>,
+    /// The index of its newest event, if its machine couldn't take in yet what came of it.
+    pub owed: Option<u64>,
+}
+
+/// What a step goes by.
+#[derive(Clone, Copy)]
+pub struct Setting {
+    /// The present moment.
+    pub now: u64,
+    /// What the actor finds ready.
+    pub ready: Ready,
+    /// Its seat, if it is a member of the generation.
+    pub seat: Option<usize>,
+    /// The next process number.
+    pub pid: u32,
 }
 
 /// What came of asking a machine.
 #[derive(Drop)]
 pub enum Came {
-    /// It did what was due, and this is its event.
+    /// It made the call that was due, and this is its event.
     Did(Own),
     /// It has ended with this status.
     Ended(u8),
+    /// This is due, which is no call.
+    Due(NeedData),
 }
 
 impl Actor {
@@ -56,30 +74,27 @@ impl Actor {
         ensures machine { result.machine ≡ machine }
         ensures descriptors { result.descriptors.items ≡ [] }
         ensures ended { result.ended ≡ None }
+        ensures owed { result.owed ≡ None }
     {
         Actor {
             name,
             machine,
             descriptors: Vec::new(alloc),
             ended: None,
+            owed: None,
         }
     }
 
-    /// Asks its machine what it does next at this moment, with this ready, and makes the call. Room for a descriptor, and
-    /// for the bytes of a read, is made first. The condition: what is next is a call or an end, and may be made.
-    fn ask<D: CallFs>(
-        &mut self,
-        alloc: Global,
-        disk: &mut D,
-        now: u64,
-        ready: Ready,
-    ) -> Result<Came, Memory>
-        requires moment { IsMoment now }
-        requires may { MayAct (D.disk disk.old) self.old.machine now ready }
+    /// Asks its machine what it does next at this moment, with this ready, and makes the call, if that is one. Room for a
+    /// descriptor, and for the bytes of a read, is made first. The condition: what is next may be made.
+    fn ask<D: CallFs>(&mut self, alloc: Global, disk: &mut D, at: Setting) -> Result<Came, Memory>
+        requires moment { IsMoment at.now }
+        requires may { MayAct (D.disk disk.old) self.old.machine at.seat at.now at.ready }
         ensures due { IfOk result (λ came. (program : Program) (past : List Own)
-            → Follows self.old.machine program past → next_of program past now ready ≡ due_by came) }
-        ensures read { IfOk result (λ came. IsReadAt came now ready) }
-        ensures made { IfOk result (λ came. IsMade came now (D.disk disk.old) (D.disk disk.new)) }
+            → Follows self.old.machine program past → next_of program past at.now at.ready ≡ due_by came) }
+        ensures read { IfOk result (λ came. IsReadAt came at.now at.ready) }
+        ensures made { IfOk result (λ came. IsMade came at.now (D.disk disk.old) (D.disk disk.new)) }
+        ensures still { IfOk result (λ came. IsUntouched came disk.old disk.new) }
         ensures plan { IfOk result (λ came. IsPlannedCame came (D.plan disk.old) (D.plan disk.new)
             (D.disk disk.old) (D.disk disk.new)) }
         ensures room { OnOk result (vec_len self.new.descriptors < vec_capacity self.new.descriptors) }
@@ -87,113 +102,230 @@ impl Actor {
         // The machine stands as before, and has read this moment.
         ensures follows { (program : Program) (past : List Own)
             → Follows self.old.machine program past → Follows self.new.machine program past }
-        ensures present { OnOk result (present_of self.new.machine ≡ now) }
-        ensures found { OnOk result (found_of self.new.machine ≡ ready) }
+        ensures present { OnOk result (present_of self.new.machine ≡ at.now) }
+        ensures found { OnOk result (found_of self.new.machine ≡ at.ready) }
         ensures looked { OnOk result (IsTrue (looked_of self.new.machine)) }
         ensures need { IfOk result (λ came. need_of self.new.machine ≡ due_by came) }
         ensures stated { IfOk result (λ came. IsStated came) }
+        ensures takes { takes_of self.new.machine ≡ takes_of self.old.machine }
 
         // The rest stays.
         ensures name { self.new.name ≡ self.old.name }
         ensures descriptors { self.new.descriptors.items ≡ self.old.descriptors.items }
         ensures ended { self.new.ended ≡ self.old.ended }
+        ensures owed { self.new.owed ≡ self.old.owed }
         ensures err { OnErr result (disk.new ≡ disk.old) }
     {
         self.descriptors.reserve(1)?;
-        self.machine.look(now, ready);
+        self.machine.look(at.now, at.ready);
         match self.machine.need() {
             Need::File(call) => {
                 let owned = CallData::of(alloc, call)?;
                 let room = room_to_read(alloc, &owned)?;
                 let mut buffer = [0; PIECE];
-                let answer = perform(alloc, disk, now, call, &mut buffer);
+                let answer = perform(alloc, disk, at.now, call, &mut buffer);
                 let bytes = kept_read(room, &answer, &buffer);
                 Ok(Came::Did(Own {
-                    read: now,
-                    ready,
+                    read: at.now,
+                    ready: at.ready,
                     due: NeedData::File(owned),
                     came: GotData::Answered(Told { answer, bytes }),
                 }))
             }
             Need::Ended(status) => Ok(Came::Ended(status)),
-            _ => unreachable!(),
+            due => Ok(Came::Due(need_data(alloc, due)?)),
         }
     }
 
-    /// One step at this moment, with this ready: its next file call, or its end, in which its descriptors are closed. From
-    /// the call on no memory is taken. The conditions: what is next is one of these and may be made, what it has open is
-    /// open, and there is room for the event.
+    /// One step: what is due, or its end, in which its descriptors are closed and what it gives to is shut; `None` if nothing of what
+    /// is due can be done yet. From the call on only its machine takes memory: if that finds none, it owes the event. The
+    /// conditions: it owes none, what is due may be made, what it has open is open, there is room for the event, and it is a
+    /// member with pipes, or no member, to which a call or its end is due.
     pub fn act<D: CallFs>(
         &mut self,
         alloc: Global,
         disk: &mut D,
         history: &mut History,
-        now: u64,
-        ready: Ready,
-    ) -> Result<Did, Memory>
-        requires moment { IsMoment now }
-        requires may { MayAct (D.disk disk.old) self.old.machine now ready }
+        mouths: &mut Vec<Mouths>,
+        at: Setting,
+    ) -> Result<Option<Did>, Memory>
+        requires moment { IsMoment at.now }
+        requires may { MayAct (D.disk disk.old) self.old.machine at.seat at.now at.ready }
+        requires paid { self.old.owed ≡ None }
         requires opens { OnTold (D.disk disk.old) (λ before. AreOpen before self.old.descriptors.items) }
         requires room { HasRoom history.old 1 }
-        ensures acted { IfOk result (λ did. HasActed did.ended (D.disk disk.old) (D.disk disk.new)
-            self.old self.new (events_of history.old) (events_of history.new) now ready) }
-        ensures plan { OnOk result (GoesByPlan D.plan D.disk disk.old disk.new
+        requires seat { IsSeated at.seat self.old.name mouths.old.items }
+        ensures acted { IfOk result (λ did. HasStepped did (D.disk disk.old) (D.disk disk.new) mouths.old.items mouths.new.items at.pid
+            self.old self.new (events_of history.old) (events_of history.new) at.now at.ready) }
+        ensures plan { IfOk result (λ did. IsSome did → GoesByPlan D.plan D.disk disk.old disk.new
             (events_of history.old) (events_of history.new)) }
-        ensures at { IfOk result (λ did. did.at ≡ length (events_of history.old)) }
-        ensures idle { IfOk result (λ did. did.idle ≡ false) }
+        ensures at { IfOk result (λ did. IfSome did (λ did. did.at ≡ length (events_of history.old))) }
+        ensures idle { IfOk result (λ did. IfSome did (λ did. HasIdled did.idle self.old (events_of history.old) (events_of history.new))) }
         ensures room { OnOk result ((more : ℕ) → HasRoom history.old (more + 1) → HasRoom history.new more) }
+        ensures waits { IfOk result (λ did. IsNone did → (disk.new ≡ disk.old) × (history.new ≡ history.old)) }
         ensures err { OnErr result (disk.new ≡ disk.old) }
         ensures looked { OnErr result (HasLooked self.old self.new) }
         ensures same { OnErr result (history.new ≡ history.old) }
+        ensures pipes { OnErr result (AreAsBefore mouths.old.items mouths.new.items) }
     {
-        let at = history.len() as u64;
-        match self.ask(alloc, disk, now, ready)? {
+        let index = history.len() as u64;
+        match self.ask(alloc, disk, at)? {
             Came::Did(own) => {
                 keep_open(&mut self.descriptors, &own);
-                self.hand_in(alloc, &own).unwrap();
+                let idle = self.take_in(alloc, &own, index);
                 history.put(Event::Act {
                     actor: self.name.copy(),
                     own,
                 });
-                Ok(Did::new(at, None))
+                Ok(Some(Did::new(index, None, idle)))
             }
             Came::Ended(status) => {
                 history.put(Event::End {
                     actor: self.name.copy(),
-                    read: now,
-                    ready,
+                    read: at.now,
+                    ready: at.ready,
                     status,
                 });
-                self.end(disk, at);
-                Ok(Did::new(at, Some(status)))
+                self.end(disk, index);
+                shut_after(mouths, at.seat);
+                Ok(Some(Did::new(index, Some(status), false)))
+            }
+            Came::Due(due) => self.pass(alloc, history, mouths, at, due),
+        }
+    }
+
+    /// What is due and is no call: it passes something to another program, or takes it. The conditions: it has looked and owes no
+    /// event, this is due, it is a member with pipes, and there is room for the event.
+    fn pass(
+        &mut self,
+        alloc: Global,
+        history: &mut History,
+        mouths: &mut Vec<Mouths>,
+        at: Setting,
+        due: NeedData,
+    ) -> Result<Option<Did>, Memory>
+        requires paid { self.old.owed ≡ None }
+        requires looked { IsTrue (looked_of self.old.machine) }
+        requires read { present_of self.old.machine ≡ at.now }
+        requires found { found_of self.old.machine ≡ at.ready }
+        requires due { need_of self.old.machine ≡ due }
+        requires pass { IsNoAct due }
+        requires seat { IsSeated at.seat self.old.name mouths.old.items }
+        requires member { at.seat ≢ None }
+        requires room { HasRoom history.old 1 }
+        ensures passed { IfOk result (λ did. HasGiven did mouths.old.items mouths.new.items at.pid
+            self.old self.new (events_of history.old) (events_of history.new) at.now at.ready due) }
+        ensures at { IfOk result (λ did. IfSome did (λ did. (did.at ≡ length (events_of history.old)) × (did.ended ≡ None))) }
+        ensures idle { IfOk result (λ did. IfSome did (λ did. HasIdled did.idle self.old (events_of history.old) (events_of history.new))) }
+        ensures room { OnOk result ((more : ℕ) → HasRoom history.old (more + 1) → HasRoom history.new more) }
+        ensures waits { IfOk result (λ did. IsNone did → (self.new ≡ self.old) × (history.new ≡ history.old)) }
+        ensures err { OnErr result (self.new ≡ self.old) }
+        ensures same { OnErr result (history.new ≡ history.old) }
+        ensures pipes { OnErr result (AreAsBefore mouths.old.items mouths.new.items) }
+    {
+        let Some(seat) = at.seat else { unreachable!() };
+        let most = self.machine.taking_room();
+        let Some(came) = exchange(alloc, mouths, seat, most, at.pid, &due)? else {
+            return Ok(None);
+        };
+        let index = history.len() as u64;
+        let own = Own {
+            read: at.now,
+            ready: at.ready,
+            due,
+            came,
+        };
+        let idle = self.take_in(alloc, &own, index);
+        history.put(Event::Act {
+            actor: self.name.copy(),
+            own,
+        });
+        Ok(Some(Did::new(index, None, idle)))
+    }
+
+    /// Hands in what came of this event, which the history will have at this index, or owes it. Tells whether an idle turn of a
+    /// sender ended. The conditions: it owes none, and this may be handed in.
+    fn take_in(&mut self, alloc: Global, own: &Own, index: u64) -> bool
+        requires paid { self.old.owed ≡ None }
+        requires looked { IsTrue (looked_of self.old.machine) }
+        requires kind { IsKind (need_of self.old.machine) own.now.came }
+        requires within { IsWithin (takes_of self.old.machine) own.now.came }
+        ensures follows { (program : Program) (past : List Own) → Follows self.old.machine program past
+            → StandsFor self.new program (with_own self.old.machine own.now.came past) }
+        ensures idle { (program : Program) (past : List Own) → Follows self.old.machine program past
+            → result ≡ idled_in program past (own_of self.old.machine own.now.came) }
+        ensures owes { (at : ℕ) → self.new.owed ≡ Some at → (at ≡ index) × (self.new.machine ≡ self.old.machine) }
+        ensures descriptors { self.new.descriptors.items ≡ self.old.descriptors.items }
+        ensures name { self.new.name ≡ self.old.name }
+        ensures ended { self.new.ended ≡ self.old.ended }
+    {
+        let searching = self.machine.is_searching();
+        match self.hand_in(alloc, own) {
+            Ok(()) => searching && self.machine.is_through(),
+            Err(_) => {
+                self.owed = Some(index);
+                false
             }
         }
     }
 
+    /// Hands in the event that it owes, if it owes one. After `Memory` it is as before. The condition: it owes one that the history
+    /// has.
+    pub fn pay(&mut self, alloc: Global, history: &History) -> Result<(), Memory>
+        requires { (at : ℕ) → self.old.owed ≡ Some at → (past : List Own) × Owes self.old (events_of history.now) past at }
+        ensures paid { OnOk result (self.new.owed ≡ None) }
+        ensures follows { OnOk result ((program : Program) (past : List Own)
+            → ((at : ℕ) → self.old.owed ≡ Some at → Owes self.old (events_of history.now) past at)
+            → StandsFor self.old program past → Follows self.new.machine program past) }
+        ensures descriptors { self.new.descriptors.items ≡ self.old.descriptors.items }
+        ensures name { self.new.name ≡ self.old.name }
+        ensures ended { self.new.ended ≡ self.old.ended }
+        ensures err { OnErr result (self.new ≡ self.old) }
+    {
+        let Some(at) = self.owed else {
+            return Ok(());
+        };
+        let Event::Act { own, .. } = &history.events()[at as usize] else {
+            unreachable!()
+        };
+        self.hand_in(alloc, own)?;
+        self.owed = None;
+        Ok(())
+    }
+
     /// Hands what came of this event of its own to its machine. After `Memory` it is as before, and the same may be handed
-    /// in again; that doesn't come of a machine that takes no memory any more. The conditions: it has looked, what came is
-    /// of the kind of its need, and a taking has no more bytes than it may be handed.
+    /// in again. The conditions: it has looked, what came is of the kind of its need, and a taking has no more bytes than it may
+    /// be handed.
     fn hand_in(&mut self, alloc: Global, own: &Own) -> Result<(), Memory>
         requires looked { IsTrue (looked_of self.old.machine) }
         requires kind { IsKind (need_of self.old.machine) own.now.came }
         requires within { IsWithin (takes_of self.old.machine) own.now.came }
         ensures follows { OnOk result ((program : Program) (past : List Own) → Follows self.old.machine program past
             → Follows self.new.machine program (with_own self.old.machine own.now.came past)) }
-        ensures ok { TakesNone self.old.machine → IsOk result }
+        ensures goes { OnOk result (HasGone self.old.machine own.now.came self.new.machine) }
+        ensures memory { IsTrue (searches self.old.machine) → IsOk result }
         ensures err { OnErr result (self.new ≡ self.old) }
         ensures descriptors { self.new.descriptors.items ≡ self.old.descriptors.items }
         ensures name { self.new.name ≡ self.old.name }
         ensures ended { self.new.ended ≡ self.old.ended }
+        ensures owed { self.new.owed ≡ self.old.owed }
     {
         self.machine.done(alloc, got_of(&own.came))
     }
 
-    /// It is stopped from outside: the event is appended, and its descriptors are closed. Takes no memory. The
-    /// conditions: what it has open is open, and there is room for the event.
-    pub fn stop<D: CallFs>(&mut self, disk: &mut D, history: &mut History)
+    /// It is stopped from outside: the event is appended, its descriptors are closed, what it gives to is shut, and an event that it
+    /// owes is dropped. Takes no memory. The conditions: what it has open is open, and there is room for the event.
+    pub fn stop<D: CallFs>(
+        &mut self,
+        disk: &mut D,
+        history: &mut History,
+        mouths: &mut Vec<Mouths>,
+        seat: Option<usize>,
+    )
         requires opens { OnTold (D.disk disk.old) (λ before. AreOpen before self.old.descriptors.items) }
         requires room { HasRoom history.old 1 }
-        ensures stopped { IsFinished (kept.Stop self.old.name) (D.disk disk.old) (D.disk disk.new)
+        requires seat { IsSeated seat self.old.name mouths.old.items }
+        ensures stopped { IsFinished (kept.Stop self.old.name) (D.disk disk.old) (D.disk disk.new) mouths.old.items mouths.new.items
             self.old self.new (events_of history.old) (events_of history.new) }
         ensures plan { GoesByPlan D.plan D.disk disk.old disk.new
             (events_of history.old) (events_of history.new) }
@@ -204,6 +336,7 @@ impl Actor {
             actor: self.name.copy(),
         });
         self.end(disk, index);
+        shut_after(mouths, seat);
     }
 
     /// It is over, with the event of this index, and its descriptors are closed. The condition: they are open.
@@ -218,6 +351,7 @@ impl Actor {
         ensures machine { self.new.machine ≡ self.old.machine }
     {
         self.ended = Some(at);
+        self.owed = None;
         close_all(disk, &mut self.descriptors);
     }
 
@@ -228,6 +362,7 @@ impl Actor {
         if self.ended.is_none() {
             self.ended = Some(index);
         }
+        self.owed = None;
         self.descriptors.clear();
     }
 }
@@ -313,28 +448,4 @@ fn close_all<D: CallFs>(disk: &mut D, descriptors: &mut Vec<Fd>)
     while let Some(fd) = descriptors.pop() {
         let _ = disk.close(fd);
     }
-}
-
-/// What the injector of a mail is started with.
-pub fn mail_of(
-    alloc: Global,
-    pid: u32,
-    start: u64,
-    message: &[u8],
-    envelope: &[u8],
-) -> Result<Arguments, Memory>
-    ensures { IfOk result (λ args. args ≡ mail pid start message.now envelope.now) }
-{
-    let message = ByteText::from_slice(alloc, message)?;
-    let envelope = ByteText::from_slice(alloc, envelope)?;
-    Ok(Arguments {
-        uid: MAIL_USER,
-        pid,
-        invoked: Invoked::Uid(MAIL_USER),
-        start,
-        message,
-        message_end: InputEnd::Whole,
-        envelope,
-        envelope_end: InputEnd::Whole,
-    })
 }

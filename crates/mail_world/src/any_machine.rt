@@ -1,10 +1,13 @@
 // The machine of an actor.
-ghost use Rattle.std.specs.Prelude.{◌≡◌, ◌∷◌, List, ℕ, IsTrue};
-ghost use Rattle.mail_world.specs.Readiness.{finds};
+ghost use Rattle.std.specs.Prelude.{◌≡◌, ◌∷◌, List, ℕ, IsTrue, IsOk, OnOk, OnErr};
+ghost use Rattle.call_fs.specs.declared.past.Own.{Own};
+ghost use Rattle.call_fs.specs.Program.{came_of, IsKind, IsWithin};
+ghost use Rattle.world_events.specs.declared.event.Program.{Program as Runs};
+ghost use Rattle.mail_world.specs.ByKind.{Follows, HasRoom, HasGone, looked_of, need_of, takes_of, with_own, searches, is_through};
 
 use crate::Program;
 use crate::mailer::Mailer;
-use call_fs::{Got, INPUT_READY, Machine, Need, Ready};
+use call_fs::{Got, Machine, Need, Ready};
 use mail_bytes::Memory;
 use no_mailbox::NoMailbox;
 use queue_clean::Cleaner;
@@ -12,18 +15,12 @@ use remote_spawn::RemoteSpawn;
 use send_core::Sender;
 use std::alloc::Global;
 
-/// What a program finds ready in whose pipes nothing lies.
-const NOTHING_READY: Ready = Ready {
-    links: [false; 4],
-    child: None,
-};
-
 /// A program of the world as a machine, with what the world keeps beside it: a case for each kind.
 #[derive(Drop)]
 pub enum AnyMachine {
     /// The injector of a mail, and its input.
     Mail(Mailer),
-    /// A cleaner. The world makes none yet, and none of the others: they start with their generation.
+    /// A cleaner.
     Clean(Cleaner),
     /// A sender.
     Send(Sender),
@@ -34,13 +31,48 @@ pub enum AnyMachine {
 }
 
 impl AnyMachine {
-    /// What it finds ready. No pipe is kept yet, by which a member of a generation would.
-    pub fn finds(&self) -> Ready
-        ensures { result ≡ finds self.now }
+    /// Hands in what came, as any machine's `done`. A sender that searches todo takes no memory.
+    pub fn done(&mut self, alloc: Global, got: Got<'_>) -> Result<(), Memory>
+        requires looked { IsTrue (looked_of self.old) }
+        requires kind { IsKind (need_of self.old) (came_of got) }
+        requires within { IsWithin (takes_of self.old) (came_of got) }
+        ensures stands { (program : Runs) (past : List Own) → Follows self.old program past
+            → OnOk result (Follows self.new program (with_own self.old (came_of got.entry) past)) }
+        ensures room { HasRoom self.old → IsOk result × HasRoom self.new }
+        ensures goes { OnOk result (HasGone self.old (came_of got.entry) self.new) }
+        ensures memory { IsTrue (searches self.old) → IsOk result }
+        ensures err { OnErr result (self.new ≡ self.old) }
     {
         match self {
-            AnyMachine::Mail(_) => INPUT_READY,
-            _ => NOTHING_READY,
+            AnyMachine::Mail(mailer) => mailer.done(alloc, got),
+            AnyMachine::Clean(cleaner) => cleaner.done(got),
+            AnyMachine::Send(sender) => sender.done(alloc, got),
+            AnyMachine::Local(spawner) => spawner.done(alloc, got),
+            AnyMachine::Remote(spawner) => spawner.done(alloc, got),
+        }
+    }
+
+    /// Whether it is a sender whose next step is the search of todo, and that has done nothing else in this turn. The condition: it
+    /// has looked.
+    pub fn is_searching(&self) -> bool
+        requires { IsTrue (looked_of self.now) }
+        ensures { result ≡ searches self.now }
+    {
+        match self {
+            AnyMachine::Send(sender) => sender.is_searching(),
+            AnyMachine::Mail(_) | AnyMachine::Clean(_) => false,
+            AnyMachine::Local(_) | AnyMachine::Remote(_) => false,
+        }
+    }
+
+    /// Whether it is a sender that stands between two turns, or has ended.
+    pub fn is_through(&self) -> bool
+        ensures { result ≡ is_through self.now }
+    {
+        match self {
+            AnyMachine::Send(sender) => sender.is_between(),
+            AnyMachine::Mail(_) | AnyMachine::Clean(_) => false,
+            AnyMachine::Local(_) | AnyMachine::Remote(_) => false,
         }
     }
 }
@@ -103,13 +135,7 @@ impl Machine for AnyMachine {
     }
 
     fn done(&mut self, alloc: Global, got: Got<'_>) -> Result<(), Memory> {
-        match self {
-            AnyMachine::Mail(mailer) => mailer.done(alloc, got),
-            AnyMachine::Clean(cleaner) => cleaner.done(got),
-            AnyMachine::Send(sender) => sender.done(alloc, got),
-            AnyMachine::Local(spawner) => spawner.done(alloc, got),
-            AnyMachine::Remote(spawner) => spawner.done(alloc, got),
-        }
+        self.done(alloc, got)
     }
 
     fn uses_held() {}

@@ -7,6 +7,9 @@ use thiserror::Error;
 /// Why the world refuses; it is then as before.
 #[derive(Debug, Drop, Error)]
 pub enum WorldError {
+    /// A member of a generation lives: the first in the order sender, clean, lspawn, rspawn.
+    #[error("a member of the generation lives")]
+    Alive(ActorName),
     /// The actor has ended or was stopped; with the index of that event in the history, from 0.
     #[error("the actor has ended")]
     Gone(ActorName, u64),

@@ -16,9 +16,7 @@ use mail_bytes::{ByteText, Memory};
 use queue_inject::{Injector, Part};
 use received_line::Invoked;
 use std::alloc::Global;
-
-/// The user whose mails a script starts.
-pub const MAIL_USER: u32 = 1000;
+use world_events::MAIL_USER;
 
 /// A mail's injector, and its whole input, of which the injector is fed a piece at a time.
 #[derive(Drop)]

@@ -1,31 +1,38 @@
 // The world: the disk, the actors, the history.
-ghost use Rattle.std.specs.Prelude.{◌≡◌, ◌≢◌, ◌∷◌, ◌++◌, ◌⊎◌, ◌↔◌, ◌<◌, ◌≤◌, [], List, ℕ, Some, None, true, false, length, reverse, IsTrue, IsSomeAnd, IsOk, IfOk, IfErr, OnOk, OnErr};
+ghost use Rattle.std.specs.Prelude.{◌≡◌, ◌≢◌, ◌∷◌, ◌++◌, ◌⊎◌, ◌↔◌, ◌-◌, ◌^◌, ◌<◌, ◌≤◌, [], List, ℕ, Some, None, true, false, length, reverse, set, option_map, codes, IsTrue, IsSomeAnd, IsOk, IfOk, IfErr, OnOk, OnErr};
 ghost use Rattle.std.specs.List.{slice_get};
 ghost use Rattle.call_fs.specs.Disk.{Disk, IsUnused};
 ghost use Rattle.mail_bytes.specs.Moments.{IsMoment};
 ghost use Rattle.mail_bytes.specs.Told.{OnTold, Meets};
 ghost use Rattle.call_fs.specs.Choices.{Halts};
 ghost use Rattle.call_fs.specs.Plan.{with_fault, with_pick};
-ghost use Rattle.mail_world.specs.History.{Opening, Legal, Event as Happening};
+ghost use Rattle.mail_world.specs.History.{Opening, Legal, MayReport, Event as Happening};
+ghost use Rattle.mail_world.specs.Generations.{generation_world, reported_world, IsFirstAlive, IsNoneAlive, Waits, has_idled, next_living, lowest_unreported};
+ghost use Rattle.mail_world.specs.Inside.{among_all, known};
+ghost use Rattle.world_events.specs.declared.event.Event.{Event as Kept};
+ghost use Rattle.world_events.specs.declared.books.Entry.{Entry};
 ghost use Rattle.mail_world.specs.Kept.{events_of};
-ghost use Rattle.mail_world.specs.Waiting.{HasNoGeneration};
 ghost use Rattle.actor_names.specs.MailNames.{IsMailName};
 ghost use Rattle.mail_world.specs.World.{Leads, Happened, GoesOn, was_started, EndsAt, started_world, moment_world, IsStep, IsStop, GoesByPlan, IsHalt, GoesOnWith, IsAsBefore};
 ghost use Rattle.mail_world.specs.Acting.{IsNoLiving};
 ghost use Rattle.mail_world.specs.Places.{place_of};
-ghost use Rattle.mail_world.specs.Books.{entries_of, books_of, books_in};
+ghost use Rattle.mail_world.specs.Books.{entries_of, books_of, books_in, noted};
 
-use crate::actor::{Actor, cut_off_all, mail_of};
+use crate::actor::{Actor, Setting, cut_off_all};
 use crate::any_machine::AnyMachine;
+use crate::generation::{first_alive, members, named, pipes, ready_at, seat, seat_at};
 use crate::laws::books_are_the_models;
 use crate::mailer::Mailer;
-use crate::places::Places;
+use crate::reports::{first_unreported, is_unreported, put_report};
+use crate::starts::Starts;
 use crate::{ActorName, Books, Event, History, Program, WorldError};
 use actor_names::is_mail_name;
 use call_fs::{CallFs, CrashFs, Survival, Taken};
-use mail_bytes::Memory;
+use mail_bytes::{ByteText, Memory};
 use std::alloc::Global;
 use std::marker::Model;
+use world_events::{Places, mail_of, started_by};
+use world_pipes::Mouths;
 
 /// The process number of the first actor.
 const FIRST_PID: u32 = 77;
@@ -42,15 +49,11 @@ pub struct Did {
 }
 
 impl Did {
-    /// A step with this event, of a program that has no turns.
-    pub(crate) fn new(at: u64, ended: Option<u8>) -> Did
-        ensures { result ≡ record { at = at; ended = ended; idle = false } }
+    /// A step with this event.
+    pub(crate) fn new(at: u64, ended: Option<u8>, idle: bool) -> Did
+        ensures { result ≡ record { at = at; ended = ended; idle = idle } }
     {
-        Did {
-            at,
-            ended,
-            idle: false,
-        }
+        Did { at, ended, idle }
     }
 }
 
@@ -59,12 +62,20 @@ impl Did {
 #[derive(Drop)]
 pub struct World<D: CallFs> {
     disk: D,
+    // the members of the generation first, in their order, if one was started; then the mails
     actors: Vec<Actor>,
+    // how many members there are: none or four
+    crew: usize,
+    // where each mail stands among the mails
     places: Places,
+    // what each member takes from, while one of them may live
+    mouths: Vec<Mouths>,
     books: Books,
     history: History,
     present: u64,
     next_pid: u32,
+    // who started, in order
+    starts: Starts,
 }
 
 impl<D: CallFs> Model for World<D> {
@@ -72,14 +83,17 @@ impl<D: CallFs> Model for World<D> {
 
     ghost Value = { Seen D };
 
-    ghost use Rattle.mail_world.specs.Inside.{IsWorld, known, living};
+    ghost use Rattle.std.specs.Prelude.{drop, reverse};
+    ghost use Rattle.mail_world.specs.Inside.{IsWorld, ArePiped, among_all, known, living};
     ghost use Rattle.mail_world.specs.Kept.{HasRoom};
     ghost use Rattle.mail_world.specs.Places.{place_of};
     ghost use Rattle.mail_world.specs.Books.{AreBooked, entries_of};
+    ghost use Rattle.mail_world.specs.Generations.{starts_of};
+    ghost use Rattle.mail_world.specs.Starts.{AreStarts};
 
     ghost view = { λ w. record { disk = w.disk; events = w.history.events.items; present = w.present } };
 
-    ghost invariant = { λ w. IsWorld (D.disk w.disk) (place_of w.places) w.actors.items (known w.history.events.items) w.history.events.items w.present w.next_pid × HasRoom w.history (living w.actors.items) × AreBooked (entries_of w.books) w.actors.items w.history.events.items };
+    ghost invariant = { λ w. IsWorld (D.disk w.disk) (among_all w.crew (place_of w.places)) w.actors.items (known w.history.events.items) w.history.events.items w.present w.next_pid × HasRoom w.history (living w.actors.items) × AreBooked (entries_of w.books) (drop w.crew w.actors.items) w.history.events.items × ArePiped w.crew w.mouths.items w.actors.items (known w.history.events.items) w.history.events.items × AreStarts w.starts w.crew (place_of w.places) (starts_of (reverse w.history.events.items)) };
 }
 
 impl<D: CallFs> World<D> {
@@ -94,11 +108,14 @@ impl<D: CallFs> World<D> {
         Ok(World {
             disk,
             actors: Vec::new(alloc),
+            crew: 0,
             places: Places::new(alloc),
+            mouths: Vec::new(alloc),
             books: Books::new(alloc),
             history: History::new(alloc),
             present: 0,
             next_pid: FIRST_PID,
+            starts: Starts::new(alloc),
         })
     }
 
@@ -110,15 +127,12 @@ impl<D: CallFs> World<D> {
     }
 
     /// The events so far, the oldest first. In each world whose disk tells, they led to it from some disk, and each one
-    /// was allowed when it happened; if that disk was an initial one, their history is legal. No generation was started in
-    /// it, nor in any history that `Happened` since an initial disk.
+    /// was allowed when it happened; if that disk was an initial one, their history is legal.
     pub fn history(&self) -> &History
         ensures events { events_of result.now ≡ self.now.events }
-        ensures alone { (opening : Disk) (h : List Happening)
-            → Happened D.disk opening self.now h → HasNoGeneration h }
         ensures happened { OnTold (D.disk self.now.disk) (λ now. (opening : Disk) × (h : List Happening)
             × Leads opening now self.now.events self.now.present h
-            × HasNoGeneration h × (Opening opening → Legal opening h)) }
+            × (Opening opening → Legal opening h)) }
     {
         &self.history
     }
@@ -165,7 +179,7 @@ impl<D: CallFs> World<D> {
         is_mail_name(name.as_slice()) && self.places.find(name.as_slice()).is_none()
     }
 
-    /// Starts an injector. The condition: no actor of that name was started.
+    /// Starts an injector. The conditions: a mail may have that name, and no actor of that name was started.
     fn begin(
         &mut self,
         alloc: Global,
@@ -173,7 +187,8 @@ impl<D: CallFs> World<D> {
         message: &[u8],
         envelope: &[u8],
     ) -> Result<(), Memory>
-        requires { was_started self.old.events name.now ≡ false }
+        requires named { IsMailName name.now }
+        requires new { was_started self.old.events name.now ≡ false }
         ensures started { OnOk result (self.new ≡ started_world self.old name.now message.now envelope.now) }
         ensures goes_on { OnOk result (GoesOn D.disk self.old self.new) }
         ensures err { OnErr result (self.new ≡ self.old) }
@@ -184,7 +199,9 @@ impl<D: CallFs> World<D> {
         self.books.make_room()?;
         // for its start, and for the stop of each actor, of this one too
         self.history.reserve(self.actors.len() + 2)?;
-        self.places.add(alloc, name.as_slice(), self.actors.len())?;
+        self.starts.make_room(1)?;
+        self.places
+            .add(alloc, name.as_slice(), self.actors.len() - self.crew)?;
         let actor = Actor::new(alloc, name.copy(), AnyMachine::Mail(mailer));
         self.actors.push(actor).unwrap();
         self.books.add(name, &arguments);
@@ -193,17 +210,62 @@ impl<D: CallFs> World<D> {
             program: Program::Injector(arguments),
         });
         self.next_pid = self.next_pid.saturating_add(1);
+        self.starts.add_mail(self.actors.len() - self.crew - 1);
         Ok(())
     }
 
-    /// One step of an actor: its next file call, or its end, in which its descriptors are closed. `Unknown` exactly
-    /// if no actor of this name was started, `Gone` exactly if it has ended or was stopped. `NotWaiting` would
-    /// come if an actor waited, and never does: each is an injector whose whole input the world has.
+    /// Starts a generation at the present moment: the sender, the cleaner, the local and the remote spawner, in this order. `Alive`
+    /// exactly if a member of the one before lives, with the first in this order. The room for their stops is taken too.
+    pub fn start_generation(&mut self, alloc: Global) -> Result<(), WorldError>
+        ensures started { OnOk result (self.new ≡ generation_world self.old) }
+        ensures goes_on { OnOk result (GoesOn D.disk self.old self.new) }
+        ensures alive { (name : List ℕ) → (result ≡ Err (WorldError.Alive name)) ↔ IsFirstAlive self.old.events name }
+        ensures others { IfErr result (λ why. ((name : List ℕ) × (why ≡ WorldError.Alive name)) ⊎ (why ≡ WorldError.Memory)) }
+        ensures err { OnErr result (self.new ≡ self.old) }
+    {
+        if let Some(name) = first_alive(&self.actors[..self.crew]) {
+            return Err(WorldError::Alive(name));
+        }
+        Ok(self.begin_generation(alloc)?)
+    }
+
+    /// Starts a generation. The condition: no member of the one before lives.
+    fn begin_generation(&mut self, alloc: Global) -> Result<(), Memory>
+        requires { IsNoneAlive self.old.events }
+        ensures started { OnOk result (self.new ≡ generation_world self.old) }
+        ensures goes_on { OnOk result (GoesOn D.disk self.old self.new) }
+        ensures err { OnErr result (self.new ≡ self.old) }
+    {
+        let mut actors = members(alloc)?;
+        let mouths = pipes(alloc)?;
+        actors.reserve(self.actors.len())?;
+        // for its event, and for the stop of each actor, of these too
+        self.history.reserve(self.actors.len() + 5)?;
+        self.starts.make_room(4)?;
+        let mut mails = self.actors.split_off(self.crew)?;
+        actors.append(&mut mails).unwrap();
+        self.actors = actors;
+        self.crew = 4;
+        self.mouths = mouths;
+        self.history.put(Event::Generation {
+            start: self.present,
+        });
+        self.next_pid = self.next_pid.saturating_add(4);
+        self.starts.add_members();
+        Ok(())
+    }
+
+    /// One step of an actor: what is due by its machine at the present moment, with all that it finds ready. It is a file call, a
+    /// taking of all that lies in a pipe, a giving, the start of a remote program, the taking of its status, or its end, in which its
+    /// descriptors are closed and what it gives to is shut. `Unknown` exactly if no actor of this name was started, `Gone` exactly if
+    /// it has ended or was stopped, `NotWaiting` exactly if nothing of what is due can be done yet; but out of memory comes first. An
+    /// event that the actor owes is handed to its machine before, and stays handed in.
     pub fn step(&mut self, alloc: Global, actor: &ActorName) -> Result<Did, WorldError>
         ensures event { IfOk result (λ did. IsStep actor.now did.ended self.old self.new) }
         ensures present { self.new.present ≡ self.old.present }
         ensures at { IfOk result (λ did. did.at ≡ length self.old.events) }
-        ensures idle { IfOk result (λ did. did.idle ≡ false) }
+        ensures idle { IfOk result (λ did. (event : Kept) → self.new.events ≡ self.old.events ++ event ∷ []
+            → did.idle ≡ has_idled (known self.old.events) event) }
         ensures goes_on { OnOk result (GoesOn D.disk self.old self.new) }
         ensures plan { OnOk result (GoesByPlan D.plan D.disk self.old.disk self.new.disk
             self.old.events self.new.events) }
@@ -211,30 +273,108 @@ impl<D: CallFs> World<D> {
         ensures unknown { (result ≡ Err WorldError.Unknown) ↔ (was_started self.old.events actor.now ≡ false) }
         ensures gone { (name : List ℕ) (at : ℕ) → (result ≡ Err (WorldError.Gone name at))
             ↔ ((name ≡ actor.now) × EndsAt self.old.events actor.now at) }
-        ensures waits { (name : List ℕ) → result ≢ Err (WorldError.NotWaiting name) }
+        ensures waits { (name : List ℕ) → result ≡ Err (WorldError.NotWaiting name)
+            → (name ≡ actor.now) × Waits (known self.old.events) self.old.present actor.now }
+        ensures waiting { Waits (known self.old.events) self.old.present actor.now
+            → (result ≡ Err (WorldError.NotWaiting actor.now)) ⊎ (result ≡ Err WorldError.Memory) }
         ensures taken { result ≢ Err WorldError.Taken }
+        ensures alive { (name : List ℕ) → result ≢ Err (WorldError.Alive name) }
         ensures past { (now : ℕ) → result ≢ Err (WorldError.Past now) }
         ensures err { OnErr result (self.new ≡ self.old) }
     {
-        let place = living(&self.places, &self.actors, actor)?;
+        let place = living(&self.places, self.crew, &self.actors, actor)?;
         // for this event, and for the stop of each actor
         self.history.reserve(self.actors.len() + 1)?;
+        let seat = seat_at(place, self.crew);
         let acting = &mut self.actors[place];
-        let ready = acting.machine.finds();
+        acting.pay(alloc, &self.history)?;
+        let at = Setting {
+            now: self.present,
+            ready: ready_at(&self.mouths, seat),
+            seat,
+            pid: self.next_pid,
+        };
         let did = acting.act(
             alloc,
             &mut self.disk,
             &mut self.history,
-            self.present,
-            ready,
+            &mut self.mouths,
+            at,
         )?;
-        self.books.note(place, self.history.newest());
+        let Some(did) = did else {
+            return Err(WorldError::NotWaiting(actor.copy()));
+        };
+        let newest = self.history.newest();
+        self.next_pid = self.next_pid.saturating_add(started_by(newest));
+        note(&mut self.books, place, self.crew, newest);
         Ok(did)
     }
 
-    /// Stops an actor from outside: its descriptors are closed, and it makes no step any more. It takes no memory: the
-    /// room for its event was taken when the actor was started. `Unknown` exactly if no actor of this name was
-    /// started, `Gone` exactly if it has ended or was stopped.
+    /// The remote program in a slot ends with 0, and with this output: `r`, NUL, the letter, the text, NUL. `NotWaiting`, with rspawn,
+    /// exactly if no remote spawner lives that has a program in this slot of which no report came.
+    pub fn report(
+        &mut self,
+        alloc: Global,
+        slot: u8,
+        letter: u8,
+        text: &[u8],
+    ) -> Result<(), WorldError>
+        ensures reported { OnOk result (self.new ≡ reported_world self.old slot letter text.now) }
+        ensures goes_on { OnOk result (GoesOn D.disk self.old self.new) }
+        ensures waits { (name : List ℕ) → (result ≡ Err (WorldError.NotWaiting name))
+            ↔ ((name ≡ codes "rspawn") × (¬ (MayReport (known self.old.events) slot))) }
+        ensures others { IfErr result (λ why. ((name : List ℕ) × (why ≡ WorldError.NotWaiting name)) ⊎ (why ≡ WorldError.Memory)) }
+        ensures err { OnErr result (self.new ≡ self.old) }
+    {
+        if !is_unreported(&self.actors[..self.crew], &self.mouths, slot) {
+            return Err(WorldError::NotWaiting(named(b"rspawn")));
+        }
+        Ok(self.end_program(alloc, slot, letter, text)?)
+    }
+
+    /// The remote program in a slot ends. The condition: it has no report yet, and the remote spawner lives.
+    fn end_program(
+        &mut self,
+        alloc: Global,
+        slot: u8,
+        letter: u8,
+        text: &[u8],
+    ) -> Result<(), Memory>
+        requires { MayReport (known self.old.events) slot }
+        ensures reported { OnOk result (self.new ≡ reported_world self.old slot letter text.now) }
+        ensures goes_on { OnOk result (GoesOn D.disk self.old self.new) }
+        ensures err { OnErr result (self.new ≡ self.old) }
+    {
+        let kept = ByteText::from_slice(alloc, text)?;
+        // for this event, and for the stop of each actor
+        self.history.reserve(self.actors.len() + 1)?;
+        put_report(alloc, &mut self.mouths[3], slot, letter, text)?;
+        self.history.put(Event::Report {
+            slot,
+            letter,
+            text: kept,
+        });
+        Ok(())
+    }
+
+    /// Of the living actors whose newest start is at this place in the order of starts, or later, the first, and its place there.
+    pub fn next_living(&self, from: u64) -> Option<(&ActorName, u64)>
+        ensures { option_map (λ next. (next.0.now, next.1)) result ≡ next_living from self.now.events }
+    {
+        let (actor, at) = self.starts.next_living(&self.actors, self.crew, from)?;
+        Some((&actor.name, at))
+    }
+
+    /// The lowest slot from this one on of the living remote spawner whose program has no report.
+    pub fn unreported(&self, from: u8) -> Option<u8>
+        ensures { result ≡ lowest_unreported from (known self.now.events) }
+    {
+        first_unreported(&self.actors[..self.crew], &self.mouths, from)
+    }
+
+    /// Stops an actor from outside: its descriptors are closed, what it gives to is shut, and it makes no step any more. An event that
+    /// it owes is dropped. It takes no memory: the room for its event was taken when the actor was started. `Unknown` exactly if no
+    /// actor of this name was started, `Gone` exactly if it has ended or was stopped.
     pub fn stop(&mut self, actor: &ActorName) -> Result<(), WorldError>
         ensures event { OnOk result (IsStop actor.now self.old self.new) }
         ensures goes_on { OnOk result (GoesOn D.disk self.old self.new) }
@@ -248,10 +388,15 @@ impl<D: CallFs> World<D> {
             ⊎ ((name : List ℕ) × (at : ℕ) × (why ≡ WorldError.Gone name at))) }
         ensures err { OnErr result (self.new ≡ self.old) }
     {
-        let place = living(&self.places, &self.actors, actor)?;
+        let place = living(&self.places, self.crew, &self.actors, actor)?;
         let stopped = &mut self.actors[place];
-        stopped.stop(&mut self.disk, &mut self.history);
-        self.books.note(place, self.history.newest());
+        stopped.stop(
+            &mut self.disk,
+            &mut self.history,
+            &mut self.mouths,
+            seat_at(place, self.crew),
+        );
+        note(&mut self.books, place, self.crew, self.history.newest());
         Ok(())
     }
 
@@ -301,6 +446,7 @@ impl<D: CrashFs> World<D> {
         let at = self.history.len() as u64;
         self.history.put(Event::Halt { how });
         cut_off_all(&mut self.actors, at);
+        self.mouths.clear();
         self.books.cut_off();
         Ok(())
     }
@@ -336,17 +482,46 @@ impl<D: CrashFs> World<D> {
 }
 
 /// The place of the living actor of this name. The condition: each place is one of the actors'.
-fn living(places: &Places, actors: &[Actor], name: &ActorName) -> Result<usize, WorldError>
-    requires { (i : ℕ) → place_of places.now name.now ≡ Some i → i < length actors.now }
-    ensures ok { IfOk result (λ i. (place_of places.now name.now ≡ Some i)
+fn living(
+    places: &Places,
+    crew: usize,
+    actors: &[Actor],
+    name: &ActorName,
+) -> Result<usize, WorldError>
+    requires { (i : ℕ) → among_all crew (place_of places.now) name.now ≡ Some i → i < length actors.now }
+    ensures ok { IfOk result (λ i. (among_all crew (place_of places.now) name.now ≡ Some i)
         × IsSomeAnd (slice_get actors.now i) (λ x. x.ended ≡ None)) }
-    ensures err { IfErr result (λ why. IsNoLiving (place_of places.now) actors.now name.now why) }
+    ensures err { IfErr result (λ why. IsNoLiving (among_all crew (place_of places.now)) actors.now name.now why) }
 {
-    let Some(place) = places.find(name.as_slice()) else {
+    let Some(place) = place_among(places, crew, name) else {
         return Err(WorldError::Unknown);
     };
     match actors[place].ended {
         Some(at) => Err(WorldError::Gone(name.copy(), at)),
         None => Ok(place),
+    }
+}
+
+/// The place of the actor of this name among all. The condition: it has one of a usize.
+fn place_among(places: &Places, crew: usize, name: &ActorName) -> Option<usize>
+    requires { (i : ℕ) → among_all crew (place_of places.now) name.now ≡ Some i → i < 2 ^ 64 }
+    ensures { result ≡ among_all crew (place_of places.now) name.now }
+{
+    match seat(name.as_slice()) {
+        Some(seat) if seat < crew => Some(seat),
+        Some(_) => None,
+        None => places.find(name.as_slice()).map(|place| crew + place),
+    }
+}
+
+/// The books take the newest event into account, which is that of the actor at this place, if it is a mail's.
+fn note(books: &mut Books, place: usize, crew: usize, newest: &Event)
+    requires { crew ≤ place → place - crew < length (entries_of books.old) }
+    ensures member { place < crew → books.new ≡ books.old }
+    ensures mail { crew ≤ place → (e : Entry) → slice_get (entries_of books.old) (place - crew) ≡ Some e
+        → entries_of books.new ≡ set (entries_of books.old) (place - crew) (noted newest.now e) }
+{
+    if crew <= place {
+        books.note(place - crew, newest);
     }
 }

@@ -69,6 +69,7 @@ show_played d w plan text own after_text h playing shown is = record { events = 
 
 -- a start is refused for its name
 pub only_taken : (why : WorldError) (r : Refusal) → (why ≡ error.Taken) ⊎ (why ≡ error.Memory) → IsRefusalOf why r → (why ≡ error.Taken) × (r ≡ Refusal.Taken)
+only_taken (error.Alive name) r one is = absurd is
 only_taken (error.Gone name at) r one is = ⊎_elim (λ e. absurd (cc)) (λ e. absurd (cc)) one
 only_taken (error.NotWaiting name) r one is = ⊎_elim (λ e. absurd (cc)) (λ e. absurd (cc)) one
 only_taken error.Unknown r one is = ⊎_elim (λ e. absurd (cc)) (λ e. absurd (cc)) one

@@ -17,6 +17,7 @@ use Rattle.scenario.proofs.ScriptSteps.{alive_waits}
 
 -- an error has one refusal
 same_refusal : (why : WorldError) (r s : Refusal) → IsRefusalOf why r → IsRefusalOf why s → r ≡ s
+same_refusal (error.Alive name) r s one other = absurd one
 same_refusal (error.Gone name at) r s one other = one ∙ sym other
 same_refusal (error.NotWaiting name) r s one other = one ∙ sym other
 same_refusal error.Unknown r s one other = one ∙ sym other
@@ -26,6 +27,7 @@ same_refusal error.Memory r s one other = absurd one
 
 -- a refusal of the world as one of the script
 pub refused_with : (why : WorldError) (r : Refusal) (d : Disk) (plan : Plan) (a : List ℕ) (h : List Event) → IsRefusedAs why d plan a h → IsRefusalOf why r → StepsTo plan (after d h) a (Is r)
+refused_with (error.Alive name) r d plan a h seen is = absurd is
 refused_with (error.Gone name at) r d plan a h seen is = subst (λ r. StepsTo plan (after d h) a (Is r)) (same_refusal (error.Gone name at) seen.0 r seen.1 is) seen.2
 refused_with (error.NotWaiting name) r d plan a h seen is = subst (λ r. StepsTo plan (after d h) a (Is r)) (same_refusal (error.NotWaiting name) seen.0 r seen.1 is) seen.2
 refused_with error.Unknown r d plan a h seen is = subst (λ r. StepsTo plan (after d h) a (Is r)) (same_refusal error.Unknown seen.0 r seen.1 is) seen.2
@@ -34,6 +36,7 @@ refused_with (error.Past now) r d plan a h seen is = subst (λ r. StepsTo plan (
 refused_with error.Memory r d plan a h seen is = absurd is
 
 pub no_memory_refused : (why : WorldError) (r : Refusal) → IsRefusalOf why r → why ≢ error.Memory
+no_memory_refused (error.Alive name) r is e = is
 no_memory_refused (error.Gone name at) r is e = absurd (cc)
 no_memory_refused (error.NotWaiting name) r is e = absurd (cc)
 no_memory_refused error.Unknown r is e = absurd (cc)
@@ -43,6 +46,7 @@ no_memory_refused error.Memory r is e = is
 
 -- only a world that says so refuses since the actor waits
 doesn't_wait : (why : WorldError) (r : Refusal) → IsRefusalOf why r → ((name : List ℕ) → why ≢ error.NotWaiting name) → r ≢ Refusal.NotWaiting
+doesn't_wait (error.Alive name) r is waits e = absurd is
 doesn't_wait (error.Gone name at) r is waits e = let both = sym is ∙ e in absurd (cc)
 doesn't_wait (error.NotWaiting name) r is waits e = absurd (waits name refl)
 doesn't_wait error.Unknown r is waits e = let both = sym is ∙ e in absurd (cc)

@@ -23,9 +23,10 @@ use Rattle.mail_world.specs.History.Event.{Start, Act, Child, Generation, Report
 use Rattle.mail_world.specs.History.Life.{Alive, Over, Stopped}
 use Rattle.mail_world.specs.Readiness.{found_in}
 use Rattle.mail_world.specs.Known.{known}
-use Rattle.mail_world.proofs.Readies.{known_found, whole_call}
+use Rattle.mail_world.specs.Generations.{Waits}
+use Rattle.mail_world.proofs.Readies.{known_found, never_waits, whole_call}
 use Rattle.mail_world.specs.Waiting.{is_generation}
-use Rattle.mail_world.specs.World.{kept_call, Seen, Tells, IsHistory, GoesOn, IsStep, EndsAt, was_started, GoesByPlan}
+use Rattle.mail_world.specs.World.{kept_call, next_pid, Seen, Tells, IsHistory, GoesOn, IsStep, EndsAt, was_started, GoesByPlan}
 use Rattle.mail_world.proofs.Lives.{started_is, ended_is}
 use Rattle.crash_fs.proofs.CountedCalls.{done_by}
 use Rattle.scenario.proofs.HalfWritten.{call_wrote_none}
@@ -240,19 +241,29 @@ gone_steps plan o d events p h a at was ends =
     let x = ended_is o h events a at was.legal was.told ends in
     over_gone plan (after o h) a x.0 x.1 x.2
 
+-- what is wrong is the same, whatever else might have come
+pub same_error : {A E : Type 0} {x y : E} → ◌≡◌ {A = Result A E} (Err x) (Err y) → x ≡ y
+same_error same = cc
+
+-- no actor of a script waits
+pub no_wait : (o : Disk) (old : Seen Crash) (plan : Plan) (a : List ℕ) (h : List Event) → IsPlaying o old plan h → Waits (known old.events) old.present a → ⊥
+no_wait o old plan a h playing waits = never_waits o old.events h old.present a playing.is.legal playing.covered playing.is.told waits
+
 pub refused_as : {T : Type 0} (r : Result T WorldError) (why : WorldError) (o : Disk) (old : Seen Crash) (plan : Plan) (a : List ℕ) (h : List Event)
     → IsPlaying o old plan h → r ≡ Err why → (r ≡ Err error.Unknown → was_started old.events a ≡ false)
     → ((name : List ℕ) (at : ℕ) → r ≡ Err (error.Gone name at) → (name ≡ a) × EndsAt old.events a at)
-    → ((name : List ℕ) → r ≢ Err (error.NotWaiting name)) → r ≢ Err error.Taken → ((now : ℕ) → r ≢ Err (error.Past now))
+    → ((name : List ℕ) → r ≡ Err (error.NotWaiting name) → (name ≡ a) × Waits (known old.events) old.present a)
+    → r ≢ Err error.Taken → ((name : List ℕ) → r ≢ Err (error.Alive name)) → ((now : ℕ) → r ≢ Err (error.Past now))
     → IsRefusedAs why o plan a h
-refused_as r (error.Gone name at) o old plan a h playing is unknown gone waits taken past =
+refused_as r (error.Alive name) o old plan a h playing is unknown gone waits taken alive past = absurd (alive name is)
+refused_as r (error.Gone name at) o old plan a h playing is unknown gone waits taken alive past =
     (Gone, refl, gone_steps plan o (crash_disk old.disk) old.events old.present h a at playing.is (gone name at is).1)
-refused_as r (error.NotWaiting name) o old plan a h playing is unknown gone waits taken past = absurd (waits name is)
-refused_as r error.Unknown o old plan a h playing is unknown gone waits taken past =
+refused_as r (error.NotWaiting name) o old plan a h playing is unknown gone waits taken alive past = absurd (no_wait o old plan a h playing (waits name is).1)
+refused_as r error.Unknown o old plan a h playing is unknown gone waits taken alive past =
     (Unknown, refl, unknown_steps plan o (crash_disk old.disk) old.events old.present h a playing.is (unknown is))
-refused_as r error.Taken o old plan a h playing is unknown gone waits taken past = absurd (taken is)
-refused_as r (error.Past now) o old plan a h playing is unknown gone waits taken past = absurd (past now is)
-refused_as r error.Memory o old plan a h playing is unknown gone waits taken past = tt
+refused_as r error.Taken o old plan a h playing is unknown gone waits taken alive past = absurd (taken is)
+refused_as r (error.Past now) o old plan a h playing is unknown gone waits taken alive past = absurd (past now is)
+refused_as r error.Memory o old plan a h playing is unknown gone waits taken alive past = tt
 
 -- What a step of the world comes to
 
@@ -271,7 +282,7 @@ pub stepped : (o : Disk) (old new : Seen Crash) (plan : Plan) (a : List ℕ) (en
     → ((before : List Kept) (newest : Kept) → new.events ≡ before ++ newest ∷ [] → false ≡ lacked_memory newest)
     → HasStepped o new a ended plan h
 stepped o old new plan a None h playing step same goes by memory =
-    let one = whole_call (known old.events) old.present a step.0 step.1 in
+    let one = whole_call o old.events h (next_pid old.events) old.present a step.0 playing.is.legal playing.covered playing.is.told step.1 in
     let call = one.call in
     let got = one.told in
     let k : Kept = kept_call a old.present (found_in (after o h) a) call got in

@@ -51,8 +51,9 @@ refusal_word Taken = codes "taken"
 refusal_word Past = codes "past"
 refusal_word Steps = codes "steps"
 
--- what the world's own refusals say; that memory ran out is none of a script's
+-- what the world's own refusals say; that memory ran out is none of a script's, and no line starts a generation yet
 abbrev pub IsRefusalOf : WorldError → Refusal → Type 0
+IsRefusalOf (error.Alive name) why = ⊥
 IsRefusalOf (error.Gone name at) why = why ≡ Gone
 IsRefusalOf (error.NotWaiting name) why = why ≡ NotWaiting
 IsRefusalOf error.Unknown why = why ≡ Unknown

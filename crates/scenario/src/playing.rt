@@ -186,7 +186,7 @@ fn stop(world: &mut World<CrashDisk>, actor: &ActorName, text: &mut Vec<u8>) -> 
 }
 
 /// One step of an actor. The exit status, if the actor ended. `Memory` also if its call found no memory: then the
-/// play is over, since a script plays on ample memory.
+/// play is over, since a script plays on ample memory. No actor of a script waits.
 fn step(
     alloc: Global,
     world: &mut World<CrashDisk>,
@@ -197,7 +197,8 @@ fn step(
     ensures err { IfErr result (λ why. (d : Disk) (plan : Plan) (h : List Happening) → IsPlaying d world.old plan h
         → IsRefusedAs why d plan actor.now h) }
     ensures same { IfErr result (λ why. why ≢ WorldError.Memory → world.new ≡ world.old) }
-    ensures waits { (name : List ℕ) → result ≢ Err (WorldError.NotWaiting name) }
+    ensures waits { (name : List ℕ) → result ≡ Err (WorldError.NotWaiting name) → (d : Disk) (plan : Plan) (h : List Happening)
+        → ¬ (IsPlaying d world.old plan h) }
 {
     let did = world.step(alloc, actor)?;
     if newest_lacked_memory(world.history()) {
@@ -316,7 +317,7 @@ fn set_moment(
         Err(WorldError::Gone(_, _) | WorldError::NotWaiting(_) | WorldError::Unknown) => {
             Err(AllocError)
         }
-        Err(WorldError::Taken | WorldError::Memory) => Err(AllocError),
+        Err(WorldError::Alive(_) | WorldError::Taken | WorldError::Memory) => Err(AllocError),
     }
 }
 
@@ -330,7 +331,8 @@ fn put_past(text: &mut Vec<u8>, present: u64) -> Result<(), Memory>
     Ok(())
 }
 
-/// Puts the line of a refusal at the end of a text. That memory ran out is no line.
+/// Puts the line of a refusal at the end of a text. That memory ran out is no line, nor is that a member lives: no line
+/// starts a generation yet.
 fn refuse(text: &mut Vec<u8>, why: WorldError, name: &ActorName) -> Result<(), Memory>
     ensures { OnOk result ((refusal : Refusal) × IsRefusalOf why refusal × (text.new.items ≡ text.old.items ++ refusal_line refusal name.now)) }
 {
@@ -340,7 +342,7 @@ fn refuse(text: &mut Vec<u8>, why: WorldError, name: &ActorName) -> Result<(), M
         WorldError::Unknown => put_refusal(text, b"unknown", name),
         WorldError::Taken => put_refusal(text, b"taken", name),
         WorldError::Past(_) => put_refusal(text, b"past", name),
-        WorldError::Memory => Err(AllocError),
+        WorldError::Alive(_) | WorldError::Memory => Err(AllocError),
     }
 }
 

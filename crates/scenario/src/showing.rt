@@ -5,6 +5,7 @@ ghost use Rattle.call_fs.specs.Disk.{Disk};
 ghost use Rattle.mem_fs.specs.MemDisk.{bytes_at};
 ghost use Rattle.crash_fs.specs.Crash.{crash_disk};
 ghost use Rattle.mail_world.specs.History.{Event as Happening};
+ghost use Rattle.mail_world.specs.Waiting.{HasNoGeneration};
 ghost use Rattle.mail_world.specs.World.{Happened};
 ghost use Rattle.scenario.specs.Shown.{IsShown, line_of, life_word, life_of, entry_lines, recipient_lines, number_line};
 ghost use Rattle.scenario.specs.Played.{cat_line};
@@ -18,16 +19,15 @@ use queue_states::{put_count_line, put_state_line};
 use std::alloc::Global;
 
 /// Puts at the end of a text how many names `pid/` has, the state of each number that isn't in S1, and how each mail
-/// fares. A recipient of an accepted mail is pending: nothing takes a mail out of todo yet.
+/// fares. A recipient of an accepted mail is pending: nothing takes a mail out of todo, as long as no generation was started.
 pub fn show(alloc: Global, world: &World<CrashDisk>, text: &mut Vec<u8>) -> Result<(), Memory>
     ensures { OnOk result ((own : List ℕ) × (text.new.items ≡ text.old.items ++ own)
-        × ((d : Disk) (h : List Happening) → Happened (λ m. Some (crash_disk m)) d world.now h → IsShown d h own)) }
+        × ((d : Disk) (h : List Happening) → Happened (λ m. Some (crash_disk m)) d world.now h → HasNoGeneration h → IsShown d h own)) }
 {
     let pids = names_of(alloc, world.disk(), b"pid")?;
     put_count_line(text, pids.len() as u64)?;
     let numbers = numbers_of(alloc, world.disk())?;
     put_states(text, world.disk(), &numbers)?;
-    world.history();
     put_mails(text, world.books().entries())
 }
 

@@ -1,2 +1,4 @@
 -- the recipients of an envelope, counted
 pub mod Recipients
+-- a map whose keys are texts
+pub mod Index

@@ -4,3 +4,11 @@ pub mod Kept
 pub mod Programs
 -- what became of each injection
 pub mod Books
+-- what a read brings, as an event keeps it
+pub mod Reads
+-- how many programs an event starts
+pub mod Starting
+-- mails of a world
+pub mod Mails
+-- where each mail stands
+pub mod Places

@@ -1,8 +1,9 @@
 // What happened, and the list of it.
-ghost use Rattle.std.specs.Prelude.{◌≡◌, ◌∷◌, ◌++◌, ◌+◌, ◌-◌, ◌≤◌, [], List, ℕ, length, get_or, OnOk};
+ghost use Rattle.std.specs.Prelude.{◌≡◌, ◌∷◌, ◌++◌, ◌+◌, ◌-◌, ◌≤◌, [], List, ℕ, length, get_or, OnOk, if◌then◌else◌};
+ghost use Rattle.world_events.specs.Starting.{starts_in, starts_program};
 
 use actor_names::ActorName;
-use call_fs::{Own, Ready, Survival};
+use call_fs::{GotData, NeedData, Own, Ready, Survival};
 use mail_bytes::{ByteText, Memory};
 use queue_inject::Arguments;
 use std::alloc::Global;
@@ -12,8 +13,7 @@ use std::alloc::Global;
 pub enum Program {
     /// An injector.
     Injector(Arguments),
-    /// A cleaner, which was started at this moment. No world starts one yet, and so none of the other members of a
-    /// generation.
+    /// A cleaner, which was started at this moment.
     Cleaner {
         /// The moment of its start.
         start: u64,
@@ -165,5 +165,27 @@ impl History {
         ensures room { (more : ℕ) → HasRoom self.old (more + 1) → HasRoom self.new more }
     {
         self.events.push(event).unwrap();
+    }
+}
+
+/// How many programs an event starts that is no start of a generation: one, if it started a program.
+pub fn started_by(event: &Event) -> u32
+    ensures { result ≡ starts_in event.now }
+{
+    match event {
+        Event::Start { .. } => 1,
+        Event::Generation { .. } => 4,
+        Event::Act { own, .. } => starts(own),
+        _ => 0,
+    }
+}
+
+/// One, if a program was started.
+fn starts(own: &Own) -> u32
+    ensures { result ≡ (if starts_program own.now.due own.now.came then 1 else 0) }
+{
+    match (&own.due, &own.came) {
+        (NeedData::Start(_), GotData::Started { .. }) => 1,
+        _ => 0,
     }
 }

@@ -3,15 +3,14 @@ use Rattle.std.proofs.Common.{◌≡◌, ℕ, List, Option, Some, None, IsSomeAn
 use Rattle.address_rules.specs.declared.controls.Controls.{Controls}
 use Rattle.call_fs.specs.Disk.{Disk}
 use Rattle.call_fs.specs.declared.past.Own.{Own}
-use Rattle.mail_bytes.specs.Told.{OnTold}
 use Rattle.queue_law.specs.Numbers.{Queue}
 use Rattle.world_events.specs.declared.event.Program.{Program}
 use Rattle.world_events.specs.declared.event.Program.TheVariants.{Injector}
-use Rattle.mail_world.specs.History.{Event, Legal, Life, Opening, State, after}
+use Rattle.mail_world.specs.History.{Event, Legal, Life, State, after}
 use Rattle.mail_world.specs.History.Life.{Over}
 use Rattle.mail_world.specs.Untouched.{queue}
 use Rattle.mail_world.specs.Waiting.{EachWaiting, HasNoGeneration}
-use Rattle.mail_world.specs.World.{IsHistory, Leads}
+use Rattle.mail_world.specs.World.{IsHistory}
 use Rattle.world_events.specs.declared.event.Event.{Event as Kept}
 use Rattle.mail_world.proofs.Covered.{covered_before}
 use Rattle.mail_world.proofs.Halts.{is_well}
@@ -41,7 +40,7 @@ safe_without_generations controls d h legal none = λ later before is.
 pub stays_safe : (d : Disk) (h : List Event) → Legal d h → HasNoGeneration h → StaysSafe d h
 stays_safe d h legal none = record { safe = λ controls. safe_without_generations controls d h legal none; waiting = mails_wait d h legal none }
 
--- so it is in a world, in whose histories none was started
+-- so it is in a world in which none was started
 pub told_safe : (controls : Controls) (opening : Disk) (told : Option Disk) (events : List Kept) (present : ℕ) (h : List Event)
     → IsSomeAnd told (λ now. IsHistory opening now events present h) → HasNoGeneration h → EachSafe controls opening h
 told_safe controls opening (Some now) events present h happened none = safe_without_generations controls opening h happened.legal none
@@ -51,10 +50,3 @@ pub told_waiting : (opening : Disk) (told : Option Disk) (events : List Kept) (p
     → IsSomeAnd told (λ now. IsHistory opening now events present h) → HasNoGeneration h → EachWaiting opening h
 told_waiting opening (Some now) events present h happened none = mails_wait opening h happened.legal none
 told_waiting opening None events present h happened none = absurd happened
-
--- and in what led to a world, if it began with an initial disk
-pub led_safe : (told : Option Disk) (events : List Kept) (present : ℕ)
-    → OnTold told (λ now. (o : Disk) × (h : List Event) × Leads o now events present h × HasNoGeneration h × (Opening o → Legal o h))
-    → OnTold told (λ now. (o : Disk) × (h : List Event) × Leads o now events present h × (Opening o → Legal o h × StaysSafe o h))
-led_safe None events present led = tt
-led_safe (Some now) events present led = (led.0, led.1, led.2, λ opens. let legal = led.4 opens in (legal, stays_safe led.0 led.1 legal led.3))

@@ -40,6 +40,8 @@ pub mod Histories
 pub mod Apart
 -- what holds if no generation was started
 pub mod Alone
+-- what led to a world
+pub mod Led
 -- what each event leaves
 pub mod Leaves
 -- the commands under way at a cleaner

@@ -86,6 +86,12 @@ pub record StaysSafe (opening : Disk) (h : List Event) : Type 0 where
   pub safe : (controls : Controls) → EachSafe controls opening h
   pub waiting : EachWaiting opening h
 
+-- What holds of a history that began with this disk: each prefix is safe with the controls that the disk has; and if no generation was
+-- started, each is safe whatever controls are meant, with each accepted message in todo.
+pub record IsSafeBy (opening : Disk) (h : List Event) : Type 0 where
+  pub safe : (controls : Controls) → HasControls controls opening → EachSafe controls opening h
+  pub alone : HasNoGeneration h → StaysSafe opening h
+
 -- So is each prefix of what happened in a world, by what its disk tells, since it began with a disk of these controls.
 abbrev pub WorldsAreSafe : Type 0
 WorldsAreSafe = (controls : Controls) (opening : Disk) (w : Seen (Option Disk)) (h : List Event) → HasControls controls opening → Happened {D = Option Disk} (λ told. told) opening w h

@@ -1,5 +1,5 @@
 -- The pipes that one actor takes from, by its ports, and the remote programs in its slots.
-use Rattle.std.specs.Prelude.{◌≡◌, ℕ, ◌<◌, length, Option, Some, None, option_map, if◌then◌else◌}
+use Rattle.std.specs.Prelude.{◌≡◌, ℕ, ◌<◌, ◌≤◌, length, Bool, true, false, Option, Some, None, option_map, if◌then◌else◌}
 use Rattle.std.specs.List.{slice_get}
 use Rattle.call_fs.specs.declared.program.Port.{Port}
 use Rattle.call_fs.specs.declared.program.Port.TheVariants as port
@@ -35,6 +35,17 @@ runs_in (Some slot) = option_map Remote slot.reported
 
 abbrev pub tenant_of : Mouths → ℕ → Option Tenant
 tenant_of m d = runs_in (slice_get m.slots.items d)
+
+-- a remote program with its report, or one without
+abbrev pub is_remote : Bool → Option Tenant → Bool
+is_remote true (Some (Remote true)) = true
+is_remote false (Some (Remote false)) = true
+is_remote reported other = false
+
+-- the lowest number of a slot from this one on of which this holds; a number is at most 255
+abbrev pub IsLowest : (ℕ → Bool) → ℕ → Option ℕ → Type 0
+IsLowest test from None = (d : ℕ) → from ≤ d → d ≤ 255 → test d ≡ false
+IsLowest test from (Some lowest) = (from ≤ lowest) × (test lowest ≡ true) × ((d : ℕ) → from ≤ d → d < lowest → test d ≡ false)
 
 -- it has a pipe for this port
 abbrev pub HasPipe : Mouths → Port → Type 0

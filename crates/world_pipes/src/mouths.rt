@@ -2,10 +2,10 @@
 ghost use Rattle.std.specs.Prelude.{◌≡◌, ◌==◌, ◌≤◌, ◌<◌, ℕ, true, false, if◌then◌else◌, Some, None, IfOk, IsOk, OnOk, OnErr, All, length};
 ghost use Rattle.call_fs.specs.declared.program.Port.{Port as Gate};
 ghost use Rattle.call_fs.specs.declared.program.Port.TheVariants.{Program};
-ghost use Rattle.world_pipes.specs.Pipework.{fresh, given, closed};
+ghost use Rattle.world_pipes.specs.Pipework.{fresh, given, closed, is_ready};
 ghost use Rattle.world_pipes.specs.Pipework.Tenant.{Remote};
 ghost use Rattle.world_pipes.specs.Pipes.{lies, told, offered, left_by};
-ghost use Rattle.world_pipes.specs.Mouths.{IsVacant, pipe_of, tenant_of, HasPipe, HasRoomAt, change_at};
+ghost use Rattle.world_pipes.specs.Mouths.{IsVacant, pipe_of, tenant_of, is_remote, IsLowest, HasPipe, HasRoomAt, change_at};
 
 use crate::{Pipe, Taken};
 use call_fs::Port;
@@ -76,11 +76,56 @@ impl Mouths {
         })
     }
 
+    /// Whether something can be taken by this port, if only the end.
+    pub fn is_ready(&self, port: Port) -> bool
+        ensures { result ≡ is_ready (pipe_of self.now port) }
+    {
+        match port {
+            Port::Input => self.input.is_ready(),
+            Port::Clean => self.clean.is_ready(),
+            Port::Lspawn => self.lspawn.is_ready(),
+            Port::Rspawn => self.rspawn.is_ready(),
+            Port::Program(slot) => match self.slots.get(slot as usize) {
+                Some(slot) => slot.output.is_ready(),
+                None => false,
+            },
+            Port::Output | Port::Todo | Port::Status(_) => false,
+        }
+    }
+
+    /// Whether a remote program is in this slot whose report came, or, if so asked, one whose report didn't come yet.
+    pub fn runs(&self, slot: u8, reported: bool) -> bool
+        ensures { result ≡ is_remote reported (tenant_of self.now slot) }
+    {
+        match self.slots.get(slot as usize) {
+            Some(slot) => slot.reported == Some(reported),
+            None => false,
+        }
+    }
+
+    /// The lowest slot from this one on with a remote program whose report came, or, if so asked, with one whose report didn't come
+    /// yet.
+    pub fn lowest(&self, from: u8, reported: bool) -> Option<u8>
+        ensures { IsLowest (λ d. is_remote reported (tenant_of self.now d)) from result }
+    {
+        let mut slot = from;
+        loop {
+            if self.runs(slot, reported) {
+                return Some(slot);
+            }
+            if slot == u8::MAX {
+                return None;
+            }
+            slot += 1;
+        }
+    }
+
     /// Makes room for so many bytes more in the pipe by this port. The condition: there is one.
     pub fn make_room(&mut self, port: Port, more: usize) -> Result<(), Memory>
         requires { HasPipe self.old port }
         ensures pipes { (at : Gate) → pipe_of self.new at ≡ pipe_of self.old at }
         ensures tenants { (d : ℕ) → tenant_of self.new d ≡ tenant_of self.old d }
+        ensures slots { length self.new.slots.items ≡ length self.old.slots.items }
         ensures room { OnOk result (HasRoomAt self.new port more) }
     {
         match port {
@@ -98,6 +143,7 @@ impl Mouths {
         requires { HasRoomAt self.old port (length bytes.now) }
         ensures pipes { (at : Gate) → pipe_of self.new at ≡ change_at port (given bytes.now) (pipe_of self.old) at }
         ensures tenants { (d : ℕ) → tenant_of self.new d ≡ tenant_of self.old d }
+        ensures slots { length self.new.slots.items ≡ length self.old.slots.items }
     {
         match port {
             Port::Input => self.input.give(bytes),
@@ -116,6 +162,7 @@ impl Mouths {
         ensures pipes { IfOk result (λ what. (at : Gate)
             → pipe_of self.new at ≡ change_at port (left_by (told what)) (pipe_of self.old) at) }
         ensures tenants { (d : ℕ) → tenant_of self.new d ≡ tenant_of self.old d }
+        ensures slots { length self.new.slots.items ≡ length self.old.slots.items }
         ensures ok { length (pipe_of self.old port).bytes ≤ most → IsOk result }
         ensures err { OnErr result ((at : Gate) → pipe_of self.new at ≡ pipe_of self.old at) }
     {
@@ -137,6 +184,7 @@ impl Mouths {
         requires { HasPipe self.old port }
         ensures pipes { (at : Gate) → pipe_of self.new at ≡ change_at port closed (pipe_of self.old) at }
         ensures tenants { (d : ℕ) → tenant_of self.new d ≡ tenant_of self.old d }
+        ensures slots { length self.new.slots.items ≡ length self.old.slots.items }
     {
         match port {
             Port::Input => self.input.close(),
@@ -166,6 +214,7 @@ impl Mouths {
         requires { slot < length self.old.slots.items }
         ensures pipes { (at : Gate) → pipe_of self.new at ≡ change_at (Program slot) (λ _. fresh) (pipe_of self.old) at }
         ensures tenants { (d : ℕ) → tenant_of self.new d ≡ (if d == slot then Some (Remote false) else tenant_of self.old d) }
+        ensures slots { length self.new.slots.items ≡ length self.old.slots.items }
     {
         self.slots[slot as usize].start();
     }
@@ -175,6 +224,7 @@ impl Mouths {
         requires { slot < length self.old.slots.items }
         ensures pipes { (at : Gate) → pipe_of self.new at ≡ pipe_of self.old at }
         ensures tenants { (d : ℕ) → tenant_of self.new d ≡ (if d == slot then Some (Remote true) else tenant_of self.old d) }
+        ensures slots { length self.new.slots.items ≡ length self.old.slots.items }
     {
         self.slots[slot as usize].reported = Some(true);
     }
@@ -184,6 +234,7 @@ impl Mouths {
         requires { slot < length self.old.slots.items }
         ensures pipes { (at : Gate) → pipe_of self.new at ≡ pipe_of self.old at }
         ensures tenants { (d : ℕ) → tenant_of self.new d ≡ (if d == slot then None else tenant_of self.old d) }
+        ensures slots { length self.new.slots.items ≡ length self.old.slots.items }
     {
         self.slots[slot as usize].reported = None;
     }

@@ -1,8 +1,9 @@
-use Rattle.std.proofs.Common.{◌≡◌, ◌+◌, ◌<◌, ◌^◌, length, ◌++◌, ◌∷◌, [], List, take, drop, refl, sym, ap, ◌∙◌, subst, append_assoc}
+use Rattle.std.proofs.Common.{◌≡◌, ℕ, ◌+◌, ◌<◌, ◌^◌, length, ◌++◌, ◌∷◌, [], List, take, drop, refl, sym, ap, ◌∙◌, subst, append_assoc}
 use Rattle.std.proofs.lemmas.List.{append-nil, take-append-drop, take_all}
 use Rattle.std.proofs.lemmas.Result.{err_from_is_err_and}
 use Rattle.crash_fs.specs.Crash.{Crash, crash_disk, crash_plan}
 use Rattle.call_fs.specs.Plan.{no_plan}
+use Rattle.mail_bytes.specs.Told.{Rose}
 use Rattle.mem_fs.proofs.InTurn.{told_weaker}
 use Rattle.mail_world.specs.World.{Seen}
 use Rattle.script_words.specs.declared.entry.Entry.{Entry}
@@ -71,6 +72,11 @@ returns-clause-played g c =
       e,
     ))
     c.loop-line.invariant.2
+
+pub returns-in_err-give-clause-cause : goal.returns-in_err-give-clause-cause
+returns-in_err-give-clause-cause g c =
+    let p = err_from_is_err_and c.from_residual-in_err-give.result c.from_residual-in_err-give.ensures.1 in
+    rw p.1 (λ failed. subst (λ (old : ℕ). Rose old (g.O.Sink.faults c.give.new.out)) c.loop-line.invariant.0 c.in_err-give.ensures.failed.1)
 
 pub returns-in_err-give-clause-begun : goal.returns-in_err-give-clause-begun
 returns-in_err-give-clause-begun g c =

@@ -24,6 +24,11 @@ returns-in-Ok-Some c = λ d plan h playing.
     (run_ends d h plan c.args.actor.now c.loop.world c.step.new.world c.loop.counter c.args.text.now.items _ run c.loop-test.true
     (rw c.in-Ok-Some.field-0-is at c.in-Ok-Some.ensures.ok d (plan_through plan run.events) (run.events ++ h) run.playing))
 
+pub returns-in-Err-NotWaiting : goal.returns-in-Err-NotWaiting
+returns-in-Err-NotWaiting c = λ d plan h playing.
+    let run = c.loop.invariant.1 d plan h playing in
+    absurd (c.step.ensures.waits _ (c.in-Err-NotWaiting.is ∙ ap Err c.in-Err-NotWaiting.field-0-is) d (plan_through plan run.events) (run.events ++ h) run.playing)
+
 pub returns-in-Err : goal.returns-in-Err
 returns-in-Err c =
     on_ok_weaker c.refuse.result
@@ -33,7 +38,8 @@ returns-in-Err c =
     let text = told.2 ∙ ap (λ t. t ++ refusal_line told.0 c.args.actor.now) c.loop.invariant.0 in
     rw (same, text)
     (run_refused d h plan c.args.actor.now c.loop.world c.loop.counter c.args.text.now.items c.in-Err.why told.0 run c.loop-test.true
-    (c.in-Err.ensures.err d (plan_through plan run.events) (run.events ++ h) run.playing) told.1 (λ name e. c.step.ensures.waits name (c.in-Err.is ∙ ap Err e))))
+    (c.in-Err.ensures.err d (plan_through plan run.events) (run.events ++ h) run.playing) told.1
+    (λ name e. c.step.ensures.waits name (c.in-Err.is ∙ ap Err e) d (plan_through plan run.events) (run.events ++ h) run.playing)))
     c.refuse.ensures
 
 pub returns : goal.returns

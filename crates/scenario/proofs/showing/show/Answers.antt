@@ -34,7 +34,7 @@ returns c =
       pid_line pids ++ (flat_map (number_line now) numbers ++ flat_map entry_lines entries),
       joined text c.put_count_line.new.text.items c.put_states.new.text.items c.put_mails.new.text.items (pid_line pids) (flat_map (number_line now) numbers) (flat_map entry_lines entries)
           first second third,
-      λ d h history. is_shown d h now w.present w.events pids numbers entries history (c.history.ensures.alone d h history) are_pids are_numbers
+      λ d h history none. is_shown d h now w.present w.events pids numbers entries history none are_pids are_numbers
           (c.entries.ensures ∙ c.books.ensures.models d h history),
     ))
     c.put_mails.ensures

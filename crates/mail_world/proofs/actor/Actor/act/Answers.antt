@@ -1,50 +1,60 @@
-use Rattle.std.proofs.Common.{◌≡◌, List, [], ◌∷◌, ◌++◌, sym, ap, ◌∙◌, subst}
+use Rattle.std.proofs.Common.{◌≡◌, ◌⊎◌, inl, ℕ, List, [], ◌∷◌, ◌++◌, length, Option, Some, None, Result, Ok, Err, refl, sym, ap, ◌∙◌, subst}
 use Rattle.call_fs.specs.declared.calls.Fd.{Fd}
 use Rattle.call_fs.specs.declared.past.NeedData.{NeedData}
+use Rattle.call_fs.specs.declared.past.Own.{Own}
 use Rattle.call_fs.specs.Program.{IsKind}
 use Rattle.mail_world.specs.declared.actor.Came.{Came}
 use Rattle.world_events.specs.declared.event.Event.{Event as Kept}
 use Rattle.world_events.specs.declared.event.Event.TheVariants as kept
-use Rattle.mail_world.specs.ByKind.{Follows, takes_of, with_own}
-use Rattle.mail_world.specs.Acting.{IsMade, IsStated, IsReadAt, due_by, opened_by}
-use Rattle.mail_world.proofs.Programs.{machine_has_room}
-use Rattle.mail_world.proofs.Machines.{own_is, on_is_ok, carried_kind, carried_within}
+use Rattle.mail_world.specs.ByKind.{present_of, found_of, looked_of, need_of, takes_of, with_own}
+use Rattle.mail_world.specs.Inside.{StandsFor}
+use Rattle.std.specs.Prelude.{IfOk, OnErr, IsNone}
+use Rattle.mail_bytes.specs.Told.{Meets}
+use Rattle.mail_world.specs.declared.world.Did.{Did}
+use Rattle.call_fs.specs.Disk.{Disk}
+use Rattle.mail_world.specs.Acting.{IsMade, IsUntouched, IsNoAct, IsStated, IsReadAt, HasStepped, due_by, opened_by, shut}
+use Rattle.mail_world.proofs.Feeds.{shuts_after}
+use Rattle.mail_world.proofs.Machines.{own_is, call_kind, call_within}
+use Rattle.mail_world.proofs.Passed.{IsAsked, passed_result, told_idle}
 use Rattle.mail_world.proofs.actor.Actor.act.Goals as goal
+use Rattle.mail_world.proofs.actor.Actor.act.Goals.{In-Due}
 
-pub hand_in-requires-clause-kind : goal.hand_in-requires-clause-kind
-hand_in-requires-clause-kind g c =
+if_waits : {E D H X : Type 0} (d e : D) (h q : H) (y z : X) (r : Result (Option Did) E) → e ≡ d → IfOk r (λ did. IsNone did → (z ≡ y) × (q ≡ h))
+    → IfOk r (λ did. IsNone did → (e ≡ d) × (q ≡ h))
+if_waits d e h q y z (Ok did) still waits = λ none. (still, (waits none).1)
+if_waits d e h q y z (Err why) still waits = tt
+
+if_err : {T E D : Type 0} {d e : D} (r : Result T E) → e ≡ d → OnErr r (e ≡ d)
+if_err (Ok x) still = tt
+if_err (Err e) still = still
+
+pub take_in-idle-requires-clause-kind : goal.take_in-idle-requires-clause-kind
+take_in-idle-requires-clause-kind g c =
     let asked = c.in_ok-own.ensures in
     let own = c.in-Did.own in
-    subst (λ (due : NeedData). IsKind due own.came) (sym (asked.need ∙ ap due_by c.in-Did.is)) (carried_kind own.due own.came (subst IsStated c.in-Did.is asked.stated))
+    subst (λ (due : NeedData). IsKind due own.came) (sym (asked.need ∙ ap due_by c.in-Did.is)) (call_kind own.due own.came (subst IsStated c.in-Did.is asked.stated))
 
-pub hand_in-requires-clause-within : goal.hand_in-requires-clause-within
-hand_in-requires-clause-within g c =
+pub take_in-idle-requires-clause-within : goal.take_in-idle-requires-clause-within
+take_in-idle-requires-clause-within g c =
     let asked = c.in_ok-own.ensures in
     let own = c.in-Did.own in
-    carried_within (takes_of c.ask.new.self.machine) own.due own.came (subst IsStated c.in-Did.is asked.stated)
-
-pub unwrap-requires : goal.unwrap-requires
-unwrap-requires g c =
-    let may = c.requires.may in
-    c.hand_in.ensures.ok (machine_has_room c.ask.new.self.machine may.program may.past may.mail (c.ask.ensures.follows may.program may.past may.follows))
+    call_within (takes_of c.ask.new.self.machine) own.due own.came (subst IsStated c.in-Did.is asked.stated)
 
 pub returns-in-Did-clause-acted : goal.returns-in-Did-clause-acted
 returns-in-Did-clause-acted g c =
     let asked = c.in_ok-own.ensures in
     let own = c.in-Did.own in
-    let now = c.args.now in
+    let at = c.args.at in
     let machine = c.ask.new.self.machine in
-    let read = subst (λ (came : Came). IsReadAt came now c.args.ready) c.in-Did.is asked.read in
+    let read = subst (λ (came : Came). IsReadAt came at.now at.ready) c.in-Did.is asked.read in
     let need = asked.need ∙ ap due_by c.in-Did.is in
     let present = asked.present in
     let found = asked.found in
     let copied = c.copy.ensures in
-    let handed = c.hand_in.ensures.name in
+    let taken = c.take_in-idle.ensures.name in
     let name = asked.name in
     let put : Kept = kept.Act c.copy.result own in
     let event : put ≡ kept.Act c.args.self.now.name own = cc in
-    let may = c.requires.may in
-    let room = machine_has_room machine may.program may.past may.mail (asked.follows may.program may.past may.follows) in
     rw c.new.ensures (record {
       own = own;
       event = c.put.ensures.event ∙ ap (λ (k : Kept). c.args.history.now.events.items ++ k ∷ []) event;
@@ -53,11 +63,101 @@ returns-in-Did-clause-acted g c =
       due = λ program past f. asked.due program past f ∙ ap due_by c.in-Did.is;
       follows = λ program past f.
           let past_is : with_own machine own.came past ≡ own ∷ past = own_is machine own past (present ∙ sym read.0) (found ∙ sym read.1) need in
-          subst (Follows c.hand_in.new.self.machine program) past_is
-          (on_is_ok c.hand_in.result (c.hand_in.ensures.ok room) c.hand_in.ensures.follows program past (asked.follows program past f));
-      made = subst (λ (came : Came). IsMade came now (g.D.CallFs.disk c.args.disk.now) (g.D.CallFs.disk c.ask.new.disk)) c.in-Did.is asked.made;
-      carried = subst IsStated c.in-Did.is asked.stated;
-      name = c.hand_in.ensures.name ∙ name;
-      descriptors = c.hand_in.ensures.descriptors ∙ c.keep_open.ensures ∙ ap (λ (fds : List Fd). opened_by fds own.due own.came) asked.descriptors;
-      ended = c.hand_in.ensures.ended ∙ asked.ended;
+          subst (StandsFor c.take_in-idle.new.self program) past_is (c.take_in-idle.ensures.follows program past (asked.follows program past f));
+      owes = λ n is. let owed = c.take_in-idle.ensures.owes n is in record {
+        here = owed.0 ∙ c.len-index.ensures;
+        read = ap present_of owed.1 ∙ present ∙ sym read.0;
+        found = ap found_of owed.1 ∙ found ∙ sym read.1;
+        looked = ap looked_of owed.1 ∙ asked.looked;
+        due = ap need_of owed.1 ∙ need;
+        kind = call_kind own.due own.came (subst IsStated c.in-Did.is asked.stated);
+        within = call_within (takes_of c.take_in-idle.new.self.machine) own.due own.came (subst IsStated c.in-Did.is asked.stated);
+      };
+      made = subst (λ (came : Came). IsMade came at.now (g.D.CallFs.disk c.args.disk.now) (g.D.CallFs.disk c.ask.new.disk)) c.in-Did.is asked.made;
+      passed = inl (subst IsStated c.in-Did.is asked.stated, refl);
+      name = c.take_in-idle.ensures.name ∙ name;
+      descriptors = c.take_in-idle.ensures.descriptors ∙ c.keep_open.ensures ∙ ap (λ (fds : List Fd). opened_by fds own.due own.came) asked.descriptors;
+      ended = c.take_in-idle.ensures.ended ∙ asked.ended;
+    })
+
+pub returns-in-Did-clause-idle : goal.returns-in-Did-clause-idle
+returns-in-Did-clause-idle g c =
+    let asked = c.in_ok-own.ensures in
+    let own = c.in-Did.own in
+    let at = c.args.at in
+    let read = subst (λ (came : Came). IsReadAt came at.now at.ready) c.in-Did.is asked.read in
+    let copied = c.copy.ensures in
+    let taken = c.take_in-idle.ensures.name in
+    let name = asked.name in
+    let put : Kept = kept.Act c.copy.result own in
+    let event : put ≡ kept.Act c.args.self.now.name own = cc in
+    rw c.new.ensures (told_idle c.args.self.now c.ask.new.self.machine own c.take_in-idle.result c.args.history.now.events.items c.put.new.self.events.items asked.follows
+    (asked.present ∙ sym read.0) (asked.found ∙ sym read.1) (asked.need ∙ ap due_by c.in-Did.is) c.take_in-idle.ensures.idle
+    (c.put.ensures.event ∙ ap (λ (k : Kept). c.args.history.now.events.items ++ k ∷ []) event))
+
+-- what the machine that looked is asked
+asked_of : (g : _) (c : In-Due g) → IsAsked c.args.self.now c.ask.new.self c.args.at.now c.args.at.ready c.in-Due.due
+asked_of g c =
+    let asked = c.in_ok-own.ensures in
+    record {
+      next = λ program past f. asked.due program past f ∙ ap due_by c.in-Due.is;
+      follows = asked.follows;
+      present = asked.present;
+      found = asked.found;
+      looked = asked.looked;
+      need = asked.need ∙ ap due_by c.in-Due.is;
+      takes = asked.takes;
+      name = asked.name;
+      descriptors = asked.descriptors;
+      ended = asked.ended;
+      owed = asked.owed;
+    }
+
+pub returns-in-Due-clause-acted : goal.returns-in-Due-clause-acted
+returns-in-Due-clause-acted g c =
+    let at = c.args.at in
+    let old = g.D.CallFs.disk c.args.disk.now in
+    let before = c.args.history.now.events.items in
+    let asked = c.in_ok-own.ensures in
+    let none : IsNoAct c.in-Due.due = subst IsStated c.in-Due.is asked.stated in
+    let still : g.D.CallFs.disk c.ask.new.disk ≡ old = subst (λ (came : Came). IsMade came at.now old (g.D.CallFs.disk c.ask.new.disk)) c.in-Due.is asked.made in
+    subst (λ (t : Option Disk). IfOk c.pass.result (λ did. HasStepped did old t c.args.mouths.now.items c.pass.new.mouths.items at.pid c.args.self.now c.pass.new.self before c.pass.new.history.events.items at.now at.ready)) (sym still)
+    (passed_result old c.args.mouths.now.items c.pass.new.mouths.items at.pid c.args.self.now c.ask.new.self c.pass.new.self before c.pass.new.history.events.items at.now at.ready c.in-Due.due
+    (asked_of g (goal.at.returns-in-Due-clause-acted g c).In-Due) none (length before) c.pass.new.history c.args.history.now c.pass.result c.pass.ensures.passed c.pass.ensures.waits c.pass.ensures.at)
+
+-- the disk is untouched then
+pub returns-in-Due-clause-waits : goal.returns-in-Due-clause-waits
+returns-in-Due-clause-waits g c =
+    let still : c.ask.new.disk ≡ c.args.disk.now = subst (λ (came : Came). IsUntouched came c.args.disk.now c.ask.new.disk) c.in-Due.is c.in_ok-own.ensures.still in
+    if_waits c.args.disk.now c.ask.new.disk c.args.history.now c.pass.new.history c.ask.new.self c.pass.new.self c.pass.result still c.pass.ensures.waits
+
+pub returns-in-Due-clause-err : goal.returns-in-Due-clause-err
+returns-in-Due-clause-err g c =
+    let still : c.ask.new.disk ≡ c.args.disk.now = subst (λ (came : Came). IsUntouched came c.args.disk.now c.ask.new.disk) c.in-Due.is c.in_ok-own.ensures.still in
+    if_err c.pass.result still
+
+pub returns-in-Ended-clause-acted : goal.returns-in-Ended-clause-acted
+returns-in-Ended-clause-acted g c =
+    let asked = c.in_ok-own.ensures in
+    let at = c.args.at in
+    let x = c.args.self.now in
+    let old = g.D.CallFs.disk c.args.disk.now in
+    let new = g.D.CallFs.disk c.end.new.disk in
+    let status = c.in-Ended.status in
+    let still : g.D.CallFs.disk c.ask.new.disk ≡ old = subst (λ (came : Came). IsMade came at.now old (g.D.CallFs.disk c.ask.new.disk)) c.in-Ended.is asked.made in
+    let copied = c.copy-in-Ended.ensures in
+    let name = asked.name in
+    let put : Kept = kept.End c.copy-in-Ended.result at.now at.ready status in
+    let event : put ≡ kept.End x.name at.now at.ready status = cc in
+    rw c.new-in-Ended.ensures (record {
+      due = λ program past f. asked.due program past f ∙ ap due_by c.in-Ended.is;
+      over = record {
+        event = c.put-in-Ended.ensures.event ∙ ap (λ (k : Kept). c.args.history.now.events.items ++ k ∷ []) event;
+        closed = subst (λ (t : Option Disk). Meets t new (λ d e. e ≡ shut x.descriptors.items d)) still
+            (subst (λ (fds : List Fd). Meets (g.D.CallFs.disk c.ask.new.disk) new (λ d e. e ≡ shut fds d)) asked.descriptors c.end.ensures.closed);
+        shuts = shuts_after c.args.mouths.now.items c.shut_after.new.mouths.items x.name at.seat c.requires.seat.is c.requires.seat.many c.shut_after.ensures;
+        name = c.end.ensures.name ∙ asked.name;
+        descriptors = c.end.ensures.descriptors;
+        ended = c.end.ensures.ended ∙ ap Some c.len-index.ensures;
+      };
     })

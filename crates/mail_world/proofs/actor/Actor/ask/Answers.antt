@@ -9,25 +9,25 @@ use Rattle.mail_world.specs.History.{next_of}
 use Rattle.mail_world.specs.ByKind.{found_of}
 use Rattle.mail_world.specs.Acting.{MayMake}
 use Rattle.mail_world.proofs.Programs.{program_uses, machine_finds}
-use Rattle.mail_world.proofs.Machines.{calls_or_ends, keeps_few, read_made}
+use Rattle.mail_world.proofs.Machines.{no_act, keeps_few, read_made}
 use Rattle.mail_world.proofs.actor.Actor.ask.Goals as goal
 use Rattle.mail_world.proofs.actor.Actor.ask.Goals.{After-need}
 
 -- what it asks for is next
-asks_next : (g : _) (c : After-need g) → due_of c.need.result ≡ next_of c.requires.may.program c.requires.may.past c.args.now c.args.ready
+asks_next : (g : _) (c : After-need g) → due_of c.need.result ≡ next_of c.requires.may.program c.requires.may.past c.args.at.now c.args.at.ready
 asks_next g c =
     let may = c.requires.may in
     c.need.ensures.next may.program may.past c.look.ensures.looked (c.look.ensures.stands may.program may.past may.follows)
-    ∙ ap (λ n. next_of may.program may.past n (found_of c.look.new.self)) c.look.ensures.present ∙ ap (next_of may.program may.past c.args.now) c.look.ensures.found
+    ∙ ap (λ n. next_of may.program may.past n (found_of c.look.new.self)) c.look.ensures.present ∙ ap (next_of may.program may.past c.args.at.now) c.look.ensures.found
 
 -- so it uses what its past holds
 asks_held : (g : _) (c : After-need g) → UsesHeld (held c.requires.may.past) (due_of c.need.result)
 asks_held g c =
     let may = c.requires.may in
-    subst (UsesHeld (held may.past)) (sym (asks_next g c)) (program_uses may.program may.past c.args.now c.args.ready may.run)
+    subst (UsesHeld (held may.past)) (sym (asks_next g c)) (program_uses may.program may.past c.args.at.now c.args.at.ready may.run)
 
 pub look-requires-clause-given : goal.look-requires-clause-given
-look-requires-clause-given g c = machine_finds c.args.self.now.machine c.args.ready
+look-requires-clause-given g c = machine_finds c.args.self.now.machine c.args.at.ready
 
 pub perform-answer-requires-clause-fits : goal.perform-answer-requires-clause-fits
 perform-answer-requires-clause-fits g c =
@@ -46,13 +46,10 @@ kept_read-bytes-requires-clause-few g c =
     let room = has_room (held c.requires.may.past) (data_of c.in-File.call) (subst (UsesHeld (held c.requires.may.past)) (ap due_of c.in-File.is) (asks_held g at)) in
     rw (c.in_ok-room-in-File.ensures.room, c.in_ok-owned-in-File.ensures) (keeps_few (data_of c.in-File.call) c.perform-answer.result room c.perform-answer.ensures.kind)
 
-pub unreachable-requires : goal.unreachable-requires
-unreachable-requires g c =
-    let may = c.requires.may in
-    let at = (goal.at.unreachable-requires g c).After-need in
-    calls_or_ends c.need.result (next_of may.program may.past c.args.now c.args.ready) may.acts (asks_next g at) c.in_default.not-File c.in_default.not-Ended
+pub returns-in_ok-need_data-in_default-clause-stated : goal.returns-in_ok-need_data-in_default-clause-stated
+returns-in_ok-need_data-in_default-clause-stated g c = rw (c.in_ok-need_data-in_default.ensures) (no_act c.need.result c.in_default.not-File c.in_default.not-Ended)
 
 pub returns-in_ok-room-in-File-clause-made : goal.returns-in_ok-room-in-File-clause-made
 returns-in_ok-room-in-File-clause-made g c =
-    rw (c.in_ok-owned-in-File.ensures) (read_made (g.D.CallFs.disk c.args.disk.now) (g.D.CallFs.disk c.perform-answer.new.disk) c.args.now (data_of c.in-File.call) c.perform-answer.result
+    rw (c.in_ok-owned-in-File.ensures) (read_made (g.D.CallFs.disk c.args.disk.now) (g.D.CallFs.disk c.perform-answer.new.disk) c.args.at.now (data_of c.in-File.call) c.perform-answer.result
     c.perform-answer.new.into c.kept_read-bytes.result c.kept_read-bytes.ensures c.perform-answer.ensures.told c.perform-answer.ensures.read)

@@ -1,5 +1,9 @@
-use Rattle.std.proofs.Common.{◌≡◌, ℕ, ◌+◌, List, [], ◌∷◌, ◌++◌, length, false, is_some, Option, Some, None, refl, sym, ap, ◌∙◌, subst, arith}
+use Rattle.std.proofs.Common.{◌≡◌, ℕ, ◌+◌, ◌-◌, List, [], ◌∷◌, ◌++◌, length, reverse, false, is_some, Option, Some, None, refl, sym, ap, ◌∙◌, subst, arith}
 use Rattle.std.proofs.Math.Path.{fun_ext}
+use Rattle.std.specs.Prelude.{drop}
+use Rattle.std.proofs.lemmas.List.{length-append}
+use Rattle.mail_world.specs.Generations.{starts_of}
+use Rattle.mail_world.specs.Starts.{AreStarts}
 use Rattle.call_fs.specs.Maps.{put_at}
 use Rattle.mail_world.specs.declared.any_machine.AnyMachine.{AnyMachine}
 use Rattle.world_events.specs.declared.event.Event.{Event as Kept}
@@ -11,10 +15,16 @@ use Rattle.world_events.specs.declared.books.Entry.{Entry}
 use Rattle.queue_inject.specs.declared.injection.Arguments.{Arguments}
 use Rattle.mail_world.specs.ByKind.{Follows}
 use Rattle.mail_world.specs.World.{mail, Seen, was_started}
-use Rattle.mail_world.specs.Inside.{IsWorld, known, living}
+use Rattle.mail_world.specs.Inside.{IsWorld, among_all, known, living}
 use Rattle.mail_world.proofs.Histories.{goes_on}
+use Rattle.mail_world.proofs.Members.{mail_is_none}
 use Rattle.mail_world.proofs.Living.{living_push, room_less}
 use Rattle.mail_world.proofs.Booked.{start_booked}
+use Rattle.mail_world.proofs.Lists.{drop_push}
+use Rattle.mail_world.proofs.Noted.{put_among}
+use Rattle.mail_world.proofs.Piped.{start_piped}
+use Rattle.mail_world.proofs.Seats.{seat_none}
+use Rattle.mail_world.proofs.Starting.{starts_push, same_starts, mail_starts}
 use Rattle.mail_world.proofs.Worlds.{start_keeps, start_leads_on}
 use Rattle.mail_world.proofs.world.World.begin.Goals as goal
 use Rattle.mail_world.proofs.world.World.begin.Goals.{After-saturating_add-self-inside}
@@ -24,10 +34,10 @@ none_is None h = refl
 none_is (Some i) h = absurd cc
 
 -- no actor of the name stands anywhere
-new_name : (g : _) (c : After-saturating_add-self-inside g) → place_of c.self.inside.places c.args.name.now ≡ None
+new_name : (g : _) (c : After-saturating_add-self-inside g) → among_all c.self.inside.crew (place_of c.self.inside.places) c.args.name.now ≡ None
 new_name g c =
     let i = c.self.inside in
-    none_is (place_of i.places c.args.name.now) (sym (c.self.invariant.0.kept.started c.args.name.now) ∙ ap (λ (w : Seen _). was_started w.events c.args.name.now) c.self.view_is ∙ c.requires)
+    none_is (among_all i.crew (place_of i.places) c.args.name.now) (sym (c.self.invariant.0.kept.started c.args.name.now) ∙ ap (λ (w : Seen _). was_started w.events c.args.name.now) c.self.view_is ∙ c.requires.new)
 
 -- the event that was put
 started : (g : _) (c : After-saturating_add-self-inside g) →
@@ -46,6 +56,19 @@ invariant_of-self-in_err-reserve-2 g c =
       rw (items, c.in_err-reserve-2.ensures.same) c.self.invariant.0,
       rw (items) (c.in_err-reserve-2.ensures.stays (living c.self.inside.actors.items) c.self.invariant.1),
       rw (items, c.in_err-reserve-2.ensures.same, same) c.self.invariant.2,
+      rw (items, c.in_err-reserve-2.ensures.same) c.self.invariant.3,
+      rw (c.in_err-reserve-2.ensures.same) c.self.invariant.4,
+    )
+
+pub invariant_of-self-in_err-make_room-2 : goal.invariant_of-self-in_err-make_room-2
+invariant_of-self-in_err-make_room-2 g c =
+    let i = c.self.inside in
+    let items = c.in_ok-reserve.ensures.items in (
+      rw (items, c.in_ok-reserve-2.ensures.same) c.self.invariant.0,
+      rw (items) (c.in_ok-reserve-2.ensures.stays (living i.actors.items) c.self.invariant.1),
+      rw (items, c.in_ok-reserve-2.ensures.same, c.in_ok-make_room.ensures.same) c.self.invariant.2,
+      rw (items, c.in_ok-reserve-2.ensures.same) c.self.invariant.3,
+      rw (c.in_ok-reserve-2.ensures.same) (same_starts i.starts c.make_room-2.new.self i.crew (place_of i.places) (starts_of (reverse i.history.events.items)) c.in_err-make_room-2.ensures.same c.self.invariant.4),
     )
 
 pub invariant_of-self-in_err-add : goal.invariant_of-self-in_err-add
@@ -53,15 +76,20 @@ invariant_of-self-in_err-add g c =
     let i = c.self.inside in
     let items = c.in_ok-reserve.ensures.items in
     let places : ◌≡◌ {A = List ℕ → Option ℕ} (place_of i.places) (place_of c.add.new.self) = fun_ext (λ q. sym (c.in_err-add.ensures.err q)) in (
-      rw (items, c.in_ok-reserve-2.ensures.same) (subst (λ (f : List ℕ → Option ℕ). IsWorld (g.D.CallFs.disk i.disk) f i.actors.items (known i.history.events.items) i.history.events.items i.present i.next_pid) places c.self.invariant.0),
+      rw (items, c.in_ok-reserve-2.ensures.same) (subst (λ (f : List ℕ → Option ℕ). IsWorld (g.D.CallFs.disk i.disk) (among_all i.crew f) i.actors.items (known i.history.events.items) i.history.events.items i.present i.next_pid) places c.self.invariant.0),
       rw (items) (c.in_ok-reserve-2.ensures.stays (living i.actors.items) c.self.invariant.1),
       rw (items, c.in_ok-reserve-2.ensures.same, c.in_ok-make_room.ensures.same) c.self.invariant.2,
+      rw (items, c.in_ok-reserve-2.ensures.same) c.self.invariant.3,
+      rw (c.in_ok-reserve-2.ensures.same) (subst (λ (f : List ℕ → Option ℕ). AreStarts c.make_room-2.new.self i.crew f (starts_of (reverse i.history.events.items))) places
+          (same_starts i.starts c.make_room-2.new.self i.crew (place_of i.places) (starts_of (reverse i.history.events.items)) c.in_ok-make_room-2.ensures.same c.self.invariant.4)),
     )
 
 pub invariant_of-self-2 : goal.invariant_of-self-2
 invariant_of-self-2 g c =
     let i = c.self.inside in
     let a = c.args.name.now in
+    let all = among_all i.crew (place_of i.places) in
+    let other = mail_is_none a c.requires.named in
     let args = mail i.next_pid i.present c.args.message.now c.args.envelope.now in
     let at = (goal.at.invariant_of-self-2 g c).After-saturating_add-self-inside in
     let new = new_name g at in
@@ -71,19 +99,30 @@ invariant_of-self-2 g c =
     let event = started g at in
     let name : c.new-actor.result.name ≡ a = c.new-actor.ensures.name ∙ c.copy.ensures in
     let many : c.len-2.result ≡ length i.actors.items = c.len-2.ensures ∙ c.reserve.new.self.ok.0 ∙ ap length held in
-    let put : (b : List ℕ) → place_of c.add.new.self b ≡ put_at (place_of i.places) a (Some (length i.actors.items)) b =
-    λ b. c.in_ok-add.ensures.ok b ∙ ap (λ (n : List ℕ). put_at (place_of i.places) n (Some c.len-2.result) b) c.as_slice.ensures ∙ ap (λ (n : ℕ). put_at (place_of i.places) a (Some n) b) many in
+    let within = c.self.invariant.3.many in
+    let put : (b : List ℕ) → place_of c.add.new.self b ≡ put_at (place_of i.places) a (Some (length i.actors.items - i.crew)) b =
+    λ b. c.in_ok-add.ensures.ok b ∙ ap (λ (n : List ℕ). put_at (place_of i.places) n (Some (c.len-2.result - i.crew)) b) c.as_slice.ensures ∙ ap (λ (n : ℕ). put_at (place_of i.places) a (Some (n - i.crew)) b) many in
+    let placed = put_among i.crew (length i.actors.items) (place_of i.places) (place_of c.add.new.self) a (seat_none a other) within put in
     let len : c.len.result ≡ length i.actors.items = c.len.ensures ∙ c.reserve.new.self.ok.0 ∙ ap length held in
+    let grown : length c.push.new.self.items ≡ length i.actors.items + 1 = ap length actors ∙ length-append i.actors.items (c.new-actor.result ∷ []) in
+    let counted : c.len-3.result ≡ length c.push.new.self.items = c.len-3.ensures ∙ c.push.new.self.ok.0 in
+    let last : c.len-3.result - i.crew - 1 + 4 ≡ length i.actors.items - i.crew + 4 = omega (arith, grown, counted, within) in
     let bound = living_push i.actors.items c.new-actor.result in
+    let mails : drop i.crew (i.actors.items ++ c.new-actor.result ∷ []) ≡ drop i.crew i.actors.items ++ c.new-actor.result ∷ [] = drop_push i.crew i.actors.items c.new-actor.result within in
     let entry : c.add-2.new.self.entries.items ≡ i.books.entries.items ++ new_entry a args ∷ [] =
     c.add-2.ensures ∙ ap (λ (l : List Entry). l ++ new_entry a c.in_ok-arguments.arguments ∷ []) c.in_ok-make_room.ensures.same
     ∙ ap (λ (w : Arguments). i.books.entries.items ++ new_entry a w ∷ []) c.in_ok-arguments.ensures in
     let machine = subst (λ (m : AnyMachine). Follows m (Injector args) []) (sym c.new-actor.ensures.machine) c.in_ok-mailer.ensures in (
-      rw (actors, event) (start_keeps (g.D.CallFs.disk i.disk) (place_of i.places) (place_of c.add.new.self) i.actors.items i.history.events.items i.present i.next_pid c.saturating_add-self-inside.result
-          c.new-actor.result a (Injector args) tt c.self.invariant.0 new put name c.new-actor.ensures.ended c.new-actor.ensures.descriptors machine refl c.saturating_add-self-inside.ensures),
+      rw (actors, event) (start_keeps (g.D.CallFs.disk i.disk) all (among_all i.crew (place_of c.add.new.self)) i.actors.items i.history.events.items i.present i.next_pid c.saturating_add-self-inside.result
+          c.new-actor.result a (Injector args) tt other c.self.invariant.0 new placed name c.new-actor.ensures.ended c.new-actor.ensures.owed c.new-actor.ensures.descriptors machine refl c.saturating_add-self-inside.ensures),
       rw (actors) (c.put.ensures.room (living (i.actors.items ++ c.new-actor.result ∷ [])) (room_less c.reserve-2.new.self (c.len.result + 2) (living (i.actors.items ++ c.new-actor.result ∷ []) + 1)
           (omega (arith, len, bound)) c.in_ok-reserve-2.ensures.room)),
-      rw (actors, event, entry) (start_booked i.actors.items i.history.events.items c.new-actor.result a args i.books.entries.items c.self.invariant.2 name),
+      rw (actors, event, entry, mails) (start_booked (drop i.crew i.actors.items) i.history.events.items c.new-actor.result a args i.books.entries.items c.self.invariant.2 name),
+      rw (actors, event) (start_piped i.crew i.mouths.items i.actors.items i.history.events.items c.new-actor.result a (Injector args) c.self.invariant.3),
+      rw (event) (subst (AreStarts c.add_mail.new.self i.crew (place_of c.add.new.self)) (sym (starts_push i.history.events.items (kept.Start a (Injector args))))
+          (mail_starts c.make_room-2.new.self c.add_mail.new.self i.crew (length i.actors.items) (place_of i.places) (place_of c.add.new.self) (starts_of (reverse i.history.events.items)) a within
+          (c.add_mail.ensures.order ∙ ap (λ (n : ℕ). c.make_room-2.new.self.order.items ++ n ∷ []) last) c.add_mail.ensures.newest new placed
+          (same_starts i.starts c.make_room-2.new.self i.crew (place_of i.places) (starts_of (reverse i.history.events.items)) c.in_ok-make_room-2.ensures.same c.self.invariant.4))),
     )
 
 pub returns-clause-goes_on : goal.returns-clause-goes_on
@@ -94,4 +133,4 @@ returns-clause-goes_on g c =
     let args = mail i.next_pid i.present c.args.message.now c.args.envelope.now in
     let at = (goal.at.returns-clause-goes_on g c).After-saturating_add-self-inside in
     rw (← c.self.view_is, started g at) (goes_on told told events (events ++ kept.Start c.args.name.now (Injector args) ∷ []) i.present i.present
-    (start_leads_on told (place_of i.places) i.actors.items events i.present i.next_pid c.args.name.now (Injector args) tt c.self.invariant.0 (new_name g at)))
+    (start_leads_on told (among_all i.crew (place_of i.places)) i.actors.items events i.present i.next_pid c.args.name.now (Injector args) tt c.self.invariant.0 (new_name g at)))

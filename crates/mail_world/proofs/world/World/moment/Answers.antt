@@ -1,11 +1,14 @@
-use Rattle.std.proofs.Common.{◌≡◌, ◌+◌, ◌≤◌, List, [], ◌∷◌, ◌++◌, length, ap, ◌∙◌, arith}
+use Rattle.std.proofs.Common.{◌≡◌, ◌+◌, ◌≤◌, List, [], ◌∷◌, ◌++◌, length, refl, ap, ◌∙◌, arith}
+use Rattle.std.specs.Prelude.{drop}
 use Rattle.world_events.specs.declared.event.Event.{Event as Kept}
 use Rattle.world_events.specs.declared.event.Event.TheVariants as kept
 use Rattle.mail_world.specs.Places.{place_of}
-use Rattle.mail_world.specs.Inside.{living}
+use Rattle.mail_world.specs.Inside.{among_all, living}
 use Rattle.mail_world.proofs.Histories.{moment_told, goes_on}
 use Rattle.mail_world.proofs.Living.{living_within, room_less}
 use Rattle.mail_world.proofs.Booked.{moment_booked}
+use Rattle.mail_world.proofs.Piped.{moment_piped}
+use Rattle.mail_world.proofs.Starting.{still_starts}
 use Rattle.mail_world.proofs.Worlds.{moment_keeps}
 use Rattle.mail_world.proofs.world.World.moment.Goals as goal
 use Rattle.mail_world.proofs.world.World.moment.Goals.{After-put}
@@ -15,6 +18,8 @@ invariant_of-self g c = (
   rw (c.in_err-reserve.ensures.same) c.self.invariant.0,
   c.in_err-reserve.ensures.stays (living c.self.inside.actors.items) c.self.invariant.1,
   rw (c.in_err-reserve.ensures.same) c.self.invariant.2,
+  rw (c.in_err-reserve.ensures.same) c.self.invariant.3,
+  rw (c.in_err-reserve.ensures.same) c.self.invariant.4,
 )
 
 -- the event that was put
@@ -31,9 +36,11 @@ invariant_of-self-2 g c =
     let at = (goal.at.invariant_of-self-2 g c).After-put in
     let len : c.len.result ≡ length i.actors.items = c.len.ensures ∙ i.actors.ok.0 in
     let bound = living_within i.actors.items in (
-      rw (came g at) (moment_keeps (g.D.CallFs.disk i.disk) (place_of i.places) i.actors.items i.history.events.items i.present c.args.moment i.next_pid c.requires (later g at) c.self.invariant.0),
+      rw (came g at) (moment_keeps (g.D.CallFs.disk i.disk) (among_all i.crew (place_of i.places)) i.actors.items i.history.events.items i.present c.args.moment i.next_pid c.requires (later g at) c.self.invariant.0),
       c.put.ensures.room (living i.actors.items) (room_less c.reserve.new.self (c.len.result + 1) (living i.actors.items + 1) (omega (arith, len, bound)) c.in_ok-reserve.ensures.room),
-      rw (came g at) (moment_booked i.actors.items i.history.events.items c.args.moment i.books.entries.items c.self.invariant.2),
+      rw (came g at) (moment_booked (drop i.crew i.actors.items) i.history.events.items c.args.moment i.books.entries.items c.self.invariant.2),
+      rw (came g at) (moment_piped i.crew i.mouths.items i.actors.items i.history.events.items c.args.moment c.self.invariant.3),
+      rw (came g at) (still_starts i.starts i.crew (place_of i.places) i.history.events.items (kept.Moment c.args.moment) refl c.self.invariant.4),
     )
 
 pub returns-clause-goes_on : goal.returns-clause-goes_on

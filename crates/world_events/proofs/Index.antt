@@ -1,13 +1,23 @@
 -- A map whose keys are texts, as a function of the text.
-use Rattle.std.proofs.Common.{◌≡◌, ◌≢◌, ℕ, List, true, Option, Some, sym, ap, ◌∙◌, ⊎_elim, bytes_eq, nat_cmp}
+use Rattle.std.proofs.Common.{◌≡◌, ◌≢◌, ◌⊎◌, inl, inr, ℕ, List, Bool, true, false, Option, Some, refl, sym, ap, ◌∙◌, ⊎_elim, bytes_eq, nat_cmp, Decides}
 use Rattle.std.proofs.lemmas.Map.Text.{is_eq-slice_cmp}
 use Rattle.std.specs.BTreeMap.{BTreeMap, UpdatesBy, get_by, is_at}
 use Rattle.std.specs.Map.{KeepsOthers, IsKeyTest, AreApart}
 use Rattle.std.specs.Ordering.{eq_by_cmp}
 use Rattle.std.specs.Cmp.Lexicographic.{slice_cmp}
 use Rattle.call_fs.specs.Maps.{put_at}
-use Rattle.call_fs.proofs.Maps.{put_at_same, put_at_other}
-use Rattle.queue_law.proofs.Tests.{text_cases, other_text}
+use Rattle.call_fs.proofs.Maps.{put_at_same, put_at_other, bytes_eq-decides}
+
+choose : (b : Bool) {P : Type 0} → Decides b P → (P × (b ≡ true)) ⊎ ((P → ⊥) × (b ≡ false))
+choose true h = inl (h.0 refl, refl)
+choose false h = inr ((λ p. absurd (cc (h.1 p))), refl)
+
+-- whether a text is another one
+text_cases : (q k : List ℕ) → ((q ≡ k) × (bytes_eq q k ≡ true)) ⊎ ((q ≢ k) × (bytes_eq q k ≡ false))
+text_cases q k = choose (bytes_eq q k) (bytes_eq-decides q k)
+
+other_text : (q k : List ℕ) → q ≢ k → bytes_eq q k ≡ false
+other_text q k apart = ⊎_elim (λ h. absurd (apart h.0)) (λ h. h.1) (text_cases q k)
 
 -- by their texts
 by_text : {K : Type 0} → (K → List ℕ) → BTreeMap K ℕ → List ℕ → Option ℕ

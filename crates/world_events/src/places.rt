@@ -13,7 +13,7 @@ pub struct Places {
 }
 
 impl Places {
-    ghost use Rattle.mail_world.specs.Places.{place_of};
+    ghost use Rattle.world_events.specs.Places.{place_of};
 
     /// Of no actor. Takes no memory.
     pub fn new(alloc: Global) -> Places

@@ -6,7 +6,7 @@ use Rattle.queue_clean.specs.Machine.{Machine as Cleaning, due_now}
 use Rattle.mail_world.specs.declared.any_machine.AnyMachine.{AnyMachine}
 use Rattle.mail_world.specs.ByKind.{Follows, Cleans, with_own}
 use Rattle.mail_world.proofs.Machines.{still_cleans}
-use Rattle.mail_world.proofs.any_machine.AnyMachineMachine.done.Goals as goal
+use Rattle.mail_world.proofs.any_machine.AnyMachine.done.Goals as goal
 
 on_ok : {T E P : Type 0} (r : Result T E) → P → OnOk r P
 on_ok (Ok x) p = p

@@ -1,7 +1,7 @@
 // The bytes of a read, kept in room that was taken before the call.
 ghost use Rattle.std.specs.Prelude.{◌≡◌, [], IfOk, vec_len, vec_capacity};
 ghost use Rattle.call_fs.specs.Calls.{bytes_read};
-ghost use Rattle.mail_world.specs.Acting.{most_read, HasFew};
+ghost use Rattle.world_events.specs.Reads.{most_read, HasFew};
 
 use call_fs::{Answer, CallData, PIECE};
 use mail_bytes::{ByteText, Memory};

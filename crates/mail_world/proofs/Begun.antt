@@ -1,0 +1,373 @@
+-- A generation starts: its members take the first places, and the mails keep theirs.
+use Rattle.std.proofs.Common.{◌≡◌, ◌≢◌, ◌⊎◌, inl, inr, ℕ, zero, suc, ◌+◌, ◌-◌, ◌^◌, ◌<◌, ◌≤◌, min, List, [], ◌∷◌, ◌++◌, length, Bool, true, false, ◌||◌, is_some, reverse, Option, Some, None, IsSomeAnd, refl, sym, ap, ◌∙◌, subst, ⊎_elim, arith, codes}
+use Rattle.std.specs.Prelude.{if◌then◌else◌, option_map, nat_lt, drop}
+use Rattle.std.specs.List.{slice_get, sum_by}
+use Rattle.call_fs.specs.Disk.{Disk}
+use Rattle.mail_bytes.specs.Told.{OnTold}
+use Rattle.world_events.specs.declared.event.Event.{Event as Kept}
+use Rattle.world_events.specs.declared.event.Event.TheVariants as kept
+use Rattle.world_events.specs.declared.event.Program.{Program}
+use Rattle.world_events.specs.declared.event.Program.TheVariants.{Injector, Cleaner, Sender, LocalSpawner, RemoteSpawner}
+use Rattle.world_pipes.specs.declared.mouths.Mouths.{Mouths}
+use Rattle.mail_world.specs.declared.actor.Actor.{Actor as Held}
+use Rattle.mail_world.specs.Pipework.{is_member}
+use Rattle.mail_world.specs.History.{Event, Actor, Life, State, MayRun, newborn, start_of, latest, happens}
+use Rattle.mail_world.specs.History.Event.{Generation}
+use Rattle.mail_world.specs.History.Life.{Alive}
+use Rattle.mail_world.specs.World.{Span, span_of, span_after, starts, was_started, starts_in, next_pid}
+use Rattle.mail_world.specs.World.Span.{Unborn, Lasting, OverAt}
+use Rattle.mail_world.specs.ByKind.{Follows}
+use Rattle.std.specs.Prelude.{All}
+use Rattle.call_fs.specs.declared.program.Port.{Port}
+use Rattle.world_pipes.specs.Pipework.{fresh}
+use Rattle.mail_world.specs.Wired.{seat, pipe_in, tenant_in, kept_at, AreWired}
+use Rattle.mail_world.specs.Crew.{IsNew, AreNew, IsFresh, AreFresh}
+use Rattle.mail_world.specs.Generations.{IsNoneAlive}
+use Rattle.call_fs.specs.Past.{held}
+use Rattle.std.proofs.Math.Bool.{or-false, or-true}
+use Rattle.std.proofs.lemmas.Bool.{lt-ltb, le-ltb, ltb-true}
+use Rattle.std.proofs.lemmas.List.Elements.{All-nil, All-cons, All-head, All-tail}
+use Rattle.mail_world.specs.Inside.{known, RunsAt, unowed, span_by, is_by, has, AreApart, Owns, place_by, among_all, IsMember, IsStranger, AreActors, HasOpen, IsOpenTo, IsWorld, ArePiped}
+use Rattle.mail_world.proofs.Crew.{started_push, owes_still}
+use Rattle.mail_world.proofs.Histories.{LeadsOn, generation_told, led_still}
+use Rattle.mail_world.proofs.Known.{known_push}
+use Rattle.actor_names.specs.MailNames.{members}
+use Rattle.std.proofs.lemmas.Option.{slice_get_within, get_or_from_slice_get}
+use Rattle.mail_world.proofs.Lists.{get_drop, some_at}
+use Rattle.mail_world.proofs.Members.{whether, four_other, four_sender, four_clean, four_lspawn, four_rspawn}
+use Rattle.mail_world.proofs.Seats.{HasSeat, seat_some, seat_none, no_seat, by_seat}
+use Rattle.mail_world.proofs.Spans.{span_push, span_stays}
+use Rattle.mail_world.proofs.Piped.{whole_push}
+use Rattle.mail_world.proofs.Worlds.{on_told, one_pid, pid_push}
+
+-- the members before, if there were any, live no more
+abbrev pub NoneLives : ℕ → List Held → Type 0
+NoneLives crew actors = (i : ℕ) (x : Held) → i < crew → slice_get actors i ≡ Some x → (at : ℕ) × (x.ended ≡ Some at)
+
+-- where a mail stands, and where a member does
+
+pub place_of_mail : (crew : ℕ) (places : List ℕ → Option ℕ) (a : List ℕ) → seat a ≡ None → among_all crew places a ≡ option_map (λ i. crew + i) (places a)
+place_of_mail crew places a none = ap (λ (o : Option ℕ). place_by crew o (places a)) none
+
+none_below : (n : ℕ) → (if nat_lt n 0 then Some n else None) ≡ None
+none_below n = ap (λ (t : Bool). if t then Some n else None) (le-ltb n 0 (omega arith))
+
+below : (n crew : ℕ) → n < crew → nat_lt n crew ≡ true
+below n crew low = lt-ltb n crew low
+
+place_of_member : (crew : ℕ) (places : List ℕ → Option ℕ) (a : List ℕ) (i : ℕ) → seat a ≡ Some i → among_all crew places a ≡ (if nat_lt i crew then Some i else None)
+place_of_member crew places a i at = ap (λ (o : Option ℕ). place_by crew o (places a)) at
+
+-- a mail's place among the mails
+mail_place : (crew j : ℕ) (o : Option ℕ) → option_map (λ i. crew + i) o ≡ Some (crew + j) → o ≡ Some j
+mail_place crew j None is = absurd cc
+mail_place crew j (Some i) is = let same : crew + i ≡ crew + j = cc in ap Some (omega (arith, same))
+
+-- who stands after the members has no seat
+pub after_seat : (crew j : ℕ) (places : List ℕ → Option ℕ) (a : List ℕ) → among_all crew places a ≡ Some (crew + j) → (seat a ≡ None) × (places a ≡ Some j)
+after_seat crew j places a is = by_at (seat a) refl where
+  by_at : (o : Option ℕ) → seat a ≡ o → (seat a ≡ None) × (places a ≡ Some j)
+  by_at None at = (at, mail_place crew j (places a) (sym (place_of_mail crew places a at) ∙ is))
+  by_at (Some i) at = absurd (low (nat_lt i crew) refl (sym (place_of_member crew places a i at) ∙ is)) where
+    low : (t : Bool) → nat_lt i crew ≡ t → (if t then Some i else None) ≡ Some (crew + j) → ⊥
+    low true lt e = let same : i ≡ crew + j = cc in let less : i < crew = ltb-true i crew lt in omega (arith, same, less)
+    low false lt e = cc
+
+again : (a : List ℕ) (k : Kept) (n : ℕ) (span : Span) → starts a k ≡ true → span ≢ Lasting → span_after a k n span ≡ Lasting
+again a k n Unborn starts_it over = ap (λ (b : Bool). if b then Lasting else Unborn) starts_it
+again a k n Lasting starts_it over = absurd (over refl)
+again a k n (OverAt at) starts_it over = ap (λ (b : Bool). if b then Lasting else OverAt at) starts_it
+
+-- a member that has just started
+new_member : (t : State) (events : List Kept) (p : ℕ) (x : Held) (name : List ℕ) (program : ℕ → Program) → IsNew x name program
+    → t.actors name ≡ Some (newborn (program p)) → RunsAt (seat name) (program p) → start_of (program p) ≡ p → is_member name ≡ true → span_of name (reverse events) ≢ Lasting
+    → IsMember t (events ++ kept.Generation p ∷ []) p x
+new_member t events p x name program new at runs start member over =
+    let k : Kept = kept.Generation p in
+    record {
+      actor = newborn (program p);
+      is = ap t.actors new.name_is ∙ at;
+      follows = λ e. subst (λ (o : Option ℕ). Follows x.machine (program p) (unowed o [])) (sym new.owed) (new.follows p);
+      owes = λ e at is. let both : ◌≡◌ {A = Option ℕ} None (Some at) = sym new.owed ∙ is in absurd (cc);
+      runs = subst (λ (a : List ℕ). RunsAt (seat a) (program p)) (sym new.name_is) runs;
+      run = tt;
+      in_order = omega (arith, start);
+      alive = λ e. refl;
+      spans = ap (λ (a : List ℕ). span_of a (reverse (events ++ k ∷ []))) new.name_is ∙ span_push events k name
+          ∙ again name k (length events) (span_of name (reverse events)) member over ∙ ap span_by (sym new.ended);
+      closed = λ at e. new.descriptors;
+      dead = λ at e. let both : ◌≡◌ {A = Option ℕ} None (Some at) = sym new.ended ∙ e in absurd (cc);
+    }
+
+-- a mail, and who is neither, are as they were
+same_member : (s t : State) (events : List Kept) (p : ℕ) (x : Held) → is_member x.name ≡ false → t.actors x.name ≡ s.actors x.name → IsMember s events p x
+    → IsMember t (events ++ kept.Generation p ∷ []) p x
+same_member s t events p x other same m = record {
+  actor = m.actor;
+  is = same ∙ m.is;
+  follows = m.follows;
+  owes = λ lives at is. owes_still x events (kept.Generation p) m.actor.past at (m.owes lives at is);
+  runs = m.runs;
+  run = m.run;
+  in_order = m.in_order;
+  alive = m.alive;
+  spans = span_stays events (kept.Generation p) x.name other refl ∙ m.spans;
+  closed = m.closed;
+  dead = m.dead;
+}
+
+-- who has a seat doesn't start alone
+seated_apart : (i : ℕ) (program : Program) → RunsAt (Some i) program → MayRun program → ⊥
+seated_apart zero (Injector args) runs alone = runs
+seated_apart (suc zero) (Injector args) runs alone = runs
+seated_apart (suc (suc zero)) (Injector args) runs alone = runs
+seated_apart (suc (suc (suc i))) (Injector args) runs alone = runs
+seated_apart i other runs alone = absurd alone
+
+-- each member of the generation before is over, or there was none
+record WasOver (s : State) (events : List Kept) (actors : List Held) (a : List ℕ) : Type 0 where
+  span : span_of a (reverse events) ≢ Lasting
+  dead : (x : Actor) → s.actors a ≡ Some x → (x.life ≢ Alive) × (MayRun x.program → ⊥)
+  holds : (d : Disk) → IsOpenTo d actors s → (fd : ℕ) → is_by a (s.holder fd) ≡ false
+
+was_over : (told : Option Disk) (places : List ℕ → Option ℕ) (crew : ℕ) (actors : List Held) (events : List Kept) (p n : ℕ)
+    → IsWorld told (among_all crew places) actors (known events) events p n → NoneLives crew actors → (crew ≡ 0) ⊎ (crew ≡ 4)
+    → (a : List ℕ) → is_member a ≡ true → WasOver (known events) events actors a
+was_over told places crew actors events p n w none few a member = by_few few where
+  s : State
+  s = known events
+
+  at : HasSeat a
+  at = seat_some a member
+
+  here : among_all crew places a ≡ (if nat_lt at.at crew then Some at.at else None)
+  here = place_of_member crew places a at.at at.is
+
+  stranger : among_all crew places a ≡ None → WasOver s events actors a
+  stranger is =
+      let m = w.kept.strangers a is in record {
+        span = λ lasts. let both : Unborn ≡ Lasting = sym m.unborn ∙ lasts in absurd (cc);
+        dead = λ x there. let both : ◌≡◌ {A = Option Actor} None (Some x) = sym m.unknown ∙ there in absurd (cc);
+        holds = λ d o. m.holds_none;
+      }
+
+  over : among_all crew places a ≡ Some at.at → at.at < crew → WasOver s events actors a
+  over is low =
+      let x = some_at (λ (x : Held). x.name ≡ a) (slice_get actors at.at) (w.kept.named a at.at is) in
+      let m = w.kept.members at.at x.0 x.1 in
+      let ended = none at.at x.0 low x.1 in
+      record {
+        span = λ lasts.
+            let both : OverAt ended.0 ≡ Lasting = sym (ap (λ (a : List ℕ). span_of a (reverse events)) (sym x.2) ∙ m.spans ∙ ap span_by ended.1) ∙ lasts in absurd (cc);
+        dead = λ y there.
+            let both : ◌≡◌ {A = Option Actor} (Some m.actor) (Some y) = sym m.is ∙ ap s.actors x.2 ∙ there in
+            let same : m.actor ≡ y = cc in
+            let runs : RunsAt (Some at.at) m.actor.program = subst (λ (o : Option ℕ). RunsAt o m.actor.program) (ap seat x.2 ∙ at.is) m.runs in
+            subst (λ (y : Actor). (y.life ≢ Alive) × (MayRun y.program → ⊥)) same (m.dead ended.0 ended.1, seated_apart at.at m.actor.program runs);
+        holds = λ d o fd. ap (λ (a : List ℕ). is_by a (s.holder fd)) (sym x.2) ∙ sym ((o.each at.at x.0 x.1).lists fd) ∙ ap (has fd) (m.closed ended.0 ended.1);
+      }
+
+  by_few : (crew ≡ 0) ⊎ (crew ≡ 4) → WasOver s events actors a
+  by_few (inl zero_crew) = stranger (here ∙ ap (λ (n : ℕ). if nat_lt at.at n then Some at.at else None) zero_crew ∙ none_below at.at)
+  by_few (inr four_crew) =
+      let low : at.at < crew = omega (arith, four_crew, at.low) in
+      over (here ∙ ap (λ (t : Bool). if t then Some at.at else None) (below at.at crew low)) low
+
+pub none_alive : (told : Option Disk) (places : List ℕ → Option ℕ) (crew : ℕ) (actors : List Held) (events : List Kept) (p n : ℕ)
+    → IsWorld told (among_all crew places) actors (known events) events p n → NoneLives crew actors → (crew ≡ 0) ⊎ (crew ≡ 4) → IsNoneAlive events
+none_alive told places crew actors events p n w none few =
+    let over = was_over told places crew actors events p n w none few in
+    let P : List ℕ → Type 0 = λ (a : List ℕ). span_of a (reverse events) ≢ Lasting in
+    All-cons P (codes "sender") (codes "clean" ∷ codes "lspawn" ∷ codes "rspawn" ∷ []) (over (codes "sender") refl).span
+    (All-cons P (codes "clean") (codes "lspawn" ∷ codes "rspawn" ∷ []) (over (codes "clean") refl).span
+    (All-cons P (codes "lspawn") (codes "rspawn" ∷ []) (over (codes "lspawn") refl).span
+    (All-cons P (codes "rspawn") [] (over (codes "rspawn") refl).span (All-nil P))))
+
+-- so a generation may start
+pub begun_leads_on : (told : Option Disk) (places : List ℕ → Option ℕ) (crew : ℕ) (actors : List Held) (events : List Kept) (p n : ℕ)
+    → IsWorld told (among_all crew places) actors (known events) events p n → NoneLives crew actors → (crew ≡ 0) ⊎ (crew ≡ 4)
+    → LeadsOn told told events (events ++ kept.Generation p ∷ []) p p
+begun_leads_on told places crew actors events p n w none few =
+    generation_told told events p (λ a x member there. (was_over told places crew actors events p n w none few a member).dead x there)
+
+no_place : (crew : ℕ) (o : Option ℕ) → option_map (λ i. 4 + i) o ≡ None → option_map (λ i. crew + i) o ≡ None
+no_place crew None is = refl
+no_place crew (Some i) is = absurd (cc)
+
+pub same_some : (crew : ℕ) (o : Option ℕ) → is_some (option_map (λ i. crew + i) o) ≡ is_some (option_map (λ i. 4 + i) o)
+same_some crew None = refl
+same_some crew (Some i) = refl
+
+-- the places after it
+pub four_places : (places : List ℕ → Option ℕ) (a : List ℕ) (i : ℕ) → seat a ≡ Some i → i < 4 → among_all 4 places a ≡ Some i
+four_places places a i at low = place_of_member 4 places a i at ∙ ap (λ (t : Bool). if t then Some i else None) (below i 4 low)
+
+named_one : (x : Held) (name : List ℕ) (program : ℕ → Program) → IsNew x name program → IsSomeAnd (Some x) (λ x. x.name ≡ name)
+named_one x name program new = new.name_is
+
+-- what holds of each of the four and of each mail holds of all
+each_of : (P : ℕ → Held → Type 0) (a b c d : Held) (mails : List Held) → P 0 a → P 1 b → P 2 c → P 3 d → ((j : ℕ) (x : Held) → slice_get mails j ≡ Some x → P (4 + j) x)
+    → (i : ℕ) (x : Held) → slice_get (a ∷ b ∷ c ∷ d ∷ mails) i ≡ Some x → P i x
+each_of P a b c d mails pa pb pc pd rest zero x is = let same : a ≡ x = cc in subst (P 0) same pa
+each_of P a b c d mails pa pb pc pd rest (suc zero) x is = let same : b ≡ x = cc in subst (P 1) same pb
+each_of P a b c d mails pa pb pc pd rest (suc (suc zero)) x is = let same : c ≡ x = cc in subst (P 2) same pc
+each_of P a b c d mails pa pb pc pd rest (suc (suc (suc zero))) x is = let same : d ≡ x = cc in subst (P 3) same pd
+each_of P a b c d mails pa pb pc pd rest (suc (suc (suc (suc j)))) x is =
+    let e : 4 + j ≡ suc (suc (suc (suc j))) = omega arith in subst (λ (n : ℕ). P n x) e (rest j x is)
+
+-- a new member has nothing open
+new_opens : (d : Disk) (t : State) (x : Held) (name : List ℕ) (program : ℕ → Program) (p : ℕ) → IsNew x name program → t.actors name ≡ Some (newborn (program p))
+    → ((fd : ℕ) → is_by name (t.holder fd) ≡ false) → HasOpen d t x
+new_opens d t x name program p new at none = record {
+  lists = λ fd. ap (has fd) new.descriptors ∙ sym (ap (λ (a : List ℕ). is_by a (t.holder fd)) new.name_is ∙ none fd);
+  apart = subst AreApart (sym new.descriptors) tt;
+  owns = λ actor there lives.
+      let both : ◌≡◌ {A = Option Actor} (Some (newborn (program p))) (Some actor) = sym at ∙ ap t.actors (sym new.name_is) ∙ there in
+      let same : newborn (program p) ≡ actor = cc in
+      subst (λ (y : Actor). Owns d t.holder x.name (held y.past)) same (λ fd mode is. absurd (cc));
+}
+
+pub begun_keeps : (told : Option Disk) (places : List ℕ → Option ℕ) (crew : ℕ) (actors four : List Held) (events : List Kept) (p n q : ℕ)
+    → IsWorld told (among_all crew places) actors (known events) events p n → NoneLives crew actors → (crew ≡ 0) ⊎ (crew ≡ 4) → AreNew four → q ≡ min (n + 4) (2 ^ 32 - 1)
+    → IsWorld told (among_all 4 places) (four ++ drop crew actors) (known (events ++ kept.Generation p ∷ [])) (events ++ kept.Generation p ∷ []) p q
+begun_keeps told places crew actors four events p n q w none few new next =
+    subst (λ (l : List Held). IsWorld told (among_all 4 places) (l ++ mails) (known later) later p q) (sym new.are)
+    (subst (λ (s : State). IsWorld told (among_all 4 places) (new.sender ∷ new.clean ∷ new.lspawn ∷ new.rspawn ∷ mails) s later p q) (sym (known_push events k)) (record {
+      moment = w.moment;
+      now = w.now;
+      pid = one_pid n q (sum_by starts_in events) 4 w.pid next ∙ sym (pid_push events k);
+      kept = record {
+        placed = each_of (λ i (x : Held). among_all 4 places x.name ≡ Some i) new.sender new.clean new.lspawn new.rspawn mails
+            (ap (among_all 4 places) new.sender_is.name_is) (ap (among_all 4 places) new.clean_is.name_is) (ap (among_all 4 places) new.lspawn_is.name_is) (ap (among_all 4 places) new.rspawn_is.name_is)
+            (λ j x is. let at = mail j x is in place_of_mail 4 places x.name at.0 ∙ ap (option_map (λ i. 4 + i)) at.1);
+        members = each_of (λ i (x : Held). IsMember t later p x) new.sender new.clean new.lspawn new.rspawn mails
+            (new_member t events p new.sender (codes "sender") Sender new.sender_is (four_sender s.actors (Sender p) (Cleaner p) (LocalSpawner p) (RemoteSpawner p)) tt refl refl (over (codes "sender") refl).span)
+            (new_member t events p new.clean (codes "clean") Cleaner new.clean_is (four_clean s.actors (Sender p) (Cleaner p) (LocalSpawner p) (RemoteSpawner p)) tt refl refl (over (codes "clean") refl).span)
+            (new_member t events p new.lspawn (codes "lspawn") LocalSpawner new.lspawn_is (four_lspawn s.actors (Sender p) (Cleaner p) (LocalSpawner p) (RemoteSpawner p)) tt refl refl (over (codes "lspawn") refl).span)
+            (new_member t events p new.rspawn (codes "rspawn") RemoteSpawner new.rspawn_is (four_rspawn s.actors (Sender p) (Cleaner p) (LocalSpawner p) (RemoteSpawner p)) tt refl refl (over (codes "rspawn") refl).span)
+            (λ j x is. let other = no_seat x.name (mail j x is).0 in same_member s t events p x other (four_other s.actors (Sender p) (Cleaner p) (LocalSpawner p) (RemoteSpawner p) x.name other) (w.kept.members (crew + j) x (old j x is)));
+        named = named;
+        strangers = strangers;
+        started = started;
+      };
+      opens = on_told told (λ d. IsOpenTo d actors s) (λ d. IsOpenTo d (new.sender ∷ new.clean ∷ new.lspawn ∷ new.rspawn ∷ mails) t) opens w.opens;
+      led = led_still told events later p p (begun_leads_on told places crew actors events p n w none few) w.led;
+    }))
+  where
+    s : State
+    s = known events
+
+    k : Kept
+    k = kept.Generation p
+
+    later : List Kept
+    later = events ++ k ∷ []
+
+    t : State
+    t = happens s (Generation (Sender p) (Cleaner p) (LocalSpawner p) (RemoteSpawner p))
+
+    mails : List Held
+    mails = drop crew actors
+
+    over : (a : List ℕ) → is_member a ≡ true → WasOver s events actors a
+    over = was_over told places crew actors events p n w none few
+
+    old : (j : ℕ) (x : Held) → slice_get mails j ≡ Some x → slice_get actors (crew + j) ≡ Some x
+    old j x is = sym (get_drop crew actors j) ∙ is
+
+    mail : (j : ℕ) (x : Held) → slice_get mails j ≡ Some x → (seat x.name ≡ None) × (places x.name ≡ Some j)
+    mail j x is = after_seat crew j places x.name (w.kept.placed (crew + j) x (old j x is))
+
+    named : (a : List ℕ) (i : ℕ) → among_all 4 places a ≡ Some i → IsSomeAnd (slice_get (new.sender ∷ new.clean ∷ new.lspawn ∷ new.rspawn ∷ mails) i) (λ x. x.name ≡ a)
+    named a i at = by_member (whether (is_member a)) where
+      of_mail : is_member a ≡ false → (o : Option ℕ) → places a ≡ o → option_map (λ i. 4 + i) o ≡ Some i → IsSomeAnd (slice_get (new.sender ∷ new.clean ∷ new.lspawn ∷ new.rspawn ∷ mails) i) (λ x. x.name ≡ a)
+      of_mail other None is e = absurd (cc)
+      of_mail other (Some j) is e =
+          let first : 4 + j ≡ i = cc in
+          let here : suc (suc (suc (suc j))) ≡ i = omega (arith, first) in
+          let was : among_all crew places a ≡ Some (crew + j) = place_of_mail crew places a (seat_none a other) ∙ ap (option_map (λ i. crew + i)) is in
+          let x = some_at (λ (x : Held). x.name ≡ a) (slice_get actors (crew + j)) (w.kept.named a (crew + j) was) in
+          subst (λ (i : ℕ). IsSomeAnd (slice_get (new.sender ∷ new.clean ∷ new.lspawn ∷ new.rspawn ∷ mails) i) (λ x. x.name ≡ a)) here
+          (subst (λ (o : Option Held). IsSomeAnd o (λ x. x.name ≡ a)) (sym (get_drop crew actors j ∙ x.1)) x.2)
+
+      by_member : (is_member a ≡ true) ⊎ (is_member a ≡ false) → IsSomeAnd (slice_get (new.sender ∷ new.clean ∷ new.lspawn ∷ new.rspawn ∷ mails) i) (λ x. x.name ≡ a)
+      by_member (inl member) =
+          let h = seat_some a member in
+          let both : ◌≡◌ {A = Option ℕ} (Some h.at) (Some i) = sym (four_places places a h.at h.is h.low) ∙ at in
+          let same : h.at ≡ i = cc in
+          by_seat (λ (a : List ℕ) (i : ℕ). IsSomeAnd (slice_get (new.sender ∷ new.clean ∷ new.lspawn ∷ new.rspawn ∷ mails) i) (λ x. x.name ≡ a))
+          new.sender_is.name_is new.clean_is.name_is new.lspawn_is.name_is new.rspawn_is.name_is a i (h.is ∙ ap Some same)
+      by_member (inr other) = of_mail other (places a) refl (sym (place_of_mail 4 places a (seat_none a other)) ∙ at)
+
+    strangers : (a : List ℕ) → among_all 4 places a ≡ None → IsStranger t later a
+    strangers a nowhere_now = ⊎_elim
+        (λ member. let h = seat_some a member in
+        let both : ◌≡◌ {A = Option ℕ} (Some h.at) None = sym (four_places places a h.at h.is h.low) ∙ nowhere_now in absurd (cc))
+        (λ other. let m = w.kept.strangers a (place_of_mail crew places a (seat_none a other) ∙ no_place crew (places a) (sym (place_of_mail 4 places a (seat_none a other)) ∙ nowhere_now)) in record {
+          unknown = four_other s.actors (Sender p) (Cleaner p) (LocalSpawner p) (RemoteSpawner p) a other ∙ m.unknown;
+          unborn = span_stays events k a other refl ∙ m.unborn;
+          holds_none = m.holds_none;
+        })
+        (whether (is_member a))
+
+    started : (a : List ℕ) → was_started later a ≡ is_some (among_all 4 places a)
+    started a = started_push events k a ∙ ⊎_elim
+        (λ member. let h = seat_some a member in
+        ap (λ (t : Bool). was_started events a || t) member ∙ or-true (was_started events a) ∙ sym (ap is_some (four_places places a h.at h.is h.low)))
+        (λ other. ap (λ (t : Bool). was_started events a || t) other ∙ or-false (was_started events a) ∙ w.kept.started a
+        ∙ ap is_some (place_of_mail crew places a (seat_none a other)) ∙ same_some crew (places a) ∙ sym (ap is_some (place_of_mail 4 places a (seat_none a other))))
+        (whether (is_member a))
+
+    opens : (d : Disk) → IsOpenTo d actors s → IsOpenTo d (new.sender ∷ new.clean ∷ new.lspawn ∷ new.rspawn ∷ mails) t
+    opens d o = record {
+      held = o.held;
+      each = each_of (λ i (x : Held). HasOpen d t x) new.sender new.clean new.lspawn new.rspawn mails
+          (new_opens d t new.sender (codes "sender") Sender p new.sender_is (four_sender s.actors (Sender p) (Cleaner p) (LocalSpawner p) (RemoteSpawner p)) ((over (codes "sender") refl).holds d o))
+          (new_opens d t new.clean (codes "clean") Cleaner p new.clean_is (four_clean s.actors (Sender p) (Cleaner p) (LocalSpawner p) (RemoteSpawner p)) ((over (codes "clean") refl).holds d o))
+          (new_opens d t new.lspawn (codes "lspawn") LocalSpawner p new.lspawn_is (four_lspawn s.actors (Sender p) (Cleaner p) (LocalSpawner p) (RemoteSpawner p)) ((over (codes "lspawn") refl).holds d o))
+          (new_opens d t new.rspawn (codes "rspawn") RemoteSpawner p new.rspawn_is (four_rspawn s.actors (Sender p) (Cleaner p) (LocalSpawner p) (RemoteSpawner p)) ((over (codes "rspawn") refl).holds d o))
+          (λ j x is. let was = o.each (crew + j) x (old j x is) in
+          let other = no_seat x.name (mail j x is).0 in
+          record {
+            lists = was.lists;
+            apart = was.apart;
+            owns = λ actor there lives. was.owns actor (sym (four_other s.actors (Sender p) (Cleaner p) (LocalSpawner p) (RemoteSpawner p) x.name other) ∙ there) lives;
+          });
+    }
+
+-- the new pipes are those of the model
+pub begun_piped : (crew : ℕ) (mouths fresh_ones : List Mouths) (actors four : List Held) (events : List Kept) (p : ℕ)
+    → ArePiped crew mouths actors (known events) events → AreNew four → AreFresh fresh_ones
+    → ArePiped 4 fresh_ones (four ++ drop crew actors) (known (events ++ kept.Generation p ∷ [])) (events ++ kept.Generation p ∷ [])
+begun_piped crew mouths fresh_ones actors four events p piped new is_fresh = record {
+  wired = subst (AreWired fresh_ones) (sym (ap (λ (s : State). s.pipework) (known_push events (kept.Generation p)))) (record {
+    pipes = λ a q member. ap (λ (t : Bool). if t then fresh else (known events).pipework.pipes a q) member ∙ sym (fresh_pipe (kept_at (seat a) fresh_ones) q (fresh_at (seat a)));
+    programs = λ a d. ⊎_elim
+        (λ member. ap (λ (t : Bool). if t then None else (known events).pipework.programs a d) member ∙ sym (fresh_tenant (kept_at (seat a) fresh_ones) d (fresh_at (seat a))))
+        (λ other. ap (λ (t : Bool). if t then None else (known events).pipework.programs a d) other ∙ piped.wired.programs a d
+        ∙ ap (λ (o : Option ℕ). tenant_in (kept_at o mouths) d) (seat_none a other) ∙ sym (ap (λ (o : Option ℕ). tenant_in (kept_at o fresh_ones) d) (seat_none a other)))
+        (whether (is_member a));
+    none = piped.wired.none;
+  });
+  slots = λ i m at. (all_at fresh_ones i m is_fresh.each at).slots;
+  whole = whole_push events (kept.Generation p) piped.whole tt;
+  few = inr refl;
+  many = subst (λ (l : List Held). 4 ≤ length (l ++ drop crew actors)) (sym new.are) (omega arith);
+  seated = λ j z low at lives. is_fresh.many;
+} where
+  all_at : (xs : List Mouths) (i : ℕ) (m : Mouths) → All IsFresh xs → slice_get xs i ≡ Some m → IsFresh m
+  all_at [] i m all at = absurd cc
+  all_at (x ∷ xs) zero m all at = let same : x ≡ m = cc in subst IsFresh same (All-head IsFresh x xs all)
+  all_at (x ∷ xs) (suc i) m all at = all_at xs i m (All-tail IsFresh x xs all) at
+
+  fresh_at : (o : Option ℕ) (m : Mouths) → kept_at o fresh_ones ≡ Some m → IsFresh m
+  fresh_at None m at = absurd (cc)
+  fresh_at (Some i) m at = all_at fresh_ones i m is_fresh.each at
+
+  fresh_pipe : (o : Option Mouths) (q : Port) → ((m : Mouths) → o ≡ Some m → IsFresh m) → pipe_in o q ≡ fresh
+  fresh_pipe None q each = refl
+  fresh_pipe (Some m) q each = (each m refl).pipes q
+
+  fresh_tenant : (o : Option Mouths) (d : ℕ) → ((m : Mouths) → o ≡ Some m → IsFresh m) → tenant_in o d ≡ None
+  fresh_tenant None d each = refl
+  fresh_tenant (Some m) d each = (each m refl).tenants d

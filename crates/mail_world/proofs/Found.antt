@@ -1,0 +1,151 @@
+-- What an actor finds by the pipes that are kept is what it finds by the state.
+use Rattle.std.proofs.Common.{◌≡◌, ℕ, zero, suc, ◌+◌, ◌-◌, ◌<◌, ◌≤◌, List, [], ◌∷◌, length, Bool, true, false, not, Option, Some, None, IsSomeAnd, refl, sym, ap, ◌∙◌, subst, arith}
+use Rattle.std.specs.Prelude.{if◌then◌else◌, nat_lt, position, option_map}
+use Rattle.std.specs.List.{slice_get, range_with_len, prefix_len}
+use Rattle.std.proofs.lemmas.Bool.{lt-ltb, le-ltb, ltb-true, ltb-false}
+use Rattle.call_fs.specs.declared.program.Port.{Port}
+use Rattle.call_fs.specs.declared.program.Port.TheVariants as port
+use Rattle.call_fs.specs.declared.program.Ready.{Ready}
+use Rattle.world_events.specs.declared.event.Program.{Program}
+use Rattle.world_events.specs.declared.event.Program.TheVariants.{Injector, Cleaner, Sender, LocalSpawner, RemoteSpawner}
+use Rattle.world_pipes.specs.declared.mouths.Mouths.{Mouths}
+use Rattle.world_pipes.specs.declared.mouths.Slot.{Slot}
+use Rattle.world_pipes.specs.Mouths.{pipe_of, tenant_of, runs_in, is_remote, IsLowest}
+use Rattle.world_pipes.specs.Pipework.{Pipe, Tenant, is_ready}
+use Rattle.world_pipes.specs.Pipework.Tenant.{Remote}
+use Rattle.mail_world.specs.History.{State}
+use Rattle.mail_world.specs.Readiness.{has_ended, lowest_ended, found_by}
+use Rattle.mail_world.specs.Wired.{seat, AreWired, HaveSlots}
+use Rattle.mail_world.specs.Inside.{RunsAt}
+use Rattle.mail_world.specs.ByKind.{IsMail}
+use Rattle.mail_world.specs.Crew.{FindsBy, IsFoundAt, input_of}
+use Rattle.mail_world.proofs.Feeds.{own_pipe, own_tenant}
+use Rattle.mail_world.proofs.Lists.{some_at}
+use Rattle.std.proofs.lemmas.Option.{slice_get_within}
+use Rattle.mail_world.proofs.Seats.{seat_member}
+
+-- The first of some numbers that passes a test
+
+count_none : (t : ℕ → Bool) (a n : ℕ) → ((d : ℕ) → a ≤ d → d < a + n → t d ≡ false) → prefix_len (λ d. not (t d)) (range_with_len a n) ≡ n
+count_none t a zero none = refl
+count_none t a (suc n) none =
+    let first : t a ≡ false = none a (omega arith) (omega arith) in
+    let rest = count_none t (a + 1) n (λ d le lt. none d (omega (arith, le)) (omega (arith, lt))) in
+    ap (λ (b : Bool). if not b then 1 + prefix_len (λ d. not (t d)) (range_with_len (a + 1) n) else 0) first ∙ omega (arith, rest)
+
+count_some : (t : ℕ → Bool) (a n low : ℕ) → a ≤ low → low < a + n → t low ≡ true → ((d : ℕ) → a ≤ d → d < low → t d ≡ false)
+    → prefix_len (λ d. not (t d)) (range_with_len a n) ≡ low - a
+count_some t a zero low le lt holds before = absurd (omega (arith, le, lt))
+count_some t a (suc n) low le lt holds before =
+    by_test (nat_lt a low) refl (λ (less : a < low). count_some t (a + 1) n low (omega (arith, less)) (omega (arith, lt)) holds (λ d le lt. before d (omega (arith, le)) lt))
+  where
+    by_test : (b : Bool) → nat_lt a low ≡ b → (a < low → prefix_len (λ d. not (t d)) (range_with_len (a + 1) n) ≡ low - (a + 1)) → prefix_len (λ d. not (t d)) (range_with_len a (suc n)) ≡ low - a
+    by_test true is more =
+        let less : a < low = ltb-true a low is in
+        let rest = more less in
+        ap (λ (b : Bool). if not b then 1 + prefix_len (λ d. not (t d)) (range_with_len (a + 1) n) else 0) (before a (omega arith) less) ∙ omega (arith, rest, less)
+    by_test false is more =
+        let no_less : low ≤ a = ltb-false a low is in
+        let same : low ≡ a = omega (arith, le, no_less) in
+        ap (λ (b : Bool). if not b then 1 + prefix_len (λ d. not (t d)) (range_with_len (a + 1) n) else 0) (ap t (sym same) ∙ holds) ∙ omega (arith, same)
+
+many : (a n : ℕ) → length (range_with_len a n) ≡ n
+many a zero = refl
+many a (suc n) = let rest = many (a + 1) n in omega (arith, rest)
+
+by_count : (p n : ℕ) (child : Option ℕ) → n ≡ 256 → (child ≡ None → p ≡ 256) → ((low : ℕ) → child ≡ Some low → (p ≡ low) × (low < 256)) → (if nat_lt p n then Some p else None) ≡ child
+by_count p n None hn none some =
+    let hp = none refl in
+    let no : nat_lt p n ≡ false = le-ltb p n (omega (arith, hp, hn)) in
+    ap (λ (b : Bool). if b then Some p else None) no
+by_count p n (Some low) hn none some =
+    let hp = some low refl in
+    let same = hp.0 in
+    let lt = hp.1 in
+    let yes : nat_lt p n ≡ true = lt-ltb p n (omega (arith, same, lt, hn)) in
+    ap (λ (b : Bool). if b then Some p else None) yes ∙ ap Some same
+
+pub lowest_is : (t : ℕ → Bool) (child : Option ℕ) → ((d : ℕ) → t d ≡ true → d < 256) → IsLowest t 0 child → position t (range_with_len 0 256) ≡ child
+lowest_is t None few none =
+    by_count (prefix_len (λ d. not (t d)) (range_with_len 0 256)) (length (range_with_len 0 256)) None (many 0 256)
+    (λ e. count_none t 0 256 (λ d le lt. none d (omega arith) (omega (arith, lt))))
+    (λ low e. absurd (cc))
+lowest_is t (Some low) few is =
+    let lt = few low is.1 in
+    by_count (prefix_len (λ d. not (t d)) (range_with_len 0 256)) (length (range_with_len 0 256)) (Some low) (many 0 256)
+    (λ e. absurd (cc))
+    (λ found e. let same : low ≡ found = cc in (count_some t 0 256 low (omega arith) (omega (arith, lt)) is.1 is.2 ∙ omega (arith, same), omega (arith, lt, same)))
+
+-- By the pipes
+
+-- a program in a slot of a world has ended exactly if its report came
+pub ended_remote : (s : State) (o : Option Slot) → has_ended s (runs_in o) ≡ is_remote true (runs_in o)
+ended_remote s None = refl
+ended_remote s (Some slot) = by_report slot.reported where
+  by_report : (o : Option Bool) → has_ended s (option_map Remote o) ≡ is_remote true (option_map Remote o)
+  by_report None = refl
+  by_report (Some true) = refl
+  by_report (Some false) = refl
+
+some_slot : (o : Option Slot) → is_remote true (runs_in o) ≡ true → (slot : Slot) × (o ≡ Some slot)
+some_slot None is = absurd cc
+some_slot (Some slot) is = (slot, refl)
+
+position_alike : (t u : ℕ → Bool) (xs : List ℕ) → ((d : ℕ) → t d ≡ u d) → prefix_len (λ d. not (t d)) xs ≡ prefix_len (λ d. not (u d)) xs
+position_alike t u [] same = refl
+position_alike t u (x ∷ xs) same =
+    ap (λ (b : Bool). if not b then 1 + prefix_len (λ d. not (t d)) xs else 0) (same x)
+    ∙ ap (λ (n : ℕ). if not (u x) then 1 + n else 0) (position_alike t u xs same)
+
+lowest_found : (s : State) (mouths : List Mouths) (a : List ℕ) (i : ℕ) (m : Mouths) (child : Option ℕ) → AreWired mouths s.pipework → seat a ≡ Some i → slice_get mouths i ≡ Some m → length m.slots.items ≡ 256
+    → IsLowest (λ d. is_remote true (tenant_of m d)) 0 child → lowest_ended s a ≡ child
+lowest_found s mouths a i m child wired at is slots low =
+    ap (λ (p : ℕ). if nat_lt p (length (range_with_len 0 256)) then Some p else None)
+    (position_alike (λ d. has_ended s (s.pipework.programs a d)) (λ d. is_remote true (tenant_of m d)) (range_with_len 0 256)
+    (λ d. ap (has_ended s) (own_tenant mouths s.pipework a i m wired at is d) ∙ ended_remote s (slice_get m.slots.items d)))
+    ∙ lowest_is (λ d. is_remote true (tenant_of m d)) child
+    (λ d yes. let slot = some_slot (slice_get m.slots.items d) yes in subst (λ (n : ℕ). d < n) slots (slice_get_within m.slots.items d slot.0 slot.1)) low
+
+-- the links of each
+three_links : (p q r a b c : Pipe) → p ≡ a → q ≡ b → r ≡ c
+    → ◌≡◌ {A = List Bool} (is_ready p ∷ is_ready q ∷ is_ready r ∷ false ∷ []) (is_ready a ∷ is_ready b ∷ is_ready c ∷ false ∷ [])
+three_links p q r a b c hp hq hr =
+    ap (λ (p : Pipe). is_ready p ∷ is_ready q ∷ is_ready r ∷ false ∷ []) hp
+    ∙ ap (λ (q : Pipe). is_ready a ∷ is_ready q ∷ is_ready r ∷ false ∷ []) hq
+    ∙ ap (λ (r : Pipe). is_ready a ∷ is_ready b ∷ is_ready r ∷ false ∷ []) hr
+
+pub found_is : (s : State) (mouths : List Mouths) (a : List ℕ) (at : Option ℕ) (program : Program) (ready : Ready) → AreWired mouths s.pipework → HaveSlots mouths → seat a ≡ at → RunsAt at program
+    → IsFoundAt mouths at ready → ready ≡ found_by s a program
+found_is s mouths a None program ready wired slots at runs found = by_program program runs where
+  by_program : (program : Program) → IsMail program → ready ≡ found_by s a program
+  by_program (Injector args) mail = found
+  by_program other mail = absurd mail
+found_is s mouths a (Some i) program ready wired slots at runs found = by_member (some_at (λ m. FindsBy i m ready) (slice_get mouths i) found) where
+  by_member : (m : Mouths) × (slice_get mouths i ≡ Some m) × FindsBy i m ready → ready ≡ found_by s a program
+  by_member found = by_seat i program runs at found.1 found.2 where
+    m : Mouths
+    m = found.0
+
+    pipe : (i : ℕ) → seat a ≡ Some i → slice_get mouths i ≡ Some m → (p : Port) → pipe_of m p ≡ s.pipework.pipes a p
+    pipe i at is p = sym (own_pipe mouths s.pipework a i m wired (seat_member a i at) at is p)
+
+    input : (i : ℕ) → seat a ≡ Some i → slice_get mouths i ≡ Some m → (child : Option ℕ) → ready ≡ input_of m child
+        → ready ≡ record { links = is_ready (s.pipework.pipes a port.Input) ∷ false ∷ false ∷ false ∷ []; child = child }
+    input i at is child finds =
+        finds ∙ ap (λ (p : Pipe). record { links = is_ready p ∷ false ∷ false ∷ false ∷ []; child = child }) (pipe i at is port.Input)
+
+    by_seat : (i : ℕ) (program : Program) → RunsAt (Some i) program → seat a ≡ Some i → slice_get mouths i ≡ Some m → FindsBy i m ready → ready ≡ found_by s a program
+    by_seat zero (Sender start) runs at is finds =
+        finds ∙ ap (λ (l : List Bool). record { links = l; child = None })
+        (three_links (pipe_of m port.Clean) (pipe_of m port.Lspawn) (pipe_of m port.Rspawn) (s.pipework.pipes a port.Clean) (s.pipework.pipes a port.Lspawn) (s.pipework.pipes a port.Rspawn)
+        (pipe zero at is port.Clean) (pipe zero at is port.Lspawn) (pipe zero at is port.Rspawn))
+    by_seat zero other runs at is finds = absurd runs
+    by_seat (suc zero) (Cleaner start) runs at is finds = input 1 at is None finds
+    by_seat (suc zero) other runs at is finds = absurd runs
+    by_seat (suc (suc zero)) (LocalSpawner start) runs at is finds = input 2 at is None finds
+    by_seat (suc (suc zero)) other runs at is finds = absurd runs
+    by_seat (suc (suc (suc j))) (RemoteSpawner start) runs at is finds =
+        input (suc (suc (suc j))) at is finds.0 finds.2
+        ∙ ap (λ (child : Option ℕ). record { links = is_ready (s.pipework.pipes a port.Input) ∷ false ∷ false ∷ false ∷ []; child = child })
+        (sym (lowest_found s mouths a (suc (suc (suc j))) m finds.0 wired at is (slots (suc (suc (suc j))) m is) finds.1))
+    by_seat (suc (suc (suc j))) other runs at is finds = absurd runs

@@ -1,0 +1,177 @@
+-- What an actor passes on or takes over, and what it owes: its machine is told, or will be.
+use Rattle.std.proofs.Common.{◌≡◌, ◌⊎◌, inl, inr, ℕ, List, [], ◌∷◌, ◌++◌, length, Bool, true, false, Option, Some, None, Result, Ok, Err, refl, sym, ap, ◌∙◌, subst}
+use Rattle.std.specs.Prelude.{IfOk, IfSome, IsNone}
+use Rattle.std.specs.List.{slice_get}
+use Rattle.call_fs.specs.Disk.{Disk}
+use Rattle.call_fs.specs.declared.past.GotData.{GotData}
+use Rattle.call_fs.specs.declared.past.NeedData.{NeedData}
+use Rattle.call_fs.specs.declared.past.NeedData.TheVariants as needs
+use Rattle.call_fs.specs.declared.past.Own.{Own}
+use Rattle.call_fs.specs.declared.program.Ready.{Ready}
+use Rattle.call_fs.specs.Program.{IsKind, IsWithin}
+use Rattle.world_events.specs.declared.event.Event.{Event as Kept}
+use Rattle.world_events.specs.declared.event.Event.TheVariants as kept
+use Rattle.world_events.specs.declared.event.Program.{Program}
+use Rattle.world_events.specs.declared.event.History.{History}
+use Rattle.world_pipes.specs.declared.mouths.Mouths.{Mouths}
+use Rattle.world_pipes.specs.Pipework.{Pipework}
+use Rattle.mail_world.specs.declared.actor.Actor.{Actor as Held}
+use Rattle.mail_world.specs.declared.any_machine.AnyMachine.{AnyMachine}
+use Rattle.mail_world.specs.declared.world.Did.{Did}
+use Rattle.mail_world.specs.History.{next_of}
+use Rattle.mail_world.specs.ByKind.{Follows, present_of, found_of, looked_of, need_of, takes_of, with_own, own_of}
+use Rattle.mail_world.specs.Generations.{idled_in, idled_of}
+use Rattle.mail_world.specs.Inside.{StandsFor, Owes, unowed}
+use Rattle.mail_world.specs.Wired.{AreWired}
+use Rattle.mail_world.specs.Acting.{IsNoAct, BringsNone, MakesOf, Exchanges, IsStuck, IsOwed, HasDone, HasIdled, HasLooked, HasWaited, HasStepped, HasPassedOn, HasGiven, HasActed, opened_by}
+use Rattle.mail_world.proofs.Feeds.{wires_of, are_wired}
+use Rattle.mail_world.proofs.Idles.{same_last}
+use Rattle.mail_world.proofs.Machines.{own_is}
+use Rattle.mail_world.proofs.Passes.{passing, brings_kind, brings_within}
+
+-- what was exchanged is of the kind of what was due, and no more than may be taken
+pub exchanged_kind : (mouths wired : List Mouths) (pid most : ℕ) (a : List ℕ) (due : NeedData) (came : GotData) → Exchanges mouths wired pid most a due came → IsKind due came
+exchanged_kind mouths wired pid most a due came e = brings_kind (wires_of mouths) pid most a due came (e.brings (wires_of mouths) (are_wired mouths))
+
+pub exchanged_within : (mouths wired : List Mouths) (pid most : ℕ) (a : List ℕ) (due : NeedData) (came : GotData) → Exchanges mouths wired pid most a due came → IsWithin most came
+exchanged_within mouths wired pid most a due came e = brings_within (wires_of mouths) pid most a due came (e.brings (wires_of mouths) (are_wired mouths))
+
+-- nothing that passes changes the disk
+still_made : (told : Option Disk) (now : ℕ) (due : NeedData) (came : GotData) → IsNoAct due → MakesOf now due came told told
+still_made None now due came none = tt
+still_made (Some d) now (needs.File c) came none = absurd none
+still_made (Some d) now (needs.Take port) came none = refl
+still_made (Some d) now (needs.Give port bytes) came none = refl
+still_made (Some d) now (needs.Start asked) came none = refl
+still_made (Some d) now (needs.Command bytes) came none = refl
+still_made (Some d) now needs.Wait came none = refl
+still_made (Some d) now (needs.Ended status) came none = absurd none
+
+-- a machine that looked, to which this is due
+pub record IsAsked (x y : Held) (now : ℕ) (ready : Ready) (due : NeedData) : Type 0 where
+  pub next : (program : Program) (past : List Own) → Follows x.machine program past → next_of program past now ready ≡ due
+  pub follows : (program : Program) (past : List Own) → Follows x.machine program past → Follows y.machine program past
+  pub present : present_of y.machine ≡ now
+  pub found : found_of y.machine ≡ ready
+  pub looked : looked_of y.machine ≡ true
+  pub need : need_of y.machine ≡ due
+  pub takes : takes_of y.machine ≡ takes_of x.machine
+  pub name : y.name ≡ x.name
+  pub descriptors : y.descriptors.items ≡ x.descriptors.items
+  pub ended : y.ended ≡ x.ended
+  pub owed : y.owed ≡ x.owed
+
+module _ (told : Option Disk) (wires wired : List Mouths) (pid : ℕ) (x y z : Held) (before now_kept : List Kept) (now : ℕ) (ready : Ready) (due : NeedData)
+    (asked : IsAsked x y now ready due) (none : IsNoAct due) where
+  passed_on : HasPassedOn wires wired pid y z before now_kept now ready due → HasDone told told wires wired pid x z before now_kept now ready
+  passed_on given =
+      let own : Own = record { read = now; ready = ready; due = due; came = given.came } in
+      record {
+        own = own;
+        event = given.event ∙ ap (λ (a : List ℕ). before ++ kept.Act a own ∷ []) asked.name;
+        read = refl;
+        found = refl;
+        due = asked.next;
+        follows = λ program past f.
+            subst (StandsFor z program) (own_is y.machine own past asked.present asked.found asked.need) (given.follows program past (asked.follows program past f));
+        owes = λ at is. let owed = given.owes at is in record {
+          here = owed.0;
+          read = ap present_of owed.1 ∙ asked.present;
+          found = ap found_of owed.1 ∙ asked.found;
+          looked = ap looked_of owed.1 ∙ asked.looked;
+          due = ap need_of owed.1 ∙ asked.need;
+          kind = exchanged_kind wires wired pid (takes_of y.machine) y.name due given.came given.exchanged;
+          within = subst (λ (m : AnyMachine). IsWithin (takes_of m) given.came) (sym owed.1)
+              (exchanged_within wires wired pid (takes_of y.machine) y.name due given.came given.exchanged);
+        };
+        made = still_made told now due given.came none;
+        passed = inr (
+          none,
+          subst (λ (most : ℕ). Exchanges wires wired pid most x.name due given.came) asked.takes
+              (subst (λ (a : List ℕ). Exchanges wires wired pid (takes_of y.machine) a due given.came) asked.name given.exchanged),
+        );
+        name = given.name ∙ asked.name;
+        descriptors = given.descriptors ∙ asked.descriptors ∙ sym ((passing due given.came none).opened x.descriptors.items);
+        ended = given.ended ∙ asked.ended;
+      }
+
+  pub asked_looked : HasLooked x y
+  asked_looked = record { follows = asked.follows; name = asked.name; descriptors = asked.descriptors; ended = asked.ended; owed = asked.owed }
+
+  pub passed_steps : (did : Option Did) → HasGiven did wires wired pid y z before now_kept now ready due → (IsNone did → z ≡ y) → IfSome did (λ d. d.ended ≡ None)
+      → HasStepped did told told wires wired pid x z before now_kept now ready
+  passed_steps None stuck same lasts = record {
+    looked = subst (HasLooked x) (sym (same refl)) asked_looked;
+    same = stuck.same;
+    waits = λ program past f w wired_by.
+        subst (λ (due : NeedData). BringsNone w x.name due) (sym (asked.next program past f))
+        (subst (λ (a : List ℕ). BringsNone w a due) asked.name (stuck.none w wired_by));
+  }
+  passed_steps (Some did) given same lasts =
+      subst (λ (o : Option ℕ). HasActed o told told wires wired pid x z before now_kept now ready) (sym lasts) (passed_on given)
+
+  lasts_in : (n : ℕ) (did : Option Did) → IfSome did (λ d. (d.at ≡ n) × (d.ended ≡ None)) → IfSome did (λ d. d.ended ≡ None)
+  lasts_in n None is = tt
+  lasts_in n (Some d) is = is.1
+
+  pub passed_result : {E : Type 0} (n : ℕ) (q r : History) (result : Result (Option Did) E) → IfOk result (λ did. HasGiven did wires wired pid y z before now_kept now ready due)
+      → IfOk result (λ did. IsNone did → (z ≡ y) × (q ≡ r)) → IfOk result (λ did. IfSome did (λ d. (d.at ≡ n) × (d.ended ≡ None)))
+      → IfOk result (λ did. HasStepped did told told wires wired pid x z before now_kept now ready)
+  passed_result n q r (Ok did) given waits at = passed_steps did given (λ none_did. (waits none_did).0) (lasts_in n did at)
+  passed_result n q r (Err e) given waits at = tt
+
+  -- whether an idle turn ended is told by the machine that looked
+  pub passed_idle : (idle : Bool) → HasIdled idle y before now_kept → HasIdled idle x before now_kept
+  passed_idle idle by k event program past f = by k event program past (asked.follows program past f)
+
+  idle_some : (did : Option Did) → IfSome did (λ d. HasIdled d.idle y before now_kept) → IfSome did (λ d. HasIdled d.idle x before now_kept)
+  idle_some None idled = tt
+  idle_some (Some d) idled = passed_idle d.idle idled
+
+  pub passed_idles : {E : Type 0} (result : Result (Option Did) E) → IfOk result (λ did. IfSome did (λ d. HasIdled d.idle y before now_kept))
+      → IfOk result (λ did. IfSome did (λ d. HasIdled d.idle x before now_kept))
+  passed_idles (Ok did) idled = idle_some did idled
+  passed_idles (Err e) idled = tt
+
+own_same : (m : AnyMachine) (own : Own) → present_of m ≡ own.read → found_of m ≡ own.ready → need_of m ≡ own.due → own_of m own.came ≡ own
+own_same m own read ready due =
+    ap (λ (read : ℕ). record { read = read; ready = found_of m; due = need_of m; came = own.came }) read
+    ∙ ap (λ (ready : Ready). record { read = own.read; ready = ready; due = need_of m; came = own.came }) ready
+    ∙ ap (λ (due : NeedData). record { read = own.read; ready = own.ready; due = due; came = own.came }) due
+
+-- an event of an actor tells whether an idle turn ended, as its machine does
+pub told_idle : (x : Held) (m : AnyMachine) (own : Own) (idle : Bool) (before now_kept : List Kept)
+    → ((program : Program) (past : List Own) → Follows x.machine program past → Follows m program past)
+    → present_of m ≡ own.read → found_of m ≡ own.ready → need_of m ≡ own.due
+    → ((program : Program) (past : List Own) → Follows m program past → idle ≡ idled_in program past (own_of m own.came))
+    → now_kept ≡ before ++ kept.Act x.name own ∷ [] → HasIdled idle x before now_kept
+told_idle x m own idle before now_kept follows read ready due idles event k is program past f =
+    idles program past (follows program past f) ∙ ap (idled_in program past) (own_same m own read ready due)
+    ∙ ap (idled_of program past) (same_last before (kept.Act x.name own) k (sym event ∙ is))
+
+-- an end ends none
+pub end_idle : (x : Held) (now status : ℕ) (ready : Ready) (before now_kept : List Kept) → now_kept ≡ before ++ kept.End x.name now ready status ∷ [] → HasIdled false x before now_kept
+end_idle x now status ready before now_kept event k is program past f =
+    ap (idled_of program past) (same_last before (kept.End x.name now ready status) k (sym event ∙ is))
+
+-- What is owed
+
+-- that event, and what may be handed in of it
+pub owed_own : (x : Held) (events : List Kept) (past : List Own) (at : ℕ) (a : List ℕ) (own : Own) → Owes x events past at → slice_get events at ≡ Some (kept.Act a own)
+    → (o : Owes x events past at) × (o.own ≡ own)
+owed_own x events past at a own o there =
+    let both : ◌≡◌ {A = Option Kept} (Some (kept.Act x.name o.own)) (Some (kept.Act a own)) = sym o.there ∙ there in
+    let same : o.own ≡ own = cc in
+    (o, same)
+
+-- once it is paid, the machine has taken in the whole past
+pub paid_stands : (x : Held) (n : AnyMachine) (events : List Kept) (past : List Own) (at : ℕ) (program : Program) (own : Own) → x.owed ≡ Some at → (o : Owes x events past at) → o.own ≡ own
+    → ((past : List Own) → Follows x.machine program past → Follows n program (with_own x.machine own.came past))
+    → StandsFor x program past → Follows n program past
+paid_stands x n events past at program own owed o same hands stands =
+    let stood : Follows x.machine program o.before =
+    subst (λ (past : List Own). Follows x.machine program (unowed (Some at) past)) o.newest (subst (λ (o : Option ℕ). Follows x.machine program (unowed o past)) owed stands) in
+    let whole : with_own x.machine own.came o.before ≡ past =
+    own_is x.machine own o.before (o.read ∙ ap (λ (w : Own). w.read) same) (o.found ∙ ap (λ (w : Own). w.ready) same) (o.due ∙ ap (λ (w : Own). w.due) same)
+    ∙ ap (λ (w : Own). w ∷ o.before) (sym same) ∙ sym o.newest in
+    subst (Follows n program) whole (hands o.before stood)

@@ -1,0 +1,101 @@
+use Rattle.std.proofs.Common.{◌≡◌, ℕ, ◌+◌, ◌≤◌, List, [], ◌∷◌, ◌++◌, length, reverse, sym, ap, ◌∙◌, refl, subst, arith}
+use Rattle.std.specs.Prelude.{drop}
+use Rattle.std.proofs.lemmas.List.{length-append, length-drop}
+use Rattle.world_events.specs.declared.event.Event.{Event as Kept}
+use Rattle.world_events.specs.declared.event.Event.TheVariants as kept
+use Rattle.mail_world.specs.declared.actor.Actor.{Actor as Held}
+use Rattle.mail_world.specs.Books.{AreBooked, entries_of}
+use Rattle.mail_world.specs.Crew.{AreNew}
+use Rattle.mail_world.specs.Generations.{IsNoneAlive, starts_of}
+use Rattle.mail_world.specs.Starts.{AreStarts}
+use Rattle.mail_world.specs.Places.{place_of}
+use Rattle.mail_world.specs.World.{Seen}
+use Rattle.mail_world.specs.Inside.{among_all, known, living}
+use Rattle.mail_world.proofs.Begun.{NoneLives, begun_keeps, begun_leads_on, begun_piped}
+use Rattle.mail_world.proofs.Booked.{begun_booked}
+use Rattle.mail_world.proofs.Firsts.{lives_none}
+use Rattle.mail_world.proofs.Histories.{goes_on}
+use Rattle.mail_world.proofs.Living.{living_within, room_less}
+use Rattle.mail_world.proofs.Starting.{starts_push, same_starts}
+use Rattle.mail_world.proofs.Crewing.{members_start}
+use Rattle.mail_world.proofs.world.World.begin_generation.Goals as goal
+
+pub invariant_of-self : goal.invariant_of-self
+invariant_of-self g c = (
+  rw (c.in_err-reserve-2.ensures.same) c.self.invariant.0,
+  c.in_err-reserve-2.ensures.stays (living c.self.inside.actors.items) c.self.invariant.1,
+  rw (c.in_err-reserve-2.ensures.same) c.self.invariant.2,
+  rw (c.in_err-reserve-2.ensures.same) c.self.invariant.3,
+  rw (c.in_err-reserve-2.ensures.same) c.self.invariant.4,
+)
+
+pub invariant_of-self-in_err-make_room : goal.invariant_of-self-in_err-make_room
+invariant_of-self-in_err-make_room g c =
+    let i = c.self.inside in (
+      rw (c.in_ok-reserve-2.ensures.same) c.self.invariant.0,
+      c.in_ok-reserve-2.ensures.stays (living i.actors.items) c.self.invariant.1,
+      rw (c.in_ok-reserve-2.ensures.same) c.self.invariant.2,
+      rw (c.in_ok-reserve-2.ensures.same) c.self.invariant.3,
+      rw (c.in_ok-reserve-2.ensures.same) (same_starts i.starts c.make_room.new.self i.crew (place_of i.places) (starts_of (reverse i.history.events.items)) c.in_err-make_room.ensures.same c.self.invariant.4),
+    )
+
+pub invariant_of-self-in_err-mails : goal.invariant_of-self-in_err-mails
+invariant_of-self-in_err-mails g c =
+    let i = c.self.inside in
+    let items = c.in_err-mails.ensures.err in (
+      rw (c.in_ok-reserve-2.ensures.same, items) c.self.invariant.0,
+      rw (items) (c.in_ok-reserve-2.ensures.stays (living i.actors.items) c.self.invariant.1),
+      rw (c.in_ok-reserve-2.ensures.same, items) c.self.invariant.2,
+      rw (c.in_ok-reserve-2.ensures.same, items) c.self.invariant.3,
+      rw (c.in_ok-reserve-2.ensures.same) (same_starts i.starts c.make_room.new.self i.crew (place_of i.places) (starts_of (reverse i.history.events.items)) c.in_ok-make_room.ensures.same c.self.invariant.4),
+    )
+
+-- the mails after the new members
+mails_are : (four rest : List Held) → AreNew four → drop 4 (four ++ rest) ≡ rest
+mails_are four rest new = ap (λ (l : List Held). drop 4 (l ++ rest)) new.are
+
+-- there is room for the stop of each
+few : (crew : ℕ) (four actors : List Held) → AreNew four → living (four ++ drop crew actors) ≤ length actors + 4
+few crew four actors new =
+    let within = living_within (four ++ drop crew actors) in
+    let all = length-append four (drop crew actors) in
+    let rest = length-drop crew actors in
+    let many : length four ≡ 4 = ap (λ (l : List Held). length l) new.are in
+    omega (arith, within, all, rest, many)
+
+pub invariant_of-self-2 : goal.invariant_of-self-2
+invariant_of-self-2 g c =
+    let i = c.self.inside in
+    let told = g.D.CallFs.disk i.disk in
+    let events = i.history.events.items in
+    let four = c.in_ok-actors.actors.items in
+    let new = c.in_ok-actors.ensures in
+    let rest = drop i.crew i.actors.items in
+    let none = lives_none i.crew (place_of i.places) i.actors.items (known events) events i.present c.self.invariant.0.kept (subst (λ (w : Seen _). IsNoneAlive w.events) (sym c.self.view_is) c.requires) in
+    let event : c.put.new.self.events.items ≡ events ++ kept.Generation i.present ∷ [] =
+    c.put.ensures.event ∙ ap (λ (l : List Kept). l ++ kept.Generation i.present ∷ []) c.in_ok-reserve-2.ensures.same in
+    let pushed = rw c.unwrap.ensures at c.append.ensures.items in
+    let actors : c.append.new.self.items ≡ four ++ rest =
+    pushed ∙ ap (λ (l : List Held). l ++ c.in_ok-mails.mails.items) c.in_ok-reserve.ensures.items ∙ ap (λ (l : List Held). four ++ l) c.in_ok-mails.ensures.tail in
+    let len : c.len-2.result ≡ length i.actors.items = c.len-2.ensures ∙ i.actors.ok.0 in
+    let bound = few i.crew four i.actors.items new in (
+      rw (actors, event) (begun_keeps told (place_of i.places) i.crew i.actors.items four events i.present i.next_pid c.saturating_add-self-inside.result c.self.invariant.0 none c.self.invariant.3.few new c.saturating_add-self-inside.ensures),
+      rw (actors) (c.put.ensures.room (living (four ++ rest)) (room_less c.reserve-2.new.self (c.len-2.result + 5) (living (four ++ rest) + 1) (omega (arith, len, bound)) c.in_ok-reserve-2.ensures.room)),
+      rw (actors, event) (subst (λ (l : List Held). AreBooked (entries_of i.books) l (events ++ kept.Generation i.present ∷ [])) (sym (mails_are four rest new))
+          (begun_booked rest events i.present (entries_of i.books) c.self.invariant.2)),
+      rw (actors, event) (begun_piped i.crew i.mouths.items c.in_ok-mouths.mouths.items i.actors.items four events i.present c.self.invariant.3 new c.in_ok-mouths.ensures),
+      rw (event) (subst (AreStarts c.add_members.new.self 4 (place_of i.places)) (sym (starts_push events (kept.Generation i.present)))
+          (members_start c.make_room.new.self c.add_members.new.self i.crew (place_of i.places) (starts_of (reverse events)) c.add_members.ensures.order c.add_members.ensures.newest
+          (same_starts i.starts c.make_room.new.self i.crew (place_of i.places) (starts_of (reverse events)) c.in_ok-make_room.ensures.same c.self.invariant.4))),
+    )
+
+pub returns-clause-goes_on : goal.returns-clause-goes_on
+returns-clause-goes_on g c =
+    let i = c.self.inside in
+    let told = g.D.CallFs.disk i.disk in
+    let events = i.history.events.items in
+    let none = lives_none i.crew (place_of i.places) i.actors.items (known events) events i.present c.self.invariant.0.kept (subst (λ (w : Seen _). IsNoneAlive w.events) (sym c.self.view_is) c.requires) in
+    let event : c.put.new.self.events.items ≡ events ++ kept.Generation i.present ∷ [] =
+    c.put.ensures.event ∙ ap (λ (l : List Kept). l ++ kept.Generation i.present ∷ []) c.in_ok-reserve-2.ensures.same in
+    rw (← c.self.view_is, event) (goes_on told told events (events ++ kept.Generation i.present ∷ []) i.present i.present
+    (begun_leads_on told (place_of i.places) i.crew i.actors.items events i.present i.next_pid c.self.invariant.0 none c.self.invariant.3.few))

@@ -1,0 +1,55 @@
+-- Who started, as a world keeps it.
+use Rattle.std.specs.Prelude.{◌≡◌, ℕ, suc, ◌+◌, ◌-◌, ◌≤◌, ◌<◌, List, length, drop, Bool, true, not, Option, Some, None, nat_lt, if◌then◌else◌, is_some, is_none, bytes_eq, vec_len, vec_capacity}
+use Rattle.std.specs.List.{slice_get, list_any}
+use Rattle.mail_world.specs.Pipework.{is_member}
+use Rattle.mail_world.specs.Inside.{among_all}
+use Rattle.mail_world.specs.declared.actor.Actor.{Actor as Held}
+use Rattle.mail_world.specs.declared.starts.Starts.{Starts}
+
+-- the same starts, perhaps with more room
+pub record IsSameOrder (old new : Starts) : Type 0 where
+  pub order : new.order.items ≡ old.order.items
+  pub newest : new.newest ≡ old.newest
+
+-- room for so many more
+abbrev pub HasRoomFor : Starts → ℕ → Type 0
+HasRoomFor starts more = vec_len starts.order + more ≤ vec_capacity starts.order
+
+-- The place among all actors, of whom so many are members, of who started at a place in the order: a mail's, or that of a member, if
+-- it is one of the newest generation.
+abbrev pub place_by_entry : ℕ → ℕ → ℕ → Option ℕ → Option ℕ
+place_by_entry crew newest at None = None
+place_by_entry crew newest at (Some entry) = if nat_lt entry 4 then (if nat_lt at newest then None else Some entry) else Some (crew + (entry - 4))
+
+abbrev pub place_at : Starts → ℕ → ℕ → Option ℕ
+place_at starts crew at = place_by_entry crew starts.newest at (slice_get starts.order.items at)
+
+-- an actor, if it lives
+abbrev pub if_lives : Option Held → Option Held
+if_lives None = None
+if_lives (Some x) = if is_none x.ended then Some x else None
+
+abbrev pub living_in : List Held → Option ℕ → Option Held
+living_in actors None = None
+living_in actors (Some place) = if_lives (slice_get actors place)
+
+-- the actor that started at a place in the order, if it lives and hasn't started again
+abbrev pub start_at : Starts → List Held → ℕ → ℕ → Option Held
+start_at starts actors crew at = living_in actors (place_at starts crew at)
+
+-- the first such place from one on
+abbrev pub IsNextStart : Starts → List Held → ℕ → ℕ → Option (Held × ℕ) → Type 0
+IsNextStart starts actors crew from None = (at : ℕ) → from ≤ at → start_at starts actors crew at ≡ None
+IsNextStart starts actors crew from (Some found) =
+    (from ≤ found.1) × (start_at starts actors crew found.1 ≡ Some found.0) × ((at : ℕ) → from ≤ at → at < found.1 → start_at starts actors crew at ≡ None)
+
+-- What the order is, by the starts so far and the places of all actors: each has its place; where the order has a seat, a member started;
+-- the place that it tells is the actor's; and it tells one exactly if the actor hasn't started again.
+pub record AreStarts (starts : Starts) (crew : ℕ) (places : List ℕ → Option ℕ) (names : List (List ℕ)) : Type 0 where
+  pub many : length starts.order.items ≡ length names
+  pub known : (at : ℕ) (a : List ℕ) → slice_get names at ≡ Some a → is_some (among_all crew places a) ≡ true
+  pub seats : (at entry : ℕ) (a : List ℕ) → slice_get starts.order.items at ≡ Some entry → slice_get names at ≡ Some a → entry < 4 → is_member a ≡ true
+  pub placed : (at entry i : ℕ) (a : List ℕ) → slice_get starts.order.items at ≡ Some entry → slice_get names at ≡ Some a
+      → place_by_entry crew starts.newest at (Some entry) ≡ Some i → among_all crew places a ≡ Some i
+  pub last : (at entry : ℕ) (a : List ℕ) → slice_get starts.order.items at ≡ Some entry → slice_get names at ≡ Some a
+      → is_some (place_by_entry crew starts.newest at (Some entry)) ≡ not (list_any (bytes_eq a) (drop (suc at) names))

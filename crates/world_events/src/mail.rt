@@ -1,0 +1,35 @@
+// What the injector of a mail is started with.
+ghost use Rattle.std.specs.Prelude.{◌≡◌, IfOk};
+ghost use Rattle.world_events.specs.Mails.{mail};
+
+use mail_bytes::{ByteText, Memory};
+use queue_inject::{Arguments, InputEnd};
+use received_line::Invoked;
+use std::alloc::Global;
+
+/// The user whose mails a script starts.
+pub const MAIL_USER: u32 = 1000;
+
+/// What the injector of a mail is started with.
+pub fn mail_of(
+    alloc: Global,
+    pid: u32,
+    start: u64,
+    message: &[u8],
+    envelope: &[u8],
+) -> Result<Arguments, Memory>
+    ensures { IfOk result (λ args. args ≡ mail pid start message.now envelope.now) }
+{
+    let message = ByteText::from_slice(alloc, message)?;
+    let envelope = ByteText::from_slice(alloc, envelope)?;
+    Ok(Arguments {
+        uid: MAIL_USER,
+        pid,
+        invoked: Invoked::Uid(MAIL_USER),
+        start,
+        message,
+        message_end: InputEnd::Whole,
+        envelope,
+        envelope_end: InputEnd::Whole,
+    })
+}
