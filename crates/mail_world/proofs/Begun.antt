@@ -3,7 +3,6 @@ use Rattle.std.proofs.Common.{◌≡◌, ◌≢◌, ◌⊎◌, inl, inr, ℕ, ze
 use Rattle.std.specs.Prelude.{if◌then◌else◌, option_map, nat_lt, drop}
 use Rattle.std.specs.List.{slice_get, sum_by}
 use Rattle.call_fs.specs.Disk.{Disk}
-use Rattle.mail_bytes.specs.Told.{OnTold}
 use Rattle.world_events.specs.declared.event.Event.{Event as Kept}
 use Rattle.world_events.specs.declared.event.Event.TheVariants as kept
 use Rattle.world_events.specs.declared.event.Program.{Program}
@@ -11,10 +10,10 @@ use Rattle.world_events.specs.declared.event.Program.TheVariants.{Injector, Clea
 use Rattle.world_pipes.specs.declared.mouths.Mouths.{Mouths}
 use Rattle.mail_world.specs.declared.actor.Actor.{Actor as Held}
 use Rattle.mail_world.specs.Pipework.{is_member}
-use Rattle.mail_world.specs.History.{Event, Actor, Life, State, MayRun, newborn, start_of, latest, happens}
+use Rattle.mail_world.specs.History.{Actor, State, MayRun, newborn, start_of, happens}
 use Rattle.mail_world.specs.History.Event.{Generation}
 use Rattle.mail_world.specs.History.Life.{Alive}
-use Rattle.mail_world.specs.World.{Span, span_of, span_after, starts, was_started, starts_in, next_pid}
+use Rattle.mail_world.specs.World.{Span, span_of, span_after, starts, was_started, starts_in}
 use Rattle.mail_world.specs.World.Span.{Unborn, Lasting, OverAt}
 use Rattle.mail_world.specs.ByKind.{Follows}
 use Rattle.std.specs.Prelude.{All}
@@ -27,12 +26,10 @@ use Rattle.call_fs.specs.Past.{held}
 use Rattle.std.proofs.Math.Bool.{or-false, or-true}
 use Rattle.std.proofs.lemmas.Bool.{lt-ltb, le-ltb, ltb-true}
 use Rattle.std.proofs.lemmas.List.Elements.{All-nil, All-cons, All-head, All-tail}
-use Rattle.mail_world.specs.Inside.{known, RunsAt, unowed, span_by, is_by, has, AreApart, Owns, place_by, among_all, IsMember, IsStranger, AreActors, HasOpen, IsOpenTo, IsWorld, ArePiped}
+use Rattle.mail_world.specs.Inside.{known, RunsAt, unowed, span_by, is_by, has, AreApart, Owns, place_by, among_all, IsMember, IsStranger, HasOpen, IsOpenTo, IsWorld, ArePiped}
 use Rattle.mail_world.proofs.Crew.{started_push, owes_still}
 use Rattle.mail_world.proofs.Histories.{LeadsOn, generation_told, led_still}
 use Rattle.mail_world.proofs.Known.{known_push}
-use Rattle.actor_names.specs.MailNames.{members}
-use Rattle.std.proofs.lemmas.Option.{slice_get_within, get_or_from_slice_get}
 use Rattle.mail_world.proofs.Lists.{get_drop, some_at}
 use Rattle.mail_world.proofs.Members.{whether, four_other, four_sender, four_clean, four_lspawn, four_rspawn}
 use Rattle.mail_world.proofs.Seats.{HasSeat, seat_some, seat_none, no_seat, by_seat}

@@ -1,5 +1,5 @@
 -- Histories in which no generation was started.
-use Rattle.std.proofs.Common.{◌≡◌, List, [], ◌∷◌, ◌++◌, false, sym, subst}
+use Rattle.std.proofs.Common.{◌≡◌, List, [], ◌∷◌, ◌++◌, false}
 use Rattle.call_fs.specs.Disk.{Disk}
 use Rattle.mail_world.specs.History.{Event, State, Allowed, Opening, after, Legal}
 use Rattle.mail_world.specs.History.Event.{Start, Act, Child, Generation, Report, End, Stop, Moment, Halt}

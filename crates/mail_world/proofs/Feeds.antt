@@ -1,6 +1,6 @@
 -- What an actor does with its pipes and slots is what the model says.
-use Rattle.std.proofs.Common.{◌≡◌, ◌≢◌, ◌⊎◌, inl, inr, ℕ, zero, suc, ◌<◌, List, [], ◌∷◌, length, set, Bool, true, false, ◌&&◌, Option, Some, None, IsSome, refl, sym, ap, ◌∙◌, subst, ⊎_elim, arith, codes, bytes_eq, get_or}
-use Rattle.std.specs.Prelude.{◌==◌, ◌||◌, not, take, if◌then◌else◌, option_map}
+use Rattle.std.proofs.Common.{◌≡◌, ◌≢◌, ◌⊎◌, inl, inr, ℕ, zero, suc, ◌<◌, List, length, set, Bool, true, false, Option, Some, None, refl, sym, ap, ◌∙◌, subst, ⊎_elim, arith, codes, get_or}
+use Rattle.std.specs.Prelude.{◌==◌, ◌||◌, not, if◌then◌else◌, option_map}
 use Rattle.std.specs.List.{slice_get}
 use Rattle.std.proofs.lemmas.List.{length-set}
 use Rattle.call_fs.specs.declared.program.Port.{Port}
@@ -15,7 +15,7 @@ use Rattle.world_pipes.specs.declared.mouths.Mouths.{Mouths}
 use Rattle.world_pipes.specs.declared.mouths.Slot.{Slot}
 use Rattle.world_pipes.specs.Mouths.{pipe_of, tenant_of, runs_in, change_at, is_remote}
 use Rattle.world_pipes.specs.Pipes.{offered, left_by}
-use Rattle.world_pipes.specs.Pipework.{Pipe, Pipework, Tenant, Mouth, fresh, given, taken, closed, mouth, is_ready, is_port, is_member, input_of, output, child_output, gives, put_pipe, put_program, pipework_after, without_writer, is_writer, writer, runner}
+use Rattle.world_pipes.specs.Pipework.{Pipe, Pipework, Tenant, Mouth, fresh, given, taken, closed, mouth, is_ready, is_port, is_member, input_of, output, child_output, gives, put_pipe, pipework_after, is_writer, writer, runner}
 use Rattle.world_pipes.specs.Pipework.Tenant.{Runs, Remote}
 use Rattle.mail_world.specs.Wired.{seat, pipe_in, tenant_in, kept_at, AreWired, HaveSlots}
 use Rattle.mail_world.specs.Acting.{Brings, BringsNone, AreAsBefore, Exchanges, IsStuck, HasExchanged, IsSame, HasPiped, HasTaken, HasTakenBy, HasStarted, HasFreed, HasFreedBy, HasGivenTo, IsSameAt, AreShut, HaveShut, ShutsAfter, leads, gives_by}

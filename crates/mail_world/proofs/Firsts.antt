@@ -11,8 +11,8 @@ use Rattle.mail_world.specs.declared.error.WorldError.{WorldError}
 use Rattle.mail_world.specs.declared.error.WorldError.TheVariants as why
 use Rattle.mail_world.specs.Pipework.{is_member}
 use Rattle.mail_world.specs.History.{State}
-use Rattle.mail_world.specs.World.{Span, span_of}
-use Rattle.mail_world.specs.World.Span.{Unborn, Lasting, OverAt}
+use Rattle.mail_world.specs.World.{span_of}
+use Rattle.mail_world.specs.World.Span.{Lasting}
 use Rattle.mail_world.specs.Wired.{seat}
 use Rattle.mail_world.specs.Crew.{IsFirst}
 use Rattle.mail_world.specs.Generations.{IsFirstAlive, IsNoneAlive}

@@ -1,5 +1,5 @@
 -- What an actor finds by the pipes that are kept is what it finds by the state.
-use Rattle.std.proofs.Common.{◌≡◌, ℕ, zero, suc, ◌+◌, ◌-◌, ◌<◌, ◌≤◌, List, [], ◌∷◌, length, Bool, true, false, not, Option, Some, None, IsSomeAnd, refl, sym, ap, ◌∙◌, subst, arith}
+use Rattle.std.proofs.Common.{◌≡◌, ℕ, zero, suc, ◌+◌, ◌-◌, ◌<◌, ◌≤◌, List, [], ◌∷◌, length, Bool, true, false, not, Option, Some, None, refl, sym, ap, ◌∙◌, subst, arith}
 use Rattle.std.specs.Prelude.{if◌then◌else◌, nat_lt, position, option_map}
 use Rattle.std.specs.List.{slice_get, range_with_len, prefix_len}
 use Rattle.std.proofs.lemmas.Bool.{lt-ltb, le-ltb, ltb-true, ltb-false}
@@ -11,7 +11,7 @@ use Rattle.world_events.specs.declared.event.Program.TheVariants.{Injector, Clea
 use Rattle.world_pipes.specs.declared.mouths.Mouths.{Mouths}
 use Rattle.world_pipes.specs.declared.mouths.Slot.{Slot}
 use Rattle.world_pipes.specs.Mouths.{pipe_of, tenant_of, runs_in, is_remote, IsLowest}
-use Rattle.world_pipes.specs.Pipework.{Pipe, Tenant, is_ready}
+use Rattle.world_pipes.specs.Pipework.{Pipe, is_ready}
 use Rattle.world_pipes.specs.Pipework.Tenant.{Remote}
 use Rattle.mail_world.specs.History.{State}
 use Rattle.mail_world.specs.Readiness.{has_ended, lowest_ended, found_by}

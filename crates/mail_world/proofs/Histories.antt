@@ -1,5 +1,5 @@
 -- What led to a world's disk goes on with one event more; and if it began with an opening disk, it is legal.
-use Rattle.std.proofs.Common.{◌≡◌, ◌≢◌, ℕ, ◌≤◌, List, [], ◌∷◌, ◌++◌, true, Option, Some, None, IsSomeAnd, refl, sym, ap, ◌∙◌, subst, arith, codes, reverse, false}
+use Rattle.std.proofs.Common.{◌≡◌, ◌≢◌, ℕ, ◌≤◌, List, [], ◌∷◌, ◌++◌, true, Option, Some, None, IsSomeAnd, refl, sym, ap, ◌∙◌, subst, arith, codes, reverse}
 use Rattle.std.proofs.lemmas.List.{reverse-append}
 use Rattle.std.specs.List.{AllZip}
 use Rattle.call_fs.specs.declared.calls.CallData.{CallData}

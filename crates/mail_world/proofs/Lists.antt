@@ -1,7 +1,6 @@
 -- Lists by their places.
 use Rattle.std.proofs.Common.{◌≡◌, ◌≢◌, ◌⊎◌, inl, inr, ℕ, zero, suc, List, [], ◌∷◌, ◌++◌, ◌+◌, ◌<◌, ◌≤◌, length, take, drop, set, Option, Some, None, IsSomeAnd, refl, sym, ap, ◌∙◌, append-nil, subst, ⊎_elim, arith}
 use Rattle.std.proofs.lemmas.List.{drop_all, take_all}
-use Rattle.std.specs.Prelude.{All}
 use Rattle.std.specs.List.{slice_get}
 
 -- what stands at a place after one item was changed

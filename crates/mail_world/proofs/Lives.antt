@@ -157,7 +157,7 @@ starts_is h events told =
 -- who has ended
 
 -- the life of an actor by the kept events, and in the state
-abbrev Suits : Span → Option Actor → Type 0
+abbrev pub Suits : Span → Option Actor → Type 0
 Suits Unborn None = Unit {0}
 Suits Unborn (Some x) = ⊥
 Suits Lasting None = ⊥
@@ -258,7 +258,7 @@ happens_suits s n k (Moment m) a span told allowed was =
 happens_suits s n k (Halt how contents) a span told allowed was =
     subst (λ (k : Kept). Suits (span_after a k n span) (option_map stopped (s.actors a))) (sym told) (halt_suits a how n span (s.actors a) was)
 
-suits : (d : Disk) (newest : List Kept) (h : List Event) → Legal d h → AllZip Tells newest h → (a : List ℕ) → Suits (span_of a newest) ((after d h).actors a)
+pub suits : (d : Disk) (newest : List Kept) (h : List Event) → Legal d h → AllZip Tells newest h → (a : List ℕ) → Suits (span_of a newest) ((after d h).actors a)
 suits d [] [] legal told a = tt
 suits d [] (e ∷ h) legal told a = absurd told
 suits d (k ∷ newest) [] legal told a = absurd told

@@ -1,5 +1,5 @@
 -- What an actor passes on or takes over, and what it owes: its machine is told, or will be.
-use Rattle.std.proofs.Common.{◌≡◌, ◌⊎◌, inl, inr, ℕ, List, [], ◌∷◌, ◌++◌, length, Bool, true, false, Option, Some, None, Result, Ok, Err, refl, sym, ap, ◌∙◌, subst}
+use Rattle.std.proofs.Common.{◌≡◌, inr, ℕ, List, [], ◌∷◌, ◌++◌, Bool, true, false, Option, Some, None, Result, Ok, Err, refl, sym, ap, ◌∙◌, subst}
 use Rattle.std.specs.Prelude.{IfOk, IfSome, IsNone}
 use Rattle.std.specs.List.{slice_get}
 use Rattle.call_fs.specs.Disk.{Disk}
@@ -14,7 +14,6 @@ use Rattle.world_events.specs.declared.event.Event.TheVariants as kept
 use Rattle.world_events.specs.declared.event.Program.{Program}
 use Rattle.world_events.specs.declared.event.History.{History}
 use Rattle.world_pipes.specs.declared.mouths.Mouths.{Mouths}
-use Rattle.world_pipes.specs.Pipework.{Pipework}
 use Rattle.mail_world.specs.declared.actor.Actor.{Actor as Held}
 use Rattle.mail_world.specs.declared.any_machine.AnyMachine.{AnyMachine}
 use Rattle.mail_world.specs.declared.world.Did.{Did}
@@ -22,8 +21,7 @@ use Rattle.mail_world.specs.History.{next_of}
 use Rattle.mail_world.specs.ByKind.{Follows, present_of, found_of, looked_of, need_of, takes_of, with_own, own_of}
 use Rattle.mail_world.specs.Generations.{idled_in, idled_of}
 use Rattle.mail_world.specs.Inside.{StandsFor, Owes, unowed}
-use Rattle.mail_world.specs.Wired.{AreWired}
-use Rattle.mail_world.specs.Acting.{IsNoAct, BringsNone, MakesOf, Exchanges, IsStuck, IsOwed, HasDone, HasIdled, HasLooked, HasWaited, HasStepped, HasPassedOn, HasGiven, HasActed, opened_by}
+use Rattle.mail_world.specs.Acting.{IsNoAct, BringsNone, MakesOf, Exchanges, HasDone, HasIdled, HasLooked, HasStepped, HasPassedOn, HasGiven, HasActed}
 use Rattle.mail_world.proofs.Feeds.{wires_of, are_wired}
 use Rattle.mail_world.proofs.Idles.{same_last}
 use Rattle.mail_world.proofs.Machines.{own_is}

@@ -1,5 +1,5 @@
 -- What passes between programs by pipes and slots: it concerns no disk and no descriptor.
-use Rattle.std.proofs.Common.{◌≡◌, inr, ℕ, zero, suc, ◌≤◌, List, [], ◌∷◌, ◌++◌, length, Bool, true, false, not, ◌||◌, Option, Some, None, refl, sym, ap, ◌∙◌, subst, arith}
+use Rattle.std.proofs.Common.{◌≡◌, inr, ℕ, zero, suc, ◌≤◌, List, [], ◌∷◌, length, Bool, true, false, Option, Some, None, refl, sym, ap, ◌∙◌, subst, arith}
 use Rattle.std.specs.Prelude.{◌==◌, if◌then◌else◌, take, drop}
 use Rattle.std.proofs.lemmas.List.{take-append-drop, length-take}
 use Rattle.std.proofs.lemmas.Bool.{eqb-true}
@@ -7,23 +7,19 @@ use Rattle.call_fs.specs.declared.calls.Fd.{Fd}
 use Rattle.call_fs.specs.declared.modes.Mode.{Mode}
 use Rattle.call_fs.specs.declared.program.Port.{Port}
 use Rattle.call_fs.specs.declared.program.Port.TheVariants as port
-use Rattle.call_fs.specs.declared.past.ChildData.{ChildData}
 use Rattle.call_fs.specs.declared.past.ChildData.TheVariants as child
 use Rattle.call_fs.specs.declared.past.GotData.{GotData}
 use Rattle.call_fs.specs.declared.past.GotData.TheVariants as got
 use Rattle.call_fs.specs.declared.past.NeedData.{NeedData}
 use Rattle.call_fs.specs.declared.past.NeedData.TheVariants as needs
 use Rattle.call_fs.specs.Disk.{Disk}
-use Rattle.call_fs.specs.Past.{Makes, held_by}
-use Rattle.call_fs.specs.Program.{IsKind, IsWithin, MayCome}
+use Rattle.call_fs.specs.Past.{held_by}
+use Rattle.call_fs.specs.Program.{IsKind, IsWithin}
 use Rattle.world_pipes.specs.Pipework.{Pipe, Pipework, Tenant, Yields}
 use Rattle.world_pipes.specs.Pipework.Tenant.{Runs, Remote}
 use Rattle.world_pipes.specs.Pipes.{offered}
-use Rattle.mail_world.specs.History.{State, Actor, disk_after, holder_after, ComesOf, TenantEnds, IsFed}
-use Rattle.mail_world.specs.World.{ComesWhole}
-use Rattle.mail_world.specs.Wired.{GivesWhole}
+use Rattle.mail_world.specs.History.{State, disk_after, holder_after, ComesOf, TenantEnds, IsFed}
 use Rattle.mail_world.specs.Acting.{IsNoAct, Brings, opened_by}
-use Rattle.mail_world.proofs.Owns.{IsPass}
 
 -- nothing but pipes and slots changes
 pub record IsPassing (due : NeedData) (came : GotData) : Type 0 where

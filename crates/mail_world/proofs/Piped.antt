@@ -1,35 +1,31 @@
 -- The pipes that a world keeps, as one event comes.
-use Rattle.std.proofs.Common.{◌≡◌, ◌⊎◌, inl, inr, ℕ, ◌≤◌, ◌<◌, List, [], ◌∷◌, ◌++◌, length, set, reverse, true, Option, Some, None, refl, sym, ap, ◌∙◌, subst, ⊎_elim, arith}
+use Rattle.std.proofs.Common.{◌≡◌, inl, ℕ, ◌≤◌, ◌<◌, List, [], ◌∷◌, ◌++◌, length, set, reverse, Option, Some, None, refl, sym, ap, ◌∙◌, subst, ⊎_elim, arith}
 use Rattle.std.proofs.lemmas.List.{reverse-append, length-set}
 use Rattle.std.specs.List.{slice_get}
 use Rattle.call_fs.specs.Disk.{Disk}
-use Rattle.call_fs.specs.declared.calls.Told.{Told}
 use Rattle.call_fs.specs.declared.past.GotData.{GotData}
 use Rattle.call_fs.specs.declared.past.GotData.TheVariants as got
 use Rattle.call_fs.specs.declared.past.NeedData.{NeedData}
 use Rattle.call_fs.specs.declared.past.NeedData.TheVariants as needs
-use Rattle.call_fs.specs.declared.past.ChildData.TheVariants as child
 use Rattle.call_fs.specs.declared.program.Ready.{Ready}
-use Rattle.call_fs.specs.declared.program.Port.TheVariants as port
 use Rattle.world_events.specs.declared.event.Event.{Event as Kept}
 use Rattle.world_events.specs.declared.event.Event.TheVariants as kept
 use Rattle.world_pipes.specs.declared.mouths.Mouths.{Mouths}
 use Rattle.mail_world.specs.declared.actor.Actor.{Actor as Held}
 use Rattle.mail_world.specs.Pipework.{Pipework, no_pipework, pipework_after, without_writer}
-use Rattle.mail_world.specs.History.{Actor, Life, State, acted, finished, happens}
+use Rattle.mail_world.specs.History.{Life, State, acted, finished, happens}
 use Rattle.std.proofs.lemmas.List.{length-append}
 use Rattle.call_fs.specs.declared.crash_file_system.Survival.{Survival}
 use Rattle.world_events.specs.declared.event.Program.{Program}
 use Rattle.mail_world.specs.Wired.{seat, pipe_in, tenant_in, kept_at, AreWired, HaveSlots, GivesWhole, IsWholeGiving, AreWholeGivings}
 use Rattle.mail_world.specs.Inside.{known, event_of, ArePiped, IsMember}
-use Rattle.mail_world.specs.Acting.{IsCall, IsNoAct, Brings, AreAsBefore, Exchanges, HasPassed, HasDone, IsFinished, AreCutOff, ShutsAfter}
+use Rattle.mail_world.specs.Acting.{IsCall, Brings, AreAsBefore, HasDone, IsFinished, AreCutOff}
 use Rattle.mail_world.proofs.Acts.{Finishes}
 use Rattle.mail_world.proofs.Feeds.{no_actor_runs}
 use Rattle.mail_world.proofs.Known.{known_push}
 use Rattle.mail_world.proofs.Crew.{was_there, none_alive}
 use Rattle.mail_world.proofs.Lists.{get_set, get_push}
-use Rattle.mail_world.proofs.Passes.{NoActorRuns}
-use Rattle.mail_world.proofs.Worlds.{IsPlumbed, StandsAt}
+use Rattle.mail_world.proofs.Worlds.{IsPlumbed}
 
 pub plumbed : (crew : ℕ) (mouths : List Mouths) (actors : List Held) (s : State) (events : List Kept) → ArePiped crew mouths actors s events → IsPlumbed s events
 plumbed crew mouths actors s events piped = record { whole = piped.whole; none = no_actor_runs mouths s.pipework piped.wired }

@@ -1,8 +1,8 @@
 -- The report of a remote program comes.
-use Rattle.std.proofs.Common.{◌≡◌, ◌≢◌, ◌⊎◌, ◌↔◌, Result, Ok, Err, inl, inr, ℕ, zero, suc, ◌+◌, ◌<◌, ◌≤◌, List, [], ◌∷◌, ◌++◌, length, set, reverse, Bool, true, false, not, ◌&&◌, Option, Some, None, refl, sym, ap, ◌∙◌, subst, ⊎_elim, arith, codes}
-use Rattle.std.specs.Prelude.{if◌then◌else◌, nat_lt, position, take, is_none, ◌==◌}
+use Rattle.std.proofs.Common.{◌≡◌, ◌≢◌, ◌⊎◌, ◌↔◌, Result, Ok, Err, inl, inr, ℕ, zero, suc, ◌+◌, ◌<◌, ◌≤◌, List, [], ◌∷◌, ◌++◌, length, set, Bool, true, false, not, ◌&&◌, Option, Some, None, refl, sym, ap, ◌∙◌, subst, arith, codes}
+use Rattle.std.specs.Prelude.{if◌then◌else◌, nat_lt, take, is_none}
 use Rattle.std.specs.List.{slice_get, range_with_len, prefix_len}
-use Rattle.std.proofs.lemmas.Bool.{ltb-true, ltb-false, lt-ltb, le-ltb}
+use Rattle.std.proofs.lemmas.Bool.{ltb-false, le-ltb}
 use Rattle.std.proofs.lemmas.List.{length-set}
 use Rattle.std.proofs.lemmas.Option.{slice_get_within}
 use Rattle.call_fs.specs.Disk.{Disk}
@@ -11,7 +11,7 @@ use Rattle.world_events.specs.declared.event.Event.{Event as Kept}
 use Rattle.world_events.specs.declared.event.Event.TheVariants as kept
 use Rattle.world_pipes.specs.declared.mouths.Mouths.{Mouths}
 use Rattle.world_pipes.specs.declared.mouths.Slot.{Slot}
-use Rattle.world_pipes.specs.Mouths.{tenant_of, runs_in, is_remote, IsLowest}
+use Rattle.world_pipes.specs.Mouths.{runs_in, is_remote, IsLowest}
 use Rattle.world_pipes.specs.Pipework.{Pipe, Tenant, closed, given}
 use Rattle.world_pipes.specs.Pipework.Tenant.{Runs, Remote}
 use Rattle.mail_world.specs.declared.actor.Actor.{Actor as Held}
@@ -20,7 +20,7 @@ use Rattle.mail_world.specs.declared.error.WorldError.TheVariants as why
 use Rattle.mail_world.specs.History.{Actor, Life, State, MayReport, IsLiving, report_text, happens}
 use Rattle.mail_world.specs.History.Event.{Report}
 use Rattle.mail_world.specs.History.Life.{Alive, Over, Stopped}
-use Rattle.mail_world.specs.Wired.{seat, tenant_in, kept_at, AreWired, HaveSlots}
+use Rattle.mail_world.specs.Wired.{tenant_in, AreWired, HaveSlots}
 use Rattle.call_fs.specs.Past.{held}
 use Rattle.mail_world.specs.Acting.{AreAsBefore}
 use Rattle.mail_world.specs.Crew.{lasts, HasReport}
@@ -29,7 +29,7 @@ use Rattle.mail_world.specs.Inside.{known, among_all, is_by, Owns, IsMember, Are
 use Rattle.mail_world.proofs.Crew.{crew_waits}
 use Rattle.mail_world.proofs.Feeds.{slots_set}
 use Rattle.mail_world.proofs.Found.{lowest_is}
-use Rattle.mail_world.proofs.Histories.{LeadsOn, report_told, led_still}
+use Rattle.mail_world.proofs.Histories.{LeadsOn, led_still}
 use Rattle.mail_world.proofs.Known.{known_push}
 use Rattle.mail_world.proofs.Lists.{some_at}
 use Rattle.mail_world.proofs.Piped.{whole_push}

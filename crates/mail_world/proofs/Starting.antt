@@ -1,5 +1,5 @@
 -- The order of starts, as one event comes.
-use Rattle.std.proofs.Common.{◌≡◌, ◌≢◌, ◌⊎◌, inl, inr, ℕ, zero, suc, ◌+◌, ◌-◌, ◌<◌, ◌≤◌, List, [], ◌∷◌, ◌++◌, length, drop, reverse, Bool, true, false, not, ◌||◌, Option, Some, None, is_some, refl, sym, ap, ◌∙◌, subst, ⊎_elim, arith, bytes_eq}
+use Rattle.std.proofs.Common.{◌≡◌, ◌≢◌, ◌⊎◌, inl, inr, ℕ, suc, ◌+◌, ◌-◌, ◌≤◌, List, [], ◌∷◌, ◌++◌, length, drop, reverse, Bool, true, false, not, ◌||◌, Option, Some, None, is_some, refl, sym, ap, ◌∙◌, subst, ⊎_elim, arith, bytes_eq}
 use Rattle.std.specs.Prelude.{if◌then◌else◌, nat_lt}
 use Rattle.std.specs.List.{slice_get, list_any}
 use Rattle.std.proofs.Math.Bool.{or-false}
@@ -18,7 +18,6 @@ use Rattle.mail_world.specs.declared.actor.Actor.{Actor as Held}
 use Rattle.mail_world.specs.Acting.{HasActed}
 use Rattle.queue_law.proofs.Tests.{other_text}
 use Rattle.mail_world.specs.declared.starts.Starts.{Starts}
-use Rattle.mail_world.specs.Pipework.{is_member}
 use Rattle.mail_world.specs.Generations.{starts_of, started_in}
 use Rattle.mail_world.specs.Starts.{IsSameOrder, place_by_entry, AreStarts}
 use Rattle.mail_world.specs.Inside.{among_all}

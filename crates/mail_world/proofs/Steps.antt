@@ -1,47 +1,41 @@
 -- A step of an actor, by all that a world keeps: before it, while the machine looks, and after it.
-use Rattle.std.proofs.Common.{◌≡◌, ◌⊎◌, inl, inr, ⊎_elim, ℕ, zero, suc, ◌+◌, ◌-◌, ◌^◌, ◌≤◌, ◌<◌, min, List, [], ◌∷◌, ◌++◌, length, set, Bool, true, false, Option, Some, None, refl, sym, ap, ◌∙◌, subst, arith, get_or, reverse}
-use Rattle.std.specs.Prelude.{drop, not, ◌||◌, ◌==◌, if◌then◌else◌, nat_lt, take, IsSomeAnd}
+use Rattle.std.proofs.Common.{◌≡◌, ⊎_elim, ℕ, ◌+◌, ◌-◌, ◌^◌, ◌≤◌, ◌<◌, min, List, [], ◌∷◌, ◌++◌, length, set, Bool, true, false, Option, Some, None, refl, sym, ap, ◌∙◌, subst, arith, get_or}
+use Rattle.std.specs.Prelude.{drop, not, ◌||◌, ◌==◌, if◌then◌else◌, take, IsSomeAnd}
 use Rattle.std.specs.List.{slice_get, sum_by}
 use Rattle.call_fs.specs.Disk.{Disk}
 use Rattle.call_fs.specs.declared.past.GotData.{GotData}
 use Rattle.call_fs.specs.declared.past.GotData.TheVariants as came
 use Rattle.call_fs.specs.declared.past.NeedData.{NeedData}
 use Rattle.call_fs.specs.declared.past.NeedData.TheVariants as needs
-use Rattle.call_fs.specs.declared.past.ChildData.TheVariants as child
 use Rattle.call_fs.specs.declared.past.Own.{Own}
-use Rattle.call_fs.specs.declared.program.Port.{Port}
 use Rattle.call_fs.specs.declared.program.Port.TheVariants as port
 use Rattle.call_fs.specs.declared.program.Ready.{Ready}
-use Rattle.mail_bytes.specs.Told.{OnTold}
 use Rattle.world_events.specs.declared.event.Event.{Event as Kept}
 use Rattle.world_events.specs.declared.event.Event.TheVariants as kept
 use Rattle.world_events.specs.declared.event.Program.{Program}
 use Rattle.world_events.specs.declared.event.Program.TheVariants.{Cleaner}
 use Rattle.world_events.specs.declared.books.Entry.{Entry}
 use Rattle.world_pipes.specs.declared.mouths.Mouths.{Mouths}
-use Rattle.world_pipes.specs.declared.mouths.Slot.{Slot}
-use Rattle.world_pipes.specs.Mouths.{runs_in, tenant_of, is_remote}
-use Rattle.world_pipes.specs.Pipework.{Pipe, Pipework, Tenant, is_ready}
-use Rattle.world_pipes.specs.Pipework.Tenant.{Remote}
+use Rattle.world_pipes.specs.Mouths.{is_remote}
+use Rattle.world_pipes.specs.Pipework.{Pipe, is_ready}
 use Rattle.world_pipes.specs.Pipes.{offered}
 use Rattle.call_fs.specs.declared.file_system.TheConstants.{PIECE}
 use Rattle.mail_world.specs.declared.actor.Actor.{Actor as Held}
 use Rattle.mail_world.specs.declared.error.WorldError.{WorldError}
 use Rattle.mail_world.specs.declared.error.WorldError.TheVariants as why
 use Rattle.mail_world.specs.Books.{noted, AreBooked}
-use Rattle.mail_world.specs.ByKind.{IsMail, Follows, takes_of}
+use Rattle.mail_world.specs.ByKind.{Follows, takes_of}
 use Rattle.mail_world.specs.History.{Actor, State, next_of}
-use Rattle.mail_world.specs.History.Life.{Alive, Over}
+use Rattle.mail_world.specs.History.Life.{Over}
 use Rattle.mail_world.specs.World.{starts_in, next_pid, most_of, IsStep}
 use Rattle.mail_world.specs.Wired.{seat, tenant_in, kept_at, AreWired}
 use Rattle.mail_world.specs.Inside.{known, RunsAt, among_all, StandsFor, Owes, IsMember, AreActors, IsWorld, ArePiped}
 use Rattle.mail_world.specs.Crew.{IsFoundAt}
-use Rattle.mail_world.specs.Generations.{CanNot, Waits, idled_of, idled_in, has_idled, idled_by}
+use Rattle.mail_world.specs.Generations.{CanNot, Waits, idled_of, has_idled, idled_by}
 use Rattle.mail_world.specs.Readiness.{has_ended, found_by, found_at, found_in}
-use Rattle.mail_world.specs.Acting.{IsAct, IsNoAct, IsCall, IsSeated, MayAct, AreOpen, Brings, BringsNone, AreAsBefore, HasPassed, HasDone, HasEnded, HasActed, HasLooked, HasWaited, HasIdled, IsNoLiving}
+use Rattle.mail_world.specs.Acting.{IsAct, IsNoAct, IsCall, MayAct, Brings, BringsNone, AreAsBefore, HasDone, HasActed, HasLooked, HasWaited, HasIdled, IsNoLiving}
 use Rattle.mail_world.proofs.Acts.{end_finishes}
-use Rattle.mail_world.proofs.Booked.{IsOwnOf, look_booked, newest_is}
-use Rattle.mail_world.proofs.Feeds.{no_actor_runs}
+use Rattle.mail_world.proofs.Booked.{look_booked, newest_is}
 use Rattle.mail_world.proofs.Found.{found_is, ended_remote}
 use Rattle.mail_world.proofs.Histories.{LeadsOn}
 use Rattle.mail_world.proofs.Idles.{same_last}
@@ -50,7 +44,7 @@ use Rattle.mail_world.proofs.Noted.{low_or_not, seat_of_place, is_seated, one_bo
 use Rattle.mail_world.proofs.Piped.{plumbed, look_piped, done_piped, finish_piped}
 use Rattle.mail_world.proofs.Programs.{program_acts, machine_takes}
 use Rattle.mail_world.proofs.Wires.{same_place}
-use Rattle.mail_world.proofs.Worlds.{StandsAt, GoesWith, stands_whole, may_act, may_end, look_keeps, paid_follows, done_goes, done_keeps, done_step, ended_keeps, ended_leads_on, ended_step, not_both}
+use Rattle.mail_world.proofs.Worlds.{StandsAt, GoesWith, stands_whole, may_act, look_keeps, paid_follows, done_goes, done_keeps, done_step, ended_keeps, ended_leads_on, ended_step, not_both}
 
 -- All that a world keeps but the room in its history.
 pub record AreKept (told : Option Disk) (crew : ℕ) (places : List ℕ → Option ℕ) (actors : List Held) (mouths : List Mouths) (entries : List Entry) (events : List Kept) (p n : ℕ) : Type 0 where

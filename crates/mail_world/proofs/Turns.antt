@@ -1,5 +1,5 @@
 -- Who is the next one in a turn.
-use Rattle.std.proofs.Common.{◌≡◌, ◌≢◌, ◌⊎◌, inl, inr, ℕ, zero, suc, ◌+◌, ◌<◌, ◌≤◌, List, [], ◌∷◌, ◌++◌, length, drop, reverse, Bool, true, false, not, ◌&&◌, Option, Some, None, is_some, is_none, refl, sym, ap, ◌∙◌, subst, ⊎_elim, arith, bytes_eq}
+use Rattle.std.proofs.Common.{◌≡◌, ℕ, zero, suc, ◌+◌, ◌<◌, ◌≤◌, List, [], ◌∷◌, length, drop, reverse, Bool, true, false, not, ◌&&◌, Option, Some, None, is_some, is_none, refl, sym, ap, ◌∙◌, subst, arith, bytes_eq}
 use Rattle.std.specs.Prelude.{if◌then◌else◌, option_map, nat_lt}
 use Rattle.std.specs.List.{slice_get, list_any}
 use Rattle.std.proofs.lemmas.Bool.{ltb-true, ltb-false}
@@ -9,7 +9,7 @@ use Rattle.world_events.specs.declared.event.Event.{Event as Kept}
 use Rattle.mail_world.specs.declared.actor.Actor.{Actor as Held}
 use Rattle.mail_world.specs.declared.starts.Starts.{Starts}
 use Rattle.mail_world.specs.History.{State}
-use Rattle.mail_world.specs.World.{Span, span_of}
+use Rattle.mail_world.specs.World.{span_of}
 use Rattle.mail_world.specs.Generations.{starts_of, is_lasting, is_next, next_among, next_living}
 use Rattle.mail_world.specs.Starts.{place_by_entry, if_lives, living_in, start_at, IsNextStart, AreStarts}
 use Rattle.mail_world.specs.Inside.{span_by, among_all, AreActors}

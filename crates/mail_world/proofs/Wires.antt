@@ -1,11 +1,11 @@
 -- What an event changes of the pipes, as they are kept: those of one actor.
-use Rattle.std.proofs.Common.{◌≡◌, ◌≢◌, ℕ, zero, suc, List, [], ◌∷◌, set, Bool, true, false, ◌&&◌, Option, Some, None, is_some, refl, sym, ap, ◌∙◌, subst, ⊎_elim, arith, bytes_eq}
-use Rattle.std.specs.Prelude.{◌==◌, if◌then◌else◌, IsSome}
+use Rattle.std.proofs.Common.{◌≡◌, ◌≢◌, ℕ, zero, suc, List, [], ◌∷◌, set, Bool, ◌&&◌, Option, Some, None, refl, sym, ap, ◌∙◌, ⊎_elim}
+use Rattle.std.specs.Prelude.{◌==◌, if◌then◌else◌}
 use Rattle.std.specs.List.{slice_get}
 use Rattle.call_fs.specs.declared.program.Port.{Port}
 use Rattle.world_pipes.specs.declared.mouths.Mouths.{Mouths}
 use Rattle.world_pipes.specs.Mouths.{pipe_of, tenant_of, change_at}
-use Rattle.world_pipes.specs.Pipework.{Pipe, Pipework, Tenant, fresh, mouth, put_pipe, put_program, is_port}
+use Rattle.world_pipes.specs.Pipework.{Pipe, Pipework, Tenant, mouth, put_pipe, put_program, is_port}
 use Rattle.queue_law.proofs.Tests.{text_cases}
 use Rattle.mail_world.specs.Wired.{seat, pipe_in, tenant_in, kept_at, AreWired}
 use Rattle.mail_world.proofs.Seats.{same_seat}

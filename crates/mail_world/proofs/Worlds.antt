@@ -1,5 +1,5 @@
 -- A world keeps what it keeps, as one actor makes a call, ends, is stopped, or starts, and as a moment comes.
-use Rattle.std.proofs.Common.{◌≡◌, ◌⊎◌, inl, inr, ⊎_elim, ℕ, ◌+◌, ◌-◌, ◌^◌, ◌≤◌, ◌<◌, min, List, [], ◌∷◌, ◌++◌, length, set, Bool, true, false, Option, Some, None, IsSomeAnd, is_some, reverse, refl, sym, ap, ◌∙◌, subst, arith, get_or}
+use Rattle.std.proofs.Common.{◌≡◌, inl, inr, ⊎_elim, ℕ, ◌+◌, ◌-◌, ◌^◌, ◌≤◌, ◌<◌, min, List, [], ◌∷◌, ◌++◌, length, set, Bool, true, false, Option, Some, None, IsSomeAnd, is_some, reverse, refl, sym, ap, ◌∙◌, subst, arith, get_or}
 use Rattle.std.proofs.lemmas.Option.{slice_get_within, get_or_from_slice_get}
 use Rattle.std.proofs.lemmas.List.Sums.{sum_by-append}
 use Rattle.std.specs.List.{slice_get, sum_by}
@@ -40,7 +40,7 @@ use Rattle.mail_world.specs.ByKind.{IsMail, Follows, takes_of}
 use Rattle.mail_world.specs.Inside.{known, RunsAt, unowed, StandsFor, Owes, span_by, IsMember, AreActors, IsOpenTo, IsLed, IsWorld}
 use Rattle.mail_world.specs.Wired.{seat, AreWired, AreWholeGivings}
 use Rattle.world_pipes.specs.declared.mouths.Mouths.{Mouths}
-use Rattle.mail_world.specs.Pipework.{Pipework, Tenant}
+use Rattle.mail_world.specs.Pipework.{Tenant}
 use Rattle.mail_world.specs.Readiness.{found_by, found_at, found_in}
 use Rattle.mail_world.specs.Acting.{IsAct, IsNoAct, IsCall, MayAct, MayMake, AreOpen, AreCutOff, Brings, HasPassed, HasDone, HasEnded, MakesOf, IsFinished, opened_by, open_after, shut}
 use Rattle.mail_world.proofs.Known.{known_push}
@@ -49,7 +49,7 @@ use Rattle.mail_world.proofs.Histories.{IsActing, FindsIn, LeadsOn, pass_told, c
 use Rattle.mail_world.proofs.Descriptors.{shut_listed}
 use Rattle.mail_world.proofs.Opens.{Opens, opens_by, owns_backs}
 use Rattle.mail_world.proofs.Programs.{program_uses, program_acts, found_finds, machine_takes}
-use Rattle.mail_world.proofs.Passes.{NoActorRuns, passing, comes_of, brings_kind}
+use Rattle.mail_world.proofs.Passes.{NoActorRuns, passing, brings_kind}
 use Rattle.mail_world.proofs.Seats.{seat_none}
 use Rattle.mail_world.proofs.Lists.{some_at}
 use Rattle.mail_world.proofs.Crew.{Halted, crew_halts, crew_acts, crew_looks, crew_waits, crew_starts}

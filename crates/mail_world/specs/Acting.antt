@@ -1,5 +1,5 @@
 -- One step of an actor: what it needs, and what it does to the disk, to the actor and to the history.
-use Rattle.std.specs.Prelude.{◌≡◌, ◌⊎◌, ℕ, zero, suc, ◌≤◌, ◌==◌, List, [], ◌∷◌, ◌++◌, length, set, Bool, true, false, not, if◌then◌else◌, Option, Some, None, IsSome, IsSomeAnd}
+use Rattle.std.specs.Prelude.{◌≡◌, ◌⊎◌, ℕ, zero, suc, ◌==◌, List, [], ◌∷◌, ◌++◌, length, set, Bool, true, false, not, if◌then◌else◌, Option, Some, None, IsSome, IsSomeAnd}
 use Rattle.std.specs.List.{filter, slice_get}
 use Rattle.call_fs.specs.declared.calls.Fd.{Fd}
 use Rattle.call_fs.specs.declared.calls.CallData.{CallData}
@@ -39,7 +39,7 @@ use Rattle.world_pipes.specs.declared.mouths.Mouths.{Mouths}
 use Rattle.world_pipes.specs.Mouths.{pipe_of, tenant_of, change_at, is_remote}
 use Rattle.world_pipes.specs.Pipes.{offered, left_by}
 use Rattle.call_fs.specs.declared.program.Port.{Port}
-use Rattle.mail_world.specs.Pipework.{Pipe, Pipework, Tenant, fresh, given, closed, is_ready, pipework_after, without_writer}
+use Rattle.mail_world.specs.Pipework.{Pipe, Pipework, fresh, given, closed, is_ready, pipework_after, without_writer}
 use Rattle.mail_world.specs.Pipework.Tenant.{Remote}
 use Rattle.mail_world.specs.ByKind.{Follows, present_of, found_of, looked_of, need_of, takes_of, with_own}
 use Rattle.mail_world.specs.Wired.{seat, AreWired, HaveSlots}

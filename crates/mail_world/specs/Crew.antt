@@ -1,5 +1,5 @@
 -- The members of a generation as a world keeps them.
-use Rattle.std.specs.Prelude.{◌≡◌, ℕ, zero, suc, List, [], ◌∷◌, ◌++◌, ◌==◌, length, Bool, true, false, Option, Some, None, IsSomeAnd, All, if◌then◌else◌, nat_lt, codes, is_none}
+use Rattle.std.specs.Prelude.{◌≡◌, ℕ, zero, suc, List, [], ◌∷◌, ◌++◌, ◌==◌, length, Bool, true, false, Option, Some, None, IsSomeAnd, All, if◌then◌else◌, codes, is_none}
 use Rattle.std.specs.List.{slice_get}
 use Rattle.call_fs.specs.declared.program.Port.{Port}
 use Rattle.call_fs.specs.declared.program.Port.TheVariants as port

@@ -1,5 +1,5 @@
 -- Who started, as a world keeps it.
-use Rattle.std.specs.Prelude.{◌≡◌, ℕ, suc, ◌+◌, ◌-◌, ◌≤◌, ◌<◌, List, length, drop, Bool, true, not, Option, Some, None, nat_lt, if◌then◌else◌, is_some, is_none, bytes_eq, vec_len, vec_capacity}
+use Rattle.std.specs.Prelude.{◌≡◌, ℕ, suc, ◌+◌, ◌-◌, ◌≤◌, ◌<◌, List, length, drop, true, not, Option, Some, None, nat_lt, if◌then◌else◌, is_some, is_none, bytes_eq, vec_len, vec_capacity}
 use Rattle.std.specs.List.{slice_get, list_any}
 use Rattle.mail_world.specs.Pipework.{is_member}
 use Rattle.mail_world.specs.Inside.{among_all}

@@ -7,15 +7,12 @@ use Rattle.qmail_top.specs.declared.play_command.Failure.{Failure}
 use Rattle.qmail_top.specs.declared.play_command.Failure.TheVariants.{Memory, Output, Input, Malformed}
 use Rattle.play_lines.specs.Lines.{IsScript, IsBadLine, IsRefused, most_bytes}
 use Rattle.mem_fs.proofs.InTurn.{told_weaker}
-use Rattle.mail_world.proofs.Histories.{legal_opens}
+use Rattle.sender_law.proofs.Exist.{controls_exist}
 use Rattle.world_law.proofs.Alone.{stays_safe}
-use Rattle.world_law.proofs.Apart.{single_names_are_apart}
-use Rattle.world_law.proofs.Histories.{disks_have_controls}
 use Rattle.qmail_top.specs.SafePlays.{IsSafePrefixAtMost, PrintsSafely}
 use Rattle.qmail_top.specs.Command.{Counted, HasReason, status_of, IsReading, IsChecked}
 use Rattle.scenario.specs.Text.{BeginsAtMost, IsPrefixAtMost, Prints, script_line, IsTakenText, PrintsBadLine}
 use Rattle.play_lines.proofs.Scripts.{no_refusal}
-use Rattle.scenario.proofs.SingleNames.{one_name}
 use Rattle.scenario.proofs.WholePlays.{prefix_at_most}
 
 -- a script that was read is all that its source had
@@ -85,8 +82,7 @@ completes why None source sink cause checked = tt
 pub safely : (script text : List ℕ) → Prints script text → PrintsSafely script text
 safely script text prints =
     let played = prints.played in
-    let apart = single_names_are_apart played.disk (legal_opens played.disk played.history played.legal) (one_name prints.content.opening played.disk played.is_first) in
-    let has = disks_have_controls played.disk apart in
+    let has = controls_exist played.disk in
     record {
       prints = prints;
       controls = has.0;

@@ -46,7 +46,7 @@ use Rattle.queue_law.specs.Injectors.{InTime}
 use Rattle.queue_law.specs.Ready.{IsSpent, HasSynced, IsMade, IsReady}
 use Rattle.queue_law.specs.Ready.IsMade.{NotNeeded, IsThere}
 use Rattle.queue_law.specs.Rests.{IsAccepted, IsClosed, RestsAs, IsOldName, IsJudged}
-use Rattle.queue_law.specs.Steps.{Concerns, Elsewhere}
+use Rattle.queue_law.specs.Steps.{Concerns, Elsewhere, LeavesOld}
 use Rattle.queue_law.specs.Senders.{called_queue}
 use Rattle.queue_law.specs.Cleaners.{number_at, Needs, Rests, row_of, waiting, StandsAt, CleanerStands, CleanerLeads, CleanersKeep}
 use Rattle.queue_law.proofs.Tests.{off, text_cases}
@@ -208,6 +208,7 @@ module _ (controls : Controls) (now : ℕ) (a : List ℕ) (q : Queue) (G : Sound
     number = None;
     elsewhere = nothing_elsewhere now q a;
     outside = record { names = λ _ _. inl refl; files = λ _. refl; unqueued = λ i out x. out.unqueued x };
+    old = record { files = λ _ _ _ _. refl; roles = λ _ _ _ h. h };
     abouts = λ _ _. refl;
     spares = record { closed = λ _ _ c. c; abouts = λ _ _ _. refl };
     pids = λ pid start seq y there none. absurd (cc);
@@ -223,13 +224,15 @@ module _ (controls : Controls) (now : ℕ) (a : List ℕ) (q : Queue) (G : Sound
       let r = gone q n part in
       let E = part_elsewhere now a q G.suits n c part in
       let out = part_outside q n part in
-      let L = leads_on controls now a q r G n E (part_suits q G.suits n part) fine G.over out in
+      let old : LeavesOld q r = record { files = λ _ _ _ _. refl; roles = λ _ _ _ h. h } in
+      let L = leads_on controls now a q r G n E (part_suits q G.suits n part) fine G.over out old in
       record {
         sound = L.sound;
         stands = h;
         number = Some n;
         elsewhere = E;
         outside = record { names = λ name far. inl (out.names name far); files = λ _. refl; unqueued = out.unqueued };
+        old = old;
         abouts = λ k far. about_same now a (Some n) q r E k (λ same. far (is ∙ same));
         spares = record {
           closed = λ k far was. closed_far now a (Some n) q r E G.suits k (λ same. far (is ∙ same)) was;
@@ -428,6 +431,7 @@ module _ (controls : Controls) (now : ℕ) (a : List ℕ) (q : Queue) (G : Sound
               (λ c. out.unqueued y (sym c.1 ∙ there))
               (put_at_cases q.disk.names text None (path y));
         };
+        old = record { files = λ _ _ _ _. refl; roles = λ _ _ _ h. h };
         abouts = λ n _. text_about n;
         spares = record { closed = λ n _ c. text_closed n c; abouts = λ n _ _. text_about n };
         pids = pids;

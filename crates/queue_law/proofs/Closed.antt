@@ -12,12 +12,12 @@ use Rattle.queue_law.specs.Numbers.{Entry, Queue, look, IsRecent, NamesSuit, Abo
 use Rattle.queue_law.specs.Numbers.Role.{AsPart}
 use Rattle.queue_law.specs.Injectors.{IsHeld}
 use Rattle.queue_law.specs.Rests.{IsOverdue, IsAccepted, IsClosed}
-use Rattle.queue_law.specs.Steps.{Touches, Concerns, Apart, Elsewhere, Outside}
+use Rattle.queue_law.specs.Steps.{Touches, Concerns, Apart, Elsewhere, Outside, LeavesOld}
 use Rattle.queue_law.specs.Senders.{LeadsOn}
 use Rattle.queue_law.proofs.Tests.{tells_number, tells_name}
 use Rattle.queue_law.proofs.Looks.{find_gone, find_far, found}
 use Rattle.queue_law.proofs.Frame.{about_same, still_there}
-use Rattle.queue_law.proofs.Deeds.{made, written, named, unnamed, made_other, named_other, made_for, its_number, written_suits}
+use Rattle.queue_law.proofs.Deeds.{made, written, named, unnamed, made_other, named_other, made_for, its_number, written_suits, written_old}
 use Rattle.queue_law.proofs.Rests.{untouched}
 
 -- the queue with other descriptors
@@ -188,6 +188,9 @@ module _ (now : ℕ) (a : List ℕ) (q : Queue) (S : NamesSuit q) (n : ℕ) (c :
       unqueued = λ k out y is. out.unqueued y is;
     }
 
+    pub bytes_old : LeavesOld q new_bytes
+    bytes_old = written_old q file.number f (λ was. let w = mine in absurd (cc))
+
     pub bytes_mess : look new_bytes (Of Mess n) ≡ look q (Of Mess n)
     bytes_mess = find_far q.disk.names q.disk.files (Of Mess n) file.number f (λ y h same.
         let w = (S (Of Mess n) y h).0.1.2 in
@@ -206,8 +209,8 @@ module _ (now : ℕ) (a : List ℕ) (q : Queue) (S : NamesSuit q) (n : ℕ) (c :
 
 -- what holds of the queue, after a step that concerns one number
 pub leads_on : (controls : Controls) (now : ℕ) (a : List ℕ) (q r : Queue) (G : Sound controls q) (n : ℕ) → Elsewhere now a (Some n) q r → NamesSuit r
-    → Phase controls (about r n) → NoneLost controls r.books → Outside q.disk r.disk → LeadsOn controls now a (Some n) q r
-leads_on controls now a q r G n E suits fine over outside = record {
+    → Phase controls (about r n) → NoneLost controls r.books → Outside q.disk r.disk → LeavesOld q r → LeadsOn controls now a (Some n) q r
+leads_on controls now a q r G n E suits fine over outside old = record {
   sound = record {
     suits = suits;
     fine = λ k. ⊎_elim
@@ -218,4 +221,5 @@ leads_on controls now a q r G n E suits fine over outside = record {
   };
   elsewhere = E;
   outside = outside;
+  old = old;
 }

@@ -19,7 +19,7 @@ use Rattle.queue_law.proofs.Frame.{still_there}
 use Rattle.queue_law.specs.Injectors.{IsBegun, Basis}
 use Rattle.queue_law.specs.Numbers.Role.{AsMessage, AsPart, AsOld}
 use Rattle.queue_law.specs.Numbers.Phase.{Free}
-use Rattle.queue_law.specs.Steps.{Touches, Concerns, Apart, Elsewhere, Outside, LeavesLater}
+use Rattle.queue_law.specs.Steps.{Touches, Concerns, Apart, Elsewhere, Outside, LeavesLater, LeavesOld}
 
 -- a new file with a new name
 abbrev pub made : Queue → List ℕ → Name → (fd i read : ℕ) → Role → Queue
@@ -73,6 +73,7 @@ pub record Outcome (controls : Controls) (now : ℕ) (q : Queue) (a : List ℕ) 
   pub waits : IsEarly q → (n : ℕ) (i : Injection) → r.books.living n ≡ Some i → i.accepted ≡ true → look r (Of Todo n) ≢ None
   pub none_over : IsEarly q → (i : Injection) → Among i r.books.over → i.accepted ≡ true → ⊥
   pub outside : Outside q.disk r.disk
+  pub old : LeavesOld q r
   pub later : LeavesLater q r
   pub unsorted : (n : ℕ) → number ≡ Some n → IsUnsorted (about q n)
   pub own : (n : ℕ) → number ≡ Some n → IsOwn q a args n
@@ -234,6 +235,19 @@ made_outside q x fd i read new = record {
       (put_at_cases q.disk.names (path x) (Some i) (path y));
 }
 
+-- nor of those that were there at the beginning; and what is written is none of them either
+pub made_old : (q : Queue) (a : List ℕ) (x : Name) (fd i read : ℕ) (role : Role) → IsNew q.disk (path x) fd i → LeavesOld q (made q a x fd i read role)
+made_old q a x fd i read role new = record {
+  files = λ name k there _. put_other q.disk.files i (empty_file read) k (λ same. new.unused.unnamed name (there ∙ ap Some same));
+  roles = λ name k there was. put_other q.role i role k (λ same. new.unused.unnamed name (there ∙ ap Some same)) ∙ was;
+}
+
+pub written_old : (q : Queue) (j : ℕ) (f : File) → q.role j ≢ AsOld → LeavesOld q (written q j f)
+written_old q j f new = record {
+  files = λ name k there was. put_other q.disk.files j f k (λ same. new (ap q.role (sym same) ∙ was));
+  roles = λ _ _ _ was. was;
+}
+
 -- the outcome of each deed
 module _ (controls : Controls) (now : ℕ) (q : Queue) (a : List ℕ) (args : Arguments) (G : Sound controls q) where
   abbrev pub Leads : Queue → Row → Type 0
@@ -269,6 +283,7 @@ module _ (controls : Controls) (now : ℕ) (q : Queue) (a : List ℕ) (args : Ar
     own = number_own m own;
     over = G.over;
     outside = made_outside q x fd i read new;
+    old = made_old q a x fd i read role new;
     next = next;
   }
 
@@ -302,6 +317,7 @@ module _ (controls : Controls) (now : ℕ) (q : Queue) (a : List ℕ) (args : Ar
       files = λ k out. put_other q.disk.files j f k (λ same. out.unqueued x (there ∙ ap Some (sym same)));
       unqueued = λ k out y is. out.unqueued y is;
     };
+    old = written_old q j f (λ was. let same : n ≡ j = sym own ∙ ap (made_for j) was in let w = ap q.role same in absurd (cc));
     next = next;
   }
 
@@ -338,5 +354,6 @@ module _ (controls : Controls) (now : ℕ) (q : Queue) (a : List ℕ) (args : Ar
           (λ c. out.unqueued y (sym c.1 ∙ is))
           (put_at_cases q.disk.names (path x) o (path y));
     };
+    old = record { files = λ _ _ _ _. refl; roles = λ _ _ _ h. h };
     next = next;
   }

@@ -120,6 +120,7 @@ injector_calls controls now q a args past read ready call told wrote G F no_earl
         reads = late;
       };
       outside = O.outside;
+      old = O.old;
       spares = spares_by now a args soon q _ O.number O.elsewhere G.suits O.own;
       names = spares_names now a args soon q _ O.number O.elsewhere G.suits O.own;
       accepted = O.accepted;

@@ -40,8 +40,8 @@ use Rattle.queue_law.specs.Senders.{called_queue}
 use Rattle.queue_law.specs.Passes.{file_part, HasOpen, Writes, HoldsAt, PassLeads, PassesKeep}
 use Rattle.queue_law.proofs.Looks.{find_near, find_absent, found}
 use Rattle.queue_law.proofs.Frame.{outside_same}
-use Rattle.queue_law.proofs.Deeds.{made, written, made_suits, made_same, made_outside}
-use Rattle.queue_law.proofs.Closed.{with_fds, gone, part_other, part_lost, part_suits, part_outside, closed_on, queued_same, part_elsewhere, fds_elsewhere, new_elsewhere, new_other, new_closed, bytes_suit, bytes_elsewhere, bytes_outside, bytes_mess, bytes_todo, bytes_closed, leads_on}
+use Rattle.queue_law.proofs.Deeds.{made, written, made_suits, made_same, made_outside, made_old}
+use Rattle.queue_law.proofs.Closed.{with_fds, gone, part_other, part_lost, part_suits, part_outside, closed_on, queued_same, part_elsewhere, fds_elsewhere, new_elsewhere, new_other, new_closed, bytes_suit, bytes_elsewhere, bytes_outside, bytes_old, bytes_mess, bytes_todo, bytes_closed, leads_on}
 
 -- the parts that a pass makes are none of the others
 record IsFar (part : Part) : Type 0 where
@@ -80,7 +80,8 @@ module _ (controls : Controls) (now : ℕ) (a : List ℕ) (q : Queue) (G : Sound
   of_fds opens holder row others holds =
       let r = with_fds q opens holder in
       record {
-        leads = leads_on controls now a q r G n (fds_elsewhere now a q G.suits n R.closed opens holder others) G.suits (Queued R.rest) G.over (outside_same q.disk opens);
+        leads = leads_on controls now a q r G n (fds_elsewhere now a q G.suits n R.closed opens holder others) G.suits (Queued R.rest) G.over (outside_same q.disk opens)
+            (record { files = λ _ _ _ _. refl; roles = λ _ _ _ h. h });
         stands = record {
           rests = λ _. record { closed = closed_on now q r n refl refl refl R.closed; rest = R.rest };
           holds = holds;
@@ -99,7 +100,8 @@ module _ (controls : Controls) (now : ℕ) (a : List ℕ) (q : Queue) (G : Sound
       let f = far t in
       let w = queued_same controls (about q n) (about r n) refl (part_other q n part Mess f.mess) (part_other q n part Todo f.todo) (part_lost q n part Bounce R.rest.no_bounce) R.rest in
       record {
-        leads = leads_on controls now a q r G n (part_elsewhere now a q G.suits n R.closed part) (part_suits q G.suits n part) (Queued w) G.over (part_outside q n part);
+        leads = leads_on controls now a q r G n (part_elsewhere now a q G.suits n R.closed part) (part_suits q G.suits n part) (Queued w) G.over (part_outside q n part)
+            (record { files = λ _ _ _ _. refl; roles = λ _ _ _ h. h });
         stands = record {
           rests = λ _. record { closed = closed_on now q r n (part_other q n part Mess f.mess) refl refl R.closed; rest = w };
           holds = holds;
@@ -120,7 +122,7 @@ module _ (controls : Controls) (now : ℕ) (a : List ℕ) (q : Queue) (G : Sound
       record {
         leads = leads_on controls now a q r G n (new_elsewhere now a q G.suits n R.closed part fd i read new)
             (made_suits now q G.suits x a fd i read role new (right_part t n (record { number = i; file = empty_file read })))
-            (Queued w) G.over (made_outside q x fd i read new);
+            (Queued w) G.over (made_outside q x fd i read new) (made_old q a x fd i read role new);
         stands = record {
           rests = λ _. record { closed = new_closed now a q G.suits n R.closed part fd i read new f.mess; rest = w };
           holds = record {
@@ -145,7 +147,7 @@ module _ (controls : Controls) (now : ℕ) (a : List ℕ) (q : Queue) (G : Sound
       record {
         leads = leads_on controls now a q r G n (bytes_elsewhere now a q G.suits n R.closed part h.file f h.there mine)
             (bytes_suit now a q G.suits n R.closed part h.file f h.there mine) (Queued w) G.over
-            (bytes_outside now a q G.suits n R.closed part h.file f h.there mine);
+            (bytes_outside now a q G.suits n R.closed part h.file f h.there mine) (bytes_old now a q G.suits n R.closed part h.file f h.there mine);
         stands = record {
           rests = λ _. record { closed = bytes_closed now a q G.suits n R.closed part h.file f h.there mine; rest = w };
           holds = holds (record {

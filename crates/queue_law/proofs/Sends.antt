@@ -22,7 +22,7 @@ use Rattle.queue_law.specs.Books.{Injection, IsInjected, IsLater, begun, with_de
 use Rattle.queue_law.specs.Routes.{Recipient, IsSpot, lane_part}
 use Rattle.queue_law.specs.Marks.{IsDelivered, AllMarked, HasItsSpots, IsLaneDelivered}
 use Rattle.queue_law.specs.Numbers.{Entry, Role, Queue, look, Suits, IsRecent, About, about, is_later, IsUnsorted, IsTaken, LaneState, NotesState, IsPreprocessed, Phase, Sound}
-use Rattle.queue_law.specs.Numbers.Role.{AsPart}
+use Rattle.queue_law.specs.Numbers.Role.{AsOld, AsPart}
 use Rattle.queue_law.specs.Numbers.Phase.{Free, Queued, Sorted, Finished}
 use Rattle.queue_law.specs.Numbers.LaneState.{LaneThere, LaneGone}
 use Rattle.queue_law.specs.Numbers.NotesState.{NotYet}
@@ -32,7 +32,7 @@ use Rattle.queue_law.specs.Senders.{called_queue, LeadsOn, OnlyReads, HasLane, M
 use Rattle.queue_law.proofs.Tests.{off, tells_number}
 use Rattle.queue_law.proofs.Looks.{find_far, find_near, find_gone, found}
 use Rattle.queue_law.proofs.Frame.{outside_same, still_there, about_same}
-use Rattle.queue_law.proofs.Deeds.{written, named, at_number, made_for, its_number, named_other, named_suits, written_suits}
+use Rattle.queue_law.proofs.Deeds.{written, named, at_number, made_for, its_number, named_other, named_suits, written_suits, written_old}
 use Rattle.queue_law.proofs.Marks.{marked_over, marked_part, marked_grown}
 use Rattle.queue_law.proofs.Places.{reads_done}
 
@@ -157,6 +157,7 @@ module _ (controls : Controls) (now : ℕ) (q : Queue) (a : List ℕ) (G : Sound
       accepted = λ i h _. still_there q.books i h;
     };
     outside = outside_same q.disk opens;
+    old = record { files = λ _ _ _ _. refl; roles = λ _ _ _ h. h };
   }
 
   abbrev Stays : Option ℕ → Type 0
@@ -178,6 +179,7 @@ module _ (controls : Controls) (now : ℕ) (q : Queue) (a : List ℕ) (G : Sound
       accepted = λ i h _. still_there q.books i h;
     };
     outside = outside_same q.disk q.disk.opens;
+    old = record { files = λ _ _ _ _. refl; roles = λ _ _ _ h. h };
   }
 
   pub reads_keep : (read : ℕ) (call : CallData) (told : Answer) (wrote : ℕ) → OnlyReads q a call → Fits q.disk call told wrote
@@ -211,9 +213,9 @@ module _ (controls : Controls) (now : ℕ) (q : Queue) (a : List ℕ) (G : Sound
       (λ far. subst (Phase controls) (sym (about_same now a (Some m) q r E k far)) (G.fine k))
       (tells_number (Some m) k)
 
-  pub written_leads : (x : Name) (j : ℕ) (f : File) (n : ℕ) → q.disk.names (path x) ≡ Some j → made_for j (q.role j) ≡ n → Apart now q a (Some n)
+  pub written_leads : (x : Name) (j : ℕ) (f : File) (n : ℕ) → q.disk.names (path x) ≡ Some j → made_for j (q.role j) ≡ n → q.role j ≢ AsOld → Apart now q a (Some n)
       → IsRecent f (q.role j) → Phase controls (about (written q j f) n) → LeadsOn controls now a (Some n) q (written q j f)
-  written_leads x j f n there own apart recent fine =
+  written_leads x j f n there own new apart recent fine =
       let E : Elsewhere now a (Some n) q (written q j f) = record {
         looks = λ y far. find_far q.disk.names q.disk.files y j f (λ z h same.
             far (subst (λ k. Concerns q y (Some k)) (ap (λ k. made_for k (q.role k)) same ∙ own) (its_number now q G.suits y z h)));
@@ -231,6 +233,7 @@ module _ (controls : Controls) (now : ℕ) (q : Queue) (a : List ℕ) (G : Sound
           files = λ k out. put_other q.disk.files j f k (λ same. out.unqueued x (there ∙ ap Some (sym same)));
           unqueued = λ k out y is. out.unqueued y is;
         };
+        old = written_old q j f new;
       }
 
   -- a name of this number went
@@ -260,6 +263,7 @@ module _ (controls : Controls) (now : ℕ) (q : Queue) (a : List ℕ) (G : Sound
               (λ c. out.unqueued y (sym c.1 ∙ is))
               (put_at_cases q.disk.names (path x) None (path y));
         };
+        old = record { files = λ _ _ _ _. refl; roles = λ _ _ _ h. h };
       }
 
   -- A mark
@@ -293,7 +297,7 @@ module _ (controls : Controls) (now : ℕ) (q : Queue) (a : List ℕ) (G : Sound
         let others = λ (P : Part) (far : P ≢ lane_part ch). find_far q.disk.names q.disk.files (Of P n) j f (λ z h same.
         far (lane_role P n z.number (q.role z.number) ch (G.suits (Of P n) z h).0 (ap q.role same ∙ lane_made))) in
         let there = find_near q.disk.names q.disk.files (Of (lane_part ch) n) may.lane.file f may.lane.there in
-        written_leads (Of (lane_part ch) n) j f n lane_name (ap (made_for j) lane_made) (taken_apart controls now q a n marking.taken)
+        written_leads (Of (lane_part ch) n) j f n lane_name (ap (made_for j) lane_made) (λ was. let w = lane_made in absurd (cc)) (taken_apart controls now q a n marking.taken)
         (subst (IsRecent f) (sym lane_made) tt)
         (Sorted (resorted controls ch (about q n) (about (written q j f) n) others refl marking (LaneThere (record { number = j; file = f }) there marked)))
 
@@ -491,4 +495,5 @@ module _ (controls : Controls) (now : ℕ) (q : Queue) (a : List ℕ) (G : Sound
           sound = record { suits = G.suits; fine = phase_by n (entered_queue q n s) E (entered_phase (G.fine n)); over = G.over };
           elsewhere = E;
           outside = outside_same q.disk q.disk.opens;
+          old = record { files = λ _ _ _ _. refl; roles = λ _ _ _ h. h };
         }

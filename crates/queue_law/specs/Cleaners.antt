@@ -26,7 +26,7 @@ use Rattle.queue_law.specs.Numbers.Role.{AsMessage}
 use Rattle.queue_law.specs.Injectors.{InTime}
 use Rattle.queue_law.specs.Ready.{IsSpent, IsReady}
 use Rattle.queue_law.specs.Rests.{IsClosed, RestsAs, IsJudged, Spares, SparesNames}
-use Rattle.queue_law.specs.Steps.{Elsewhere, Foreign, IsOutside, after_halt}
+use Rattle.queue_law.specs.Steps.{Elsewhere, Foreign, IsOutside, LeavesOld, after_halt}
 use Rattle.queue_law.specs.Senders.{called_queue}
 
 -- the number that a row's command is about
@@ -82,6 +82,7 @@ pub record CleanerLeads (controls : Controls) (now : ℕ) (a : List ℕ) (q r : 
   pub number : Option ℕ
   pub elsewhere : Elsewhere now a number q r
   pub outside : LeavesButPid q.disk r.disk
+  pub old : LeavesOld q r
   pub abouts : (n : ℕ) → number_at row ≢ Some n → about r n ≡ about q n
   pub spares : Spares now (number_at row) q r
   -- no injector that may still call made the file of a name in `pid` that went

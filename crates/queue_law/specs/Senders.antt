@@ -21,7 +21,7 @@ use Rattle.queue_law.specs.Routes.{Recipient, spot_of, IsSpot, lane_part}
 use Rattle.queue_law.specs.Marks.{IsDelivered}
 use Rattle.queue_law.specs.Numbers.{Role, Queue, Entry, look, About, about, Sound}
 use Rattle.queue_law.specs.Injectors.{IsHeld}
-use Rattle.queue_law.specs.Steps.{Elsewhere, Outside}
+use Rattle.queue_law.specs.Steps.{Elsewhere, LeavesOld, Outside}
 
 -- the queue after a call of a program that injects nothing: the books are as before
 abbrev pub called_queue : Queue → List ℕ → (read : ℕ) → CallData → Answer → (wrote : ℕ) → (ℕ → Role) → Queue
@@ -37,6 +37,7 @@ pub record LeadsOn (controls : Controls) (now : ℕ) (a : List ℕ) (m : Option 
   pub sound : Sound controls r
   pub elsewhere : Elsewhere now a m q r
   pub outside : Outside q.disk r.disk
+  pub old : LeavesOld q r
 
 -- A call that changes no name and no file, and closes nothing but what its actor holds.
 abbrev pub OnlyReads : Queue → List ℕ → CallData → Type 0

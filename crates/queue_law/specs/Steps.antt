@@ -18,7 +18,7 @@ use Rattle.queue_paths.specs.Names.Name.{Pid, Of}
 use Rattle.queue_paths.specs.Names.Part.{Mess}
 use Rattle.queue_law.specs.Books.{Injection, IsInjected, IsLater, begun, booked, held_by, last_read, own_call}
 use Rattle.queue_law.specs.Numbers.{Role, Queue, Entry, look, about, is_later, IsUnsorted, IsSorted, Sound, IsEarly}
-use Rattle.queue_law.specs.Numbers.Role.{AsMessage}
+use Rattle.queue_law.specs.Numbers.Role.{AsMessage, AsOld}
 use Rattle.queue_law.specs.Injectors.{InTime, IsHeld, InjectorFares}
 use Rattle.queue_law.specs.Rests.{Spares, SparesNames}
 
@@ -70,6 +70,12 @@ pub record Outside (d e : Disk) : Type 0 where
   pub files : (i : ℕ) → IsOutside d i → e.files i ≡ d.files i
   pub unqueued : (i : ℕ) → IsOutside d i → (x : Name) → e.names (path x) ≢ Some i
 
+-- What a step leaves of the files that were there at the beginning: each that has a name is as it was, also if a name in `pid` that was
+-- left over leads to it.
+pub record LeavesOld (q r : Queue) : Type 0 where
+  pub files : (name : List ℕ) (i : ℕ) → q.disk.names name ≡ Some i → q.role i ≡ AsOld → r.disk.files i ≡ q.disk.files i
+  pub roles : (name : List ℕ) (i : ℕ) → q.disk.names name ≡ Some i → q.role i ≡ AsOld → r.role i ≡ AsOld
+
 -- the later names lead where they led, to the same files
 abbrev pub LeavesLater : Queue → Queue → Type 0
 LeavesLater q r = (part : Part) (n : ℕ) → is_later part ≡ true → look r (Of part n) ≡ look q (Of part n)
@@ -91,6 +97,7 @@ pub record InjectorCalls (controls : Controls) (now : ℕ) (q : Queue) (a : List
   pub sound : Sound controls (queue_after q a args read call told.answer wrote role)
   pub fares : InjectorFares now (queue_after q a args read call told.answer wrote role) a args (own_call read ready call told ∷ past) true false
   pub outside : Outside q.disk (queue_after q a args read call told.answer wrote role).disk
+  pub old : LeavesOld q (queue_after q a args read call told.answer wrote role)
   -- what was accepted is as before
   pub accepted : (i : Injection) → IsInjected q.books i → i.accepted ≡ true → IsInjected (queue_after q a args read call told.answer wrote role).books i
   -- all that concerns a preprocessed number is as before, and no number is preprocessed by it

@@ -310,18 +310,18 @@ module _ (q : Queue) (a : List ℕ) (d : Desk) (read : ℕ) (ready : Ready) wher
 
 -- What others do
 
-module _ (q r : Queue) (a : List ℕ) (l : LeavesControls q.disk r.disk) (opens : (fd : ℕ) (how : Open) → IsHeld q.disk.opens q.holder a fd how → IsHeld r.disk.opens r.holder a fd how) where
+module _ (q r : Queue) (a : List ℕ) (l : LeavesControls q r) (opens : (fd : ℕ) (how : Open) → IsHeld q.disk.opens q.holder a fd how → IsHeld r.disk.opens r.holder a fd how) where
   still_reads : (f : ControlFile) (g : Reading) (read : List ℕ) → ReadsFile q a f g read → ReadsFile r a f g read
   still_reads f Opening read h = tt
   still_reads f (Going fd) read h =
       let same : (r.disk.files h.0.number).bytes ≡ (q.disk.files h.0.number).bytes = l.bytes f h.0.number h.0.there in
       let there : HasControl r a f fd.0 = record { number = h.0.number; there = l.names f ∙ h.0.there; opened = opens fd.0 _ h.0.opened } in
       (there, h.1 ∙ ap (take (length read)) (sym same))
-  still_reads f (Closing fd) read h = same_control q.disk r.disk l f ∙ h
+  still_reads f (Closing fd) read h = same_control q r l f ∙ h
   still_reads f (Shutting fd) read h = tt
 
   still_filed : (f : ControlFile) (g : Reading) (b : Book) → FilesRead q a f g b → FilesRead r a f g b
-  still_filed f g b h = record { filed = h.filed ∙ ap (take (place f)) (sym (same_controls q.disk r.disk l)); long = h.long; reads = still_reads f g b.read h.reads }
+  still_filed f g b h = record { filed = h.filed ∙ ap (take (place f)) (sym (same_controls q r l)); long = h.long; reads = still_reads f g b.read h.reads }
 
   others : (row : Row) (b : Book) → ControlStands q a row b → ControlStands r a row b
   others row b = by_row (λ (x : Row). ControlStands q a x b → ControlStands r a x b) (λ f g h. still_filed f g b h) (λ x past h. stands_past r a b x past) row

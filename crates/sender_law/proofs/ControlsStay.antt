@@ -4,17 +4,18 @@ use Rattle.std.specs.Prelude.{map}
 use Rattle.address_rules.specs.declared.control_file.ControlFile.{ControlFile}
 use Rattle.address_rules.specs.declared.controls.Controls.{Controls}
 use Rattle.address_rules.specs.Files.{all_files, controls_of, first_fault}
-use Rattle.call_fs.specs.Disk.{Among, Disk, File, IsSynced}
-use Rattle.call_fs.specs.Survival.{AllSurvive, HadAt, Survives, halted}
+use Rattle.call_fs.specs.Disk.{Among, File, IsSynced}
+use Rattle.call_fs.specs.Survival.{AllSurvive, HadAt, Survives}
 use Rattle.queue_clean.specs.Table.{pid_path}
 use Rattle.queue_paths.specs.Names.{Name, path}
 use Rattle.queue_paths.specs.Names.Name.{Of, Pid}
 use Rattle.queue_paths.specs.Names.Part.{Mess, Intd, Todo, Info, Local, Remote, Bounce}
 use Rattle.send_steps.specs.Steps.{control_text}
 use Rattle.queue_law.specs.Cleaners.{LeavesButPid}
-use Rattle.queue_law.specs.Steps.{IsOutside, Outside}
+use Rattle.queue_law.specs.Numbers.{Queue}
+use Rattle.queue_law.specs.Steps.{LeavesOld, Outside, after_halt}
 use Rattle.sender_law.specs.Control.{AreControls, control_on, controls_on}
-use Rattle.sender_law.specs.ControlFiles.{AreApart, ControlsStay, LeavesControls}
+use Rattle.sender_law.specs.ControlFiles.{AreOld, ControlsStay, LeavesControls}
 
 -- Their names
 
@@ -35,34 +36,26 @@ not_theirs f (Of Bounce n) e = heads 98 99 _ _ (λ (w : 98 ≡ 99). absurd (omeg
 not_in_pid : (f : ControlFile) (part : List ℕ) → control_text f ≢ pid_path part
 not_in_pid f part e = heads 99 112 _ _ (λ (w : 99 ≡ 112). absurd (omega arith)) e
 
--- A step that leaves what isn't the queue's
+-- A step that leaves what isn't the queue's and what is old
 
-still_apart : (d e : Disk) → ((f : ControlFile) → e.names (control_text f) ≡ d.names (control_text f)) → ((i : ℕ) → IsOutside d i → e.files i ≡ d.files i)
-    → ((i : ℕ) → IsOutside d i → (x : Name) → e.names (path x) ≢ Some i) → AreApart d → AreApart e
-still_apart d e names files unqueued apart f i there =
-    let w = apart f i (sym (names f) ∙ there) in (
-      record { name = control_text f; there = there; unqueued = unqueued i w.0 },
-      subst (λ (g : File). IsSynced g g.bytes) (sym (files i w.0)) w.1,
-    )
-
-outside_leaves : (d e : Disk) → Outside d e → AreApart d → LeavesControls d e
-outside_leaves d e o apart =
-    let names : (f : ControlFile) → e.names (control_text f) ≡ d.names (control_text f) = λ f. o.names (control_text f) (not_theirs f) in
+left_by : (q r : Queue) → ((f : ControlFile) → r.disk.names (control_text f) ≡ q.disk.names (control_text f)) → LeavesOld q r → AreOld q → LeavesControls q r
+left_by q r names left old =
+    let files : (f : ControlFile) (i : ℕ) → q.disk.names (control_text f) ≡ Some i → r.disk.files i ≡ q.disk.files i = λ f i there. left.files (control_text f) i there (old f i there).0 in
     record {
       names = names;
-      bytes = λ f i there. ap (λ (g : File). g.bytes) (o.files i (apart f i there).0);
-      apart = still_apart d e names o.files o.unqueued apart;
+      bytes = λ f i there. ap (λ (g : File). g.bytes) (files f i there);
+      old = λ f i there.
+          let before : q.disk.names (control_text f) ≡ Some i = sym (names f) ∙ there in
+          let w = old f i before in
+          (left.roles (control_text f) i before w.0, subst (λ (g : File). IsSynced g g.bytes) (sym (files f i before)) w.1);
     }
 
-but_pid_leaves : (d e : Disk) → LeavesButPid d e → AreApart d → LeavesControls d e
-but_pid_leaves d e o apart =
-    let names : (f : ControlFile) → e.names (control_text f) ≡ d.names (control_text f) =
-    λ f. ⊎_elim (λ (same : e.names (control_text f) ≡ d.names (control_text f)). same) (λ gone. absurd (not_in_pid f gone.0 gone.1)) (o.names (control_text f) (not_theirs f)) in
-    record {
-      names = names;
-      bytes = λ f i there. ap (λ (g : File). g.bytes) (o.files i);
-      apart = still_apart d e names (λ i _. o.files i) o.unqueued apart;
-    }
+outside_leaves : (q r : Queue) → Outside q.disk r.disk → LeavesOld q r → AreOld q → LeavesControls q r
+outside_leaves q r o = left_by q r (λ f. o.names (control_text f) (not_theirs f))
+
+but_pid_leaves : (q r : Queue) → LeavesButPid q.disk r.disk → LeavesOld q r → AreOld q → LeavesControls q r
+but_pid_leaves q r o = left_by q r (λ f.
+    ⊎_elim (λ (same : r.disk.names (control_text f) ≡ q.disk.names (control_text f)). same) (λ gone. absurd (not_in_pid f gone.0 gone.1)) (o.names (control_text f) (not_theirs f)))
 
 -- A machine stop
 
@@ -89,13 +82,11 @@ synced_survives f bytes text h s =
         (λ given. absurd (subst (λ (places : List (ℕ × ℕ)). Among (k, given.0) places) h.none_given given.1))
         w
 
-halts_leave : (d : Disk) (contents : ℕ → List ℕ) → AllSurvive d contents → AreApart d → LeavesControls d (halted contents d)
-halts_leave d contents all apart = record {
+halts_leave : (q : Queue) (contents : ℕ → List ℕ) → AllSurvive q.disk contents → AreOld q → LeavesControls q (after_halt contents q)
+halts_leave q contents all old = record {
   names = λ f. refl;
-  bytes = λ f i there. synced_survives (d.files i) (contents i) (d.files i).bytes (apart f i there).1 (all (control_text f) i there);
-  apart = λ f i there.
-      let w = (apart f i there).0 in
-      (record { name = w.name; there = w.there; unqueued = w.unqueued }, record { holds = refl; all = refl; none_given = refl; no_shorter = refl; no_longer = refl });
+  bytes = λ f i there. synced_survives (q.disk.files i) (contents i) (q.disk.files i).bytes (old f i there).1 (all (control_text f) i there);
+  old = λ f i there. ((old f i there).0, record { holds = refl; all = refl; none_given = refl; no_shorter = refl; no_longer = refl });
 }
 
 -- What they say
@@ -104,16 +95,19 @@ mapped_on : {A B : Type 0} (f g : A → B) (o : Option A) → ((x : A) → o ≡
 mapped_on f g None same = refl
 mapped_on f g (Some x) same = ap Some (same x refl)
 
-pub same_control : (d e : Disk) → LeavesControls d e → (f : ControlFile) → control_on e f ≡ control_on d f
-same_control d e l f =
-    ap (option_map (λ i. (e.files i).bytes)) (l.names f) ∙ mapped_on (λ i. (e.files i).bytes) (λ i. (d.files i).bytes) (d.names (control_text f)) (l.bytes f)
+pub same_control : (q r : Queue) → LeavesControls q r → (f : ControlFile) → control_on r.disk f ≡ control_on q.disk f
+same_control q r l f =
+    ap (option_map (λ i. (r.disk.files i).bytes)) (l.names f)
+    ∙ mapped_on (λ i. (r.disk.files i).bytes) (λ i. (q.disk.files i).bytes) (q.disk.names (control_text f)) (l.bytes f)
 
-pub same_controls : (d e : Disk) → LeavesControls d e → controls_on e ≡ controls_on d
-same_controls d e l = let same : control_on e ≡ control_on d = λ i f. same_control d e l f i in ap (λ (g : ControlFile → Option (List ℕ)). map g all_files) same
+pub same_controls : (q r : Queue) → LeavesControls q r → controls_on r.disk ≡ controls_on q.disk
+same_controls q r l =
+    let same : control_on r.disk ≡ control_on q.disk = λ i f. same_control q r l f i in
+    ap (λ (g : ControlFile → Option (List ℕ)). map g all_files) same
 
-still_said : (controls : Controls) (d e : Disk) → LeavesControls d e → AreControls controls d → AreControls controls e
-still_said controls d e l h =
-    let same = same_controls d e l in
+still_said : (controls : Controls) (q r : Queue) → LeavesControls q r → AreControls controls q.disk → AreControls controls r.disk
+still_said controls q r l h =
+    let same = same_controls q r l in
     record { no_nul = h.no_nul; say = λ none. ap controls_of same ∙ h.say (ap first_fault (sym same) ∙ none) }
 
 pub controls_stay : ControlsStay

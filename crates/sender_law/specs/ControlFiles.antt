@@ -13,8 +13,8 @@ use Rattle.call_fs.specs.declared.past.NeedData.{NeedData}
 use Rattle.call_fs.specs.declared.past.NeedData.TheVariants as needs
 use Rattle.call_fs.specs.declared.program.Ready.{Ready}
 use Rattle.call_fs.specs.Apply.{Fits, IsReadBy}
-use Rattle.call_fs.specs.Disk.{Disk, Open, IsSynced}
-use Rattle.call_fs.specs.Survival.{AllSurvive, halted}
+use Rattle.call_fs.specs.Disk.{Open, IsSynced}
+use Rattle.call_fs.specs.Survival.{AllSurvive}
 use Rattle.send_core.specs.declared.desk.Desk.{Desk}
 use Rattle.send_core.specs.declared.row.Row.{Row}
 use Rattle.send_core.specs.declared.row.Row.TheVariants as at
@@ -27,20 +27,22 @@ use Rattle.send_steps.specs.Steps.{control_text}
 use Rattle.queue_law.specs.Cleaners.{LeavesButPid}
 use Rattle.queue_law.specs.Injectors.{IsHeld}
 use Rattle.queue_law.specs.Numbers.{Queue, Role}
+use Rattle.queue_law.specs.Numbers.Role.{AsOld}
 use Rattle.queue_law.specs.Senders.{called_queue}
-use Rattle.queue_law.specs.Steps.{IsOutside, Outside}
+use Rattle.queue_law.specs.Steps.{LeavesOld, Outside, after_halt}
 use Rattle.sender_law.specs.Control.{AreControls, control_on, controls_on}
 use Rattle.sender_law.specs.Whole.{ReadsControls}
 
--- Each control file that is there is a file of its own, none of the queue's, and on the disk.
-abbrev pub AreApart : Disk → Type 0
-AreApart d = (f : ControlFile) (i : ℕ) → d.names (control_text f) ≡ Some i → IsOutside d i × IsSynced (d.files i) (d.files i).bytes
+-- Each control file that is there was there at the beginning, and all of it is on the disk. A name in `pid` that was left over may lead to
+-- it too.
+abbrev pub AreOld : Queue → Type 0
+AreOld q = (f : ControlFile) (i : ℕ) → q.disk.names (control_text f) ≡ Some i → (q.role i ≡ AsOld) × IsSynced (q.disk.files i) (q.disk.files i).bytes
 
--- What a step leaves of them: all that they hold, and that they are apart.
-pub record LeavesControls (d e : Disk) : Type 0 where
-  pub names : (f : ControlFile) → e.names (control_text f) ≡ d.names (control_text f)
-  pub bytes : (f : ControlFile) (i : ℕ) → d.names (control_text f) ≡ Some i → (e.files i).bytes ≡ (d.files i).bytes
-  pub apart : AreApart e
+-- What a step leaves of them: all that they hold, and that they are old.
+pub record LeavesControls (q r : Queue) : Type 0 where
+  pub names : (f : ControlFile) → r.disk.names (control_text f) ≡ q.disk.names (control_text f)
+  pub bytes : (f : ControlFile) (i : ℕ) → q.disk.names (control_text f) ≡ Some i → (r.disk.files i).bytes ≡ (q.disk.files i).bytes
+  pub old : AreOld r
 
 -- a descriptor of this actor, open on this control file
 pub record HasControl (q : Queue) (a : List ℕ) (f : ControlFile) (fd : ℕ) : Type 0 where
@@ -73,14 +75,14 @@ IsOnLink due = ⊥
 
 -- The laws
 
--- No program of the queue changes them: not a step that leaves what isn't the queue's, nor one that takes a name in `pid` away besides.
--- They survive a machine stop.
+-- No program of the queue changes them: not a step that leaves what isn't the queue's and what is old, nor one that takes a name in `pid`
+-- away besides. They survive a machine stop.
 pub record ControlsStay : Type 0 where
-  pub outside : (d e : Disk) → Outside d e → AreApart d → LeavesControls d e
-  pub but_pid : (d e : Disk) → LeavesButPid d e → AreApart d → LeavesControls d e
-  pub halts : (d : Disk) (contents : ℕ → List ℕ) → AllSurvive d contents → AreApart d → LeavesControls d (halted contents d)
+  pub outside : (q r : Queue) → Outside q.disk r.disk → LeavesOld q r → AreOld q → LeavesControls q r
+  pub but_pid : (q r : Queue) → LeavesButPid q.disk r.disk → LeavesOld q r → AreOld q → LeavesControls q r
+  pub halts : (q : Queue) (contents : ℕ → List ℕ) → AllSurvive q.disk contents → AreOld q → LeavesControls q (after_halt contents q)
   -- so they say what they said
-  pub said : (controls : Controls) (d e : Disk) → LeavesControls d e → AreControls controls d → AreControls controls e
+  pub said : (controls : Controls) (q r : Queue) → LeavesControls q r → AreControls controls q.disk → AreControls controls r.disk
 
 -- A sender reads them as they are. It begins with none; whatever is answered to a file call of it that is due, it has read what they
 -- hold, and what it takes from them is what they say; once it gives or takes it is past them; and what others do leaves what it read.
@@ -95,6 +97,6 @@ pub record ControlsAreRead : Type 0 where
   pub rest : (q : Queue) (a : List ℕ) (d : Desk) (read : ℕ) (ready : Ready) (came : GotData)
       → IsOnLink (due_at (row_now d read ready) d)
       → ControlStands q a (moved_by (row_now d read ready) read came d).row (moved_by (row_now d read ready) read came d).book
-  pub others : (q r : Queue) (a : List ℕ) (row : Row) (b : Book) → LeavesControls q.disk r.disk
+  pub others : (q r : Queue) (a : List ℕ) (row : Row) (b : Book) → LeavesControls q r
       → ((fd : ℕ) (how : Open) → IsHeld q.disk.opens q.holder a fd how → IsHeld r.disk.opens r.holder a fd how)
       → ControlStands q a row b → ControlStands r a row b

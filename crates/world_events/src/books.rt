@@ -208,8 +208,8 @@ fn recipients(arguments: &Arguments) -> u64
     0
 }
 
-/// The number of the message whose name an event linked.
-fn number_by(own: &Own) -> Option<u64>
+/// The number of the message whose name an event linked, if it was the link of a message's name and the link was made.
+pub fn number_by(own: &Own) -> Option<u64>
     ensures { result ≡ number_by own.now.due own.now.came }
 {
     match &own.due {

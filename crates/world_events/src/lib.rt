@@ -11,7 +11,7 @@ mod places;
 mod reads;
 
 pub use asked::need_data;
-pub use books::{Books, Entry, Life};
+pub use books::{Books, Entry, Life, number_by};
 pub use event::{Event, History, Program, started_by};
 pub use mail::{MAIL_USER, mail_of};
 pub use places::Places;

@@ -8,6 +8,7 @@ use Rattle.queue_law.specs.Numbers.{NamesSuit, Sound}
 use Rattle.queue_law.specs.Numbers.Phase.{Free}
 use Rattle.queue_law.specs.Numbers.Role.{AsOld}
 use Rattle.queue_law.proofs.Looks.{find_none, found}
+use Rattle.send_steps.specs.Steps.{control_text}
 use Rattle.errand_law.specs.Errands.{Errand, fresh}
 use Rattle.errand_law.proofs.Links.{losses_keep}
 use Rattle.mail_world.specs.History.{Opening, opening}
@@ -42,8 +43,8 @@ inv_begins controls d has o = record {
   sound = begins_sound controls d o;
   crew = λ a x h. absurd (cc);
   fares = λ a x h. absurd (cc);
-  control = has.are;
-  apart = has.apart;
+  control = has;
+  old = λ f i there. (refl, o.settled (control_text f) i there);
   tenants = λ a d b h. absurd (cc);
   errands = record {
     waits = None;

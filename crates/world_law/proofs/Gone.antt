@@ -202,11 +202,11 @@ module _ (controls : Controls) (s : State) (I : Inv controls s) (a : List ℕ) (
 
   -- what others hold open, and have read
 
-  same_controls : LeavesControls before.disk over.disk
+  same_controls : LeavesControls before over
   same_controls = record {
     names = λ f. refl;
     bytes = λ f i there. refl;
-    apart = λ f i there. let w = I.apart f i there in (record { name = w.0.name; there = w.0.there; unqueued = w.0.unqueued }, w.1);
+    old = I.old;
   }
 
   holds_other : (o : List ℕ) → o ≢ a → (row : SpawnRow) → SpawnerHolds before o row → SpawnerHolds over o row
@@ -291,8 +291,8 @@ module _ (controls : Controls) (s : State) (I : Inv controls s) (a : List ℕ) (
     fares = each_after (λ y o. FaresBy controls s.now over o y.program y.past y.life)
         (fares_over controls s.now before over refl a x.program x.past x.life life dead ends (I.fares a x is))
         (λ o y other h. fares_other o other y.program y.past y.life (I.fares o y h));
-    control = controls_stay.said controls before.disk over.disk same_controls I.control;
-    apart = same_controls.apart;
+    control = controls_stay.said controls before over same_controls I.control;
+    old = same_controls.old;
     tenants = I.tenants;
     errands = errands_over;
   }

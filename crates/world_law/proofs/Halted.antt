@@ -88,8 +88,8 @@ module _ (controls : Controls) (s : State) (I : Inv controls s) (contents : ℕ 
   each_stopped : (P : List ℕ → Actor → Type 0) → ((a : List ℕ) (x : Actor) → s.actors a ≡ Some x → P a (stopped x)) → (a : List ℕ) (x : Actor) → option_map stopped (s.actors a) ≡ Some x → P a x
   each_stopped P each a x is = let w = mapped_some stopped (s.actors a) x is in subst (P a) w.2 (each a w.0 w.1)
 
-  same_controls : LeavesControls s.disk after.disk
-  same_controls = controls_stay.halts s.disk contents all I.apart
+  same_controls : LeavesControls (queue s I.role) after
+  same_controls = controls_stay.halts (queue s I.role) contents all I.old
 
   halted_keeps : (how : Survival) → Inv controls (happens s (Halt how contents))
   halted_keeps how = record {
@@ -98,8 +98,8 @@ module _ (controls : Controls) (s : State) (I : Inv controls s) (contents : ℕ 
     sound = sound_after (queue s I.role) contents all controls I.sound;
     crew = each_stopped (λ a x. IsNamed a x.program) (λ a x is. I.crew a x is);
     fares = each_stopped (λ a x. FaresBy controls s.now after a x.program x.past x.life) (λ a x is. fares_stopped controls s.now (queue s I.role) contents a x.program x.past x.life (I.fares a x is));
-    control = controls_stay.said controls s.disk after.disk same_controls I.control;
-    apart = same_controls.apart;
+    control = controls_stay.said controls (queue s I.role) after same_controls I.control;
+    old = same_controls.old;
     tenants = λ a d b h. absurd (cc);
     errands = halted_errands controls s.now (queue s I.role) after (lives_in (s.actors (codes "clean"))) (lives_in (option_map stopped (s.actors (codes "clean")))) (link_in s)
         (awaits_in (option_map stopped (s.actors (codes "sender")))) (place_in (option_map stopped (s.actors (codes "clean")))) I.errands

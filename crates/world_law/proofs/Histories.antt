@@ -10,8 +10,8 @@ use Rattle.mail_bytes.specs.Moments.{IsMoment}
 use Rattle.queue_law.specs.Numbers.{Queue}
 use Rattle.send_core.specs.Table.{desk_after, due_at, port_of, row_now}
 use Rattle.send_jobs.specs.declared.channels.Channel.{Channel}
+use Rattle.sender_law.specs.Control.{AreControls}
 use Rattle.sender_law.proofs.Asking.{requests_are_texts}
-use Rattle.sender_law.proofs.Exist.{controls_exist}
 use Rattle.world_events.specs.declared.event.Event.{Event as Kept}
 use Rattle.world_events.specs.declared.event.Program.{Program}
 use Rattle.world_events.specs.declared.event.Program.TheVariants.{Injector, Cleaner, Sender, LocalSpawner, RemoteSpawner}
@@ -22,7 +22,7 @@ use Rattle.mail_world.specs.Untouched.{queue}
 use Rattle.mail_world.specs.World.{IsHistory}
 use Rattle.mail_world.proofs.Waiting.{legal_before}
 use Rattle.world_law.specs.Fares.{FaresBy, SenderFares}
-use Rattle.world_law.specs.Headline.{AttemptsAreSound, DisksHaveControls, EachSafe, HasControls, Headline, IsAttempt, WorldsAreSafe}
+use Rattle.world_law.specs.Headline.{AttemptsAreSound, EachSafe, Headline, IsAttempt, WorldsAreSafe}
 use Rattle.world_law.specs.Inv.{Inv}
 use Rattle.world_law.specs.Laws.{Always, IsKeptBy}
 use Rattle.world_law.proofs.Begins.{inv_begins}
@@ -65,7 +65,7 @@ always controls d (e ∷ before) has legal = event_keeps e controls (after d bef
 pub headline : Headline
 headline controls d later before has legal = inv_is_safe controls (after d before) (always controls d before has (legal_before d later before legal))
 
-happened_safe : (controls : Controls) (opening : Disk) (told : Option Disk) (events : List Kept) (present : ℕ) (h : List Event) → HasControls controls opening
+happened_safe : (controls : Controls) (opening : Disk) (told : Option Disk) (events : List Kept) (present : ℕ) (h : List Event) → AreControls controls opening
     → IsSomeAnd told (λ now. IsHistory opening now events present h) → EachSafe controls opening h
 happened_safe controls opening None events present h has happened = absurd happened
 happened_safe controls opening (Some now) events present h has happened = λ later before same.
@@ -73,9 +73,6 @@ happened_safe controls opening (Some now) events present h has happened = λ lat
 
 pub worlds_are_safe : WorldsAreSafe
 worlds_are_safe controls opening w h has happened = happened_safe controls opening w.disk w.events w.present h has happened
-
-pub disks_have_controls : DisksHaveControls
-disks_have_controls d apart = let there = controls_exist d in (there.0, record { are = there.1; apart = apart })
 
 -- Attempts
 

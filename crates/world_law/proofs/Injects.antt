@@ -45,7 +45,7 @@ module _ (controls : Controls) (s : State) (I : Inv controls s) (a : List ℕ) (
       let y : Actor = injector (event (needs.File call) (got.Answered told) ∷ past) in
       let seen : IsSeenAs (s.actors a) y = subst (λ (o : Option Actor). IsSeenAs o y) (sym may.is) (record { awaits = refl; place = refl; lives = λ h. h }) in
       stepped_keeps controls s I a r c.number c.elsewhere c.spares c.names (others_spare.injectors controls s.now q a args past own.read own.ready call told wrote c)
-      (controls_stay.outside s.disk r.disk c.outside I.apart) c.sound y tt seen c.fares
+      (controls_stay.outside q r c.outside c.old I.old) c.sound y tt seen c.fares
 
   came_keeps : MayRead s a (injector past) own.read → (call : CallData) → Next args past own.read own.ready ≡ needs.File call → (came : GotData)
       → ComesOf s a (needs.File call) came wrote → Inv controls (then_state (needs.File call) came)

@@ -53,7 +53,7 @@ moments_keep m controls s I may = record {
   crew = I.crew;
   fares = λ a x h. fares_later controls s.now m may.no_earlier (queue s I.role) a x.program x.past x.life (I.fares a x h);
   control = I.control;
-  apart = I.apart;
+  old = I.old;
   tenants = I.tenants;
   errands = errands_later controls s.now m may.no_earlier (queue s I.role) (lives_in (s.actors (codes "clean"))) (link_in s) I.errands;
 }
@@ -72,7 +72,7 @@ reports_keep slot letter text controls s I may = record {
   crew = I.crew;
   fares = I.fares;
   control = I.control;
-  apart = I.apart;
+  old = I.old;
   tenants = λ b d. none_runs s.pipework.programs I.tenants (bytes_eq b (codes "rspawn") && (d == slot)) b d;
   errands = I.errands;
 }

@@ -36,8 +36,6 @@ pub mod SendersEvents
 pub mod Children
 -- what holds after each legal history
 pub mod Histories
--- control files that are apart
-pub mod Apart
 -- what holds if no generation was started
 pub mod Alone
 -- what led to a world

@@ -86,7 +86,7 @@ module _ (controls : Controls) (s : State) (I : Inv controls s) (a : List ℕ) (
     crew = each_put s.actors a y (λ o z. IsNamed o z.program) named (λ o z _. I.crew o z);
     fares = each_put s.actors a y (λ o z. FaresBy controls s.now (queue s I.role) o z.program z.past z.life) F (λ o z _. I.fares o z);
     control = I.control;
-    apart = I.apart;
+    old = I.old;
     tenants = none;
     errands = errands;
   }

@@ -236,7 +236,7 @@ module _ (controls : Controls) (s : State) (I : Inv controls s) (wrote : ℕ) (b
       let l = reads_keep controls s.now q name I.sound own.read c told.answer wrote only fits in
       let spared = rest_is_kept.closed s.now name None q r l.elsewhere I.sound.suits (λ n h. absurd (cc)) in
       stepped_keeps controls s I name r None l.elsewhere spared.0 spared.1 (others_spare.reads s.now name q r l.elsewhere)
-      (controls_stay.outside s.disk r.disk l.outside I.apart) l.sound (spawner (event (needs.File c) (got.Answered told) ∷ past)) refl
+      (controls_stay.outside q r l.outside l.old I.old) l.sound (spawner (event (needs.File c) (got.Answered told) ∷ past)) refl
       (seen (event (needs.File c) (got.Answered told) ∷ past) is) holds
 
   abbrev To : Row → NeedData → GotData → Type 0

@@ -127,8 +127,8 @@ module _ (controls : Controls) (s : State) (I : Inv controls s) (wrote began : �
   is_free : (due : NeedData) (came : GotData) → due_at row d ≡ due → GivesNone due → IsFree (awaits (next came))
   is_free due came e none = free d own.read own.ready came (λ text given. subst GivesNone (sym e ∙ given) none)
 
-  same_controls : LeavesControls s.disk s.disk
-  same_controls = record { names = λ f. refl; bytes = λ f i there. refl; apart = I.apart }
+  same_controls : LeavesControls q q
+  same_controls = record { names = λ f. refl; bytes = λ f i there. refl; old = I.old }
 
   -- what lies between the two then, over a queue
   abbrev Between : Queue → Awaits → List ℕ → List ℕ → Type 0
@@ -158,7 +158,7 @@ module _ (controls : Controls) (s : State) (I : Inv controls s) (wrote began : �
       let read = controls_are_read.calls controls q name d own.read own.ready call told wrote l.0 I.control fares.control due fits by in
       let none : (link_in s).awaits ≡ Nothing = idle (needs.File call) due tt in
       sent_keeps controls s I r began (event (needs.File call) came ∷ past) (pipes_then (needs.File call) came) l.1.leads.sound
-      (controls_stay.outside s.disk r.disk l.1.leads.outside I.apart)
+      (controls_stay.outside q r l.1.leads.outside l.1.leads.old I.old)
       (λ o x other there.
       others_fare controls s.now l.1.number q r l.1.leads.elsewhere I.sound.suits l.1.closed o other x.program x.past x.life (I.crew o x there)
       (idle_by controls s I none o x.program x.past x.life there (I.crew o x there)) (I.fares o x there))
@@ -213,7 +213,8 @@ module _ (controls : Controls) (s : State) (I : Inv controls s) (wrote began : �
       → Inv controls (then_state (needs.Take from) came)
   took from came due told others errands =
       let t = taking from came due told in
-      sent_keeps controls s I (told_then came) began (event (needs.Take from) came ∷ past) (pipes_then (needs.Take from) came) t.sound same_controls others
+      sent_keeps controls s I (told_then came) began (event (needs.Take from) came ∷ past) (pipes_then (needs.Take from) came) t.sound
+      (record { names = λ f. refl; bytes = λ f i there. refl; old = I.old }) others
       (record {
         stands = t.stands;
         control = controls_are_read.rest (told_then came) name d own.read own.ready came (subst IsOnLink (sym due) tt);

@@ -24,6 +24,7 @@ use Rattle.world_events.specs.declared.event.Program.TheVariants.{Cleaner, Sende
 use Rattle.world_pipes.specs.Pipework.{Pipework}
 use Rattle.mail_world.specs.History.{Actor, Life, State}
 use Rattle.mail_world.specs.History.Life.{Alive}
+use Rattle.mail_world.specs.Untouched.{queue}
 use Rattle.world_law.specs.Crew.{IsNamed, link_by, link_in, lives_in, place_in}
 use Rattle.world_law.specs.Fares.{FaresBy, SenderFares}
 use Rattle.world_law.specs.Inv.{ErrandRests, Inv}
@@ -70,7 +71,7 @@ module _ (controls : Controls) (s : State) (I : Inv controls s) where
       λ m. subst (λ (p : Place). IsBeside m p) (ap place_in there) (cleaners_go_on.beside I.errands.waits (link_in s) I.errands.errand idle m)
   idle_by idle o program past life is named = tt
 
-  pub sent_keeps : (r : Queue) (began : ℕ) (past : List Own) (w : Pipework) → Sound controls r → LeavesControls s.disk r.disk → OthersFare controls s r
+  pub sent_keeps : (r : Queue) (began : ℕ) (past : List Own) (w : Pipework) → Sound controls r → LeavesControls (queue s I.role) r → OthersFare controls s r
       → SenderFares controls s.now r (codes "sender") (desk_after None past) → RunsNone w
       → ErrandRests controls s.now r (lives_in (s.actors (codes "clean"))) (link_by (Some (sender began past)) (s.actors (codes "clean")) w)
       → Inv controls (sent s r began past w)
@@ -81,8 +82,8 @@ module _ (controls : Controls) (s : State) (I : Inv controls s) where
     sound = G;
     crew = each_put s.actors (codes "sender") (sender began past) (λ o z. IsNamed o z.program) refl (λ o z other is. I.crew o z is);
     fares = each_put s.actors (codes "sender") (sender began past) (λ o z. FaresBy controls s.now r o z.program z.past z.life) F (λ o z other is. others o z other is);
-    control = controls_stay.said controls s.disk r.disk C I.control;
-    apart = C.apart;
+    control = controls_stay.said controls (queue s I.role) r C I.control;
+    old = C.old;
     tenants = none;
     errands = errands;
   }

@@ -82,7 +82,7 @@ module _ (controls : Controls) (s : State) (I : Inv controls s) (first second th
         })
         tt tt tt I.fares;
     control = I.control;
-    apart = I.apart;
+    old = I.old;
     tenants = λ b d. unless_member s.pipework.programs I.tenants (is_member b) b d;
     errands = record {
       waits = None;

@@ -92,7 +92,7 @@ stepped s a r y = record { disk = r.disk; holder = r.holder; now = s.now; actors
 -- Each of the others, after a step that spares all closed numbers but the one in k
 
 module _ (controls : Controls) (s : State) (I : Inv controls s) (a : List ℕ) (r : Queue) (m k : Option ℕ) (E : Elsewhere s.now a m (queue s I.role) r)
-    (S : Spares s.now k (queue s I.role) r) (SS : SparesSorted (queue s I.role) r) (C : LeavesControls s.disk r.disk) (G : Sound controls r) where
+    (S : Spares s.now k (queue s I.role) r) (SS : SparesSorted (queue s I.role) r) (C : LeavesControls (queue s I.role) r) (G : Sound controls r) where
   abbrev before : Queue
   before = queue s I.role
 
@@ -139,8 +139,8 @@ module _ (controls : Controls) (s : State) (I : Inv controls s) (a : List ℕ) (
     crew = each_put s.actors a y (λ o z. IsNamed o z.program) named (λ o z _ is. I.crew o z is);
     fares = each_put s.actors a y (λ o z. FaresBy controls s.now r o z.program z.past z.life) F
         (λ o z other is. fares_other o other (cleaners o other) (senders o other) z.program z.past z.life is (I.fares o z is));
-    control = controls_stay.said controls s.disk r.disk C I.control;
-    apart = C.apart;
+    control = controls_stay.said controls (queue s I.role) r C I.control;
+    old = C.old;
     tenants = I.tenants;
     errands = errands;
   }
@@ -148,7 +148,7 @@ module _ (controls : Controls) (s : State) (I : Inv controls s) (a : List ℕ) (
 -- So after one that spares all closed numbers
 
 module _ (controls : Controls) (s : State) (I : Inv controls s) (a : List ℕ) (r : Queue) (m : Option ℕ) (E : Elsewhere s.now a m (queue s I.role) r)
-    (S : Spares s.now None (queue s I.role) r) (N : SparesNames (queue s I.role) r) (SS : SparesSorted (queue s I.role) r) (C : LeavesControls s.disk r.disk)
+    (S : Spares s.now None (queue s I.role) r) (N : SparesNames (queue s I.role) r) (SS : SparesSorted (queue s I.role) r) (C : LeavesControls (queue s I.role) r)
     (G : Sound controls r) where
   abbrev here : Queue
   here = queue s I.role

@@ -23,9 +23,8 @@ use Rattle.queue_law.specs.Books.{Books, HasQueued, Injection, IsInjected, IsVal
 use Rattle.queue_law.specs.Numbers.Role.{AsOld}
 use Rattle.queue_law.specs.Routes.{Recipient, sender_of}
 use Rattle.sender_law.specs.Control.{AreControls}
-use Rattle.sender_law.specs.ControlFiles.{AreApart}
 use Rattle.sender_law.specs.Views.{files_of}
-use Rattle.mail_world.specs.History.{Event, Actor, Opening, State, Legal, after}
+use Rattle.mail_world.specs.History.{Event, Actor, State, Legal, after}
 use Rattle.mail_world.specs.History.Event.{Act}
 use Rattle.mail_world.specs.History.Life.{Over}
 use Rattle.mail_world.specs.Untouched.{queue}
@@ -56,22 +55,10 @@ pub record Safe (controls : Controls) (s : State) : Type 0 where
   -- an injector's end with 0 comes only of an accepted injection
   pub ends : (a : List ℕ) (x : Actor) → s.actors a ≡ Some x → x.life ≡ Over 0 → EndsWell s.books a x.program
 
--- The control files of an initial disk: what they say, each a file of its own.
-pub record HasControls (controls : Controls) (d : Disk) : Type 0 where
-  pub are : AreControls controls d
-  pub apart : AreApart d
-
--- Each disk whose control files are apart has controls.
-abbrev pub DisksHaveControls : Type 0
-DisksHaveControls = (d : Disk) → AreApart d → (controls : Controls) × HasControls controls d
-
--- On an initial disk on which no file has two names they are apart.
-abbrev pub SingleNamesAreApart : Type 0
-SingleNamesAreApart = (d : Disk) → Opening d → ((a b : List ℕ) (i : ℕ) → d.names a ≡ Some i → d.names b ≡ Some i → a ≡ b) → AreApart d
-
--- However the calls interleave and wherever a program or the machine stops: each prefix of a legal history is safe.
+-- However the calls interleave and wherever a program or the machine stops: each prefix of a legal history is safe, with the controls of the
+-- disk that it begins with. Each disk has some (the law `controls_exist` of sender_law).
 abbrev pub Headline : Type 0
-Headline = (controls : Controls) (d : Disk) (later before : List Event) → HasControls controls d → Legal d (later ++ before) → Safe controls (after d before)
+Headline = (controls : Controls) (d : Disk) (later before : List Event) → AreControls controls d → Legal d (later ++ before) → Safe controls (after d before)
 
 -- each prefix of a history is safe
 abbrev pub EachSafe : Controls → Disk → List Event → Type 0
@@ -89,12 +76,12 @@ pub record StaysSafe (opening : Disk) (h : List Event) : Type 0 where
 -- What holds of a history that began with this disk: each prefix is safe with the controls that the disk has; and if no generation was
 -- started, each is safe whatever controls are meant, with each accepted message in todo.
 pub record IsSafeBy (opening : Disk) (h : List Event) : Type 0 where
-  pub safe : (controls : Controls) → HasControls controls opening → EachSafe controls opening h
+  pub safe : (controls : Controls) → AreControls controls opening → EachSafe controls opening h
   pub alone : HasNoGeneration h → StaysSafe opening h
 
 -- So is each prefix of what happened in a world, by what its disk tells, since it began with a disk of these controls.
 abbrev pub WorldsAreSafe : Type 0
-WorldsAreSafe = (controls : Controls) (opening : Disk) (w : Seen (Option Disk)) (h : List Event) → HasControls controls opening → Happened {D = Option Disk} (λ told. told) opening w h
+WorldsAreSafe = (controls : Controls) (opening : Disk) (w : Seen (Option Disk)) (h : List Event) → AreControls controls opening → Happened {D = Option Disk} (λ told. told) opening w h
     → EachSafe controls opening h
 
 -- A request that a sender gives, also in part, is of a recipient whose record reads `T` in its channel file, with the text of that record,
@@ -111,6 +98,6 @@ pub record IsAttempt (s : State) (past : List Own) (ch : Channel) (text : List �
 
 -- Each giving of a sender to a spawner is an attempt.
 abbrev pub AttemptsAreSound : Type 0
-AttemptsAreSound = (controls : Controls) (d : Disk) (a : List ℕ) (own : Own) (wrote : ℕ) (before : List Event) → HasControls controls d
+AttemptsAreSound = (controls : Controls) (d : Disk) (a : List ℕ) (own : Own) (wrote : ℕ) (before : List Event) → AreControls controls d
     → Legal d (Act a own wrote ∷ before) → (x : Actor) → (after d before).actors a ≡ Some x → (start : ℕ) → x.program ≡ Sender start
     → (ch : Channel) (text : List ℕ) → own.due ≡ needs.Give (port_of ch) text → IsAttempt (after d before) x.past ch text

@@ -14,7 +14,7 @@ use Rattle.world_pipes.specs.Pipework.Tenant.{Runs}
 use Rattle.mail_world.specs.History.{Actor, State}
 use Rattle.mail_world.specs.Untouched.{queue}
 use Rattle.sender_law.specs.Control.{AreControls}
-use Rattle.sender_law.specs.ControlFiles.{AreApart}
+use Rattle.sender_law.specs.ControlFiles.{AreOld}
 use Rattle.world_law.specs.Crew.{IsNamed, lives_in, link_in}
 use Rattle.world_law.specs.Fares.{FaresBy}
 
@@ -47,7 +47,7 @@ pub record Inv (controls : Controls) (s : State) : Type 0 where
   pub fares : (a : List ℕ) (x : Actor) → s.actors a ≡ Some x → FaresBy controls s.now (queue s role) a x.program x.past x.life
   -- the control files say what these controls say, and nobody changes them
   pub control : AreControls controls s.disk
-  pub apart : AreApart s.disk
+  pub old : AreOld (queue s role)
   -- no program starts an actor yet, so none runs in a slot of another
   pub tenants : (a : List ℕ) (d : ℕ) (b : List ℕ) → s.pipework.programs a d ≢ Some (Runs b)
   -- the sender and its cleaner

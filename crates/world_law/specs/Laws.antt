@@ -8,12 +8,13 @@ use Rattle.call_fs.specs.declared.program.Ready.{Ready}
 use Rattle.world_events.specs.declared.event.Program.{Program}
 use Rattle.mail_world.specs.History.{Event, State, Allowed, IsCleaner, IsLocalSpawner, IsRemoteSpawner, IsSender, Legal, MayDo, MayRun, Opening, after, happens, opening}
 use Rattle.mail_world.specs.History.Event.{Start, Act, Child, Generation, Report, End, Stop, Moment, Halt}
-use Rattle.world_law.specs.Headline.{HasControls, Safe}
+use Rattle.sender_law.specs.Control.{AreControls}
+use Rattle.world_law.specs.Headline.{Safe}
 use Rattle.world_law.specs.Inv.{Inv}
 
 -- it holds at the start
 abbrev pub InvBegins : Type 0
-InvBegins = (controls : Controls) (d : Disk) → HasControls controls d → Opening d → Inv controls (opening d)
+InvBegins = (controls : Controls) (d : Disk) → AreControls controls d → Opening d → Inv controls (opening d)
 
 -- it says that the state is safe
 abbrev pub InvIsSafe : Type 0
@@ -76,4 +77,4 @@ ChildrenKeep = (parent : List ℕ) (own : Own) (a : List ℕ) (program : Program
 
 -- So it holds after each legal history.
 abbrev pub Always : Type 0
-Always = (controls : Controls) (d : Disk) (before : List Event) → HasControls controls d → Legal d before → Inv controls (after d before)
+Always = (controls : Controls) (d : Disk) (before : List Event) → AreControls controls d → Legal d before → Inv controls (after d before)

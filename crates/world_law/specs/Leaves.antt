@@ -11,7 +11,7 @@ use Rattle.world_events.specs.declared.event.Program.{Program}
 use Rattle.world_events.specs.declared.event.Program.TheVariants.{Cleaner, Sender}
 use Rattle.mail_world.specs.History.{Event, Legal, State, after, happens}
 use Rattle.mail_world.specs.Untouched.{IsOther, about_in, doer, is_halt}
-use Rattle.world_law.specs.Headline.{HasControls}
+use Rattle.sender_law.specs.Control.{AreControls}
 
 -- what an event of a program leaves of what isn't the queue's: all, except that a cleaner takes old names in `pid` away
 abbrev pub LeavesOutside : Option Program → Disk → Disk → Type 0
@@ -34,4 +34,4 @@ pub record LeavesMost (s : State) (e : Event) : Type 0 where
 
 -- so does each event of a legal history
 abbrev pub EventsLeave : Type 0
-EventsLeave = (controls : Controls) (d : Disk) (e : Event) (before : List Event) → HasControls controls d → Legal d (e ∷ before) → LeavesMost (after d before) e
+EventsLeave = (controls : Controls) (d : Disk) (e : Event) (before : List Event) → AreControls controls d → Legal d (e ∷ before) → LeavesMost (after d before) e

@@ -1,5 +1,5 @@
 // Laws of the whole system. Each is the contract of a function that does nothing.
-ghost use Rattle.world_law.specs.Headline.{AttemptsAreSound, DisksHaveControls, Headline, SafeWithoutGenerations, SingleNamesAreApart, WorldsAreSafe};
+ghost use Rattle.world_law.specs.Headline.{AttemptsAreSound, Headline, SafeWithoutGenerations, WorldsAreSafe};
 ghost use Rattle.world_law.specs.Leaves.{EventsLeave};
 ghost use Rattle.world_law.specs.Laws.{Always, ChildrenKeep, CleanersKeep, EndsKeep, GenerationsKeep, HaltsKeep, InjectorsKeep, InvBegins, InvIsSafe, LocalsKeep, MomentsKeep, RemotesKeep, ReportsKeep, SendersKeep, StartsKeep, StopsKeep};
 ghost use Rattle.world_law.specs.UnderWay.{CommandsRest};
@@ -94,16 +94,6 @@ pub fn worlds_are_safe()
 /// Each event of a legal history leaves what was accepted, and most else that isn't its own.
 pub fn events_leave()
     ensures { EventsLeave }
-{}
-
-/// Each disk whose control files are apart has controls.
-pub fn disks_have_controls()
-    ensures { DisksHaveControls }
-{}
-
-/// So has each initial disk on which no file has two names.
-pub fn single_names_are_apart()
-    ensures { SingleNamesAreApart }
 {}
 
 /// Each giving of a sender to a spawner is an attempt at a record that reads `T`, with the text of that record, and no other attempt

@@ -6,7 +6,8 @@ ghost use Rattle.call_fs.specs.Disk.{Disk};
 ghost use Rattle.mail_world.specs.History.{Opening, Legal, Event as Happening};
 ghost use Rattle.mail_world.specs.Waiting.{EachWaiting, HasNoGeneration};
 ghost use Rattle.mail_world.specs.World.{Leads, Happened};
-ghost use Rattle.world_law.specs.Headline.{EachSafe, HasControls, IsSafeBy};
+ghost use Rattle.sender_law.specs.Control.{AreControls};
+ghost use Rattle.world_law.specs.Headline.{EachSafe, IsSafeBy};
 
 use call_fs::CallFs;
 use mail_world::World;
@@ -16,7 +17,7 @@ use mail_world::World;
 /// history that led to it from some disk, of which all of this holds if that disk was an initial one. Nothing is done.
 pub fn each_world_is_safe<D: CallFs>(world: &World<D>)
     ensures safe { (controls : Controls) (opening : Disk) (h : List Happening)
-        → HasControls controls opening → Happened D.disk opening world.now h → EachSafe controls opening h }
+        → AreControls controls opening → Happened D.disk opening world.now h → EachSafe controls opening h }
     ensures alone { (controls : Controls) (opening : Disk) (h : List Happening)
         → Happened D.disk opening world.now h → HasNoGeneration h → EachSafe controls opening h }
     ensures waiting { (opening : Disk) (h : List Happening)

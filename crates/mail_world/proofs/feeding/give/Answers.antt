@@ -1,11 +1,7 @@
-use Rattle.std.proofs.Common.{◌≡◌, ◌<◌, ℕ, List, Option, Some, Result, Ok, Err, refl, sym, ap, ◌∙◌, subst, get_or}
+use Rattle.std.proofs.Common.{ℕ, Option, Result, Ok, Err, refl, sym, ◌∙◌, subst}
 use Rattle.std.specs.Prelude.{OnErr, set}
-use Rattle.std.specs.List.{slice_get}
-use Rattle.std.proofs.lemmas.Option.{get_or_from_slice_get}
 use Rattle.call_fs.specs.declared.program.Port.{Port}
-use Rattle.world_pipes.specs.declared.mouths.Mouths.{Mouths}
-use Rattle.world_pipes.specs.Pipework.{given}
-use Rattle.mail_world.specs.Acting.{HasGivenTo, HasPiped, IsSame, IsSameAt, leads}
+use Rattle.mail_world.specs.Acting.{HasGivenTo, IsSameAt}
 use Rattle.mail_world.proofs.Feeds.{stands_there, given_after}
 use Rattle.mail_world.proofs.feeding.give.Goals as goal
 

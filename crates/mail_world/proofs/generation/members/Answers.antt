@@ -1,12 +1,11 @@
-use Rattle.std.proofs.Common.{◌≡◌, ℕ, List, [], ◌∷◌, ◌++◌, Some, None, sym, ap, ◌∙◌, subst, codes}
-use Rattle.call_fs.specs.declared.past.Own.{Own}
+use Rattle.std.proofs.Common.{◌≡◌, ℕ, List, [], ◌∷◌, ◌++◌, None, sym, ap, ◌∙◌, subst, codes}
 use Rattle.world_events.specs.declared.event.Program.{Program}
 use Rattle.world_events.specs.declared.event.Program.TheVariants.{Cleaner, Sender, LocalSpawner, RemoteSpawner}
 use Rattle.mail_world.specs.declared.actor.Actor.{Actor as Held}
 use Rattle.mail_world.specs.declared.any_machine.AnyMachine.{AnyMachine}
 use Rattle.mail_world.specs.declared.any_machine.AnyMachine.TheVariants.{Clean, Send, Local, Remote}
 use Rattle.mail_world.specs.ByKind.{Follows}
-use Rattle.mail_world.specs.Crew.{IsNew, AreNew}
+use Rattle.mail_world.specs.Crew.{IsNew}
 use Rattle.mail_world.proofs.generation.members.Goals as goal
 
 new_is : (x : Held) (name : List ℕ) (program : ℕ → Program) (m : AnyMachine) → x.name ≡ name → x.machine ≡ m → x.descriptors.items ≡ [] → x.ended ≡ None → x.owed ≡ None

@@ -1,4 +1,4 @@
-use Rattle.std.proofs.Common.{◌≡◌, ℕ, ◌+◌, ◌≤◌, List, [], ◌∷◌, ◌++◌, length, reverse, sym, ap, ◌∙◌, refl, subst, arith}
+use Rattle.std.proofs.Common.{◌≡◌, ℕ, ◌+◌, ◌≤◌, List, [], ◌∷◌, ◌++◌, length, reverse, sym, ap, ◌∙◌, subst, arith}
 use Rattle.std.specs.Prelude.{drop}
 use Rattle.std.proofs.lemmas.List.{length-append, length-drop}
 use Rattle.world_events.specs.declared.event.Event.{Event as Kept}
@@ -10,8 +10,8 @@ use Rattle.mail_world.specs.Generations.{IsNoneAlive, starts_of}
 use Rattle.mail_world.specs.Starts.{AreStarts}
 use Rattle.mail_world.specs.Places.{place_of}
 use Rattle.mail_world.specs.World.{Seen}
-use Rattle.mail_world.specs.Inside.{among_all, known, living}
-use Rattle.mail_world.proofs.Begun.{NoneLives, begun_keeps, begun_leads_on, begun_piped}
+use Rattle.mail_world.specs.Inside.{known, living}
+use Rattle.mail_world.proofs.Begun.{begun_keeps, begun_leads_on, begun_piped}
 use Rattle.mail_world.proofs.Booked.{begun_booked}
 use Rattle.mail_world.proofs.Firsts.{lives_none}
 use Rattle.mail_world.proofs.Histories.{goes_on}

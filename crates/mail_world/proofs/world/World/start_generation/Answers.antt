@@ -1,13 +1,12 @@
-use Rattle.std.proofs.Common.{◌≡◌, ℕ, List, Some, None, Ok, Err, sym, ap, ◌∙◌, subst}
+use Rattle.std.proofs.Common.{◌≡◌, ℕ, List, Some, None, Err, sym, ap, ◌∙◌, subst}
 use Rattle.std.specs.Prelude.{take}
 use Rattle.std.proofs.lemmas.Result.{err_from_is_err_and}
-use Rattle.world_events.specs.declared.event.Event.{Event as Kept}
 use Rattle.mail_world.specs.declared.actor.Actor.{Actor as Held}
 use Rattle.mail_world.specs.declared.error.WorldError.{WorldError}
 use Rattle.mail_world.specs.declared.error.WorldError.TheVariants as why
 use Rattle.mail_world.specs.Crew.{IsFirst}
 use Rattle.mail_world.specs.Generations.{IsFirstAlive, IsNoneAlive}
-use Rattle.mail_world.specs.Inside.{among_all, known}
+use Rattle.mail_world.specs.Inside.{known}
 use Rattle.mail_world.specs.Places.{place_of}
 use Rattle.mail_world.proofs.Begun.{none_alive}
 use Rattle.mail_world.proofs.Firsts.{crew_first, one_first, none_first, none_lives}

@@ -1,4 +1,4 @@
-use Rattle.std.proofs.Common.{◌≡◌, ◌⊎◌, inl, inr, ℕ, ◌+◌, ◌-◌, ◌^◌, ◌<◌, ◌≤◌, min, List, [], ◌∷◌, ◌++◌, length, set, arith, Option, Some, None, IsSomeAnd, Ok, Err, refl, sym, ap, ◌∙◌, subst, length-drop}
+use Rattle.std.proofs.Common.{◌≡◌, ℕ, ◌+◌, ◌-◌, ◌^◌, ◌<◌, min, List, length, set, arith, Option, Some, None, IsSomeAnd, Ok, Err, refl, sym, ap, ◌∙◌, subst, length-drop}
 use Rattle.std.specs.Prelude.{drop, IsNone, IfSome}
 use Rattle.std.proofs.lemmas.Result.{err_from_is_err_and}
 use Rattle.std.specs.List.{slice_get}
@@ -14,7 +14,6 @@ use Rattle.mail_world.specs.Books.{entries_of}
 use Rattle.mail_world.specs.ByKind.{Follows}
 use Rattle.mail_world.specs.Crew.{IsFoundAt}
 use Rattle.mail_world.specs.Generations.{Waits}
-use Rattle.mail_world.specs.World.{next_pid, starts_in}
 use Rattle.mail_world.specs.Places.{place_of}
 use Rattle.mail_world.specs.Inside.{among_all, known, living, StandsFor, Owes}
 use Rattle.mail_world.specs.Acting.{IsNoLiving, IsSeated, MayAct, HasActed, HasStepped, HasIdled}
