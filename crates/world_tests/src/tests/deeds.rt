@@ -1,0 +1,124 @@
+// What is done with a world, as data.
+
+use super::running::{report, run, settle, turn};
+use super::seen::{put, put_names, put_refusal};
+use mail_bytes::Memory;
+use mail_world::{ActorName, World, WorldError};
+use mem_fs::MemFs;
+use queue_paths::queue_dirs;
+use std::alloc::Global;
+
+/// What is done with a world.
+#[derive(Clone, Copy)]
+pub enum Deed {
+    /// A mail starts, with this message and envelope.
+    Mail(&'static [u8], &'static [u8], &'static [u8]),
+    /// A generation starts.
+    Sender,
+    /// This actor makes a step.
+    Step(&'static [u8]),
+    /// It makes steps until it ends, waits, or an idle turn has ended.
+    Run(&'static [u8]),
+    /// It is stopped.
+    Stop(&'static [u8]),
+    /// Each living actor runs.
+    Turn,
+    /// The remote program in this slot reports success.
+    Report(u8),
+    /// Rounds are made until one makes only an idle turn; each remote program reports success.
+    Settle,
+    /// The names in the queue are told.
+    Show,
+}
+
+/// Puts down why a world refused what was asked of this actor, if it did.
+fn tell(seen: &mut Vec<u8>, actor: &[u8], answer: Result<(), WorldError>) {
+    if let Err(why) = answer {
+        put_refusal(seen, actor, &why);
+    }
+}
+
+/// What is done with the actor of this name.
+fn act_by(
+    alloc: Global,
+    world: &mut World<MemFs>,
+    name: &ActorName,
+    deed: &Deed,
+    seen: &mut Vec<u8>,
+) {
+    match deed {
+        Deed::Mail(_, message, envelope) => {
+            let answer = world.start_mail(alloc, name, message, envelope);
+            tell(seen, name.as_slice(), answer);
+        }
+        Deed::Step(_) => {
+            let answer = world.step(alloc, name).map(|_| ());
+            tell(seen, name.as_slice(), answer);
+        }
+        Deed::Run(_) => {
+            run(alloc, world, name, seen);
+        }
+        Deed::Stop(_) => tell(seen, name.as_slice(), world.stop(name)),
+        _ => put(seen, &[b"no name\n"]),
+    }
+}
+
+/// What is done with all.
+fn act_on_all(alloc: Global, world: &mut World<MemFs>, deed: &Deed, seen: &mut Vec<u8>) {
+    match deed {
+        Deed::Sender => tell(seen, b"sender", world.start_generation(alloc)),
+        Deed::Turn => {
+            turn(alloc, world, seen);
+        }
+        Deed::Report(slot) => report(alloc, world, *slot, b"ok", seen),
+        Deed::Settle => settle(alloc, world, seen),
+        Deed::Show => put_names(alloc, seen, world.disk()),
+        _ => put(seen, &[b"a name\n"]),
+    }
+}
+
+/// The actor that it is done with; none if it is done with all.
+fn actor_of(deed: &Deed) -> Option<ActorName> {
+    match deed {
+        Deed::Mail(name, _, _) | Deed::Step(name) | Deed::Run(name) | Deed::Stop(name) => {
+            ActorName::of(name)
+        }
+        _ => None,
+    }
+}
+
+/// Does this.
+fn act(alloc: Global, world: &mut World<MemFs>, deed: &Deed, seen: &mut Vec<u8>) {
+    match actor_of(deed) {
+        Some(name) => act_by(alloc, world, &name, deed, seen),
+        None => act_on_all(alloc, world, deed, seen),
+    }
+}
+
+/// A disk with the directories of a queue and no file.
+fn queue_disk(alloc: Global) -> Result<MemFs, Memory> {
+    let dirs = queue_dirs(alloc)?;
+    let mut disk = MemFs::new(alloc, Vec::new(alloc), Vec::new(alloc))?;
+    let _ = disk.dir(alloc, b"control");
+    let _ = disk.dir(alloc, b"users");
+    for dir in &dirs {
+        let _ = disk.dir(alloc, dir.as_slice());
+    }
+    Ok(disk)
+}
+
+/// What is seen when all this is done with a world, in order.
+fn act_all(alloc: Global, mut world: World<MemFs>, deeds: &[Deed]) -> Vec<u8> {
+    let mut seen = Vec::new(alloc);
+    for deed in deeds {
+        act(alloc, &mut world, deed, &mut seen);
+    }
+    seen
+}
+
+/// The same, with a new world.
+pub fn seen_of(alloc: Global, deeds: &[Deed]) -> Result<Vec<u8>, Memory> {
+    let disk = queue_disk(alloc)?;
+    let world = World::new(alloc, disk)?;
+    Ok(act_all(alloc, world, deeds))
+}
