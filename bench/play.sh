@@ -1,14 +1,18 @@
 #!/usr/bin/env bash
-# bench/play.sh N: plays a script of N mails, each run to its end, and one show, and prints the seconds that it took.
+# bench/play.sh N [settle]: plays a script of N mails, each run to its end, and one show, and prints the seconds that it took. With
+# the word `settle` a generation delivers them all before the show.
 # The program is ./qmail, which `make build` leaves.
 set -eu
-count=${1:?usage: bench/play.sh N}
+count=${1:?usage: bench/play.sh N [settle]}
 top=$(cd "$(dirname "$0")/.." && pwd)
 script=$(mktemp)
 trap 'rm -f "$script"' EXIT
 for ((k = 1; k <= count; k++)); do
   printf 'mail m%d s%d@h.example r%d@h.example : body %d%%0A\nrun m%d\n' "$k" "$k" "$k" "$k" "$k"
 done > "$script"
+if [ "${2:-}" = settle ]; then
+  printf 'sender\nsettle K\n' >> "$script"
+fi
 echo show >> "$script"
 begun=$(date +%s.%N)
 lines=$("$top/qmail" play < "$script" | wc -l)

@@ -4,3 +4,7 @@ pub mod NamesAfter
 pub mod Gathered
 -- the message numbers that aren't in S1
 pub mod NumbersInUse
+-- where each record stands, as one recipient more comes
+pub mod Recorded
+-- what holds of the recipients of an envelope, as its bytes are read
+pub mod Envelopes

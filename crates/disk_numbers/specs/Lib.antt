@@ -1,2 +1,6 @@
 -- the numbers that have a file
 pub mod Numbers
+-- what the control files say
+pub mod Controls
+-- where the record of each recipient stands
+pub mod Routes

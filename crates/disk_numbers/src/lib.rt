@@ -1,7 +1,12 @@
-//! The names in a directory of a disk in memory, the message numbers that it holds, and their states: what `show` of a script
-//! prints of the disk. Its one contract: the numbers are exactly those that aren't in S1 (INTERNALS, "Queue structure").
+//! What `show` of a script reads of a disk in memory: the names in a directory, the message numbers that it holds with their
+//! states, what the control files say, and where these put the record of each recipient of a mail. Its contracts: the numbers
+//! are exactly those that aren't in S1 (INTERNALS, "Queue structure"), and each record is where preprocessing writes it.
 #![tactic(auto)]
 
+mod controls;
 mod numbers;
+mod routes;
 
-pub use numbers::{names_of, numbers_of, state_on};
+pub use controls::controls_on;
+pub use numbers::{is_there, names_of, numbers_of, state_on};
+pub use routes::{Routed, routes_of};

@@ -5,16 +5,17 @@ use Rattle.std.specs.List.{list_all}
 use Rattle.std.specs.Str.{bytes_eq}
 use Rattle.std.proofs.lemmas.List.Elements.{Contains-append_right}
 use Rattle.std.proofs.lemmas.Slice.Eq.{bytes_eq-Decides}
-use Rattle.script_words.specs.declared.envelope.Form.TheVariants.{Written, Raw}
+use Rattle.script_words.specs.declared.envelope.Form.TheVariants.{Written}
 use Rattle.script_words.proofs.Cuts.{lacks}
 use Rattle.play_lines.specs.declared.keyword.Keyword.{Keyword}
-use Rattle.play_lines.specs.declared.keyword.Keyword.TheVariants.{Mail, Alone, Actor, Count, Moment, Survival, Word}
+use Rattle.play_lines.specs.declared.keyword.Keyword.TheVariants.{Mail, Alone, Actor, Count, Moment, Survival, Word, Letter, Report}
 use Rattle.play_lines.specs.declared.keyword.Alone.TheVariants as alone
 use Rattle.play_lines.specs.declared.keyword.OfActor.TheVariants as of_actor
 use Rattle.play_lines.specs.declared.keyword.OfCount.TheVariants as of_count
 use Rattle.play_lines.specs.declared.keyword.OfMoment.TheVariants as of_moment
 use Rattle.play_lines.specs.declared.keyword.OfSurvival.TheVariants as of_survival
 use Rattle.play_lines.specs.declared.keyword.OfWord.TheVariants as of_word
+use Rattle.play_lines.specs.declared.keyword.OfLetter.TheVariants as of_letter
 use Rattle.play_lines.specs.Keywords.{keyword_text, keywords, keyword_texts}
 
 -- Each of the next two is computed for every word; the first of each kind tells the kinds apart.
@@ -28,6 +29,8 @@ plain (Count of_count.Fault) = refl
 plain (Moment of_moment.Moment) = refl
 plain (Survival of_survival.Halt) = refl
 plain (Word of_word.Cat) = refl
+plain (Letter of_letter.Settle) = refl
+plain Report = refl
 plain k = refl
 
 pub keyword_lacks : (k : Keyword) → ¬ (Contains (keyword_text k) 32)
@@ -47,6 +50,8 @@ own_row (Count of_count.Fault) = refl
 own_row (Moment of_moment.Moment) = refl
 own_row (Survival of_survival.Halt) = refl
 own_row (Word of_word.Cat) = refl
+own_row (Letter of_letter.Settle) = refl
+own_row Report = refl
 own_row k = refl
 
 -- so two words have two texts

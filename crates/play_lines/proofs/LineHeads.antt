@@ -3,18 +3,19 @@ use Rattle.std.proofs.Common.{◌≡◌, ℕ, List, [], ◌∷◌, ◌++◌, Con
 use Rattle.std.specs.Prelude.{codes}
 use Rattle.mail_bytes.specs.Decimal.{digits}
 use Rattle.script_words.specs.declared.envelope.Form.TheVariants.{Written, Raw}
+use Rattle.script_words.specs.declared.letter.Letter.{Letter as LetterOf}
 use Rattle.script_words.specs.declared.entry.Entry.{Entry}
 use Rattle.script_words.specs.declared.entry.Entry.TheVariants.{File, Dir}
 use Rattle.script_words.specs.Entries.{IsEntryLine}
-use Rattle.script_words.specs.Words.{joined, survival_text}
-use Rattle.script_words.specs.Reading.{CutsAt, IsCut}
+use Rattle.script_words.specs.Words.{joined, survival_text, letter_text}
+use Rattle.script_words.specs.Reading.{CutsAt, IsCut, IsReport}
 use Rattle.script_words.proofs.Cuts.{not-cut, same-cut, lacks}
 use Rattle.play_lines.specs.declared.keyword.Keyword.{Keyword}
 use Rattle.play_lines.specs.declared.keyword.Keyword.TheVariants as keyword
 use Rattle.play_lines.specs.declared.line.Line.{Line}
-use Rattle.play_lines.specs.declared.line.Line.TheVariants.{Mail, Alone, Actor, Count, Moment, Survival, Word}
+use Rattle.play_lines.specs.declared.line.Line.TheVariants.{Mail, Alone, Actor, Count, Moment, Survival, Word, Letter, Report}
 use Rattle.play_lines.specs.Keywords.{keyword_text, keywords, keyword_texts}
-use Rattle.play_lines.specs.Lines.{IsLine}
+use Rattle.play_lines.specs.Lines.{IsLine, IsReportLine}
 use Rattle.play_lines.specs.Reading.{CanFollow}
 use Rattle.play_lines.proofs.Keywords.{keyword_lacks, one_keyword, is_listed, row_in, no_row}
 use Rattle.play_lines.proofs.MailLines.{has_mail, has_raw}
@@ -29,6 +30,8 @@ keyword_in text (Count first n) h = keyword.Count first
 keyword_in text (Moment first m) h = keyword.Moment first
 keyword_in text (Survival first how) h = keyword.Survival first
 keyword_in text (Word first read) h = keyword.Word first
+keyword_in text (Letter first letter) h = keyword.Letter first
+keyword_in text (Report slot letter report) h = keyword.Report
 
 -- what stands after its space
 abbrev pub after_in : (text : List ℕ) (line : Line) → IsLine text line → Option (List ℕ)
@@ -40,6 +43,8 @@ after_in text (Count first n) h = Some (digits n)
 after_in text (Moment first m) h = Some (digits m)
 after_in text (Survival first how) h = Some (survival_text how)
 after_in text (Word first read) h = Some h.0
+after_in text (Letter first letter) h = Some (letter_text letter)
+after_in text (Report slot letter report) h = Some (joined (digits slot ∷ letter_text letter ∷ h.word ∷ []))
 
 pub cuts_in : (text : List ℕ) (line : Line) (h : IsLine text line) → CutsAt text 32 (keyword_text (keyword_in text line h)) (after_in text line h)
 cuts_in text (Mail name message envelope) (inl h) = h.2.words
@@ -50,6 +55,15 @@ cuts_in text (Count first n) h = h.0
 cuts_in text (Moment first m) h = h.0
 cuts_in text (Survival first how) h = h.0
 cuts_in text (Word first read) h = h.1
+cuts_in text (Letter first letter) h = h
+cuts_in text (Report slot letter report) h = h.words
+
+-- what a report has after its first word
+pub words_of : (text : List ℕ) (slot : ℕ) (letter : LetterOf) (report : List ℕ) (h : IsReportLine text slot letter report) → IsReport (joined (digits slot ∷ letter_text letter ∷ h.word ∷ [])) slot letter report
+words_of text slot letter report h = record { word = h.word; words_are = refl; is_slot = h.is_slot; stands = h.is_report }
+
+pub report_line : (words : List ℕ) (slot : ℕ) (letter : LetterOf) (report : List ℕ) → IsReport words slot letter report → IsReportLine (codes "report" ++ 32 ∷ words) slot letter report
+report_line words slot letter report h = record { word = h.word; words = ap (λ t. codes "report" ++ 32 ∷ t) h.words_are; is_slot = h.is_slot; is_report = h.stands }
 
 -- it is of the kind that the word has
 argument_in : (text : List ℕ) (line : Line) (h : IsLine text line) → CanFollow (keyword_in text line h) (after_in text line h)
@@ -61,6 +75,8 @@ argument_in text (Count first n) h = (n, h.1, refl)
 argument_in text (Moment first m) h = (m, h.1, refl)
 argument_in text (Survival first how) h = (how, h.1, refl)
 argument_in text (Word first read) h = (read, h.2)
+argument_in text (Letter first letter) h = (letter, refl)
+argument_in text (Report slot letter report) h = (slot, letter, report, words_of text slot letter report h)
 
 -- a text that is cut at its first space begins with one word
 pub same_parts : (text word : List ℕ) (rest : Option (List ℕ)) (k : Keyword) (after : Option (List ℕ)) → IsCut text 32 word rest → CutsAt text 32 (keyword_text k) after → (word ≡ keyword_text k) × (rest ≡ after)

@@ -11,17 +11,19 @@ use Rattle.mail_bytes.proofs.Digits.{digits_injective}
 use Rattle.call_fs.specs.declared.crash_file_system.Survival.{Survival as Survives}
 use Rattle.call_fs.specs.declared.crash_file_system.Survival.TheVariants.{Keep, Lose, Junk}
 use Rattle.script_words.specs.declared.envelope.Form.TheVariants.{Written, Raw}
-use Rattle.script_words.specs.Words.{joined, StandsFor, StandsForText, HasBody, envelope_bytes, survival_text}
+use Rattle.script_words.specs.Reading.{IsReport}
+use Rattle.script_words.specs.Words.{joined, StandsFor, StandsForText, HasBody, envelope_bytes, survival_text, letter_text}
 use Rattle.script_words.proofs.Cuts.{same-cut, not-cut}
 use Rattle.script_words.proofs.WordLists.{front, joined-front, joined-more, colon-alone, Ends}
 use Rattle.script_words.proofs.Envelopes.{text_lacks, body-ends}
 use Rattle.script_words.proofs.EntryTexts.{read_one, one_message, other_first}
+use Rattle.script_words.proofs.Reports.{one_letter, one_report}
 use Rattle.play_lines.specs.declared.keyword.Keyword.{Keyword}
 use Rattle.play_lines.specs.declared.keyword.Keyword.TheVariants as keyword
 use Rattle.play_lines.specs.declared.line.Line.{Line}
-use Rattle.play_lines.specs.declared.line.Line.TheVariants.{Mail, Alone, Actor, Count, Moment, Survival, Word}
+use Rattle.play_lines.specs.declared.line.Line.TheVariants.{Mail, Alone, Actor, Count, Moment, Survival, Word, Letter, Report}
 use Rattle.play_lines.specs.Lines.{IsMailLine, IsRawLine, IsLine, IsUnbroken, ended}
-use Rattle.play_lines.proofs.LineHeads.{keyword_in, after_in, cuts_in, one_head}
+use Rattle.play_lines.proofs.LineHeads.{keyword_in, after_in, cuts_in, one_head, words_of}
 use Rattle.play_lines.proofs.MailLines.{name_lacks}
 
 -- What words and a rest stand for
@@ -130,6 +132,8 @@ kind_of (keyword.Count first) = 4
 kind_of (keyword.Moment first) = 5
 kind_of (keyword.Survival first) = 6
 kind_of (keyword.Word first) = 7
+kind_of (keyword.Letter first) = 8
+kind_of keyword.Report = 9
 
 other_kind : (text : List ℕ) (l m : Line) (h : IsLine text l) (k : IsLine text m) → (kind_of (keyword_in text l h) == kind_of (keyword_in text m k)) ≡ false → ⊥
 other_kind text l m h k apart =
@@ -162,6 +166,18 @@ one_line text (Word first read) (Word first' read') h k =
     let same = one_head text (keyword.Word first) (keyword.Word first') (Some h.0) (Some k.0) h.1 k.1 in
     let word : keyword.Word first ≡ keyword.Word first' = same.0 in
     let argument : read ≡ read' = read_one k.0 read read' (subst (λ (w : List ℕ). unescaped w ≡ Ok read) (some_same same.1) h.2.bytes) k.2.bytes in cc
+one_line text (Letter first letter) (Letter first' letter') h k =
+    let same = one_head text (keyword.Letter first) (keyword.Letter first') (Some (letter_text letter)) (Some (letter_text letter')) h k in
+    let word : keyword.Letter first ≡ keyword.Letter first' = same.0 in
+    let argument : letter ≡ letter' = one_letter letter letter' (some_same same.1) in cc
+one_line text (Report slot letter report) (Report slot' letter' report') h k =
+    let words = joined (digits slot ∷ letter_text letter ∷ h.word ∷ []) in
+    let others = joined (digits slot' ∷ letter_text letter' ∷ k.word ∷ []) in
+    let rest : words ≡ others = some_same (one_head text keyword.Report keyword.Report (Some words) (Some others) h.words k.words).1 in
+    let same = one_report others report report' slot slot' letter letter' (subst (λ (t : List ℕ). IsReport t slot letter report) rest (words_of text slot letter report h)) (words_of text slot' letter' report' k) in
+    let slots : slot ≡ slot' = same.0 in
+    let letters : letter ≡ letter' = same.1 in
+    let reports : report ≡ report' = same.2 in cc
 one_line text (Mail name message envelope) m (inl h) k = absurd (other_kind text (Mail name message envelope) m (inl h) k refl)
 one_line text (Mail name message envelope) m (inr h) k = absurd (other_kind text (Mail name message envelope) m (inr h) k refl)
 one_line text l (Mail name message envelope) h (inl k) = absurd (other_kind text l (Mail name message envelope) h (inl k) refl)

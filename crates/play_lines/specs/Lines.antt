@@ -4,7 +4,8 @@ use Rattle.std.specs.List.{AllZip, filter}
 use Rattle.mail_bytes.specs.Decimal.{digits}
 use Rattle.mail_bytes.specs.Lists.{last_of}
 use Rattle.mail_bytes.specs.Moments.{IsMoment}
-use Rattle.script_words.specs.Words.{joined, StandsFor, StandsForText, HasBody, envelope_bytes, IsCount, IsCounted, survival_text, IsSeeded}
+use Rattle.script_words.specs.declared.letter.Letter.{Letter}
+use Rattle.script_words.specs.Words.{joined, StandsFor, StandsForText, HasBody, envelope_bytes, IsCount, IsCounted, survival_text, IsSeeded, letter_text, IsSlot}
 use Rattle.actor_names.specs.MailNames.{IsMailName, members}
 use Rattle.play_lines.specs.declared.error.ScriptError.{ScriptError}
 use Rattle.play_lines.specs.declared.error.ScriptError.TheVariants as fault
@@ -51,9 +52,16 @@ pub record IsRawLine (text name envelope body : List ℕ) : Type 0 where
   pub is_envelope : StandsForText word envelope
   pub has_body : HasBody rest body
 
+-- `report SLOT LETTER TEXT`
+pub record IsReportLine (text : List ℕ) (slot : ℕ) (letter : Letter) (report : List ℕ) : Type 0 where
+  pub word : List ℕ
+  pub words : text ≡ joined (codes "report" ∷ digits slot ∷ letter_text letter ∷ word ∷ [])
+  pub is_slot : IsSlot slot
+  pub is_report : StandsFor word report
+
 -- Which text is which line. A mail's message is its body; its envelope is that of its sender and recipients, or the
--- one of a `raw` line. Any other line is its first word and one argument of that word's kind, or none. A number and a
--- moment are decimal texts without leading zeros.
+-- one of a `raw` line. A report has three words. Any other line is its first word and one argument of that word's kind, or
+-- none. A number, a moment and a slot are decimal texts without leading zeros.
 abbrev pub IsLine : List ℕ → Line → Type 0
 IsLine text (line.Mail name message envelope) =
     ((sender : List ℕ) × (recipients : List (List ℕ)) × IsMailLine text name sender recipients message × (envelope ≡ envelope_bytes sender recipients))
@@ -64,6 +72,8 @@ IsLine text (line.Count first n) = (text ≡ joined (keyword_text (keyword.Count
 IsLine text (line.Moment first m) = (text ≡ joined (keyword_text (keyword.Moment first) ∷ digits m ∷ [])) × IsMoment m
 IsLine text (line.Survival first how) = (text ≡ joined (keyword_text (keyword.Survival first) ∷ survival_text how ∷ [])) × IsSeeded how
 IsLine text (line.Word first read) = (word : List ℕ) × (text ≡ joined (keyword_text (keyword.Word first) ∷ word ∷ [])) × StandsFor word read
+IsLine text (line.Letter first letter) = text ≡ joined (keyword_text (keyword.Letter first) ∷ letter_text letter ∷ [])
+IsLine text (line.Report slot letter report) = IsReportLine text slot letter report
 
 -- the most bytes that a line may have, its newline not counted
 abbrev pub most_in_line : ℕ

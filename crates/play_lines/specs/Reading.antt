@@ -7,9 +7,10 @@ use Rattle.call_fs.specs.declared.crash_file_system.Survival.{Survival}
 use Rattle.actor_names.specs.MailNames.{IsMailName}
 use Rattle.script_words.specs.declared.envelope.Form.{Form}
 use Rattle.script_words.specs.declared.entry.Entry.{Entry}
-use Rattle.script_words.specs.Words.{StandsFor, IsCounted, survival_text, IsSeeded}
+use Rattle.script_words.specs.declared.letter.Letter.{Letter}
+use Rattle.script_words.specs.Words.{StandsFor, IsCounted, survival_text, IsSeeded, letter_text}
 use Rattle.script_words.specs.Entries.{IsEntryLine, Agree}
-use Rattle.script_words.specs.Reading.{HasEnvelopeAs}
+use Rattle.script_words.specs.Reading.{HasEnvelopeAs, IsReport}
 use Rattle.play_lines.specs.declared.keyword.Keyword.{Keyword}
 use Rattle.play_lines.specs.declared.keyword.Keyword.TheVariants as keyword
 use Rattle.play_lines.specs.declared.line.Line.{Line}
@@ -37,6 +38,8 @@ CanFollow (keyword.Count first) (Some rest) = (n : ℕ) × IsCounted n × (rest 
 CanFollow (keyword.Moment first) (Some rest) = (m : ℕ) × IsMoment m × (rest ≡ digits m)
 CanFollow (keyword.Survival first) (Some rest) = (how : Survival) × IsSeeded how × (rest ≡ survival_text how)
 CanFollow (keyword.Word first) (Some rest) = (read : List ℕ) × StandsFor rest read
+CanFollow (keyword.Letter first) (Some rest) = (letter : Letter) × (rest ≡ letter_text letter)
+CanFollow keyword.Report (Some rest) = (slot : ℕ) × (letter : Letter) × (report : List ℕ) × IsReport rest slot letter report
 CanFollow other rest = ⊥
 
 -- the first line of some bytes, and what stands after its newline

@@ -11,6 +11,10 @@ pub enum Alone {
     Trace,
     /// Prints what the queue holds, and how each mail fares.
     Show,
+    /// Starts a generation: a sender, a cleaner and two spawners.
+    Sender,
+    /// Runs each living actor once, in order of start.
+    Turn,
 }
 
 /// The words that the name of an actor follows.
@@ -54,6 +58,13 @@ pub enum OfWord {
     Cat,
 }
 
+/// The words that the letter of a report follows.
+#[derive(Clone, Copy)]
+pub enum OfLetter {
+    /// Rounds of a turn and of reports with this letter, until only idle turns are left.
+    Settle,
+}
+
 /// The first word of a line, by the kind of its argument.
 #[derive(Clone, Copy)]
 pub(crate) enum Keyword {
@@ -71,6 +82,10 @@ pub(crate) enum Keyword {
     Survival(OfSurvival),
     /// A word for a text.
     Word(OfWord),
+    /// The letter of a report.
+    Letter(OfLetter),
+    /// A slot, the letter of a report, and a word for a text.
+    Report,
 }
 
 /// The row of a word; `None` exactly if no line begins with it.
@@ -83,6 +98,8 @@ pub(crate) fn keyword_of(word: &[u8]) -> Option<Keyword>
         b"raw" => Some(Keyword::Mail(Form::Raw)),
         b"trace" => Some(Keyword::Alone(Alone::Trace)),
         b"show" => Some(Keyword::Alone(Alone::Show)),
+        b"sender" => Some(Keyword::Alone(Alone::Sender)),
+        b"turn" => Some(Keyword::Alone(Alone::Turn)),
         b"step" => Some(Keyword::Actor(OfActor::Step)),
         b"run" => Some(Keyword::Actor(OfActor::Run)),
         b"stop" => Some(Keyword::Actor(OfActor::Stop)),
@@ -91,6 +108,8 @@ pub(crate) fn keyword_of(word: &[u8]) -> Option<Keyword>
         b"moment" => Some(Keyword::Moment(OfMoment::Moment)),
         b"halt" => Some(Keyword::Survival(OfSurvival::Halt)),
         b"cat" => Some(Keyword::Word(OfWord::Cat)),
+        b"settle" => Some(Keyword::Letter(OfLetter::Settle)),
+        b"report" => Some(Keyword::Report),
         _ => None,
     }
 }

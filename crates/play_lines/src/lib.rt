@@ -13,7 +13,7 @@ mod reading;
 mod script;
 
 pub use error::ScriptError;
-pub use keyword::{Alone, OfActor, OfCount, OfMoment, OfSurvival, OfWord};
+pub use keyword::{Alone, OfActor, OfCount, OfLetter, OfMoment, OfSurvival, OfWord};
 pub use line::Line;
 pub use reading::{MAX_SCRIPT, read_script};
 pub use script::Script;

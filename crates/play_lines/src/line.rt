@@ -1,10 +1,10 @@
 // A line of a script.
 
-use crate::{Alone, OfActor, OfCount, OfMoment, OfSurvival, OfWord};
+use crate::{Alone, OfActor, OfCount, OfLetter, OfMoment, OfSurvival, OfWord};
 use actor_names::ActorName;
 use call_fs::Survival;
 use mail_bytes::ByteText;
-use script_words::{Count, Moment};
+use script_words::{Count, Letter, Moment};
 
 /// A line of a script: its first word, and its argument.
 #[derive(Drop)]
@@ -30,4 +30,15 @@ pub enum Line {
     Survival(OfSurvival, Survival),
     /// A word, and the text that another word stands for.
     Word(OfWord, ByteText),
+    /// A word, and the letter of a report.
+    Letter(OfLetter, Letter),
+    /// `report`: the remote program in a slot ends, and this is its report.
+    Report {
+        /// The slot.
+        slot: u8,
+        /// The letter of its message report.
+        letter: Letter,
+        /// The text after that letter.
+        text: ByteText,
+    },
 }

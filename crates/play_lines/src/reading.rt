@@ -4,6 +4,7 @@ ghost use Rattle.script_words.specs.Entries.{IsEntryPath, path_of};
 ghost use Rattle.script_words.specs.Reading.{form_text};
 ghost use Rattle.actor_names.specs.MailNames.{IsMailName};
 ghost use Rattle.play_lines.specs.declared.line.Line.{Line};
+ghost use Rattle.play_lines.specs.declared.keyword.Keyword.TheVariants as KeywordOf;
 ghost use Rattle.play_lines.specs.Contents.{Content, with_entry};
 ghost use Rattle.play_lines.specs.Lines.{IsActorName, IsChildName, child_kinds, is_remark, IsLine, IsScript, IsScriptFault};
 ghost use Rattle.play_lines.specs.Keywords.{keyword_text};
@@ -15,7 +16,8 @@ use actor_names::{ActorName, is_mail_name, is_member};
 use mail_bytes::ByteText;
 use script_words::{
     Entry, Form, WordError, bytes_of, cut, first_word, is_count, may_follow, read_counted,
-    read_entry, read_envelope_as, read_last_word, read_moment, read_survival,
+    read_entry, read_envelope_as, read_last_word, read_letter, read_moment, read_report,
+    read_survival,
 };
 use std::alloc::Global;
 
@@ -134,6 +136,7 @@ fn read_alone(keyword: Keyword) -> Result<Line, WordError>
         Keyword::Alone(word) => Ok(Line::Alone(word)),
         Keyword::Mail(_) | Keyword::Actor(_) | Keyword::Count(_) => Err(WordError::Malformed),
         Keyword::Moment(_) | Keyword::Survival(_) | Keyword::Word(_) => Err(WordError::Malformed),
+        Keyword::Letter(_) | Keyword::Report => Err(WordError::Malformed),
     }
 }
 
@@ -150,7 +153,18 @@ fn read_argument(alloc: Global, keyword: Keyword, rest: &[u8]) -> Result<Line, W
         Keyword::Moment(word) => Ok(Line::Moment(word, read_moment(rest)?)),
         Keyword::Survival(word) => Ok(Line::Survival(word, read_survival(rest)?)),
         Keyword::Word(word) => Ok(Line::Word(word, read_last_word(alloc, rest)?)),
+        Keyword::Letter(word) => Ok(Line::Letter(word, read_letter(rest)?)),
+        Keyword::Report => read_report_line(alloc, rest),
     }
+}
+
+/// Reads what follows `report` and a space: a slot, the letter of a report and a word for a text.
+fn read_report_line(alloc: Global, words: &[u8]) -> Result<Line, WordError>
+    ensures ok { IfOk result (IsLine (keyword_text KeywordOf.Report ++ 32 ∷ words.now)) }
+    ensures err { IfErr result (λ why. why ≡ WordError.Malformed → ¬ (CanFollow KeywordOf.Report (Some words.now))) }
+{
+    let (slot, letter, text) = read_report(alloc, words)?;
+    Ok(Line::Report { slot, letter, text })
 }
 
 /// Reads the name of an actor.

@@ -7,8 +7,10 @@ use Rattle.qmail_top.specs.declared.play_command.Failure.{Failure}
 use Rattle.qmail_top.specs.declared.play_command.Failure.TheVariants.{Memory, Output, Input, Malformed}
 use Rattle.play_lines.specs.Lines.{IsScript, IsBadLine, IsRefused, most_bytes}
 use Rattle.mem_fs.proofs.InTurn.{told_weaker}
+use Rattle.mail_world.specs.History.{Legal}
 use Rattle.sender_law.proofs.Exist.{controls_exist}
 use Rattle.world_law.proofs.Alone.{stays_safe}
+use Rattle.world_law.proofs.Histories.{headline}
 use Rattle.qmail_top.specs.SafePlays.{IsSafePrefixAtMost, PrintsSafely}
 use Rattle.qmail_top.specs.Command.{Counted, HasReason, status_of, IsReading, IsChecked}
 use Rattle.scenario.specs.Text.{BeginsAtMost, IsPrefixAtMost, Prints, script_line, IsTakenText, PrintsBadLine}
@@ -87,7 +89,8 @@ safely script text prints =
       prints = prints;
       controls = has.0;
       has = has.1;
-      safe = stays_safe played.disk played.history played.legal played.alone;
+      safe = λ later before is. headline has.0 played.disk later before has.1 (subst (Legal played.disk) (sym is) played.legal);
+      alone = stays_safe played.disk played.history played.legal;
     }
 
 pub all_safely : (done : Type 0) (left old new : Option (List ℕ))

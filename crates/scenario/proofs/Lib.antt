@@ -4,22 +4,52 @@ pub mod Printed
 pub mod Dirs
 -- directories that are made if they are missing, and entries
 pub mod MadeDirs
+-- which event a kept one tells
+pub mod KeptEvents
+-- what is known of a world is so after each history
+pub mod Knowing
+-- who waits in a world waits
+pub mod Waiting
 -- a step of a world, as a step of a script
 pub mod ScriptSteps
 -- the steps of a run
 pub mod ScriptRuns
+-- the next living actor
+pub mod NextLiving
+-- the parts of a turn and the rounds of `settle`
+pub mod TurnRuns
+-- a turn goes through the starts, and comes to its end
+pub mod TurnStarts
+-- the searches among the events that came
+pub mod Searches
 -- the lines of a script as they are played
 pub mod ScriptLines
+-- `sender` and `report`
+pub mod GenerationLines
 -- `stop` and `moment`
 pub mod StopsAndMoments
 -- the events that a line adds
 pub mod Tracings
+-- what a sender's taking adds to its marks
+pub mod Takings
+-- the lives of messages
+pub mod Lives
+-- they follow the state
+pub mod Followed
+-- the lines of mails
+pub mod EachMail
 -- what was printed is what a history shows
 pub mod Showings
+-- the first events of a history
+pub mod Oldest
 -- lists in one strict order with the same members are one
 pub mod OneOrder
+-- lists whose elements follow one after the other
+pub mod Chains
 -- a step comes to one outcome, and a run is one list of steps
 pub mod OneStep
+-- a turn is one list of parts, and `settle` one list of rounds
+pub mod OneTurn
 -- what is shown is one text
 pub mod OneShown
 -- a script prints one text
@@ -40,6 +70,16 @@ pub mod OneFirstDisk
 pub mod SingleNames
 -- a history may begin with it
 pub mod Openings
+-- what a step comes to, by whether its actor lives
+pub mod Outcomes
+-- runs, turns and `settle` come to their end
+pub mod Endings
+-- reports and rounds, by what the calls of a world tell
+pub mod TurnSteps
+-- one round of `settle`, and its rounds so far
+pub mod RoundSteps
+-- the parts of a turn, by what the calls of a world tell
+pub mod TurnParts
 -- each script has a text
 pub mod WholePlays
 -- what a sink took of a line

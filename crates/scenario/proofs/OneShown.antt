@@ -34,7 +34,7 @@ one_numbers d xs ys p q =
 pub one_shown : (d : Disk) (h : List Event) (t u : List ℕ) → IsShown d h t → IsShown d h u → t ≡ u
 one_shown d h t u p q =
     let now = (after d h).disk in
-    let rest = all_mail_lines (after d h) h in
+    let rest = all_mail_lines d h in
     p.text_is
     ∙ ap (λ (names : List (List ℕ)). pid_line names ++ (flat_map (number_line now) p.numbers ++ rest)) (one_names now (codes "pid") p.pids q.pids p.are_pids q.are_pids)
     ∙ ap (λ (numbers : List ℕ). pid_line q.pids ++ (flat_map (number_line now) numbers ++ rest)) (one_numbers now p.numbers q.numbers p.are_numbers q.are_numbers)

@@ -15,6 +15,7 @@ use Rattle.play_lines.specs.declared.line.Line.TheVariants as line
 use Rattle.play_lines.specs.declared.keyword.Alone.TheVariants as alone
 use Rattle.play_lines.specs.declared.keyword.OfActor.TheVariants as of_actor
 use Rattle.play_lines.specs.declared.keyword.OfCount.TheVariants as of_count
+use Rattle.play_lines.specs.declared.keyword.OfLetter.TheVariants as of_letter
 use Rattle.play_lines.specs.declared.keyword.OfMoment.TheVariants as of_moment
 use Rattle.play_lines.specs.declared.keyword.OfSurvival.TheVariants as of_survival
 use Rattle.play_lines.specs.declared.keyword.OfWord.TheVariants as of_word
@@ -23,7 +24,9 @@ use Rattle.scenario.specs.FirstDisk.{IsFirstDisk}
 use Rattle.scenario.specs.Played.{Outcome, StopsAlive, StopComesTo, MomentComesTo, NumberComesTo, plan_after, outcome_events, printed, next_pid, Plays, PlaysAll}
 use Rattle.scenario.specs.Traced.{traced_after, traced_text}
 use Rattle.scenario.specs.Text.{IsPlayed, Prints, IsBegun, BeginsToPrint, IsPrefix}
+use Rattle.scenario.specs.Turns.{events_of, text_of, events_in}
 use Rattle.scenario.proofs.OneStep.{one_step, one_start, one_run}
+use Rattle.scenario.proofs.OneTurn.{one_turn, one_settled}
 use Rattle.scenario.proofs.OneShown.{one_shown}
 use Rattle.scenario.proofs.OneOrder.{one_order}
 use Rattle.scenario.proofs.OneFirstDisk.{one_disk}
@@ -65,7 +68,7 @@ one_number_text d n t u (inr p) (inr q) = p.1 ∙ sym q.1
 one_play : (d : Disk) (h : List Event) (plan : Plan) (l : Line) (e f : List Event) (t u : List ℕ) → Plays d h plan l e t → Plays d h plan l f u → (e ≡ f) × (t ≡ u)
 one_play d h plan (line.Mail name message envelope) e f t u p q =
     by_outcome name p.0 q.0 e f t u (one_start (after d h) name (mail (next_pid h) (after d h).now message envelope) p.0 q.0 p.1 q.1) p.2 q.2 p.3 q.3
-one_play d h plan (line.Actor of_actor.Step actor) e f t u p q = by_outcome actor p.0 q.0 e f t u (one_step plan (after d h) actor p.0 q.0 p.1 q.1) p.2 q.2 p.3 q.3
+one_play d h plan (line.Actor of_actor.Step actor) e f t u p q = by_outcome actor p.0 q.0 e f t u (one_step d h plan actor p.0 q.0 p.1 q.1) p.2 q.2 p.3 q.3
 one_play d h plan (line.Actor of_actor.Run actor) e f t u p q = one_run d h plan actor e f t u p q
 one_play d h plan (line.Actor of_actor.Stop actor) e f t u p q =
     by_outcome actor p.0 q.0 e f t u (one_stop actor ((after d h).actors actor) p.0 q.0 p.1 q.1) p.2 q.2 p.3 q.3
@@ -80,6 +83,14 @@ one_play d h plan (line.Moment of_moment.Moment m) e f t u p q =
 one_play d h plan (line.Alone alone.Trace) e f t u p q = (p.0 ∙ sym q.0, p.1 ∙ sym q.1)
 one_play d h plan (line.Word of_word.Cat path) e f t u p q = (p.0 ∙ sym q.0, p.1 ∙ sym q.1)
 one_play d h plan (line.Alone alone.Show) e f t u p q = (p.0 ∙ sym q.0, one_shown d h t u p.1 q.1)
+one_play d h plan (line.Alone alone.Sender) e f t u p q = (p.0 ∙ sym q.0, p.1 ∙ sym q.1)
+one_play d h plan (line.Alone alone.Turn) e f t u p q =
+    let same : p.0 ≡ q.0 = one_turn d h plan p.0 q.0 p.1 q.1 in
+    (p.2 ∙ ap events_of same ∙ sym q.2, p.3 ∙ ap text_of same ∙ sym q.3)
+one_play d h plan (line.Letter of_letter.Settle letter) e f t u p q =
+    let same = one_settled d h plan letter p.0 q.0 t u p.1 q.1 in
+    (p.2 ∙ ap (events_in letter) same.0 ∙ sym q.2, same.1)
+one_play d h plan (line.Report slot letter word) e f t u p q = (p.0 ∙ sym q.0, p.1 ∙ sym q.1)
 
 -- what a line prints, of the events that it adds and of itself
 same_print : (traced : Bool) (e f : List Event) (t u : List ℕ) → (e ≡ f) × (t ≡ u) → traced_text traced e ++ t ≡ traced_text traced f ++ u

@@ -62,10 +62,27 @@ no_part Bounce n = none_of 98 (path (Of Bounce n)) refl (λ e. omega arith) (λ 
 
 -- What entries keep
 
+-- each name has a file of its own
+abbrev pub HaveOwn : (List ℕ → Option ℕ) → Type 0
+HaveOwn names = (a b : List ℕ) (n : ℕ) → names a ≡ Some n → names b ≡ Some n → a ≡ b
+
+own_put : (names : List ℕ → Option ℕ) (name : List ℕ) (m : ℕ) → ((other : List ℕ) → names other ≢ Some m) → HaveOwn names → HaveOwn (put_at names name (Some m))
+own_put names name m free own a b n p q = ⊎_elim
+    (λ h. ⊎_elim
+    (λ k. h.0 ∙ sym k.0)
+    (λ k. absurd (free b (sym k.1 ∙ q ∙ sym p ∙ h.1)))
+    (put_at_cases names name (Some m) b))
+    (λ h. ⊎_elim
+    (λ k. absurd (free a (sym h.1 ∙ p ∙ sym q ∙ k.1)))
+    (λ k. own a b n (sym h.1 ∙ p) (sym k.1 ∙ q))
+    (put_at_cases names name (Some m) b))
+    (put_at_cases names name (Some m) a)
+
 -- all that a play needs of the disk that it begins with
 pub record IsReady (d : Disk) : Type 0 where
   pub dirs : (dir : List ℕ) → Contains queue_dirs dir → Contains d.dirs dir
   pub entries : (name : List ℕ) (n : ℕ) → d.names name ≡ Some n → IsEntryPath name
+  pub own : HaveOwn d.names
   pub shut : (fd : ℕ) → d.opens fd ≡ None
   pub synced : (n : ℕ) → IsSynced (d.files n) (d.files n).bytes
   pub lasting : AreLasting d
@@ -87,6 +104,7 @@ ready_bare : (d : Disk) → IsBareDisk d → IsReady d
 ready_bare d is = record {
   dirs = λ dir there. subst (λ (l : List (List ℕ)). Contains l dir) (sym is.dirs) (Contains-append_right (codes "control" ∷ codes "users" ∷ codes "home" ∷ []) queue_dirs dir there);
   entries = λ name n named. let none = sym (is.empty name) ∙ named in absurd (cc);
+  own = λ a b n named other. let none = sym (is.empty a) ∙ named in absurd (cc);
   shut = is.shut;
   synced = λ n. subst IsWhole (sym (is.fresh n)) (synced_file []);
   lasting = λ n. subst Lasts (sym (is.fresh n)) (lasting_empty 0);
@@ -97,6 +115,7 @@ ready_dir : (d : Disk) (dir : List ℕ) → IsReady d → IsReady (with_dir d di
 ready_dir d dir is = record {
   dirs = λ other there. Contains-append_left d.dirs (dir ∷ []) other (is.dirs other there);
   entries = is.entries;
+  own = is.own;
   shut = is.shut;
   synced = is.synced;
   lasting = is.lasting;
@@ -117,6 +136,7 @@ ready_file : (d : Disk) (m : ℕ) (bytes : List ℕ) → IsReady d → IsReady (
 ready_file d m bytes is = record {
   dirs = is.dirs;
   entries = is.entries;
+  own = is.own;
   shut = is.shut;
   synced = synced_put d.files m bytes is.synced;
   lasting = lasting_put d.files m (settled_file bytes) is.lasting (lasts-settled bytes (empty_file 0));
@@ -125,14 +145,15 @@ ready_file d m bytes is = record {
       record { texts = f.texts; named = f.named; descriptors = f.descriptors; within = f.within };
 }
 
-ready_new : (d : Disk) (name bytes : List ℕ) (m : ℕ) → IsEntryPath name → IsReady d
+ready_new : (d : Disk) (name bytes : List ℕ) (m : ℕ) → IsEntryPath name → ((other : List ℕ) → d.names other ≢ Some m) → IsReady d
     → IsReady (record { dirs = d.dirs; names = put_at d.names name (Some m); files = put d.files m (settled_file bytes); opens = d.opens })
-ready_new d name bytes m entry is = record {
+ready_new d name bytes m entry free is = record {
   dirs = is.dirs;
   entries = λ other n named. ⊎_elim
       (λ h. subst IsEntryPath (sym h.0) entry)
       (λ h. is.entries other n (sym h.1 ∙ named))
       (put_at_cases d.names name (Some m) other);
+  own = own_put d.names name m free is.own;
   shut = is.shut;
   synced = synced_put d.files m bytes is.synced;
   lasting = lasting_put d.files m (settled_file bytes) is.lasting (lasts-settled bytes (empty_file 0));
@@ -142,7 +163,7 @@ ready_new d name bytes m entry is = record {
 ready_placed : (old : Disk) (name bytes : List ℕ) (new : Disk) (number : Option ℕ) → old.names name ≡ number → IsEntryPath name → Places old name bytes new → IsReady old
     → IsReady new
 ready_placed old name bytes new None missing entry places is =
-    let made = places.missing missing in subst IsReady (sym made.is) (ready_new old name bytes made.number entry is)
+    let made = places.missing missing in subst IsReady (sym made.is) (ready_new old name bytes made.number entry made.greatest.free.1.unnamed is)
 ready_placed old name bytes new (Some m) there entry places is = subst IsReady (sym (places.there m there)) (ready_file old m bytes is)
 
 ready_entered : (old : Disk) (entry : Entry) (new : Disk) → IsEntryPath (path_of entry) → Enters old entry new → IsReady old → IsReady new

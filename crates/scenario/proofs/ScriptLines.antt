@@ -1,5 +1,5 @@
 -- The lines of a script as they are played, one after the other.
-use Rattle.std.proofs.Common.{◌≡◌, ◌⊎◌, inl, inr, ℕ, ◌+◌, ◌<◌, List, [], ◌∷◌, ◌++◌, length, take, get_or, Bool, true, false, Option, Some, None, refl, sym, ap, ◌∙◌, subst, ⊎_elim, append_assoc}
+use Rattle.std.proofs.Common.{◌≡◌, ◌⊎◌, inl, inr, ℕ, ◌+◌, ◌<◌, List, [], ◌∷◌, ◌++◌, length, reverse, take, get_or, Bool, true, false, Option, Some, None, refl, sym, ap, ◌∙◌, subst, ⊎_elim, append_assoc}
 use Rattle.std.specs.Prelude.{◌^◌}
 use Rattle.std.proofs.lemmas.List.{append-nil, take_more}
 use Rattle.call_fs.specs.Disk.{Disk}
@@ -16,7 +16,9 @@ use Rattle.mail_world.specs.History.{Event, after}
 use Rattle.mail_world.specs.History.Event.{Start}
 use Rattle.actor_names.specs.MailNames.{IsMailName}
 use Rattle.mail_world.specs.World.{Seen, IsHistory, GoesOn, was_started, started_world, mail, next_pid as kept_pid, pid_after}
+use Rattle.mail_world.specs.Wired.{AreWholeGivings}
 use Rattle.mail_world.proofs.Lives.{started_is, starts_is}
+use Rattle.mail_world.proofs.Piped.{whole_push}
 use Rattle.script_words.specs.declared.entry.Entry.{Entry}
 use Rattle.play_lines.specs.declared.line.Line.{Line}
 use Rattle.play_lines.specs.declared.line.Line.TheVariants as line
@@ -27,21 +29,24 @@ use Rattle.play_lines.specs.declared.keyword.OfWord.TheVariants as of_word
 use Rattle.play_lines.specs.Contents.{HaveEntryPaths}
 use Rattle.scenario.specs.FirstDisk.{IsFirstDisk}
 use Rattle.scenario.specs.Played.{plan_after, Refusal, IsRefusalOf, Plays, PlaysAll, cat_line, refusal_line, next_pid}
-use Rattle.scenario.specs.Played.Outcome.{Happens, Is}
+use Rattle.scenario.specs.Steps.Outcome.{Happens, Is}
+use Rattle.scenario.specs.declared.stepping.Stepped.{Stepped}
+use Rattle.scenario.proofs.Carried.{not_member}
 use Rattle.scenario.specs.Playing.{IsPlaying, HasStepped, HasPlayed, HasPrinted, IsRefusedAs}
 use Rattle.scenario.specs.Shown.{IsShown}
 use Rattle.scenario.specs.Text.{IsPlayed, IsBegun}
 use Rattle.scenario.specs.Traced.{traced_after, traced_text}
 use Rattle.scenario.proofs.FirstDisks.{first_disk}
 use Rattle.scenario.proofs.Openings.{first_opens}
-use Rattle.scenario.proofs.ScriptSteps.{last_told, start_told, moved, tells}
+use Rattle.scenario.proofs.KeptEvents.{last_told, start_told}
+use Rattle.scenario.proofs.ScriptSteps.{moved, tells}
 use Rattle.scenario.proofs.ScriptRuns.{refused_with}
 
 -- `step`
 
-abbrev pub step_played : (d : Disk) (new : Seen Crash) (plan : Plan) (a : List ℕ) (ended : Option ℕ) (text : List ℕ) (h : List Event) → HasStepped d new a ended plan h
+abbrev pub step_played : (d : Disk) (new : Seen Crash) (plan : Plan) (a : List ℕ) (left : Stepped) (text : List ℕ) (h : List Event) → HasStepped d new a left plan h
     → HasPlayed d new (line.Actor of_actor.Step a) text text plan h
-step_played d new plan a ended text h step = record {
+step_played d new plan a left text h step = record {
   events = step.event ∷ [];
   own = [];
   plays = (Happens step.event, step.steps, refl, refl);
@@ -69,12 +74,12 @@ show_played d w plan text own after_text h playing shown is = record { events = 
 
 -- a start is refused for its name
 pub only_taken : (why : WorldError) (r : Refusal) → (why ≡ error.Taken) ⊎ (why ≡ error.Memory) → IsRefusalOf why r → (why ≡ error.Taken) × (r ≡ Refusal.Taken)
-only_taken (error.Alive name) r one is = absurd is
 only_taken (error.Gone name at) r one is = ⊎_elim (λ e. absurd (cc)) (λ e. absurd (cc)) one
 only_taken (error.NotWaiting name) r one is = ⊎_elim (λ e. absurd (cc)) (λ e. absurd (cc)) one
 only_taken error.Unknown r one is = ⊎_elim (λ e. absurd (cc)) (λ e. absurd (cc)) one
 only_taken error.Taken r one is = (refl, is)
 only_taken (error.Past now) r one is = ⊎_elim (λ e. absurd (cc)) (λ e. absurd (cc)) one
+only_taken (error.Alive name) r one is = ⊎_elim (λ e. absurd (cc)) (λ e. absurd (cc)) one
 only_taken error.Memory r one is = absurd is
 
 abbrev pub mail_refused : (d : Disk) (w : Seen Crash) (plan : Plan) (name message envelope text : List ℕ) (h : List Event) → IsPlaying d w plan h
@@ -114,7 +119,8 @@ mail_started d old new plan name message envelope text h playing good started go
       playing = record {
         is = now;
         planned = ap crash_plan disk ∙ playing.planned;
-        covered = (playing.covered, refl);
+        whole = subst (λ (l : List Kept). AreWholeGivings (reverse l)) (sym events) (whole_push old.events k playing.whole tt);
+        starts = (not_member name good, playing.starts);
       };
       text = sym (append-nil text);
     }
@@ -217,7 +223,6 @@ is_played opening lines w traced so = record {
   is_first = so.is_first;
   plays = so.plays;
   legal = so.playing.is.legal;
-  alone = so.playing.covered;
 }
 
 abbrev pub is_begun : (opening : List Entry) (lines first later : List Line) (text rest printed : List ℕ) → lines ≡ first ++ later → IsPlayed opening first printed → printed ≡ text ++ rest → IsBegun opening lines text
@@ -241,7 +246,6 @@ nothing_begun opening lines paths few =
         is_first = d.1;
         plays = (refl, refl, refl);
         legal = opens;
-        alone = tt;
       };
       text_is = refl;
     }

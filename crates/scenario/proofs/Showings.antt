@@ -1,63 +1,184 @@
 -- What was printed is what a history shows.
-use Rattle.std.proofs.Common.{◌≡◌, ℕ, List, [], ◌∷◌, ◌++◌, length, map, reverse, is_some, Option, Some, None, refl, sym, ap, ◌∙◌, subst, append_assoc}
-use Rattle.std.specs.Prelude.{flat_map, codes, if◌then◌else◌, IsSome}
+use Rattle.std.proofs.Common.{◌≡◌, ℕ, List, [], ◌∷◌, ◌++◌, All, map, reverse, bytes_eq, Bool, true, false, Option, Some, None, refl, sym, ap, ◌∙◌, subst, append_assoc}
+use Rattle.std.proofs.lemmas.List.{append-nil, map-append, reverse-append, reverse-reverse}
+use Rattle.std.proofs.lemmas.List.Elements.{All-append, All-cons, All-map, All-nil, All-weaker, filter_map-append}
+use Rattle.std.specs.Prelude.{flat_map, codes, if◌then◌else◌}
+use Rattle.std.specs.List.{AllZip, cons_option, filter_map, zip}
+use Rattle.address_rules.specs.declared.controls.Controls.{Controls}
+use Rattle.call_fs.specs.declared.calls.Answer.{Answer}
+use Rattle.call_fs.specs.declared.calls.Answer.TheVariants.{Done}
+use Rattle.call_fs.specs.declared.calls.CallData.{CallData}
+use Rattle.call_fs.specs.declared.calls.CallData.TheVariants.{Link}
+use Rattle.call_fs.specs.declared.past.GotData.{GotData}
+use Rattle.call_fs.specs.declared.past.GotData.TheVariants.{Answered}
+use Rattle.call_fs.specs.declared.past.NeedData.{NeedData}
+use Rattle.call_fs.specs.declared.past.NeedData.TheVariants.{File}
+use Rattle.call_fs.specs.declared.past.Own.{Own}
+use Rattle.call_fs.specs.Disk.{Disk}
+use Rattle.crash_fs.specs.Crash.{crash_disk}
+use Rattle.disk_numbers.specs.Controls.{controls_on}
 use Rattle.queue_inject.specs.declared.injection.Arguments.{Arguments}
 use Rattle.queue_inject.specs.Texts.{recipients_of}
-use Rattle.call_fs.specs.Disk.{Disk}
-use Rattle.world_events.specs.declared.event.Event.{Event as Kept}
-use Rattle.mail_world.specs.History.{Event, Actor, Life, State, after}
-use Rattle.mail_world.specs.History.Life.{Alive, Over, Stopped}
-use Rattle.mail_world.specs.Waiting.{AllWait, HasNoGeneration}
-use Rattle.mail_world.proofs.Waiting.{wait_alone}
-use Rattle.mail_world.specs.World.{IsHistory}
-use Rattle.mail_world.specs.Books.{is_accepted, mails_of, told_life, life_in, entry_in, books_in}
+use Rattle.queue_paths.specs.Names.{Name, is_number, is_used, parse, used}
+use Rattle.queue_paths.specs.Names.Name.{Of, Pid}
+use Rattle.queue_paths.specs.Names.Part.{Mess, Intd, Todo, Info, Local, Remote, Bounce}
 use Rattle.world_events.specs.declared.books.Entry.{Entry}
-use Rattle.mail_world.proofs.ModelBooks.{alone_is, AreThere, mails_there}
-use Rattle.scenario.specs.Shown.{AreNamesIn, AreNumbersIn, line_of, life_word, recipient_lines, mail_lines, life_of, entry_lines, pid_line, number_line, AllPending, IsShown}
-
--- if each accepted message waits in todo, each of its recipients is pending
-pub all_pending : (s : State) → AllWait s → AllPending s
-all_pending s wait = λ q recipient is accepted inside. ap is_some (wait q is accepted).1.there
+use Rattle.world_events.specs.declared.books.Life.{Life as ToldLife}
+use Rattle.world_events.specs.declared.books.Life.TheVariants as told_life
+use Rattle.world_events.specs.declared.event.Event.{Event as Kept}
+use Rattle.world_events.specs.declared.event.Event.TheVariants as kept
+use Rattle.world_events.specs.Books.{acted_on, books_of, entered_by, entry_by, left_as, linked_number, mess_number, new_entry, newer, noted, number_by}
+use Rattle.world_events.specs.Programs.{injection_of}
+use Rattle.mail_world.specs.History.{Event, after}
+use Rattle.mail_world.specs.History.Event.{Start, Act, Child, Generation, Report, End, Stop, Moment, Halt}
+use Rattle.mail_world.specs.World.{IsHistory, Tells}
+use Rattle.mail_world.specs.Books.{books_in, entry_in, mail_by, mails_of}
+use Rattle.scenario.specs.declared.overview.Overview.{Overview}
+use Rattle.scenario.specs.Fates.{IsUsed, arguments_in}
+use Rattle.scenario.specs.Shown.{AreNamesIn, AreNumbersIn, pid_line, number_line, all_mail_lines, IsShown, View, entry_lines, view_of}
+use Rattle.scenario.specs.Viewed.{view_at}
 
 -- three texts, one after the other
 pub joined : (old first second third a b e : List ℕ) → first ≡ old ++ a → second ≡ first ++ b → third ≡ second ++ e → third ≡ old ++ (a ++ (b ++ e))
 joined old first second third a b e f g h =
     h ∙ ap (λ t. t ++ e) (g ∙ ap (λ t. t ++ b) f) ∙ append_assoc (old ++ a) b e ∙ append_assoc old a (b ++ e)
 
--- The lines of the mails, by the books.
+-- Each mail with what its injector was started with
 
-life_told : (life : Life) → life_of (told_life life) ≡ life
-life_told Alive = refl
-life_told (Over status) = refl
-life_told Stopped = refl
+abbrev second : List ℕ × Arguments → Arguments
+second mail = mail.1
 
-one_mail : (s : State) (h : List Event) (a : List ℕ) (args : Arguments) (o : Option Actor) → IsSome o
-    → line_of a (life_word (life_of (life_in o))) ++ (if is_accepted a h then recipient_lines a 1 (length (recipients_of args)) else []) ≡ mail_lines s h a args o
-one_mail s h a args None some = absurd (cc)
-one_mail s h a args (Some x) some =
-    ap (λ life. line_of a (life_word life) ++ (if is_accepted a h then recipient_lines a 1 (length (recipients_of args)) else [])) (life_told x.life)
+by_start : (a : List ℕ) (o : Option Arguments) → map second (mail_by a o) ≡ cons_option o []
+by_start a None = refl
+by_start a (Some args) = refl
 
-each_mail : (s : State) (h : List Event) (mails : List (List ℕ × Arguments)) → AreThere s mails
-    → flat_map entry_lines (map (entry_in s h) mails) ≡ flat_map (λ mail. mail_lines s h mail.0 mail.1 (s.actors mail.0)) mails
-each_mail s h [] there = refl
-each_mail s h (mail ∷ mails) there =
-    ap (λ t. t ++ flat_map entry_lines (map (entry_in s h) mails)) (one_mail s h mail.0 mail.1 (s.actors mail.0) (alone_is (s.actors mail.0) there.0))
-    ∙ ap (λ t. mail_lines s h mail.0 mail.1 (s.actors mail.0) ++ t) (each_mail s h mails there.1)
+-- an event tells the start of a mail, or of none
+one_told : (k : Kept) (e : Event) (h : List Event) → Tells k e → map second (mails_of (e ∷ h)) ≡ map second (mails_of h) ++ filter_map arguments_in (k ∷ [])
+one_told k (Start a program) h told =
+    map-append second (mails_of h) (mail_by a (injection_of program))
+    ∙ ap (λ t. map second (mails_of h) ++ t) (by_start a (injection_of program))
+    ∙ ap (λ (k : Kept). map second (mails_of h) ++ filter_map arguments_in (k ∷ [])) (sym told)
+one_told k (Act a own wrote) h told = sym (ap (λ (k : Kept). map second (mails_of h) ++ filter_map arguments_in (k ∷ [])) told ∙ append-nil (map second (mails_of h)))
+one_told k (Child parent own a program) h told = absurd told
+one_told k (Generation sender clean lspawn rspawn) h told = sym (ap (λ (k : Kept). map second (mails_of h) ++ filter_map arguments_in (k ∷ [])) told.1 ∙ append-nil (map second (mails_of h)))
+one_told k (Report slot letter text) h told = sym (ap (λ (k : Kept). map second (mails_of h) ++ filter_map arguments_in (k ∷ [])) told ∙ append-nil (map second (mails_of h)))
+one_told k (End a read ready status) h told = sym (ap (λ (k : Kept). map second (mails_of h) ++ filter_map arguments_in (k ∷ [])) told ∙ append-nil (map second (mails_of h)))
+one_told k (Stop a) h told = sym (ap (λ (k : Kept). map second (mails_of h) ++ filter_map arguments_in (k ∷ [])) told ∙ append-nil (map second (mails_of h)))
+one_told k (Moment m) h told = sym (ap (λ (k : Kept). map second (mails_of h) ++ filter_map arguments_in (k ∷ [])) told ∙ append-nil (map second (mails_of h)))
+one_told k (Halt how contents) h told = sym (ap (λ (k : Kept). map second (mails_of h) ++ filter_map arguments_in (k ∷ [])) told ∙ append-nil (map second (mails_of h)))
 
-pub is_shown : (d : Disk) (h : List Event) (now : Disk) (present : ℕ) (events : List Kept) (pids : List (List ℕ)) (numbers : List ℕ) (entries : List Entry)
-    → IsHistory d now events present h → HasNoGeneration h → AreNamesIn now (codes "pid") pids → AreNumbersIn now numbers
-    → entries ≡ books_in d h
-    → IsShown d h (pid_line pids ++ (flat_map (number_line now) numbers ++ flat_map entry_lines entries))
-is_shown d h now present events pids numbers entries history alone are_pids are_numbers are =
-    let s = after d h in
-    record {
-      pids = pids;
-      numbers = numbers;
-      are_pids = subst (λ (now : Disk). AreNamesIn now (codes "pid") pids) (sym history.disk) are_pids;
-      are_numbers = subst (λ (now : Disk). AreNumbersIn now numbers) (sym history.disk) are_numbers;
-      pending = all_pending s (wait_alone d h history.legal alone);
-      text_is =
-          ap (λ (now : Disk). pid_line pids ++ (flat_map (number_line now) numbers ++ flat_map entry_lines entries)) (sym history.disk)
-          ∙ ap (λ l. pid_line pids ++ (flat_map (number_line s.disk) numbers ++ l))
-          (ap (flat_map entry_lines) are ∙ each_mail s h (mails_of h) (mails_there d (reverse events) h history.legal history.told));
-    }
+-- the events, the newest first
+all_told : (events : List Kept) (h : List Event) → AllZip Tells events h → filter_map arguments_in (reverse events) ≡ map second (mails_of h)
+all_told [] [] told = refl
+all_told [] (e ∷ h) told = absurd told
+all_told (k ∷ events) [] told = absurd told
+all_told (k ∷ events) (e ∷ h) told =
+    ap (filter_map arguments_in) (reverse-append (k ∷ []) events)
+    ∙ filter_map-append arguments_in (reverse events) (k ∷ [])
+    ∙ ap (λ t. t ++ filter_map arguments_in (k ∷ [])) (all_told events h told.1)
+    ∙ sym (one_told k e h told.0)
+
+zipped : {X Y Z : Type 0} (f : X → Y) (g : X → Z) (text : Y × Z → List ℕ) (xs : List X) → flat_map text (zip (map f xs) (map g xs)) ≡ flat_map (λ x. text (f x, g x)) xs
+zipped f g text [] = refl
+zipped f g text (x ∷ xs) = ap (λ t. text (f x, g x) ++ t) (zipped f g text xs)
+
+pub is_shown : (d : Disk) (h : List Event) (now : Disk) (present : ℕ) (events : List Kept) (pids : List (List ℕ)) (numbers own : List ℕ)
+    → IsHistory d now events present h → AreNamesIn now (codes "pid") pids → AreNumbersIn now numbers → own ≡ all_mail_lines d h
+    → IsShown d h (pid_line pids ++ (flat_map (number_line now) numbers ++ own))
+is_shown d h now present events pids numbers own history are_pids are_numbers mails = record {
+  pids = pids;
+  numbers = numbers;
+  are_pids = subst (λ (now : Disk). AreNamesIn now (codes "pid") pids) (sym history.disk) are_pids;
+  are_numbers = subst (λ (now : Disk). AreNumbersIn now numbers) (sym history.disk) are_numbers;
+  text_is =
+      ap (λ (t : List ℕ). pid_line pids ++ (flat_map (number_line now) numbers ++ t)) mails
+      ∙ ap (λ (now : Disk). pid_line pids ++ (flat_map (number_line now) numbers ++ all_mail_lines d h)) (sym history.disk);
+}
+
+-- what is put of each mail
+pub mails_shown : (d : Disk) (h : List Event) (now : Disk) (present : ℕ) (events : List Kept) (o : Overview) (entries : List Entry) → IsHistory d now events present h
+    → crash_disk o.disk.now ≡ now → o.controls.now ≡ controls_on now → entries ≡ books_in d h
+    → flat_map (λ mail. entry_lines (view_at o (after d h).books) mail.0 (recipients_of mail.1)) (zip entries (filter_map arguments_in events)) ≡ all_mail_lines d h
+mails_shown d h now present events o entries history disk controls are =
+    let view : ◌≡◌ {A = View} (view_at o (after d h).books) (view_of d h) =
+    ap (λ (m : Disk). record { disk = m; controls = o.controls.now; books = (after d h).books }) (disk ∙ sym history.disk)
+    ∙ ap (λ (c : Option Controls). record { disk = (after d h).disk; controls = c; books = (after d h).books }) (controls ∙ ap controls_on (sym history.disk)) in
+    let args : filter_map arguments_in events ≡ map second (mails_of h) = ap (filter_map arguments_in) (sym (reverse-reverse events)) ∙ all_told (reverse events) h history.told in
+    ap (λ (v : View). flat_map (λ mail. entry_lines v mail.0 (recipients_of mail.1)) (zip entries (filter_map arguments_in events))) view
+    ∙ ap (λ (es : List Entry). flat_map (λ mail. entry_lines (view_of d h) mail.0 (recipients_of mail.1)) (zip es (filter_map arguments_in events))) are
+    ∙ ap (λ (args : List Arguments). flat_map (λ mail. entry_lines (view_of d h) mail.0 (recipients_of mail.1)) (zip (books_in d h) args)) args
+    ∙ zipped (entry_in (after d h) h) second (λ mail. entry_lines (view_of d h) mail.0 (recipients_of mail.1)) (mails_of h)
+
+-- The numbers of mails are numbers of messages
+
+not_mess : (b : Bool) (name : Name) → mess_number (Some name) ≡ None → IsUsed (mess_number (if b then Some name else None))
+not_mess true name none = subst IsUsed (sym none) tt
+not_mess false name none = tt
+
+used_mess : (name : Option Name) → IsUsed (mess_number (used name))
+used_mess None = tt
+used_mess (Some (Pid pid start seq)) = not_mess (is_used (Pid pid start seq)) (Pid pid start seq) refl
+used_mess (Some (Of Mess n)) = by (is_number n) refl
+  where
+    by : (b : Bool) → is_number n ≡ b → IsUsed (mess_number (if b then Some (Of Mess n) else None))
+    by true is = is
+    by false is = tt
+used_mess (Some (Of Intd n)) = not_mess (is_number n) (Of Intd n) refl
+used_mess (Some (Of Todo n)) = not_mess (is_number n) (Of Todo n) refl
+used_mess (Some (Of Info n)) = not_mess (is_number n) (Of Info n) refl
+used_mess (Some (Of Local n)) = not_mess (is_number n) (Of Local n) refl
+used_mess (Some (Of Remote n)) = not_mess (is_number n) (Of Remote n) refl
+used_mess (Some (Of Bounce n)) = not_mess (is_number n) (Of Bounce n) refl
+
+used_call : (c : CallData) (reply : Answer) → IsUsed (linked_number c reply)
+used_call (Link old new) Done = used_mess (parse new)
+used_call c reply = tt
+
+used_by : (due : NeedData) (came : GotData) → IsUsed (number_by due came)
+used_by (File c) (Answered told) = used_call c told.answer
+used_by due came = tt
+
+used_newer : (o p : Option ℕ) → IsUsed o → IsUsed p → IsUsed (newer o p)
+used_newer None p h k = k
+used_newer (Some n) p h k = h
+
+abbrev IsEntryUsed : Entry → Type 0
+IsEntryUsed e = IsUsed e.number
+
+used_acted : (b : Bool) (own : Own) (e : Entry) → IsEntryUsed e → IsEntryUsed (if b then acted_on own.due own.came e else e)
+used_acted true own e h = used_newer (number_by own.due own.came) e.number (used_by own.due own.came) h
+used_acted false own e h = h
+
+used_left : (b : Bool) (life : ToldLife) (e : Entry) → IsEntryUsed e → IsEntryUsed (if b then left_as life e else e)
+used_left true life e h = h
+used_left false life e h = h
+
+used_noted : (k : Kept) (e : Entry) → IsEntryUsed e → IsEntryUsed (noted k e)
+used_noted (kept.Start a program) e h = h
+used_noted (kept.Act a own) e h = used_acted (bytes_eq a e.actor) own e h
+used_noted (kept.End a read ready status) e h = used_left (bytes_eq a e.actor) (told_life.Ended status) e h
+used_noted (kept.Stop a) e h = used_left (bytes_eq a e.actor) told_life.Stopped e h
+used_noted (kept.Generation start) e h = h
+used_noted (kept.Report slot letter text) e h = h
+used_noted (kept.Moment m) e h = h
+used_noted (kept.Halt how) e h = h
+
+used_entry : (a : List ℕ) (o : Option Arguments) → All IsEntryUsed (entry_by a o)
+used_entry a None = All-nil IsEntryUsed
+used_entry a (Some args) = All-cons IsEntryUsed (new_entry a args) [] tt (All-nil IsEntryUsed)
+
+used_entered : (k : Kept) → All IsEntryUsed (entered_by k)
+used_entered (kept.Start a program) = used_entry a (injection_of program)
+used_entered (kept.Act a own) = All-nil IsEntryUsed
+used_entered (kept.End a read ready status) = All-nil IsEntryUsed
+used_entered (kept.Stop a) = All-nil IsEntryUsed
+used_entered (kept.Generation start) = All-nil IsEntryUsed
+used_entered (kept.Report slot letter text) = All-nil IsEntryUsed
+used_entered (kept.Moment m) = All-nil IsEntryUsed
+used_entered (kept.Halt how) = All-nil IsEntryUsed
+
+pub all_used : (ks : List Kept) → All (λ e. IsUsed e.number) (books_of ks)
+all_used [] = All-nil IsEntryUsed
+all_used (k ∷ ks) = All-append IsEntryUsed (map (noted k) (books_of ks)) (entered_by k)
+    (All-map IsEntryUsed (noted k) (books_of ks) (All-weaker IsEntryUsed (λ e. IsEntryUsed (noted k e)) (λ e h. used_noted k e h) (books_of ks) (all_used ks)))
+    (used_entered k)

@@ -1,5 +1,5 @@
 -- `stop` and `moment`.
-use Rattle.std.proofs.Common.{◌≡◌, ◌≢◌, ◌⊎◌, inl, inr, ℕ, ◌<◌, List, [], ◌∷◌, ◌++◌, false, Option, Some, None, refl, sym, ap, ◌∙◌, subst}
+use Rattle.std.proofs.Common.{◌≡◌, ◌≢◌, ◌⊎◌, inl, inr, ℕ, ◌<◌, List, [], ◌∷◌, ◌++◌, reverse, false, Option, Some, None, refl, sym, ap, ◌∙◌, subst}
 use Rattle.std.proofs.lemmas.List.{append-nil}
 use Rattle.mail_bytes.specs.Decimal.{digits}
 use Rattle.call_fs.specs.declared.crash_file_system.Survival.{Survival}
@@ -14,24 +14,27 @@ use Rattle.world_events.specs.declared.event.Event.TheVariants as kept
 use Rattle.mail_world.specs.History.{Event, Actor, Life, after}
 use Rattle.mail_world.specs.History.Event.{Stop, Moment, Halt}
 use Rattle.mail_world.specs.History.Life.{Alive, Over, Stopped}
-use Rattle.mail_world.specs.Waiting.{is_generation}
 use Rattle.mail_world.specs.World.{Seen, IsHistory, GoesOn, GoesOnWith, IsStop, Tells, EndsAt, GoesByPlan, IsHalt, moment_world, was_started}
+use Rattle.mail_world.specs.Wired.{AreWholeGivings, IsWholeGiving}
 use Rattle.mail_world.proofs.Lives.{ended_is}
+use Rattle.mail_world.proofs.Piped.{whole_push}
 use Rattle.play_lines.specs.declared.line.Line.TheVariants as line
 use Rattle.play_lines.specs.declared.keyword.OfActor.TheVariants as of_actor
 use Rattle.play_lines.specs.declared.keyword.OfCount.TheVariants as of_count
 use Rattle.play_lines.specs.declared.keyword.OfMoment.TheVariants as of_moment
 use Rattle.play_lines.specs.declared.keyword.OfSurvival.TheVariants as of_survival
 use Rattle.scenario.specs.Played.{Refusal, IsRefusalOf, StopsAlive, StopComesTo, refusal_line}
-use Rattle.scenario.specs.Played.Outcome.{Happens, Is}
+use Rattle.scenario.specs.Steps.Outcome.{Happens, Is}
+use Rattle.scenario.specs.Fates.{IsMailStart}
 use Rattle.scenario.specs.Playing.{IsPlaying, HasPlayed}
-use Rattle.scenario.proofs.ScriptSteps.{last_told, stop_told, moment_told, moved, never_started, tells}
+use Rattle.scenario.proofs.KeptEvents.{last_told, stop_told, moment_told}
+use Rattle.scenario.proofs.ScriptSteps.{moved, never_started, tells}
 
 -- one event more in the world, told by the one that was kept
 abbrev pub one_more : (d : Disk) (old new : Seen Crash) (plan : Plan) (k : Kept) (e : Event) (p : ℕ) (h : List Event) → IsPlaying d old plan h → GoesOn tells old new
     → crash_plan new.disk ≡ crash_plan old.disk → new.events ≡ old.events ++ k ∷ [] → new.present ≡ p
-    → ((f : Event) → Tells k f → f ≡ e) → is_generation e ≡ false → IsPlaying d new plan (e ∷ h)
-one_more d old new plan k e p h playing goes same_plan events present told alone =
+    → ((f : Event) → Tells k f → f ≡ e) → IsWholeGiving k → IsMailStart e → IsPlaying d new plan (e ∷ h)
+one_more d old new plan k e p h playing goes same_plan events present told gives start =
     let next = goes d h playing.is in
     let is : IsHistory d (crash_disk new.disk) (old.events ++ k ∷ []) p (next.0 ∷ h) =
     moved d (crash_disk new.disk) new.events (old.events ++ k ∷ []) new.present p (next.0 ∷ h) events present next.1 in
@@ -39,7 +42,8 @@ one_more d old new plan k e p h playing goes same_plan events present told alone
     record {
       is = subst (λ (e : Event). IsHistory d (crash_disk new.disk) new.events new.present (e ∷ h)) same next.1;
       planned = same_plan ∙ playing.planned;
-      covered = (playing.covered, alone);
+      whole = subst (λ (l : List Kept). AreWholeGivings (reverse l)) (sym events) (whole_push old.events k playing.whole gives);
+      starts = (start, playing.starts);
     }
 
 -- no event, but another plan
@@ -51,7 +55,8 @@ replanned d old new plan left h playing disk events present planned =
       is = moved d (crash_disk new.disk) old.events new.events old.present new.present h (sym events) (sym present)
           (subst (λ (now : Disk). IsHistory d now old.events old.present h) same playing.is);
       planned = planned;
-      covered = playing.covered;
+      whole = subst (λ (l : List Kept). AreWholeGivings (reverse l)) (sym events) playing.whole;
+      starts = playing.starts;
     }
 
 left_by : (o n : Option Plan) (plan : Plan) (change : Plan → Plan) → Meets o n (λ before after. after ≡ change before) → o ≡ Some plan → n ≡ Some (change plan)
@@ -78,7 +83,7 @@ is_gone a o x is over = subst (λ (o : Option Actor). StopComesTo a o (Is Refusa
 pub stop_played : (d : Disk) (old new : Seen Crash) (plan : Plan) (a text : List ℕ) (h : List Event) → IsPlaying d old plan h → IsStop a old new → GoesOn tells old new
     → GoesByPlan crash_plan tells old.disk new.disk old.events new.events → HasPlayed d new (line.Actor of_actor.Stop a) text text plan h
 stop_played d old new plan a text h playing stop goes by =
-    let now : IsPlaying d new plan (Stop a ∷ h) = one_more d old new plan (kept.Stop a) (Stop a) old.present h playing goes (by (kept.Stop a) stop.0) stop.0 stop.1 (stop_told a) refl in
+    let now : IsPlaying d new plan (Stop a ∷ h) = one_more d old new plan (kept.Stop a) (Stop a) old.present h playing goes (by (kept.Stop a) stop.0) stop.0 stop.1 (stop_told a) tt tt in
     let living = now.is.legal.1 in
     record {
       events = Stop a ∷ [];
@@ -122,7 +127,12 @@ halt_played d old new plan how text h playing halt goes by =
       events = Halt how next.0 ∷ [];
       own = [];
       plays = (named.0, named.1, ap (λ (contents : ℕ → List ℕ). Halt how contents ∷ []) named.2, refl);
-      playing = record { is = next.1; planned = by (kept.Halt how) halt.0 ∙ playing.planned; covered = (playing.covered, refl) };
+      playing = record {
+        is = next.1;
+        planned = by (kept.Halt how) halt.0 ∙ playing.planned;
+        whole = subst (λ (l : List Kept). AreWholeGivings (reverse l)) (sym halt.0) (whole_push old.events (kept.Halt how) playing.whole tt);
+        starts = (tt, playing.starts);
+      };
       text = sym (append-nil text);
     }
 
@@ -168,7 +178,7 @@ pub moment_came : (d : Disk) (old new : Seen Crash) (plan : Plan) (m : ℕ) (tex
     → GoesByPlan crash_plan tells old.disk new.disk old.events new.events → HasPlayed d new (line.Moment of_moment.Moment m) text text plan h
 moment_came d old new plan m text h playing came goes by =
     let now : IsPlaying d new plan (Moment m ∷ h) =
-    one_more d old new plan (kept.Moment m) (Moment m) m h playing goes (by (kept.Moment m) (ap (λ (w : Seen Crash). w.events) came)) (ap (λ (w : Seen Crash). w.events) came) (ap (λ (w : Seen Crash). w.present) came) (moment_told m) refl in
+    one_more d old new plan (kept.Moment m) (Moment m) m h playing goes (by (kept.Moment m) (ap (λ (w : Seen Crash). w.events) came)) (ap (λ (w : Seen Crash). w.events) came) (ap (λ (w : Seen Crash). w.present) came) (moment_told m) tt tt in
     record {
       events = Moment m ∷ [];
       own = [];

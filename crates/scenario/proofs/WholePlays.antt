@@ -1,104 +1,51 @@
 -- Each line plays, so all lines do: a script has a text, and what was begun of it is a prefix of its text.
-use Rattle.std.proofs.Common.{◌≡◌, ◌⊎◌, inl, inr, ⊎_elim, ℕ, zero, suc, ◌+◌, ◌<◌, List, [], ◌∷◌, ◌++◌, length, Bool, false, Option, Some, None, refl, sym, ap, ◌∙◌, subst, arith, append_assoc}
-use Rattle.std.specs.Prelude.{◌^◌, flat_map, codes}
+use Rattle.std.proofs.Common.{◌≡◌, ◌⊎◌, inl, inr, ⊎_elim, ℕ, zero, suc, ◌+◌, ◌<◌, List, [], ◌∷◌, ◌++◌, length, Bool, true, false, Option, Some, None, refl, sym, ap, ◌∙◌, subst, arith, append_assoc}
+use Rattle.std.specs.Prelude.{◌^◌, flat_map, codes, if◌then◌else◌}
 use Rattle.std.specs.List.{AllZip}
 use Rattle.mail_bytes.specs.Decimal.{digits}
 use Rattle.call_fs.specs.Disk.{Disk}
 use Rattle.mail_bytes.specs.Moments.{IsMoment}
-use Rattle.call_fs.specs.declared.past.NeedData.{NeedData}
-use Rattle.call_fs.specs.declared.past.NeedData.TheVariants as needs
 use Rattle.mem_fs.specs.MemDisk.{bytes_at}
 use Rattle.queue_inject.specs.declared.injection.Arguments.{Arguments}
 use Rattle.world_events.specs.declared.event.Program.TheVariants.{Injector}
-use Rattle.mail_world.specs.History.{Event, call_act, Actor, Life, State, next_of, after}
-use Rattle.mail_world.specs.History.Event.{Start, End, Stop, Moment, Halt}
+use Rattle.mail_world.specs.History.{Event, Actor, Life, State, Legal, after}
+use Rattle.mail_world.specs.History.Event.{Start, Report, Stop, Moment, Halt}
 use Rattle.mail_world.specs.History.Life.{Alive, Over, Stopped}
 use Rattle.actor_names.specs.MailNames.{IsMailName, IsLetter, IsLetterOrDigit, members}
-use Rattle.mail_world.specs.Readiness.{found_in}
 use Rattle.mail_world.specs.World.{mail}
-use Rattle.mail_world.proofs.Waiting.{wait_alone}
-use Rattle.mail_world.specs.Acting.{MayMake}
 use Rattle.script_words.specs.declared.entry.Entry.{Entry}
 use Rattle.play_lines.specs.declared.line.Line.{Line}
 use Rattle.play_lines.specs.declared.line.Line.TheVariants as line
 use Rattle.play_lines.specs.declared.keyword.Alone.TheVariants as alone
 use Rattle.play_lines.specs.declared.keyword.OfActor.TheVariants as of_actor
 use Rattle.play_lines.specs.declared.keyword.OfCount.TheVariants as of_count
+use Rattle.play_lines.specs.declared.keyword.OfLetter.TheVariants as of_letter
 use Rattle.play_lines.specs.declared.keyword.OfMoment.TheVariants as of_moment
 use Rattle.play_lines.specs.declared.keyword.OfSurvival.TheVariants as of_survival
 use Rattle.play_lines.specs.declared.keyword.OfWord.TheVariants as of_word
 use Rattle.play_lines.specs.Contents.{Content, HaveEntryPaths}
-use Rattle.play_lines.specs.Lines.{IsScript}
+use Rattle.play_lines.specs.Lines.{IsScript, IsLine}
 use Rattle.scenario.specs.FirstDisk.{IsFirstDisk}
-use Rattle.play_lines.specs.Lines.{IsLine}
-use Rattle.scenario.specs.Played.{Outcome, DoesNext, DoesAlive, DoesStep, StepsTo, MailComesTo, AreSteps, IsRunOf, StopsAlive, StopComesTo, MomentComesTo, NumberComesTo, plan_through, plan_after, Plays, PlaysAll, outcome_events, cat_line, printed, refusal_line, stop_text, most_steps, next_pid}
-use Rattle.scenario.specs.Played.Outcome.{Happens, Is}
-use Rattle.scenario.specs.Played.Refusal.{Unknown, Gone, NotWaiting, Taken, Past, Steps}
+use Rattle.scenario.specs.Played.{Outcome, StepsTo, MailComesTo, StopsAlive, StopComesTo, MomentComesTo, NumberComesTo, plan_after, Plays, PlaysAll, outcome_events, printed, next_pid, refusal_line, cat_line}
+use Rattle.scenario.specs.Turns.{first_alive, generation_events, generation_text, awaits_report, report_comes, events_of, text_of, events_in}
+use Rattle.script_words.specs.declared.letter.Letter.{Letter}
+use Rattle.script_words.specs.Words.{letter_byte}
+use Rattle.scenario.specs.Steps.Outcome.{Happens, Is}
+use Rattle.scenario.specs.Steps.Refusal.{Unknown, Gone, NotWaiting, Taken, Past}
 use Rattle.scenario.specs.Shown.{IsShown, pid_line, number_line, all_mail_lines}
 use Rattle.scenario.specs.Traced.{traced_after, traced_text}
 use Rattle.scenario.specs.Text.{IsPlayed, IsBegun, Prints, BeginsToPrint, BeginsAtMost, IsPrefix, IsPrefixAtMost}
-use Rattle.scenario.proofs.Carried.{Carries, Goes, due_may, goes_on, goes_started, goes_stopped, goes_moment, goes_halted}
+use Rattle.scenario.proofs.Carried.{Goes, goes_on, goes_started, goes_stopped, goes_moment, goes_halted, goes_generation, goes_report, not_member}
+use Rattle.scenario.proofs.Endings.{step_comes, runs, steps_kept, turns, turn_kept, settles, rounds_kept}
 use Rattle.crash_fs.specs.Answers.{IsFinite}
 use Rattle.scenario.proofs.FirstDisks.{first_disk}
 use Rattle.crash_fs.proofs.Decided.{Decided, both, either, neither, each, up_to, listed, same_text, some_or_none}
-use Rattle.crash_fs.proofs.GivenAnswers.{has_answer}
 use Rattle.scenario.proofs.Listings.{names_in, numbers_in, numbers_named}
 use Rattle.call_fs.specs.Choices.{contents_by}
 use Rattle.call_fs.specs.Plan.{Plan, no_plan}
 use Rattle.crash_fs.proofs.LeastFree.{is_unused}
 use Rattle.scenario.proofs.Openings.{first_opens, is_ready}
 use Rattle.play_lines.proofs.SaidContents.{said_paths, said_few}
-use Rattle.scenario.proofs.ScriptSteps.{alive_waits}
-use Rattle.scenario.proofs.Showings.{all_pending}
-
--- Steps
-
-step_due : (plan : Plan) (s : State) (a : List ℕ) (due : NeedData) → MayMake s.disk due → IsFinite s.disk
-    → (outcome : Outcome) × DoesNext plan s a due outcome
-step_due plan s a (needs.File c) may finite =
-    let got = has_answer plan s.disk c finite may in
-    (Happens (call_act a s.now (found_in s a) c got.0 0), (got.0, got.1, refl))
-step_due plan s a (needs.Ended status) may finite = (Happens (End a s.now (found_in s a) status), refl)
-step_due plan s a (needs.Take port) may finite = (Is NotWaiting, refl)
-step_due plan s a (needs.Give port bytes) may finite = (Is NotWaiting, refl)
-step_due plan s a (needs.Start child) may finite = (Is NotWaiting, refl)
-step_due plan s a (needs.Command bytes) may finite = (Is NotWaiting, refl)
-step_due plan s a needs.Wait may finite = (Is NotWaiting, refl)
-
-step_life : (plan : Plan) (s : State) (a : List ℕ) (x : Actor) (life : Life) → Carries s → s.actors a ≡ Some x → x.life ≡ life
-    → (outcome : Outcome) × DoesAlive plan s a x life outcome
-step_life plan s a x Alive carries is alive =
-    step_due plan s a (next_of x.program x.past s.now (found_in s a))
-    (due_may s a x carries is alive)
-    carries.finite
-step_life plan s a x (Over status) carries is over = (Is Gone, refl)
-step_life plan s a x Stopped carries is over = (Is Gone, refl)
-
-step_actor : (plan : Plan) (s : State) (a : List ℕ) (o : Option Actor) → Carries s → s.actors a ≡ o
-    → (outcome : Outcome) × DoesStep plan s a o outcome
-step_actor plan s a None carries is = (Is Unknown, refl)
-step_actor plan s a (Some x) carries is = step_life plan s a x x.life carries is refl
-
--- a step always comes to something
-pub step_comes : (plan : Plan) (s : State) (a : List ℕ) → Carries s → (outcome : Outcome) × StepsTo plan s a outcome
-step_comes plan s a carries = step_actor plan s a (s.actors a) carries refl
-
-gone_by : (plan : Plan) (s : State) (a : List ℕ) (x : Actor) (life : Life) → s.actors a ≡ Some x → x.life ≡ life
-    → DoesAlive plan s a x life (Is Gone) ⊎ (¬ (StepsTo plan s a (Is Gone)))
-gone_by plan s a x Alive is alive = inr (λ gone. let waits = alive_waits plan s a x Gone is alive gone in absurd (cc))
-gone_by plan s a x (Over status) is over = inl refl
-gone_by plan s a x Stopped is over = inl refl
-
-gone_actor : (plan : Plan) (s : State) (a : List ℕ) (o : Option Actor) → s.actors a ≡ o
-    → DoesStep plan s a o (Is Gone) ⊎ (¬ (StepsTo plan s a (Is Gone)))
-gone_actor plan s a None is =
-    inr (λ gone.
-    let other : Is Gone ≡ Is Unknown = subst (λ (o : Option Actor). DoesStep plan s a o (Is Gone)) is gone in
-    absurd (cc))
-gone_actor plan s a (Some x) is = gone_by plan s a x x.life is refl
-
-is_gone : (plan : Plan) (s : State) (a : List ℕ) → Decided (StepsTo plan s a (Is Gone))
-is_gone plan s a = gone_actor plan s a (s.actors a) refl
 
 -- Starts
 
@@ -125,49 +72,6 @@ mail_comes s name args = ⊎_elim
     (λ bad. (Is Taken, inr (inr bad, refl)))
     (is_mail_name name)
 
--- Runs
-
-record Runs (d : Disk) (h : List Event) (plan : Plan) (a : List ℕ) : Type 0 where
-  events : List Event
-  text : List ℕ
-  run : IsRunOf d h plan a events text
-
--- a run stops at a refusal, or goes on
-run_by : (d : Disk) (h : List Event) (plan : Plan) (a : List ℕ) (events : List Event) → AreSteps d h plan a events
-    → length events < most_steps
-    → ((e : Event) → StepsTo (plan_through plan events) (after d (events ++ h)) a (Happens e) → Runs d h plan a)
-    → (outcome : Outcome) → StepsTo (plan_through plan events) (after d (events ++ h)) a outcome → Runs d h plan a
-run_by d h plan a events steps low more (Happens e) next = more e next
-run_by d h plan a events steps low more (Is why) next = record {
-  events = events;
-  text = stop_text (length events) why a;
-  run = record { are_steps = steps; within = omega arith; stops = inl (why, next, inl low, refl) };
-}
-
--- so many steps may still come
-run_on : (fuel : ℕ) (d : Disk) (h : List Event) (plan : Plan) (a : List ℕ) (events : List Event) → Goes d (events ++ h)
-    → AreSteps d h plan a events → length events + fuel ≡ most_steps → Runs d h plan a
-run_on zero d h plan a events so steps count = ⊎_elim
-    (λ gone. record {
-      events = events;
-      text = stop_text (length events) Gone a;
-      run = record { are_steps = steps; within = omega arith; stops = inl (Gone, gone, inr refl, refl) };
-    })
-    (λ lives. record {
-      events = events;
-      text = refusal_line Steps a;
-      run = record { are_steps = steps; within = omega arith; stops = inr (omega arith, lives, refl) };
-    })
-    (is_gone (plan_through plan events) (after d (events ++ h)) a)
-run_on (suc fuel) d h plan a events so steps count =
-    let next = step_comes (plan_through plan events) (after d (events ++ h)) a so.carries in
-    run_by d h plan a events steps (omega arith)
-    (λ e is. run_on fuel d h plan a (e ∷ events) (goes_on d (events ++ h) (plan_through plan events) a e so is) (steps, is) (omega arith))
-    next.0 next.1
-
-runs : (d : Disk) (h : List Event) (plan : Plan) (a : List ℕ) → Goes d h → Runs d h plan a
-runs d h plan a so = run_on most_steps d h plan a [] so tt refl
-
 -- `show`
 
 shows : (d : Disk) (h : List Event) → Goes d h → (text : List ℕ) × IsShown d h text
@@ -175,13 +79,12 @@ shows d h so =
     let s = after d h in
     let pids = names_in s.disk so.carries.finite (codes "pid") in
     let numbers = numbers_in s.disk so.carries.finite in (
-      pid_line pids.0 ++ (flat_map (number_line s.disk) numbers.0 ++ all_mail_lines s h),
+      pid_line pids.0 ++ (flat_map (number_line s.disk) numbers.0 ++ all_mail_lines d h),
       record {
         pids = pids.0;
         numbers = numbers.0;
         are_pids = pids.1;
         are_numbers = numbers.1;
-        pending = all_pending s (wait_alone d h so.legal so.covered);
         text_is = refl;
       },
     )
@@ -218,9 +121,9 @@ plays_line d h plan (line.Mail name message envelope) so =
     let comes = mail_comes s name (mail (next_pid h) s.now message envelope) in
     (outcome_events comes.0, printed name comes.0, (comes.0, comes.1, refl, refl))
 plays_line d h plan (line.Actor of_actor.Step a) so =
-    let comes = step_comes plan (after d h) a so.carries in
+    let comes = step_comes d h plan a so.carries in
     (outcome_events comes.0, printed a comes.0, (comes.0, comes.1, refl, refl))
-plays_line d h plan (line.Actor of_actor.Run a) so = let r = runs d h plan a so in (r.events, r.text, r.run)
+plays_line d h plan (line.Actor of_actor.Run a) so = runs d h plan a so
 plays_line d h plan (line.Actor of_actor.Stop a) so =
     let comes = stop_comes a ((after d h).actors a) in
     (outcome_events comes.0, printed a comes.0, (comes.0, comes.1, refl, refl))
@@ -239,28 +142,44 @@ plays_line d h plan (line.Moment of_moment.Moment m) so =
 plays_line d h plan (line.Alone alone.Trace) so = ([], [], (refl, refl))
 plays_line d h plan (line.Word of_word.Cat path) so = ([], cat_line path (bytes_at (after d h).disk path), (refl, refl))
 plays_line d h plan (line.Alone alone.Show) so = let shown = shows d h so in ([], shown.0, (refl, shown.1))
+plays_line d h plan (line.Alone alone.Sender) so =
+    let alive = first_alive (after d h) members in
+    (generation_events (after d h).now alive, generation_text alive, (refl, refl))
+plays_line d h plan (line.Alone alone.Turn) so =
+    let turn = turns d h plan so in
+    (events_of turn.0, text_of turn.0, (turn.0, turn.1, refl, refl))
+plays_line d h plan (line.Letter of_letter.Settle letter) so =
+    let all = settles d h plan letter so in
+    (events_in letter all.0, all.1, (all.0, all.2, refl))
+plays_line d h plan (line.Report slot letter word) so =
+    let outcome = report_comes (after d h) slot letter word in
+    (outcome_events outcome, printed (codes "rspawn") outcome, (refl, refl))
 
 same_events : (d : Disk) (h events new : List Event) → events ≡ new → Goes d (new ++ h) → Goes d (events ++ h)
 same_events d h events new is so = subst (λ (l : List Event). Goes d (l ++ h)) (sym is) so
 
-outcome_kept : (d : Disk) (h : List Event) (plan : Plan) (a : List ℕ) (outcome : Outcome) → Goes d h → StepsTo plan (after d h) a outcome
+outcome_kept : (d : Disk) (h : List Event) (plan : Plan) (a : List ℕ) (outcome : Outcome) → Goes d h → StepsTo d h plan a outcome
     → Goes d (outcome_events outcome ++ h)
 outcome_kept d h plan a (Happens e) so steps = goes_on d h plan a e so steps
 outcome_kept d h plan a (Is why) so steps = so
+
+generation_kept : (d : Disk) (h : List Event) (alive : Option (List ℕ)) → first_alive (after d h) members ≡ alive → Goes d h → Goes d (generation_events (after d h).now alive ++ h)
+generation_kept d h None none so = goes_generation d h so none
+generation_kept d h (Some a) is so = so
+
+report_kept : (d : Disk) (h : List Event) (slot : ℕ) (letter : Letter) (word : List ℕ) (awaits : Bool) → awaits_report (after d h) slot ≡ awaits → Goes d h
+    → Goes d (outcome_events (if awaits then Happens (Report slot (letter_byte letter) word) else Is NotWaiting) ++ h)
+report_kept d h slot letter word true is so = goes_report d h slot (letter_byte letter) word so is
+report_kept d h slot letter word false is so = so
 
 start_kept : (d : Disk) (h : List Event) (name message envelope : List ℕ) (outcome : Outcome) → Goes d h
     → MailComesTo (after d h) name (mail (next_pid h) (after d h).now message envelope) outcome
     → Goes d (outcome_events outcome ++ h)
 start_kept d h name message envelope outcome so comes = ⊎_elim
     (λ good. subst (λ (o : Outcome). Goes d (outcome_events o ++ h)) (sym good.2)
-    (goes_started d h name (Injector (mail (next_pid h) (after d h).now message envelope)) tt so good.1 (omega arith)))
+    (goes_started d h name (Injector (mail (next_pid h) (after d h).now message envelope)) tt (not_member name good.0) so good.1 (omega arith)))
     (λ bad. subst (λ (o : Outcome). Goes d (outcome_events o ++ h)) (sym bad.1) so)
     comes
-
-steps_kept : (d : Disk) (h : List Event) (plan : Plan) (a : List ℕ) (events : List Event) → Goes d h → AreSteps d h plan a events
-    → Goes d (events ++ h)
-steps_kept d h plan a [] so steps = so
-steps_kept d h plan a (e ∷ events) so steps = goes_on d (events ++ h) (plan_through plan events) a e (steps_kept d h plan a events so steps.0) steps.1
 
 stop_kept_life : (d : Disk) (h : List Event) (a : List ℕ) (x : Actor) (life : Life) (outcome : Outcome) → Goes d h
     → (after d h).actors a ≡ Some x → x.life ≡ life → StopsAlive a life outcome → Goes d (outcome_events outcome ++ h)
@@ -290,6 +209,8 @@ HasMoment (line.Count first n) = Unit {0}
 HasMoment (line.Moment first m) = IsMoment m
 HasMoment (line.Survival first how) = Unit {0}
 HasMoment (line.Word first read) = Unit {0}
+HasMoment (line.Letter first letter) = Unit {0}
+HasMoment (line.Report slot letter text) = Unit {0}
 
 abbrev HaveMoments : List Line → Type 0
 HaveMoments [] = Unit {0}
@@ -303,6 +224,8 @@ has_moment text (line.Count first n) is = tt
 has_moment text (line.Moment first m) is = is.1
 has_moment text (line.Survival first how) is = tt
 has_moment text (line.Word first read) is = tt
+has_moment text (line.Letter first letter) is = tt
+has_moment text (line.Report slot letter report) is = tt
 
 have_moments : (texts : List (List ℕ)) (lines : List Line) → AllZip IsLine texts lines → HaveMoments lines
 have_moments [] [] are = tt
@@ -332,6 +255,13 @@ line_kept d h plan (line.Moment of_moment.Moment m) events text so fits plays =
 line_kept d h plan (line.Alone alone.Trace) events text so fits plays = same_events d h events [] plays.0 so
 line_kept d h plan (line.Word of_word.Cat path) events text so fits plays = same_events d h events [] plays.0 so
 line_kept d h plan (line.Alone alone.Show) events text so fits plays = same_events d h events [] plays.0 so
+line_kept d h plan (line.Alone alone.Sender) events text so fits plays =
+    same_events d h events (generation_events (after d h).now (first_alive (after d h) members)) plays.0 (generation_kept d h (first_alive (after d h) members) refl so)
+line_kept d h plan (line.Alone alone.Turn) events text so fits plays = same_events d h events (events_of plays.0) plays.2 (turn_kept d h plan plays.0 so plays.1)
+line_kept d h plan (line.Letter of_letter.Settle letter) events text so fits plays =
+    same_events d h events (events_in letter plays.0) plays.2 (rounds_kept d h plan letter plays.0 so plays.1.are)
+line_kept d h plan (line.Report slot letter word) events text so fits plays =
+    same_events d h events (outcome_events (report_comes (after d h) slot letter word)) plays.0 (report_kept d h slot letter word (awaits_report (after d h) slot) refl so)
 
 -- All lines
 
@@ -387,7 +317,6 @@ goes_first opening d paths first =
     let ready = is_ready opening d paths first in
     record {
       legal = first_opens opening d paths first;
-      covered = tt;
       carries = record {
         finite = ready.finite;
         lasting = ready.lasting;
@@ -395,7 +324,8 @@ goes_first opening d paths first =
         runs = λ a x is. absurd (cc);
         in_order = λ a x is. absurd (cc);
         no_child = λ a. refl;
-        mails = λ a x is. absurd (cc);
+        no_runs = λ a d b is. absurd (cc);
+        apart = λ a x is. absurd (cc);
       };
     }
 
@@ -408,7 +338,6 @@ is_played opening d lines end left text first plays so = record {
   is_first = first;
   plays = plays;
   legal = so.legal;
-  alone = so.covered;
 }
 
 -- entries and lines have a text, if they are fewer entries than numbers

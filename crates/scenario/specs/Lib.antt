@@ -2,8 +2,17 @@
 pub mod FirstDisk
 -- what `show` prints
 pub mod Shown
+-- what is read of a world for it
+pub mod Fates
+pub mod Viewed
 -- the lines of events
 pub mod Traced
+-- lists whose elements follow one after the other
+pub mod Chains
+-- what a step and a run come to
+pub mod Steps
+-- generations, turns and rounds
+pub mod Turns
 -- the history that a script plays, and what each line prints
 pub mod Played
 -- what a script prints

@@ -1,5 +1,5 @@
 -- A world in which a script is played.
-use Rattle.std.specs.Prelude.{◌≡◌, ℕ, List, [], ◌∷◌, ◌++◌, Bool, true, false, Option, Some, None}
+use Rattle.std.specs.Prelude.{◌≡◌, ◌≢◌, ◌⊎◌, ℕ, List, [], ◌∷◌, ◌++◌, Bool, true, false, ◌||◌, ◌&&◌, Option, Some, None, bytes_eq, codes, flat_map, reverse}
 use Rattle.call_fs.specs.declared.calls.Answer.{Answer}
 use Rattle.call_fs.specs.declared.past.GotData.{GotData}
 use Rattle.call_fs.specs.declared.past.GotData.TheVariants.{Answered}
@@ -13,13 +13,20 @@ use Rattle.mail_world.specs.declared.error.WorldError.TheVariants as error
 use Rattle.world_events.specs.declared.event.Event.{Event as Kept}
 use Rattle.world_events.specs.declared.event.Event.TheVariants as kept
 use Rattle.mail_world.specs.History.{Event, IsLiving, after}
-use Rattle.mail_world.specs.Waiting.{HasNoGeneration}
+use Rattle.mail_world.specs.Generations.{started_in}
+use Rattle.mail_world.specs.Wired.{AreWholeGivings}
 use Rattle.mail_world.specs.World.{Seen, IsHistory}
 use Rattle.play_lines.specs.declared.line.Line.{Line}
-use Rattle.scenario.specs.Played.{Refusal, IsRefusalOf, StepsTo, Plays, plan_by, plan_after}
-use Rattle.scenario.specs.Played.Outcome.{Happens, Is}
-use Rattle.scenario.specs.Played.Refusal.{Gone}
+use Rattle.script_words.specs.declared.letter.Letter.{Letter}
+use Rattle.scenario.specs.declared.stepping.Stepped.{Stepped}
+use Rattle.scenario.specs.declared.stepping.Stepped.TheVariants as how
+use Rattle.scenario.specs.Fates.{AreMailStarts}
+use Rattle.scenario.specs.Played.{Plays, plan_after}
+use Rattle.scenario.specs.Steps.{Refusal, IsRefusalOf, StepsTo, plan_by, plan_through, idles, has_idled, IsRunOf}
+use Rattle.scenario.specs.Steps.Outcome.{Happens, Is}
+use Rattle.scenario.specs.Steps.Refusal.{Gone}
 use Rattle.scenario.specs.Traced.{traced_text}
+use Rattle.scenario.specs.Turns.{Part, IsTurnOf, events_of, text_of, AreReported, reports_of, Round, IsRound, round_events, has_bytes, is_idle, is_search_call}
 
 -- an answer that there was no memory for the call
 abbrev pub is_memory : Answer → Bool
@@ -42,28 +49,90 @@ lacked_memory (kept.Report slot letter text) = false
 lacked_memory (kept.Moment m) = false
 lacked_memory (kept.Halt how) = false
 
--- The world began with this disk, this happened in it, and its disk tells this plan. No line starts a generation yet.
+-- The world began with this disk, this happened in it, and its disk tells this plan. No giving failed, and no mail has a member's name.
 pub record IsPlaying (d : Disk) (w : Seen Crash) (plan : Plan) (h : List Event) : Type 0 where
   pub is : IsHistory d (crash_disk w.disk) w.events w.present h
   pub planned : crash_plan w.disk ≡ Some plan
-  pub covered : HasNoGeneration h
+  pub whole : AreWholeGivings (reverse w.events)
+  pub starts : AreMailStarts h
 
--- whether an actor is over after a step that answered so
-abbrev pub IsOverBy : Option ℕ → Disk → Plan → List ℕ → List Event → Type 0
-IsOverBy (Some status) d plan a h = StepsTo plan (after d h) a (Is Gone)
-IsOverBy None d plan a h = IsLiving (after d h) a
+-- what a step of the world did, as what it left of its actor
+abbrev pub stepped_by : Option ℕ → Bool → Stepped
+stepped_by (Some status) idle = how.Over
+stepped_by None true = how.Idle
+stepped_by None false = how.On
+
+-- whether an actor is over after a step, and whether an idle turn has just ended
+abbrev pub IsLeftBy : Stepped → Disk → Plan → List ℕ → Event → List Event → Type 0
+IsLeftBy how.On d plan a event h = IsLiving (after d (event ∷ h)) a × (idles (after d h) event ≡ false)
+IsLeftBy how.Idle d plan a event h = idles (after d h) event ≡ true
+IsLeftBy how.Over d plan a event h = StepsTo d (event ∷ h) plan a (Is Gone) × (idles (after d h) event ≡ false)
 
 -- whatever happened before, a step of that actor happened then
-pub record HasStepped (d : Disk) (new : Seen Crash) (a : List ℕ) (ended : Option ℕ) (plan : Plan) (h : List Event) : Type 0 where
+pub record HasStepped (d : Disk) (new : Seen Crash) (a : List ℕ) (left : Stepped) (plan : Plan) (h : List Event) : Type 0 where
   pub event : Event
-  pub steps : StepsTo plan (after d h) a (Happens event)
+  pub steps : StepsTo d h plan a (Happens event)
   pub playing : IsPlaying d new (plan_by event plan) (event ∷ h)
-  pub over : IsOverBy ended d (plan_by event plan) a (event ∷ h)
+  pub over : IsLeftBy left d (plan_by event plan) a event h
+
+-- the world refused since the actor waits
+abbrev pub is_waiting : WorldError → Bool
+is_waiting (error.NotWaiting name) = true
+is_waiting other = false
 
 -- a step was refused
 abbrev pub IsRefusedAs : WorldError → Disk → Plan → List ℕ → List Event → Type 0
 IsRefusedAs error.Memory d plan a h = Unit {0}
-IsRefusedAs why d plan a h = (refusal : Refusal) × IsRefusalOf why refusal × StepsTo plan (after d h) a (Is refusal)
+IsRefusedAs why d plan a h = (refusal : Refusal) × IsRefusalOf why refusal × StepsTo d h plan a (Is refusal)
+
+-- no actor was started by the events that came
+abbrev pub AddsNoStart : List Kept → List Kept → Type 0
+AddsNoStart old new = (added : List Kept) × (new ≡ old ++ added) × (flat_map started_in added ≡ [])
+
+-- a run added this to the history, and to the text; and whether it stopped with an idle turn
+pub record HasRun (d : Disk) (new : Seen Crash) (a : List ℕ) (idle : Bool) (before after_text : List ℕ) (plan : Plan) (h : List Event) : Type 0 where
+  pub events : List Event
+  pub own : List ℕ
+  pub run : IsRunOf d h plan a events own
+  pub idled : idle ≡ has_idled d h events
+  pub playing : IsPlaying d new (plan_through plan events) (events ++ h)
+  pub text : after_text ≡ before ++ own
+
+-- so the run of a part of a turn; and whether the newest event of the turn ended an idle turn, if before it so was told
+pub record HasParted (d : Disk) (new : Seen Crash) (a : List ℕ) (was now : Bool) (before after_text : List ℕ) (plan : Plan) (h : List Event) : Type 0 where
+  pub events : List Event
+  pub own : List ℕ
+  pub run : IsRunOf d h plan a events own
+  pub idled : ((events ≡ []) × (now ≡ was)) ⊎ ((events ≢ []) × (now ≡ has_idled d h events))
+  pub playing : IsPlaying d new (plan_through plan events) (events ++ h)
+  pub text : after_text ≡ before ++ own
+
+-- so a turn; and whether its newest event ended an idle turn of a sender
+pub record HasTurned (d : Disk) (new : Seen Crash) (idle : Bool) (before after_text : List ℕ) (plan : Plan) (h : List Event) : Type 0 where
+  pub parts : List Part
+  pub turn : IsTurnOf d h plan parts
+  pub idled : idle ≡ has_idled d h (events_of parts)
+  pub playing : IsPlaying d new (plan_through plan (events_of parts)) (events_of parts ++ h)
+  pub text : after_text ≡ before ++ text_of parts
+
+-- so the reports of a round
+pub record HasReported (d : Disk) (new : Seen Crash) (letter : Letter) (plan : Plan) (h : List Event) : Type 0 where
+  pub slots : List ℕ
+  pub reported : AreReported d h letter slots
+  pub playing : IsPlaying d new plan (reports_of letter slots ++ h)
+
+-- so a round; and whether it is the last one
+pub record HasRounded (d : Disk) (new : Seen Crash) (letter : Letter) (last : Bool) (before after_text : List ℕ) (plan : Plan) (h : List Event) : Type 0 where
+  pub round : Round
+  pub is : IsRound d h plan letter round
+  pub is_last : last ≡ (has_bytes (text_of round.parts) || is_idle d h letter round)
+  pub playing : IsPlaying d new (plan_through plan (round_events letter round)) (round_events letter round ++ h)
+  pub text : after_text ≡ before ++ text_of round.parts
+
+-- a kept event is a search of the sender for a message to preprocess
+abbrev pub is_search_kept : Kept → Bool
+is_search_kept (kept.Act a own) = bytes_eq a (codes "sender") && is_search_call own.due
+is_search_kept other = false
 
 -- what a line added to the history, and to the text
 pub record HasPlayed (d : Disk) (new : Seen Crash) (line : Line) (before after : List ℕ) (plan : Plan) (h : List Event) : Type 0 where

@@ -1,21 +1,33 @@
--- What `show` prints: how many names `pid/` has, the state of each number that isn't in S1, and how each mail fares.
-use Rattle.std.specs.Prelude.{◌≡◌, ℕ, zero, suc, ◌+◌, ◌<◌, List, [], ◌∷◌, ◌++◌, length, true, Option, Some, None, codes, flat_map, if◌then◌else◌}
+-- What `show` prints: how many names `pid/` has, the state of each number that isn't in S1, and how each mail fares, by the disk, the
+-- control files and the books, in which the takings of senders enter who was delivered to.
+use Rattle.std.specs.Prelude.{◌≡◌, ℕ, zero, suc, ◌+◌, List, [], ◌∷◌, ◌++◌, length, map, take, drop, Bool, true, false, ◌&&◌, ◌==◌, bytes_eq, Option, Some, None, codes, flat_map, if◌then◌else◌}
+use Rattle.std.specs.List.{list_any}
 use Rattle.mail_bytes.specs.Decimal.{digits}
+use Rattle.address_rules.specs.declared.controls.Controls.{Controls}
 use Rattle.call_fs.specs.Disk.{Disk}
+use Rattle.mem_fs.specs.MemDisk.{bytes_at}
 use Rattle.queue_inject.specs.declared.injection.Arguments.{Arguments}
-use Rattle.queue_paths.specs.Names.Part.{Todo}
 use Rattle.queue_inject.specs.Texts.{recipients_of}
+use Rattle.queue_law.specs.Books.{Books, Injection}
+use Rattle.queue_law.specs.Ledgers.{Spot}
+use Rattle.queue_law.specs.Routes.{lane_part}
+use Rattle.queue_paths.specs.Names.{path}
+use Rattle.queue_paths.specs.Names.Name.{Of}
+use Rattle.queue_paths.specs.Names.Part.{Todo}
 use Rattle.queue_states.specs.States.{state_of, is_there}
 pub use Rattle.queue_states.specs.Listing.{AreNamesIn}
+use Rattle.send_jobs.specs.declared.channels.Channel.{Channel}
+use Rattle.send_jobs.specs.declared.channels.Channel.TheVariants.{Local, Remote}
+use Rattle.disk_numbers.specs.declared.routes.Routed.{Routed}
+use Rattle.disk_numbers.specs.Controls.{controls_on}
+use Rattle.disk_numbers.specs.Routes.{routes_in}
 pub use Rattle.disk_numbers.specs.Numbers.{AreNumbersIn}
 pub use Rattle.queue_states.specs.Lines.{line_of, count_line, state_line}
-use Rattle.mail_world.specs.History.{Event, Life, State, Actor, Injection, after}
-use Rattle.mail_world.specs.History.Life.{Alive, Over, Stopped}
-use Rattle.mail_world.specs.Waiting.{IsInjected}
-use Rattle.mail_world.specs.Books.{is_accepted, mails_of}
+use Rattle.mail_world.specs.History.{Event, after}
+use Rattle.mail_world.specs.Books.{entry_in, mails_of}
 use Rattle.world_events.specs.declared.books.Entry.{Entry}
-use Rattle.world_events.specs.declared.books.Life.{Life as ToldLife}
-use Rattle.world_events.specs.declared.books.Life.TheVariants as told
+use Rattle.world_events.specs.declared.books.Life.{Life}
+use Rattle.world_events.specs.declared.books.Life.TheVariants.{Alive, Ended, Stopped}
 
 -- `pid COUNT`
 abbrev pub pid_line : List (List ℕ) → List ℕ
@@ -28,39 +40,110 @@ number_line d n = state_line n (state_of d n)
 -- an exit status, or whether it lives or was stopped
 abbrev pub life_word : Life → List ℕ
 life_word Alive = codes "alive"
-life_word (Over status) = digits status
+life_word (Ended status) = digits status
 life_word Stopped = codes "stopped"
 
--- `NAME.k pending` for so many recipients, counted from k
-abbrev pub recipient_lines : List ℕ → ℕ → ℕ → List ℕ
-recipient_lines name k zero = []
-recipient_lines name k (suc more) = line_of (name ++ 46 ∷ digits k) (codes "pending") ++ recipient_lines name (k + 1) more
+-- what a recipient's line goes by: the disk; what the control files say, unless one is bad; and the books
+pub record View : Type 0 where
+  pub disk : Disk
+  pub controls : Option Controls
+  pub books : Books
+
+abbrev pub is_mail : List ℕ → Option Injection → Bool
+is_mail mail None = false
+is_mail mail (Some q) = bytes_eq q.actor mail
+
+-- That mail's message has the number, and its life lasts: until another mail's message has that number.
+abbrev pub lasts : Books → List ℕ → ℕ → Bool
+lasts b mail n = is_mail mail (b.living n)
+
+abbrev pub lasting : Books → List ℕ → Option ℕ → Option ℕ
+lasting b mail None = None
+lasting b mail (Some n) = if lasts b mail n then Some n else None
+
+-- A report was taken that this recipient was delivered to.
+abbrev pub is_channel : Channel → Channel → Bool
+is_channel Local Local = true
+is_channel Remote Remote = true
+is_channel c e = false
+
+abbrev pub is_spot : Spot → Spot → Bool
+is_spot s t = is_channel t.channel s.channel && (t.place == s.place)
+
+abbrev pub is_entered : Spot → Injection → Bool
+is_entered s q = list_any (is_spot s) q.ledger.delivered
+
+-- in that mail's injection with this number
+abbrev pub is_entered_so : Spot → List ℕ → ℕ → Injection → Bool
+is_entered_so s mail n q = (q.number == n) && (bytes_eq q.actor mail && is_entered s q)
+
+abbrev pub is_delivered_by : Spot → List ℕ → ℕ → Option Injection → List Injection → Bool
+is_delivered_by s mail n None over = list_any (is_entered_so s mail n) over
+is_delivered_by s mail n (Some q) over = if bytes_eq q.actor mail then is_entered s q else list_any (is_entered_so s mail n) over
+
+abbrev pub is_delivered : Books → List ℕ → Option ℕ → Spot → Bool
+is_delivered b mail None s = false
+is_delivered b mail (Some n) s = is_delivered_by s mail n (b.living n) b.over
+
+-- todo holds the mail
+abbrev pub is_queued : Disk → Option ℕ → Bool
+is_queued d None = false
+is_queued d (Some n) = is_there d Todo n
+
+-- these bytes stand there in the file
+abbrev pub stands_in : Option (List ℕ) → ℕ → List ℕ → Bool
+stands_in None place text = false
+stands_in (Some bytes) place text = bytes_eq (take (length text) (drop place bytes)) text
+
+-- the file of its channel has its record at its place, and that reads `T`
+abbrev pub is_unmarked : Disk → Option ℕ → Routed → Bool
+is_unmarked d None r = false
+is_unmarked d (Some n) r = stands_in (bytes_at d (path (Of (lane_part r.channel) n))) r.place r.text
+
+abbrev pub spot_at : Routed → Spot
+spot_at r = record { channel = r.channel; place = r.place }
+
+-- what became of a recipient of a mail that isn't in todo
+abbrev pub word_of : View → List ℕ → Option ℕ → Routed → List ℕ
+word_of v mail number r =
+    if is_unmarked v.disk (lasting v.books mail number) r then codes "pending" else (if is_delivered v.books mail number (spot_at r) then codes "delivered" else codes "dropped")
+
+-- `NAME.k WORD` for so many recipients, counted from k
+abbrev pub alike_lines : List ℕ → List ℕ → ℕ → ℕ → List ℕ
+alike_lines name word k zero = []
+alike_lines name word k (suc more) = line_of (name ++ 46 ∷ digits k) word ++ alike_lines name word (k + 1) more
+
+-- `NAME.k WORD` for each word, counted from k
+abbrev pub recipient_lines : List ℕ → ℕ → List (List ℕ) → List ℕ
+recipient_lines name k [] = []
+recipient_lines name k (word ∷ words) = line_of (name ++ 46 ∷ digits k) word ++ recipient_lines name (k + 1) words
+
+-- the lines of the recipients of a mail that isn't in todo; with a bad control file nothing was ever preprocessed
+abbrev pub sorted_lines : View → Entry → Option Controls → List (List ℕ) → List ℕ
+sorted_lines v e None recipients = alike_lines e.actor (codes "dropped") 1 e.recipients
+sorted_lines v e (Some controls) recipients = recipient_lines e.actor 1 (map (word_of v e.actor e.number) (routes_in controls recipients))
+
+-- the lines of the recipients of the mail with this entry in the books
+abbrev pub lines_of : View → Entry → List (List ℕ) → List ℕ
+lines_of v e recipients =
+    if is_queued v.disk (lasting v.books e.actor e.number) then alike_lines e.actor (codes "pending") 1 e.recipients else sorted_lines v e v.controls recipients
 
 -- `NAME STATUS`, and a line for each recipient if the mail was accepted
-abbrev pub mail_lines : State → List Event → List ℕ → Arguments → Option Actor → List ℕ
-mail_lines s h name args None = []
-mail_lines s h name args (Some x) =
-    line_of name (life_word x.life) ++ (if is_accepted name h then recipient_lines name 1 (length (recipients_of args)) else [])
+abbrev pub entry_lines : View → Entry → List (List ℕ) → List ℕ
+entry_lines v e recipients = line_of e.actor (life_word e.life) ++ (if e.accepted then lines_of v e recipients else [])
 
--- the life that the books of a world tell, as that of an actor
-abbrev pub life_of : ToldLife → Life
-life_of told.Alive = Alive
-life_of (told.Ended status) = Over status
-life_of told.Stopped = Stopped
+-- By a history
 
--- the lines of a mail, by its entry in the books
-abbrev pub entry_lines : Entry → List ℕ
-entry_lines e = line_of e.actor (life_word (life_of e.life)) ++ (if e.accepted then recipient_lines e.actor 1 e.recipients else [])
+-- what `show` sees after it
+abbrev pub view_of : Disk → List Event → View
+view_of d h = record { disk = (after d h).disk; controls = controls_on (after d h).disk; books = (after d h).books }
 
-abbrev pub all_mail_lines : State → List Event → List ℕ
-all_mail_lines s h = flat_map (λ mail. mail_lines s h mail.0 mail.1 (s.actors mail.0)) (mails_of h)
+-- the lines of a mail
+abbrev pub mail_lines : Disk → List Event → List ℕ × Arguments → List ℕ
+mail_lines d h mail = entry_lines (view_of d h) (entry_in (after d h) h mail) (recipients_of mail.1)
 
--- A recipient is pending while todo has its mail. Nothing takes a mail out of todo yet, so each recipient of each
--- accepted mail is.
-abbrev pub AllPending : State → Type 0
-AllPending s =
-    (q : Injection) (recipient : ℕ) → IsInjected s.books q → q.accepted ≡ true → recipient < length (recipients_of q.args)
-    → is_there s.disk Todo q.number ≡ true
+abbrev pub all_mail_lines : Disk → List Event → List ℕ
+all_mail_lines d h = flat_map (mail_lines d h) (mails_of h)
 
 -- what `show` prints after this history, which began with this disk
 pub record IsShown (d : Disk) (h : List Event) (text : List ℕ) : Type 0 where
@@ -68,5 +151,4 @@ pub record IsShown (d : Disk) (h : List Event) (text : List ℕ) : Type 0 where
   pub numbers : List ℕ
   pub are_pids : AreNamesIn (after d h).disk (codes "pid") pids
   pub are_numbers : AreNumbersIn (after d h).disk numbers
-  pub pending : AllPending (after d h)
-  pub text_is : text ≡ pid_line pids ++ (flat_map (number_line (after d h).disk) numbers ++ all_mail_lines (after d h) h)
+  pub text_is : text ≡ pid_line pids ++ (flat_map (number_line (after d h).disk) numbers ++ all_mail_lines d h)

@@ -4,7 +4,6 @@ use Rattle.mail_bytes.specs.Decimal.{digits}
 use Rattle.call_fs.specs.Disk.{Disk}
 use Rattle.call_fs.specs.Plan.{Plan, no_plan}
 use Rattle.mail_world.specs.History.{Event, Legal}
-use Rattle.mail_world.specs.Waiting.{HasNoGeneration}
 use Rattle.script_words.specs.declared.entry.Entry.{Entry}
 use Rattle.play_lines.specs.declared.line.Line.{Line}
 use Rattle.play_lines.specs.Contents.{Content}
@@ -13,8 +12,7 @@ use Rattle.play_lines.specs.Lines.{IsScript, IsBadLine}
 use Rattle.scenario.specs.Played.{PlaysAll}
 use Rattle.scenario.specs.Shown.{line_of}
 
--- These lines are played from the disk with these entries, and print this. The history that they make is legal. No line
--- starts a generation yet.
+-- These lines are played from the disk with these entries, and print this. The history that they make is legal.
 pub record IsPlayed (opening : List Entry) (lines : List Line) (text : List ℕ) : Type 0 where
   pub disk : Disk
   pub history : List Event
@@ -22,7 +20,6 @@ pub record IsPlayed (opening : List Entry) (lines : List Line) (text : List ℕ)
   pub is_first : IsFirstDisk opening disk
   pub plays : PlaysAll disk [] no_plan false lines history left text
   pub legal : Legal disk history
-  pub alone : HasNoGeneration history
 
 -- the script with these bytes prints this
 pub record Prints (script text : List ℕ) : Type 0 where

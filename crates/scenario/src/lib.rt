@@ -7,13 +7,17 @@
 
 mod bare_dirs;
 mod error;
+mod fates;
+mod generating;
 pub mod laws;
 mod opening_disk;
-mod passing;
+mod overview;
 mod playing;
-mod printing;
+mod refusing;
 mod showing;
+mod stepping;
 mod tracing;
+mod turning;
 
 pub use error::PlayError;
 pub use play_lines::{MAX_SCRIPT, Script, ScriptError, read_script};

@@ -1,38 +1,36 @@
 // Playing a script.
-ghost use Rattle.std.specs.Prelude.{◌≡◌, ◌≢◌, ◌≤◌, ◌++◌, ◌∷◌, [], List, ℕ, take, IsOk, IfOk, IfErr, OnOk, OnErr, Err, codes};
+ghost use Rattle.std.specs.Prelude.{◌≡◌, ◌≢◌, ◌++◌, [], List, ℕ, take, IsOk, IfOk, IfErr, OnOk, OnErr, Err};
 ghost use Rattle.mail_bytes.specs.Decimal.{digits};
 ghost use Rattle.call_fs.specs.Disk.{Disk};
 ghost use Rattle.call_fs.specs.Plan.{Plan};
 ghost use Rattle.mail_bytes.specs.Told.{Rose, Meets};
-ghost use Rattle.world_events.specs.declared.event.Event.{Event as Kept};
 ghost use Rattle.mail_world.specs.History.{Event as Happening};
-ghost use Rattle.mail_world.specs.Kept.{events_of};
 ghost use Rattle.play_lines.specs.declared.line.Line.TheVariants as LineOf;
 ghost use Rattle.play_lines.specs.declared.keyword.OfActor.TheVariants as OfActorOf;
 ghost use Rattle.play_lines.specs.declared.keyword.OfCount.TheVariants as OfCountOf;
 ghost use Rattle.play_lines.specs.declared.keyword.OfMoment.TheVariants as OfMomentOf;
 ghost use Rattle.play_lines.specs.declared.keyword.OfSurvival.TheVariants as OfSurvivalOf;
-ghost use Rattle.scenario.specs.Played.{Refusal, IsRefusalOf, refusal_line};
-ghost use Rattle.scenario.specs.Playing.{IsPlaying, HasStepped, HasPlayed, HasPrinted, IsRefusedAs, is_memory_of, lacked_memory};
+ghost use Rattle.scenario.specs.Played.{Refusal, refusal_line};
+ghost use Rattle.scenario.specs.Playing.{IsPlaying, HasPlayed, HasPrinted};
 ghost use Rattle.scenario.specs.Text.{IsPlayed, IsBegun};
-ghost use Rattle.scenario.specs.Shown.{line_of};
 
+use crate::generating::{begin, report};
 use crate::opening_disk::first_disk;
-use crate::printing::{put_line, put_number};
+use crate::refusing::refuse;
 use crate::showing::{cat, show};
+use crate::stepping::{run, step};
 use crate::tracing::{put_events_after, traced_after};
+use crate::turning::{play_turn, settle};
 use crate::{PlayError, Script};
-use call_fs::{Answer, FsError, GotData, Survival, Taken};
+use call_fs::{Survival, Taken};
 use crash_fs::CrashDisk;
 use mail_bytes::{ByteText, Memory};
-use mail_world::{ActorName, Event, History, World, WorldError};
+use mail_world::{ActorName, World, WorldError};
 use outside::{Gave, Sink};
-use play_lines::{Alone, Line, OfActor, OfCount, OfMoment, OfSurvival, OfWord};
+use play_lines::{Alone, Line, OfActor, OfCount, OfLetter, OfMoment, OfSurvival, OfWord};
 use script_words::{Count, Moment};
 use std::alloc::{AllocError, Global};
-
-/// The most steps that `run` makes.
-const MOST_STEPS: u32 = 1_000_000;
+use trace_lines::put_number;
 
 /// Plays a script over a new disk in memory that holds its entries, and gives the sink what its lines print, one line
 /// after the other; a line that prints nothing gives it nothing. `Failed` only if the sink's count of failures rose; it
@@ -111,7 +109,7 @@ fn play_line(
         } => start(alloc, world, name, message, envelope, text),
         Line::Alone(word) => play_alone(alloc, world, *word, text),
         Line::Actor(OfActor::Step, actor) => step_once(alloc, world, actor, text),
-        Line::Actor(OfActor::Run, actor) => run(alloc, world, actor, text),
+        Line::Actor(OfActor::Run, actor) => run_once(alloc, world, actor, text),
         Line::Actor(OfActor::Stop, actor) => stop(world, actor, text),
         Line::Count(OfCount::Fault, k) => {
             fail_in(world, *k);
@@ -121,22 +119,30 @@ fn play_line(
         Line::Moment(OfMoment::Moment, moment) => set_moment(world, *moment, text),
         Line::Survival(OfSurvival::Halt, how) => halt(alloc, world, *how),
         Line::Word(OfWord::Cat, path) => cat(alloc, world.disk(), path.as_slice(), text),
+        Line::Letter(OfLetter::Settle, letter) => settle(alloc, world, *letter, text),
+        Line::Report {
+            slot,
+            letter,
+            text: told,
+        } => report(alloc, world, *slot, *letter, told, text),
     }
 }
 
 /// Plays a line of one word, and puts what it prints at the end of a text.
 fn play_alone(
     alloc: Global,
-    world: &World<CrashDisk>,
+    world: &mut World<CrashDisk>,
     word: Alone,
     text: &mut Vec<u8>,
 ) -> Result<(), Memory>
-    ensures { OnOk result ((d : Disk) (plan : Plan) (h : List Happening) → IsPlaying d world.now plan h
-        → HasPlayed d world.now (LineOf.Alone word) text.old.items text.new.items plan h) }
+    ensures { OnOk result ((d : Disk) (plan : Plan) (h : List Happening) → IsPlaying d world.old plan h
+        → HasPlayed d world.new (LineOf.Alone word) text.old.items text.new.items plan h) }
 {
     match word {
         Alone::Trace => Ok(()),
         Alone::Show => show(alloc, world, text),
+        Alone::Sender => begin(alloc, world, text),
+        Alone::Turn => play_turn(alloc, world, text),
     }
 }
 
@@ -174,6 +180,20 @@ fn step_once(
     }
 }
 
+/// Runs an actor, and puts what that prints at the end of a text.
+fn run_once(
+    alloc: Global,
+    world: &mut World<CrashDisk>,
+    actor: &ActorName,
+    text: &mut Vec<u8>,
+) -> Result<(), Memory>
+    ensures { OnOk result ((d : Disk) (plan : Plan) (h : List Happening) → IsPlaying d world.old plan h
+        → HasPlayed d world.new (LineOf.Actor OfActorOf.Run actor.now) text.old.items text.new.items plan h) }
+{
+    run(alloc, world, actor, text)?;
+    Ok(())
+}
+
 /// Stops an actor, or puts the line of its refusal at the end of a text.
 fn stop(world: &mut World<CrashDisk>, actor: &ActorName, text: &mut Vec<u8>) -> Result<(), Memory>
     ensures { OnOk result ((d : Disk) (plan : Plan) (h : List Happening) → IsPlaying d world.old plan h
@@ -183,84 +203,6 @@ fn stop(world: &mut World<CrashDisk>, actor: &ActorName, text: &mut Vec<u8>) -> 
         Ok(()) => Ok(()),
         Err(why) => refuse(text, why, actor),
     }
-}
-
-/// One step of an actor. The exit status, if the actor ended. `Memory` also if its call found no memory: then the
-/// play is over, since a script plays on ample memory. No actor of a script waits.
-fn step(
-    alloc: Global,
-    world: &mut World<CrashDisk>,
-    actor: &ActorName,
-) -> Result<Option<u8>, WorldError>
-    ensures ok { IfOk result (λ ended. (d : Disk) (plan : Plan) (h : List Happening) → IsPlaying d world.old plan h
-        → HasStepped d world.new actor.now ended plan h) }
-    ensures err { IfErr result (λ why. (d : Disk) (plan : Plan) (h : List Happening) → IsPlaying d world.old plan h
-        → IsRefusedAs why d plan actor.now h) }
-    ensures same { IfErr result (λ why. why ≢ WorldError.Memory → world.new ≡ world.old) }
-    ensures waits { (name : List ℕ) → result ≡ Err (WorldError.NotWaiting name) → (d : Disk) (plan : Plan) (h : List Happening)
-        → ¬ (IsPlaying d world.old plan h) }
-{
-    let did = world.step(alloc, actor)?;
-    if newest_lacked_memory(world.history()) {
-        return Err(WorldError::Memory);
-    }
-    Ok(did.ended)
-}
-
-/// Whether the newest event is a call that found no memory.
-fn newest_lacked_memory(history: &History) -> bool
-    ensures { (before : List Kept) (newest : Kept) → events_of history.now ≡ before ++ newest ∷ []
-        → result ≡ lacked_memory newest }
-{
-    match history.events().last() {
-        Some(event) => lacked_memory(event),
-        None => false,
-    }
-}
-
-/// Whether an event is a call that found no memory.
-fn lacked_memory(event: &Event) -> bool
-    ensures { result ≡ lacked_memory event.now }
-{
-    match event {
-        Event::Act { own, .. } => is_memory(&own.came),
-        Event::Start { .. } | Event::End { .. } => false,
-        Event::Stop { .. } | Event::Moment { .. } | Event::Halt { .. } => false,
-        Event::Generation { .. } | Event::Report { .. } => false,
-    }
-}
-
-/// Whether what came of an event is that there was no memory for its call.
-fn is_memory(came: &GotData) -> bool
-    ensures { result ≡ is_memory_of came.now }
-{
-    match came {
-        GotData::Answered(told) => matches!(told.answer, Answer::Refused(FsError::Memory)),
-        GotData::Took(_) | GotData::End | GotData::Gave => false,
-        GotData::Ended(_) | GotData::Crashed | GotData::Started { .. } => false,
-        GotData::Failed | GotData::Memory => false,
-    }
-}
-
-/// Makes steps of an actor until it ends or waits, and puts the line of a refusal at the end of a text.
-fn run(
-    alloc: Global,
-    world: &mut World<CrashDisk>,
-    actor: &ActorName,
-    text: &mut Vec<u8>,
-) -> Result<(), Memory>
-    ensures { OnOk result ((d : Disk) (plan : Plan) (h : List Happening) → IsPlaying d world.old plan h
-        → HasPlayed d world.new (LineOf.Actor OfActorOf.Run actor.now) text.old.items text.new.items plan h) }
-{
-    for _ in 0..MOST_STEPS {
-        match step(alloc, world, actor) {
-            Ok(None) => {}
-            Ok(Some(_)) => return Ok(()),
-            Err(WorldError::NotWaiting(_)) => return Ok(()),
-            Err(why) => return refuse(text, why, actor),
-        }
-    }
-    put_refusal(text, b"steps", actor)
 }
 
 /// The machine stops. Nothing is printed.
@@ -317,7 +259,7 @@ fn set_moment(
         Err(WorldError::Gone(_, _) | WorldError::NotWaiting(_) | WorldError::Unknown) => {
             Err(AllocError)
         }
-        Err(WorldError::Alive(_) | WorldError::Taken | WorldError::Memory) => Err(AllocError),
+        Err(WorldError::Taken | WorldError::Alive(_) | WorldError::Memory) => Err(AllocError),
     }
 }
 
@@ -329,27 +271,4 @@ fn put_past(text: &mut Vec<u8>, present: u64) -> Result<(), Memory>
     put_number(text, present)?;
     text.push(b'\n')?;
     Ok(())
-}
-
-/// Puts the line of a refusal at the end of a text. That memory ran out is no line, nor is that a member lives: no line
-/// starts a generation yet.
-fn refuse(text: &mut Vec<u8>, why: WorldError, name: &ActorName) -> Result<(), Memory>
-    ensures { OnOk result ((refusal : Refusal) × IsRefusalOf why refusal × (text.new.items ≡ text.old.items ++ refusal_line refusal name.now)) }
-{
-    match why {
-        WorldError::Gone(_, _) => put_refusal(text, b"gone", name),
-        WorldError::NotWaiting(_) => put_refusal(text, b"notwaiting", name),
-        WorldError::Unknown => put_refusal(text, b"unknown", name),
-        WorldError::Taken => put_refusal(text, b"taken", name),
-        WorldError::Past(_) => put_refusal(text, b"past", name),
-        WorldError::Alive(_) | WorldError::Memory => Err(AllocError),
-    }
-}
-
-/// Puts the line `refused WORD NAME` at the end of a text.
-fn put_refusal(text: &mut Vec<u8>, word: &[u8], name: &ActorName) -> Result<(), Memory>
-    ensures { OnOk result (text.new.items ≡ text.old.items ++ (codes "refused " ++ line_of word.now name.now)) }
-{
-    text.extend_from_slice(b"refused ")?;
-    put_line(text, word, name.as_slice())
 }

@@ -1,34 +1,121 @@
 // What `show` and `cat` print.
-ghost use Rattle.std.specs.Prelude.{◌≡◌, ◌++◌, ◌∷◌, List, ℕ, OnOk, codes, flat_map};
-ghost use Rattle.mail_bytes.specs.Decimal.{digits};
+ghost use Rattle.std.specs.Prelude.{◌≡◌, ◌++◌, List, ℕ, OnOk, Some, All, flat_map, option_map};
+ghost use Rattle.std.specs.List.{filter_map, zip};
 ghost use Rattle.call_fs.specs.Disk.{Disk};
 ghost use Rattle.mem_fs.specs.MemDisk.{bytes_at};
 ghost use Rattle.crash_fs.specs.Crash.{crash_disk};
-ghost use Rattle.mail_world.specs.History.{Event as Happening};
-ghost use Rattle.mail_world.specs.Waiting.{HasNoGeneration};
-ghost use Rattle.mail_world.specs.World.{Happened};
-ghost use Rattle.scenario.specs.Shown.{IsShown, line_of, life_word, life_of, entry_lines, recipient_lines, number_line};
+ghost use Rattle.mail_world.specs.History.{Event as Happening, after};
+ghost use Rattle.call_fs.specs.Plan.{Plan};
+ghost use Rattle.scenario.specs.Playing.{IsPlaying};
+ghost use Rattle.queue_inject.specs.Texts.{recipients_of};
+ghost use Rattle.queue_law.specs.Books.{Books};
+ghost use Rattle.scenario.specs.Fates.{AreFates, IsUsed, arguments_in};
+ghost use Rattle.scenario.specs.Shown.{IsShown, all_mail_lines, entry_lines, number_line};
+ghost use Rattle.scenario.specs.Viewed.{IsOf, view_at};
 ghost use Rattle.scenario.specs.Played.{cat_line};
 
-use crate::printing::{put_escaped, put_line, put_number};
+use crate::fates::Fates;
+use crate::overview::Overview;
 use crash_fs::CrashDisk;
-use disk_numbers::{names_of, numbers_of, state_on};
+use disk_numbers::{controls_on, names_of, numbers_of, state_on};
 use mail_bytes::Memory;
-use mail_world::{Entry, Life, World};
+use mail_world::{Entry, Event, World};
+use queue_inject::Arguments;
 use queue_states::{put_count_line, put_state_line};
 use std::alloc::Global;
+use trace_lines::put_escaped;
 
 /// Puts at the end of a text how many names `pid/` has, the state of each number that isn't in S1, and how each mail
-/// fares. A recipient of an accepted mail is pending: nothing takes a mail out of todo, as long as no generation was started.
+/// fares. A recipient of an accepted mail is pending while todo holds the mail or its own record reads `T`, in the life of that mail;
+/// else it was delivered, if a report said so, or it was dropped.
 pub fn show(alloc: Global, world: &World<CrashDisk>, text: &mut Vec<u8>) -> Result<(), Memory>
     ensures { OnOk result ((own : List ℕ) × (text.new.items ≡ text.old.items ++ own)
-        × ((d : Disk) (h : List Happening) → Happened (λ m. Some (crash_disk m)) d world.now h → HasNoGeneration h → IsShown d h own)) }
+        × ((d : Disk) (plan : Plan) (h : List Happening) → IsPlaying d world.now plan h → IsShown d h own)) }
 {
     let pids = names_of(alloc, world.disk(), b"pid")?;
     put_count_line(text, pids.len() as u64)?;
     let numbers = numbers_of(alloc, world.disk())?;
     put_states(text, world.disk(), &numbers)?;
-    put_mails(text, world.books().entries())
+    put_mails(alloc, world, text)
+}
+
+/// Puts how each mail fares at the end of a text.
+fn put_mails(alloc: Global, world: &World<CrashDisk>, text: &mut Vec<u8>) -> Result<(), Memory>
+    ensures { OnOk result ((own : List ℕ) × (text.new.items ≡ text.old.items ++ own)
+        × ((d : Disk) (plan : Plan) (h : List Happening) → IsPlaying d world.now plan h → own ≡ all_mail_lines d h)) }
+{
+    let fates = Fates::of(alloc, world.history().events())?;
+    put_fated(alloc, &fates, world, text)
+}
+
+/// The same, by what its events say.
+fn put_fated(
+    alloc: Global,
+    fates: &Fates,
+    world: &World<CrashDisk>,
+    text: &mut Vec<u8>,
+) -> Result<(), Memory>
+    ensures { OnOk result ((own : List ℕ) × (text.new.items ≡ text.old.items ++ own) × ((d : Disk) (plan : Plan) (h : List Happening)
+        → IsPlaying d world.now plan h → AreFates fates.now (after d h).books → own ≡ all_mail_lines d h)) }
+{
+    let controls = controls_on(alloc, world.disk())?;
+    let overview = Overview {
+        disk: world.disk(),
+        controls: &controls,
+        fates,
+    };
+    put_all(alloc, overview, world, text)
+}
+
+/// The same, by what is read of that world.
+fn put_all(
+    alloc: Global,
+    overview: Overview<'_>,
+    world: &World<CrashDisk>,
+    text: &mut Vec<u8>,
+) -> Result<(), Memory>
+    ensures { OnOk result ((own : List ℕ) × (text.new.items ≡ text.old.items ++ own)
+        × ((d : Disk) (plan : Plan) (h : List Happening) → IsPlaying d world.now plan h → IsOf overview.entry d h → own ≡ all_mail_lines d h)) }
+{
+    let mut own = Vec::new(alloc);
+    let entries = world.books().entries();
+    let events = world.history().events();
+    put_each(alloc, overview, entries, events, &mut own)?;
+    text.extend_from_slice(&own)
+}
+
+/// Puts how each mail of these entries fares at the end of a text. The mails were started by these events, in order.
+fn put_each(
+    alloc: Global,
+    overview: Overview<'_>,
+    entries: &[Entry],
+    events: &[Event],
+    text: &mut Vec<u8>,
+) -> Result<(), Memory>
+    ensures { (books : Books) → AreFates overview.entry.fates.now books → All (λ e. IsUsed e.number) entries.now → OnOk result (text.new.items ≡ text.old.items
+        ++ flat_map (λ mail. entry_lines (view_at overview.entry books) mail.0 (recipients_of mail.1)) (zip entries.now (filter_map arguments_in events.now))) }
+{
+    let mut rest = entries;
+    for event in events {
+        if let Some(arguments) = arguments_of(event) {
+            let Some((entry, later)) = rest.split_first() else {
+                return Ok(());
+            };
+            overview.put_mail(alloc, text, entry, arguments)?;
+            rest = later;
+        }
+    }
+    Ok(())
+}
+
+/// What the injector was started with that an event started.
+fn arguments_of(event: &Event) -> Option<&Arguments>
+    ensures { option_map (λ args. args.now) result ≡ arguments_in event.now }
+{
+    match event {
+        Event::Start { program, .. } => program.injection(),
+        _ => None,
+    }
 }
 
 /// Puts the bytes of the file of a name, or that there is none, at the end of a text.
@@ -53,64 +140,5 @@ fn put_states(text: &mut Vec<u8>, disk: &CrashDisk, numbers: &[u64]) -> Result<(
     for number in numbers {
         put_state_line(text, *number, state_on(disk, *number))?;
     }
-    Ok(())
-}
-
-/// Puts the lines of each of these mails at the end of a text.
-fn put_mails(text: &mut Vec<u8>, entries: &[Entry]) -> Result<(), Memory>
-    ensures { OnOk result (text.new.items ≡ text.old.items ++ flat_map entry_lines entries.now) }
-{
-    for entry in entries {
-        put_mail(text, entry)?;
-    }
-    Ok(())
-}
-
-/// Puts the lines of a mail at the end of a text.
-fn put_mail(text: &mut Vec<u8>, entry: &Entry) -> Result<(), Memory>
-    ensures { OnOk result (text.new.items ≡ text.old.items ++ entry_lines entry.now) }
-{
-    let name = entry.actor.as_slice();
-    put_life(text, name, entry.life)?;
-    if entry.accepted {
-        put_recipients(text, name, entry.recipients)?;
-    }
-    Ok(())
-}
-
-/// Puts the line of an injector at the end of a text: its exit status, or whether it lives or was stopped.
-fn put_life(text: &mut Vec<u8>, name: &[u8], life: Life) -> Result<(), Memory>
-    ensures { OnOk result (text.new.items ≡ text.old.items ++ line_of name.now (life_word (life_of life))) }
-{
-    let status = match life {
-        Life::Alive => return put_line(text, name, b"alive"),
-        Life::Stopped => return put_line(text, name, b"stopped"),
-        Life::Ended(status) => status,
-    };
-    text.extend_from_slice(name)?;
-    text.push(b' ')?;
-    put_number(text, u64::from(status))?;
-    text.push(b'\n')?;
-    Ok(())
-}
-
-/// Puts a line for each recipient of a mail that todo holds at the end of a text: pending.
-fn put_recipients(text: &mut Vec<u8>, name: &[u8], count: u64) -> Result<(), Memory>
-    ensures { OnOk result (text.new.items ≡ text.old.items ++ recipient_lines name.now 1 count) }
-{
-    for index in 0..count {
-        put_recipient(text, name, index + 1)?;
-    }
-    Ok(())
-}
-
-/// Puts the line of a recipient at the end of a text, counted from 1.
-fn put_recipient(text: &mut Vec<u8>, name: &[u8], index: u64) -> Result<(), Memory>
-    ensures { OnOk result (text.new.items ≡ text.old.items ++ line_of (name.now ++ 46 ∷ digits index) (codes "pending")) }
-{
-    text.extend_from_slice(name)?;
-    text.push(b'.')?;
-    put_number(text, index)?;
-    text.extend_from_slice(b" pending\n")?;
     Ok(())
 }

@@ -12,3 +12,5 @@ pub mod DirsAbove
 pub mod Agreeing
 -- the texts of entries
 pub mod EntryTexts
+-- what a remote program reports
+pub mod Reports

@@ -1,12 +1,14 @@
 -- Parts of a text, as they are read one after the other.
 use Rattle.std.specs.Prelude.{◌≡◌, ◌≢◌, ◌⊎◌, ℕ, List, [], ◌∷◌, ◌++◌, Contains, Option, Some, None, Ok, codes}
 use Rattle.std.specs.List.{AllZip}
+use Rattle.mail_bytes.specs.Decimal.{digits}
 use Rattle.mail_bytes.specs.Escape.{unescaped}
 use Rattle.script_words.specs.declared.envelope.Form.{Form}
 use Rattle.script_words.specs.declared.envelope.Form.TheVariants as form
 use Rattle.script_words.specs.declared.entry_lines.Kind.{Kind}
 use Rattle.script_words.specs.declared.entry_lines.Kind.TheVariants as kind
-use Rattle.script_words.specs.Words.{joined, StandsFor, StandsForText, envelope_bytes}
+use Rattle.script_words.specs.declared.letter.Letter.{Letter}
+use Rattle.script_words.specs.Words.{joined, StandsFor, StandsForText, envelope_bytes, letter_text, IsSlot}
 
 -- The word before the first such byte of a text; and what stands after that byte, if it is there.
 abbrev pub CutsAt : List ℕ → ℕ → List ℕ → Option (List ℕ) → Type 0
@@ -75,3 +77,10 @@ kind_text kind.Dir = codes "dir"
 
 abbrev pub kind_texts : List (List ℕ)
 kind_texts = codes "file" ∷ codes "dir" ∷ []
+
+-- A slot, a letter, and one word for this text.
+pub record IsReport (words : List ℕ) (slot : ℕ) (letter : Letter) (text : List ℕ) : Type 0 where
+  pub word : List ℕ
+  pub words_are : words ≡ joined (digits slot ∷ letter_text letter ∷ word ∷ [])
+  pub is_slot : IsSlot slot
+  pub stands : StandsFor word text

@@ -6,6 +6,8 @@ use Rattle.mail_bytes.specs.Escape.{unescaped}
 use Rattle.envelope_records.specs.Envelope.{records_of}
 use Rattle.call_fs.specs.declared.crash_file_system.Survival.{Survival}
 use Rattle.call_fs.specs.declared.crash_file_system.Survival.TheVariants.{Keep, Lose, Junk}
+use Rattle.script_words.specs.declared.letter.Letter.{Letter}
+use Rattle.script_words.specs.declared.letter.Letter.TheVariants.{Success, Deferral, Failure}
 
 -- words, parted by one space: `step`, `a` are `step a`
 abbrev pub joined : List (List ℕ) → List ℕ
@@ -60,3 +62,16 @@ abbrev pub IsSeeded : Survival → Type 0
 IsSeeded Keep = Unit {0}
 IsSeeded Lose = Unit {0}
 IsSeeded (Junk seed) = seed ≤ most_seed
+
+-- the letter of a report, as a byte and as a word
+abbrev pub letter_byte : Letter → ℕ
+letter_byte Success = 75
+letter_byte Deferral = 90
+letter_byte Failure = 68
+
+abbrev pub letter_text : Letter → List ℕ
+letter_text letter = letter_byte letter ∷ []
+
+-- a slot of the spawners, which is one byte
+abbrev pub IsSlot : ℕ → Type 0
+IsSlot slot = slot < 2 ^ 8

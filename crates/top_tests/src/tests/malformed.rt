@@ -4,7 +4,7 @@ use mail_bytes::Memory;
 use std::test::Fail;
 
 /// Scripts of one line, which is refused.
-const LINES: [&str; 85] = [
+const LINES: [&str; 111] = [
     "mail abcdefghijklmnopq a@x b@y : hi",
     "mail a a@x b@y",
     "mail a a@x b@y :hi",
@@ -90,6 +90,32 @@ const LINES: [&str; 85] = [
     "dir home/x ",
     "dir /home/x",
     "dir home/x%00",
+    "sender x",
+    "sender ",
+    "turn 1",
+    "turns",
+    "settle",
+    "settle ",
+    "settle k",
+    "settle H",
+    "settle KZ",
+    "settle K ",
+    "settle K x",
+    "report",
+    "report 0",
+    "report 0 K",
+    "report 0 K ",
+    "report 0 K :",
+    "report 0 K a b",
+    "report 0  a",
+    "report 0 R a",
+    "report 0 k a",
+    "report 00 K a",
+    "report -1 K a",
+    "report 256 K a",
+    "report 18446744073709551616 K a",
+    "report x K a",
+    "report 0 K a%4",
 ];
 
 /// Scripts with what is printed of them. What the disk holds stands before all other lines, and agrees with itself.

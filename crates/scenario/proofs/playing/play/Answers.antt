@@ -1,10 +1,12 @@
-use Rattle.std.proofs.Common.{◌≡◌, ℕ, ◌+◌, ◌<◌, ◌^◌, length, ◌++◌, ◌∷◌, [], List, take, drop, refl, sym, ap, ◌∙◌, subst, append_assoc}
+use Rattle.std.proofs.Common.{◌≡◌, ◌+◌, ◌<◌, ◌^◌, length, ◌++◌, ◌∷◌, [], List, reverse, take, drop, refl, sym, ap, ◌∙◌, subst, append_assoc}
 use Rattle.std.proofs.lemmas.List.{append-nil, take-append-drop, take_all}
 use Rattle.std.proofs.lemmas.Result.{err_from_is_err_and}
 use Rattle.crash_fs.specs.Crash.{Crash, crash_disk, crash_plan}
 use Rattle.call_fs.specs.Plan.{no_plan}
 use Rattle.mail_bytes.specs.Told.{Rose}
 use Rattle.mem_fs.proofs.InTurn.{told_weaker}
+use Rattle.world_events.specs.declared.event.Event.{Event as Kept}
+use Rattle.mail_world.specs.Wired.{AreWholeGivings}
 use Rattle.mail_world.specs.World.{Seen}
 use Rattle.script_words.specs.declared.entry.Entry.{Entry}
 use Rattle.play_lines.specs.declared.line.Line.{Line}
@@ -35,7 +37,8 @@ loop-line-init g c =
     let playing : IsPlaying d c.in_ok-world.world no_plan [] = record {
       is = c.in_ok-world.ensures.begun (first_opens c.args.script.opening d (subst HaveEntryPaths entries.value entries.paths) first);
       planned = ap (λ (w : Seen Crash). crash_plan w.disk) world ∙ c.in_ok-first_disk.ensures.plan;
-      covered = tt;
+      whole = subst (λ (l : List Kept). AreWholeGivings (reverse l)) (sym (ap (λ (w : Seen Crash). w.events) world)) tt;
+      starts = tt;
     } in (
       refl,
       nothing_played c.args.script.opening d c.in_ok-world.world first playing,
@@ -76,7 +79,8 @@ returns-clause-played g c =
 pub returns-in_err-give-clause-cause : goal.returns-in_err-give-clause-cause
 returns-in_err-give-clause-cause g c =
     let p = err_from_is_err_and c.from_residual-in_err-give.result c.from_residual-in_err-give.ensures.1 in
-    rw p.1 (λ failed. subst (λ (old : ℕ). Rose old (g.O.Sink.faults c.give.new.out)) c.loop-line.invariant.0 c.in_err-give.ensures.failed.1)
+    rw p.1
+    (λ is. subst (λ faults. Rose faults (g.O.Sink.faults c.give.new.out)) c.loop-line.invariant.0 c.in_err-give.ensures.failed.1)
 
 pub returns-in_err-give-clause-begun : goal.returns-in_err-give-clause-begun
 returns-in_err-give-clause-begun g c =

@@ -8,5 +8,5 @@ returns-in-Trace c = λ d plan h playing. rw c.in-Trace.is (trace_played d c.arg
 pub returns-in-Show : goal.returns-in-Show
 returns-in-Show c =
     on_ok_weaker c.show.result
-    (λ told d plan h playing. rw c.in-Show.is (show_played d c.args.world.now plan c.args.text.now.items told.0 c.show.new.text.items h playing (told.2 d h playing.is playing.covered) told.1))
+    (λ told d plan h playing. rw c.in-Show.is (show_played d c.args.world.now plan c.args.text.now.items told.0 c.show.new.text.items h playing (told.2 d plan h playing) told.1))
     c.show.ensures

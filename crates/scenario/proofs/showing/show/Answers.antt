@@ -5,8 +5,7 @@ use Rattle.std.proofs.lemmas.Result.{on_ok_weaker}
 use Rattle.mail_bytes.specs.Decimal.{digits}
 use Rattle.call_fs.specs.Disk.{Disk}
 use Rattle.crash_fs.specs.Crash.{crash_disk}
-use Rattle.world_events.specs.declared.books.Entry.{Entry}
-use Rattle.scenario.specs.Shown.{AreNamesIn, AreNumbersIn, line_of, entry_lines, pid_line, number_line}
+use Rattle.scenario.specs.Shown.{AreNamesIn, AreNumbersIn, line_of, pid_line, number_line}
 use Rattle.scenario.proofs.Showings.{joined, is_shown}
 use Rattle.scenario.proofs.showing.show.Goals as goal
 
@@ -18,7 +17,6 @@ returns c =
     let bytes : Bor (List ℕ) → List ℕ = λ b. b.now in
     let pids : List (List ℕ) = map bytes c.in_ok-pids.pids.items in
     let numbers : List ℕ = c.in_ok-numbers.numbers.items in
-    let entries : List Entry = c.entries.result.now in
     let all : length pids ≡ length c.in_ok-pids.pids.items = length-map c.in_ok-pids.pids.items bytes in
     let count : c.len.result ≡ length pids = omega (arith, c.len.ensures, all, c.in_ok-pids.pids.ok.0) in
     let first : c.put_count_line.new.text.items ≡ text ++ pid_line pids =
@@ -31,10 +29,9 @@ returns c =
     let are_numbers : AreNumbersIn now numbers = subst (λ m. AreNumbersIn (crash_disk m) numbers) c.disk-2.ensures c.in_ok-numbers.ensures in
     on_ok_weaker c.put_mails.result
     (λ third. (
-      pid_line pids ++ (flat_map (number_line now) numbers ++ flat_map entry_lines entries),
-      joined text c.put_count_line.new.text.items c.put_states.new.text.items c.put_mails.new.text.items (pid_line pids) (flat_map (number_line now) numbers) (flat_map entry_lines entries)
-          first second third,
-      λ d h history none. is_shown d h now w.present w.events pids numbers entries history none are_pids are_numbers
-          (c.entries.ensures ∙ c.books.ensures.models d h history),
+      pid_line pids ++ (flat_map (number_line now) numbers ++ third.0),
+      joined text c.put_count_line.new.text.items c.put_states.new.text.items c.put_mails.new.text.items (pid_line pids) (flat_map (number_line now) numbers) third.0
+          first second third.1,
+      λ d plan h playing. is_shown d h now w.present w.events pids numbers third.0 playing.is are_pids are_numbers (third.2 d plan h playing),
     ))
     c.put_mails.ensures

@@ -1,0 +1,6 @@
+// Nothing branches in a function that holds forms in memory: each branch there makes its proof dearer.
+mod events;
+mod halted;
+mod playing;
+mod stages;
+mod stopped;

@@ -1,0 +1,149 @@
+// A machine stop after each event. Afterwards a new generation does what is left to do, at the same moment; then the machine
+// stops once more, and another generation does the same when what is left alone is old enough to be removed.
+use super::events::{AFTERWARDS, PUT_IN, events_of, fate_of_b, push_line, put_in_b};
+use super::playing::prints;
+use super::stages::{Stage, Stages};
+use mail_bytes::Memory;
+use std::test::Fail;
+
+/// Machine stops, as lines of scripts.
+const HALTS: [&str; 6] = [
+    "halt keep",
+    "halt lose",
+    "halt junk 1",
+    "halt junk 2",
+    "halt junk 3",
+    "halt junk 4",
+];
+
+/// What a machine stop leaves for good, if no time passes: of a mail that isn't accepted the name in `pid/` and the files of
+/// S2 and S3, which no generation touches for 36 hours; and the message file of S2 of a mail that is done, from the unlink of
+/// its info file to that of the message file. Of an accepted mail that isn't done nothing: it is delivered.
+const LEFT: [Stage; 14] = [
+    ("a create pid/", "pid 1\n"),
+    ("a link pid/", "pid 1\n1 S2\n"),
+    ("a unlink pid/", "pid 0\n1 S2\n"),
+    ("a create intd/", "pid 0\n1 S3\n"),
+    ("a link intd/", "pid 0\n"),
+    ("sender unlink info/1/1 = ok", "pid 0\n1 S2\n"),
+    ("clean unlink mess/1/1 = ok", "pid 0\n"),
+    ("b create pid/", "pid 1\n"),
+    ("b link pid/", "pid 1\n1 S2\n"),
+    ("b unlink pid/", "pid 0\n1 S2\n"),
+    ("b create intd/", "pid 0\n1 S3\n"),
+    ("b link intd/", "pid 0\n"),
+    ("sender unlink info/1/1 = ok", "pid 0\n1 S2\n"),
+    ("clean unlink mess/1/1 = ok", "pid 0\n"),
+];
+
+/// What comes of the first mail.
+const MAIL_A: [Stage; 3] = [
+    ("a start", "a stopped\n"),
+    ("a link intd/", "a stopped\na.1 delivered\n"),
+    ("a end 0", "a 0\na.1 delivered\n"),
+];
+
+/// What comes of the second mail, which is put in after the machine stop if it wasn't before.
+const MAIL_B: [Stage; 3] = [
+    ("b start", "b stopped\n"),
+    ("b link intd/", "b stopped\nb.1 delivered\n"),
+    ("b end 0", "b 0\nb.1 delivered\n"),
+];
+
+/// How far the events have come: what makes them, what a machine stop leaves, what comes of the mails, and the lines that put
+/// in the second mail after it.
+#[derive(Drop)]
+struct Course {
+    script: String,
+    left: Stages,
+    mail_a: Stages,
+    mail_b: Stages,
+    put_in: Stages,
+}
+
+impl Course {
+    /// No event has come. The second mail is put in at the end if there is one.
+    fn new(rt: &HostRuntime, two: bool) -> Self {
+        Course {
+            script: String::new(rt.alloc()),
+            left: Stages::new("pid 0\n", &LEFT),
+            mail_a: Stages::new("", &MAIL_A),
+            mail_b: Stages::new(fate_of_b(two), &MAIL_B),
+            put_in: Stages::new(put_in_b(two), &PUT_IN),
+        }
+    }
+
+    /// An event comes.
+    fn see(&mut self, event: &str) -> Result<(), Memory> {
+        self.left.see(event);
+        self.mail_a.see(event);
+        self.mail_b.see(event);
+        self.put_in.see(event);
+        push_line(&mut self.script, event)
+    }
+
+    /// The script of the events so far and what comes afterwards.
+    fn script(&self, rt: &HostRuntime, halt: &str) -> Result<String, Memory> {
+        let script = self.script.as_str();
+        let put_in = self.put_in.now();
+        format!(in rt.alloc(); "{script}{halt}\n{put_in}{AFTERWARDS}")
+    }
+
+    /// What that script prints.
+    fn printed(&self, rt: &HostRuntime) -> Result<String, Memory> {
+        let left = self.left.now();
+        let a = self.mail_a.now();
+        let b = self.mail_b.now();
+        format!(in rt.alloc(); "{left}{a}{b}pid 0\n{a}{b}")
+    }
+
+    /// Whether that script prints that.
+    fn is_as_expected(&self, rt: &HostRuntime, halt: &str) -> Result<bool, Memory> {
+        let script = self.script(rt, halt)?;
+        let printed = self.printed(rt)?;
+        prints(rt, &script, &printed)
+    }
+}
+
+/// Before which event something else is printed first; nothing if before none, nor at the end.
+fn first_wrong(rt: &HostRuntime, events: &str, two: bool, halt: &str) -> Result<String, Memory> {
+    let mut course = Course::new(rt, two);
+    for event in events.lines() {
+        if !course.is_as_expected(rt, halt)? {
+            return String::from_str(rt.alloc(), event);
+        }
+        course.see(event)?;
+    }
+    let is_right = course.is_as_expected(rt, halt)?;
+    String::from_str(rt.alloc(), if is_right { "" } else { "the end" })
+}
+
+#[test]
+fn a_machine_stop_after_any_event_of_a_mail_loses_no_accepted_one(
+    rt: HostRuntime,
+) -> Result<(), Fail> {
+    let events = events_of(&rt, false)?;
+    for halt in &HALTS {
+        assert_eq!(rt;
+            first_wrong(&rt, &events, false, halt)?.as_str(),
+            "",
+            "{halt}"
+        );
+    }
+    Ok(())
+}
+
+#[test]
+fn a_machine_stop_after_any_event_of_two_mails_loses_no_accepted_one(
+    rt: HostRuntime,
+) -> Result<(), Fail> {
+    let events = events_of(&rt, true)?;
+    for halt in &HALTS {
+        assert_eq!(rt;
+            first_wrong(&rt, &events, true, halt)?.as_str(),
+            "",
+            "{halt}"
+        );
+    }
+    Ok(())
+}

@@ -1,0 +1,531 @@
+-- What is kept of the lives of messages follows the state, event by event.
+use Rattle.std.proofs.Common.{◌≡◌, ◌≢◌, ◌⊎◌, inl, inr, ⊎_elim, ℕ, ◌+◌, ◌<◌, List, [], ◌∷◌, ◌++◌, length, get_or, take, Contains, reverse, true, false, bytes_eq, Option, Some, None, refl, sym, ap, ◌∙◌, subst, arith}
+use Rattle.std.specs.Prelude.{codes}
+use Rattle.std.specs.List.{AllZip}
+use Rattle.std.specs.Option.{option_map}
+use Rattle.std.specs.Ordering.{nat_cmp}
+use Rattle.std.specs.BTreeMap.{get}
+use Rattle.std.proofs.lemmas.List.{reverse-append, take_more}
+use Rattle.call_fs.specs.declared.calls.CallData.{CallData}
+use Rattle.call_fs.specs.declared.past.ChildData.{ChildData}
+use Rattle.call_fs.specs.declared.past.ChildData.TheVariants as child
+use Rattle.call_fs.specs.declared.past.GotData.{GotData}
+use Rattle.call_fs.specs.declared.past.GotData.TheVariants as got
+use Rattle.call_fs.specs.declared.past.NeedData.{NeedData}
+use Rattle.call_fs.specs.declared.past.NeedData.TheVariants as needs
+use Rattle.call_fs.specs.declared.past.Own.{Own}
+use Rattle.call_fs.specs.declared.program.Port.{Port}
+use Rattle.call_fs.specs.declared.program.Port.TheVariants as port
+use Rattle.call_fs.specs.declared.program.Ready.{Ready}
+use Rattle.call_fs.specs.Disk.{Disk}
+use Rattle.call_fs.specs.Maps.{put_at}
+use Rattle.call_fs.proofs.Maps.{put_at_cases, put_at_same, put_at_other}
+use Rattle.call_fs.specs.Past.{IsRunBy}
+use Rattle.call_fs.specs.Program.{IsTaken, MayCome}
+use Rattle.mail_bytes.specs.Moments.{IsMoment}
+use Rattle.queue_inject.specs.declared.injection.Arguments.{Arguments}
+use Rattle.queue_law.specs.Books.{Books}
+use Rattle.actor_names.specs.MailNames.{members}
+use Rattle.send_core.specs.Stands.{Machine, Stands}
+use Rattle.send_core.specs.Table.{Next}
+use Rattle.world_events.specs.declared.event.Event.{Event as Kept}
+use Rattle.world_events.specs.declared.event.Event.TheVariants as kept
+use Rattle.world_events.specs.declared.event.Program.{Program}
+use Rattle.world_events.specs.declared.event.Program.TheVariants.{Injector, Cleaner, Sender, LocalSpawner, RemoteSpawner}
+use Rattle.mail_world.specs.ByKind.{IsMail}
+use Rattle.mail_world.specs.History.{Event, Actor, Life, State, Allowed, ComesOf, IsSender, IsStatusOf, Legal, MayDo, MayRun, TenantEnds, acted, after, begins, books_after, finished, happens, newborn, next_of, stopped}
+use Rattle.mail_world.specs.History.Event.{Start, Act, Child, Generation, Report, End, Stop, Moment, Halt}
+use Rattle.mail_world.specs.History.Life.{Alive, Over, Stopped}
+use Rattle.mail_world.proofs.Opens.{fits_answer}
+use Rattle.mail_world.specs.Pipework.{Pipe, Tenant, Yields, with_generation}
+use Rattle.mail_world.specs.Pipework.Tenant.{Runs, Remote}
+use Rattle.mail_world.specs.World.{Tells}
+use Rattle.scenario.specs.declared.fates.Fates.{Fates}
+use Rattle.scenario.specs.declared.fates.Tenure.{Tenure}
+use Rattle.scenario.specs.Fates.{AreFates, AreMailStarts, AreNamed, Follows, HasDue, IsHeard, IsMailStart, IsTenure, IsTenureIf, heard_by}
+
+-- What came may come
+
+yields_taken : (pipe : Pipe) (p : Port) (came : GotData) → ((bytes : List ℕ) → IsTaken p (got.Took bytes)) → IsTaken p got.End → IsTaken p got.Failed → Yields pipe came → IsTaken p came
+yields_taken pipe p (got.Took bytes) took ends fails y = took bytes
+yields_taken pipe p got.End took ends fails y = ends
+yields_taken pipe p got.Failed took ends fails y = fails
+yields_taken pipe p (got.Answered told) took ends fails y = absurd y
+yields_taken pipe p (got.Ended status) took ends fails y = absurd y
+yields_taken pipe p got.Crashed took ends fails y = absurd y
+yields_taken pipe p got.Gave took ends fails y = absurd y
+yields_taken pipe p (got.Started pid) took ends fails y = absurd y
+yields_taken pipe p got.Memory took ends fails y = absurd y
+
+life_taken : (d : ℕ) (life : Life) (came : GotData) → IsStatusOf life came → IsTaken (port.Status d) came
+life_taken d Alive came e = absurd e
+life_taken d (Over status) came e = subst (IsTaken (port.Status d)) (sym e) tt
+life_taken d Stopped came e = subst (IsTaken (port.Status d)) (sym e) tt
+
+tenant_taken : (s : State) (d : ℕ) (o : Option Tenant) (came : GotData) → TenantEnds s o came → IsTaken (port.Status d) came
+tenant_taken s d None came e = absurd e
+tenant_taken s d (Some (Runs b)) came e = life_taken d e.0.life came e.2
+tenant_taken s d (Some (Remote true)) came e = subst (IsTaken (port.Status d)) (sym e) tt
+tenant_taken s d (Some (Remote false)) came e = absurd e
+
+call_may : (s : State) (a : List ℕ) (c : CallData) (came : GotData) (wrote : ℕ) → ComesOf s a (needs.File c) came wrote → MayCome (needs.File c) came
+call_may s a c (got.Answered told) wrote h = fits_answer s.disk c told.answer wrote h.0
+call_may s a c (got.Took bytes) wrote h = absurd h
+call_may s a c got.End wrote h = absurd h
+call_may s a c (got.Ended status) wrote h = absurd h
+call_may s a c got.Crashed wrote h = absurd h
+call_may s a c got.Gave wrote h = absurd h
+call_may s a c (got.Started pid) wrote h = absurd h
+call_may s a c got.Failed wrote h = absurd h
+call_may s a c got.Memory wrote h = absurd h
+
+give_may : (s : State) (a : List ℕ) (p : Port) (bytes : List ℕ) (came : GotData) (wrote : ℕ) → ComesOf s a (needs.Give p bytes) came wrote → MayCome (needs.Give p bytes) came
+give_may s a port.Input bytes got.Gave wrote h = tt
+give_may s a port.Input bytes got.Failed wrote h = tt
+give_may s a port.Input bytes came wrote h = absurd h
+give_may s a port.Output bytes got.Gave wrote h = tt
+give_may s a port.Output bytes got.Failed wrote h = tt
+give_may s a port.Output bytes came wrote h = absurd h
+give_may s a port.Clean bytes got.Gave wrote h = tt
+give_may s a port.Clean bytes got.Failed wrote h = tt
+give_may s a port.Clean bytes came wrote h = absurd h
+give_may s a port.Lspawn bytes got.Gave wrote h = tt
+give_may s a port.Lspawn bytes got.Failed wrote h = tt
+give_may s a port.Lspawn bytes came wrote h = absurd h
+give_may s a port.Rspawn bytes got.Gave wrote h = tt
+give_may s a port.Rspawn bytes got.Failed wrote h = tt
+give_may s a port.Rspawn bytes came wrote h = absurd h
+give_may s a port.Todo bytes got.Gave wrote h = tt
+give_may s a port.Todo bytes got.Failed wrote h = tt
+give_may s a port.Todo bytes came wrote h = absurd h
+give_may s a (port.Status d) bytes got.Gave wrote h = tt
+give_may s a (port.Status d) bytes got.Failed wrote h = tt
+give_may s a (port.Status d) bytes came wrote h = absurd h
+give_may s a (port.Program d) bytes got.Gave wrote h = tt
+give_may s a (port.Program d) bytes got.Failed wrote h = tt
+give_may s a (port.Program d) bytes came wrote h = absurd h
+
+start_may : (s : State) (a : List ℕ) (asked : ChildData) (came : GotData) (wrote : ℕ) → ComesOf s a (needs.Start asked) came wrote → MayCome (needs.Start asked) came
+start_may s a asked (got.Started pid) wrote h = tt
+start_may s a asked got.Failed wrote h = tt
+start_may s a asked got.Memory wrote h = tt
+start_may s a (child.Remote slot domain sender recipient) came wrote h = absurd h
+start_may s a (child.Bounce room) came wrote h = absurd h
+start_may s a (child.Forward uid room) came wrote h = absurd h
+start_may s a (child.Local slot words uid) came wrote h = absurd h
+
+pub may_come : (s : State) (a : List ℕ) (due : NeedData) (came : GotData) (wrote : ℕ) → ComesOf s a due came wrote → MayCome due came
+may_come s a (needs.File c) came wrote h = call_may s a c came wrote h
+may_come s a (needs.Take (port.Status d)) came wrote h = ⊎_elim (λ e. subst (IsTaken (port.Status d)) (sym e) tt) (λ e. tenant_taken s d (s.pipework.programs a d) came e) h
+may_come s a (needs.Take port.Input) came wrote h = yields_taken (s.pipework.pipes a port.Input) port.Input came (λ bytes. tt) tt tt h
+may_come s a (needs.Take port.Output) came wrote h = yields_taken (s.pipework.pipes a port.Output) port.Output came (λ bytes. tt) tt tt h
+may_come s a (needs.Take port.Clean) came wrote h = yields_taken (s.pipework.pipes a port.Clean) port.Clean came (λ bytes. tt) tt tt h
+may_come s a (needs.Take port.Lspawn) came wrote h = yields_taken (s.pipework.pipes a port.Lspawn) port.Lspawn came (λ bytes. tt) tt tt h
+may_come s a (needs.Take port.Rspawn) came wrote h = yields_taken (s.pipework.pipes a port.Rspawn) port.Rspawn came (λ bytes. tt) tt tt h
+may_come s a (needs.Take port.Todo) came wrote h = yields_taken (s.pipework.pipes a port.Todo) port.Todo came (λ bytes. tt) tt tt h
+may_come s a (needs.Take (port.Program d)) came wrote h = yields_taken (s.pipework.pipes a (port.Program d)) (port.Program d) came (λ bytes. tt) tt tt h
+may_come s a (needs.Give p bytes) came wrote h = give_may s a p bytes came wrote h
+may_come s a (needs.Start asked) came wrote h = start_may s a asked came wrote h
+may_come s a (needs.Command bytes) came wrote h = h
+may_come s a needs.Wait came wrote h = absurd h
+may_come s a (needs.Ended status) came wrote h = absurd h
+
+-- Actors
+
+put_actor : (actors : List ℕ → Option Actor) (a b : List ℕ) (x y : Actor) → put_at actors a (Some x) b ≡ Some y
+    → ((b ≡ a) × (x ≡ y)) ⊎ ((b ≢ a) × (actors b ≡ Some y))
+put_actor actors a b x y is = ⊎_elim
+    (λ h. inl (h.0, let both : ◌≡◌ {A = Option Actor} (Some x) (Some y) = sym h.1 ∙ is in cc))
+    (λ h. inr (h.0, sym h.1 ∙ is))
+    (put_at_cases actors a (Some x) b)
+
+-- what is asked of an actor with its name
+pub record IsNamed (a : List ℕ) (program : Program) : Type 0 where
+  pub member : Contains members a → MayRun program → ⊥
+  pub mail : ¬ (Contains members a) → IsMail program
+  pub sender : IsSender program → a ≡ codes "sender"
+
+named_one : (s : State) (a : List ℕ) (x : Actor) → AreNamed s → s.actors a ≡ Some x → IsNamed a x.program
+named_one s a x named is = record { member = named.member a x is; mail = named.mail a x is; sender = named.sender a x is }
+
+named_put : (s t : State) (a : List ℕ) (x : Actor) → t.actors ≡ put_at s.actors a (Some x) → IsNamed a x.program → AreNamed s → AreNamed t
+named_put s t a x are here named =
+    let each : (b : List ℕ) (y : Actor) → t.actors b ≡ Some y → IsNamed b y.program = λ b y is. ⊎_elim
+    (λ h. subst (λ (b : List ℕ). IsNamed b y.program) (sym h.0) (subst (λ (x : Actor). IsNamed a x.program) h.1 here))
+    (λ h. named_one s b y named h.1)
+    (put_actor s.actors a b x y (ap (λ (m : List ℕ → Option Actor). m b) (sym are) ∙ is)) in
+    record { member = λ b y is. (each b y is).member; mail = λ b y is. (each b y is).mail; sender = λ b y is. (each b y is).sender }
+
+named_same : (s t : State) → t.actors ≡ s.actors → AreNamed s → AreNamed t
+named_same s t are named = record {
+  member = λ a x is. named.member a x (ap (λ (m : List ℕ → Option Actor). m a) (sym are) ∙ is);
+  mail = λ a x is. named.mail a x (ap (λ (m : List ℕ → Option Actor). m a) (sym are) ∙ is);
+  sender = λ a x is. named.sender a x (ap (λ (m : List ℕ → Option Actor). m a) (sym are) ∙ is);
+}
+
+named_acted : (s : State) (a : List ℕ) (own : Own) (wrote : ℕ) (o : Option Actor) → s.actors a ≡ o → AreNamed s → AreNamed (acted s a own wrote o)
+named_acted s a own wrote None is named = named
+named_acted s a own wrote (Some x) is named =
+    named_put s (acted s a own wrote (Some x)) a (record { program = x.program; past = own ∷ x.past; life = x.life }) refl (named_one s a x named is) named
+
+named_finished : (s : State) (a : List ℕ) (life : Life) (o : Option Actor) → s.actors a ≡ o → AreNamed s → AreNamed (finished s a life o)
+named_finished s a life None is named = named
+named_finished s a life (Some x) is named =
+    named_put s (finished s a life (Some x)) a (record { program = x.program; past = x.past; life = life }) refl (named_one s a x named is) named
+
+stopped_is : (o : Option Actor) (y : Actor) → option_map stopped o ≡ Some y → (x : Actor) × (o ≡ Some x) × (x.program ≡ y.program)
+stopped_is None y is = absurd (cc)
+stopped_is (Some x) y is = (x, refl, let same : stopped x ≡ y = some_is (stopped x) y is in ap (λ (z : Actor). z.program) same) where
+  some_is : (x y : Actor) → ◌≡◌ {A = Option Actor} (Some x) (Some y) → x ≡ y
+  some_is x y e = cc
+
+mail_run : (program : Program) → MayRun program → IsMail program
+mail_run (Injector args) runs = tt
+mail_run (Cleaner start) runs = absurd runs
+mail_run (Sender start) runs = absurd runs
+mail_run (LocalSpawner start) runs = absurd runs
+mail_run (RemoteSpawner start) runs = absurd runs
+
+sender_runs : (program : Program) → MayRun program → IsSender program → ⊥
+sender_runs (Injector args) runs sends = sends
+sender_runs (Cleaner start) runs sends = runs
+sender_runs (Sender start) runs sends = runs
+sender_runs (LocalSpawner start) runs sends = runs
+sender_runs (RemoteSpawner start) runs sends = runs
+
+-- the members of a generation
+is_member_sender : Contains members (codes "sender")
+is_member_sender = (0, omega arith, refl)
+
+is_member_clean : Contains members (codes "clean")
+is_member_clean = (1, omega arith, refl)
+
+is_member_lspawn : Contains members (codes "lspawn")
+is_member_lspawn = (2, omega arith, refl)
+
+is_member_rspawn : Contains members (codes "rspawn")
+is_member_rspawn = (3, omega arith, refl)
+
+named_generation : (s : State) (start : ℕ) → AreNamed s → AreNamed (happens s (Generation (Sender start) (Cleaner start) (LocalSpawner start) (RemoteSpawner start)))
+named_generation s start named =
+    let pipework = with_generation s.pipework in
+    let one = begins s (codes "sender") (Sender start) pipework in
+    let two = begins one (codes "clean") (Cleaner start) pipework in
+    let three = begins two (codes "lspawn") (LocalSpawner start) pipework in
+    let four = begins three (codes "rspawn") (RemoteSpawner start) pipework in
+    named_put three four (codes "rspawn") (newborn (RemoteSpawner start)) refl (record { member = λ m r. r; mail = λ m. absurd (m is_member_rspawn); sender = λ sends. absurd sends })
+    (named_put two three (codes "lspawn") (newborn (LocalSpawner start)) refl (record { member = λ m r. r; mail = λ m. absurd (m is_member_lspawn); sender = λ sends. absurd sends })
+    (named_put one two (codes "clean") (newborn (Cleaner start)) refl (record { member = λ m r. r; mail = λ m. absurd (m is_member_clean); sender = λ sends. absurd sends })
+    (named_put s one (codes "sender") (newborn (Sender start)) refl (record { member = λ m r. r; mail = λ m. absurd (m is_member_sender); sender = λ sends. refl }) named)))
+
+named_event : (s : State) (k : Kept) (e : Event) → Tells k e → IsMailStart e → Allowed s e → AreNamed s → AreNamed (happens s e)
+named_event s k (Start a program) told mail may named =
+    named_put s (begins s a program s.pipework) a (newborn program) refl (record { member = λ m r. mail m; mail = λ m. mail_run program may.runs; sender = λ sends. absurd (sender_runs program may.runs sends) }) named
+named_event s k (Act a own wrote) told mail may named = named_acted s a own wrote (s.actors a) refl named
+named_event s k (Child parent own a program) told mail may named = absurd told
+named_event s k (Generation sender clean lspawn rspawn) told mail may named =
+    let are = told.2 in
+    rw (are.sender_is, are.clean_is, are.lspawn_is, are.rspawn_is) (named_generation s told.0 named)
+named_event s k (Report slot letter text) told mail may named = named_same s (happens s (Report slot letter text)) refl named
+named_event s k (End a read ready status) told mail may named = named_finished s a (Over status) (s.actors a) refl named
+named_event s k (Stop a) told mail may named = named_finished s a Stopped (s.actors a) refl named
+named_event s k (Moment m) told mail may named = named_same s (happens s (Moment m)) refl named
+named_event s k (Halt how contents) told mail may named = record {
+  member = λ a y is. let w = stopped_is (s.actors a) y is in subst (λ (p : Program). Contains members a → MayRun p → ⊥) w.2 (named.member a w.0 w.1);
+  mail = λ a y is. let w = stopped_is (s.actors a) y is in subst (λ (p : Program). ¬ (Contains members a) → IsMail p) w.2 (named.mail a w.0 w.1);
+  sender = λ a y is. let w = stopped_is (s.actors a) y is in subst (λ (p : Program). IsSender p → a ≡ codes "sender") w.2 (named.sender a w.0 w.1);
+}
+
+now_acted : (s : State) (a : List ℕ) (own : Own) (wrote : ℕ) (o : Option Actor) → (acted s a own wrote o).now ≡ s.now
+now_acted s a own wrote None = refl
+now_acted s a own wrote (Some x) = refl
+
+now_finished : (s : State) (a : List ℕ) (life : Life) (o : Option Actor) → (finished s a life o).now ≡ s.now
+now_finished s a life None = refl
+now_finished s a life (Some x) = refl
+
+moment_event : (s : State) (k : Kept) (e : Event) → Tells k e → Allowed s e → IsMoment s.now → IsMoment (happens s e).now
+moment_event s k (Start a program) told may is = is
+moment_event s k (Act a own wrote) told may is = subst IsMoment (sym (now_acted s a own wrote (s.actors a))) is
+moment_event s k (Child parent own a program) told may is = absurd told
+moment_event s k (Generation sender clean lspawn rspawn) told may is = is
+moment_event s k (Report slot letter text) told may is = is
+moment_event s k (End a read ready status) told may is = subst IsMoment (sym (now_finished s a (Over status) (s.actors a))) is
+moment_event s k (Stop a) told may is = subst IsMoment (sym (now_finished s a Stopped (s.actors a))) is
+moment_event s k (Moment m) told may is = may.moment
+moment_event s k (Halt how contents) told may is = is
+
+-- so it is after each history that kept events tell
+pub record IsOrderly (s : State) : Type 0 where
+  pub named : AreNamed s
+  pub moment : IsMoment s.now
+
+pub orderly : (d : Disk) (ks : List Kept) (h : List Event) → Legal d h → AllZip Tells ks h → AreMailStarts h → IsOrderly (after d h)
+orderly d [] [] legal told mails = record {
+  named = record { member = λ a x is. absurd (cc); mail = λ a x is. absurd (cc); sender = λ a x is. absurd (cc) };
+  moment = omega arith;
+}
+orderly d (k ∷ ks) [] legal told mails = absurd told
+orderly d [] (e ∷ h) legal told mails = absurd told
+orderly d (k ∷ ks) (e ∷ h) legal told mails =
+    let before = orderly d ks h legal.0 told.1 mails.1 in
+    record { named = named_event (after d h) k e told.0 mails.0 legal.1 before.named; moment = moment_event (after d h) k e told.0 legal.1 before.moment }
+
+-- What follows a state
+
+pub same_fates : (old new : Fates) (b : Books) → new.living ≡ old.living → new.over ≡ old.over → AreFates old b → AreFates new b
+same_fates old new b living over h = record {
+  living = λ n is. rw living (h.living n is);
+  over = rw over h.over;
+  placed = h.placed;
+}
+
+heard_same : (m : Option Machine) (x y : Actor) → y.program ≡ x.program → y.past ≡ x.past → IsHeard m (Some x) → IsHeard m (Some y)
+heard_same None x y program past h = absurd (cc)
+heard_same (Some m) x y program past h = ((h.0.0, program ∙ h.0.1), subst (Stands m None) (sym past) h.1, subst (IsRunBy (Next None)) (sym past) h.2)
+
+-- an event that changes no past and no books
+heard_put : (m : Option Machine) (actors : List ℕ → Option Actor) (a : List ℕ) (x y : Actor) → actors a ≡ Some x → y.program ≡ x.program → y.past ≡ x.past
+    → IsHeard m (actors (codes "sender")) → IsHeard m (put_at actors a (Some y) (codes "sender"))
+heard_put m actors a x y is program past h = ⊎_elim
+    (λ e. subst (IsHeard m) (sym e.1) (heard_same m x y program past (subst (IsHeard m) (ap actors e.0 ∙ is) h)))
+    (λ e. subst (IsHeard m) (sym e.1) h)
+    (put_at_cases actors a (Some y) (codes "sender"))
+
+follows_finished : (f : Fates) (s : State) (a : List ℕ) (life : Life) (o : Option Actor) → s.actors a ≡ o → Follows f s → Follows f (finished s a life o)
+follows_finished f s a life None is h = h
+follows_finished f s a life (Some x) is h = record {
+  fates = h.fates;
+  heard = heard_put f.sender s.actors a x (record { program = x.program; past = x.past; life = life }) is refl refl h.heard;
+}
+
+heard_stopped : (m : Option Machine) (o : Option Actor) → IsHeard m o → IsHeard m (option_map stopped o)
+heard_stopped None None h = h
+heard_stopped None (Some x) h = absurd (cc)
+heard_stopped (Some m) None h = h
+heard_stopped (Some m) (Some x) h = h
+
+pub follows_start : (f : Fates) (s : State) (a : List ℕ) (program : Program) → ¬ (Contains members a) → Follows f s → Follows f (happens s (Start a program))
+follows_start f s a program mail h = record {
+  fates = h.fates;
+  heard = ⊎_elim
+      (λ e. absurd (mail (subst (Contains members) e.0 is_member_sender)))
+      (λ e. subst (IsHeard f.sender) (sym e.1) h.heard)
+      (put_at_cases s.actors a (Some (newborn program)) (codes "sender"));
+}
+
+pub follows_other : (f : Fates) (s : State) (k : Kept) (e : Event) → Tells k e → IsMailStart e → Follows f s → ((a : List ℕ) (own : Own) → k ≢ kept.Act a own) → ((start : ℕ) → k ≢ kept.Generation start) → Follows f (happens s e)
+follows_other f s k (Start a program) told mail h act generation = follows_start f s a program mail h
+follows_other f s k (Act a own wrote) told mail h act generation = absurd (act a own told)
+follows_other f s k (Child parent own a program) told mail h act generation = absurd told
+follows_other f s k (Generation sender clean lspawn rspawn) told mail h act generation = absurd (generation told.0 told.1)
+follows_other f s k (Report slot letter text) told mail h act generation = record { fates = h.fates; heard = h.heard }
+follows_other f s k (End a read ready status) told mail h act generation = follows_finished f s a (Over status) (s.actors a) refl h
+follows_other f s k (Stop a) told mail h act generation = follows_finished f s a Stopped (s.actors a) refl h
+follows_other f s k (Moment m) told mail h act generation = record { fates = h.fates; heard = h.heard }
+follows_other f s k (Halt how contents) told mail h act generation = record { fates = h.fates; heard = heard_stopped f.sender (s.actors (codes "sender")) h.heard }
+
+-- a new generation
+new_sender : (s : State) (start : ℕ) → (happens s (Generation (Sender start) (Cleaner start) (LocalSpawner start) (RemoteSpawner start))).actors (codes "sender") ≡ Some (newborn (Sender start))
+new_sender s start =
+    let one = put_at s.actors (codes "sender") (Some (newborn (Sender start))) in
+    let two = put_at one (codes "clean") (Some (newborn (Cleaner start))) in
+    let three = put_at two (codes "lspawn") (Some (newborn (LocalSpawner start))) in
+    put_at_other three (codes "rspawn") (Some (newborn (RemoteSpawner start))) (codes "sender") (λ e. omega (arith, head_is _ _ e))
+    ∙ put_at_other two (codes "lspawn") (Some (newborn (LocalSpawner start))) (codes "sender") (λ e. omega (arith, head_is _ _ e))
+    ∙ put_at_other one (codes "clean") (Some (newborn (Cleaner start))) (codes "sender") (λ e. omega (arith, head_is _ _ e))
+    ∙ put_at_same s.actors (codes "sender") (Some (newborn (Sender start)))
+  where
+    head : List ℕ → ℕ
+    head [] = 0
+    head (b ∷ bs) = b
+
+    head_is : (x y : List ℕ) → x ≡ y → head x ≡ head y
+    head_is x y e = ap head e
+
+pub follows_generation : (old new : Fates) (s : State) (e : Event) (start : ℕ) (m : Machine) → Tells (kept.Generation start) e → new.living ≡ old.living → new.over ≡ old.over → new.sender ≡ Some m → Stands m None []
+    → Follows old s → Follows new (happens s e)
+follows_generation old new s (Start a program) start m told living over is stands h = absurd (cc)
+follows_generation old new s (Act a own wrote) start m told living over is stands h = absurd (cc)
+follows_generation old new s (Child parent own a program) start m told living over is stands h = absurd told
+follows_generation old new s (Generation sender clean lspawn rspawn) start m told living over is stands h =
+    let are = told.2 in
+    let p = told.0 in
+    rw (are.sender_is, are.clean_is, are.lspawn_is, are.rspawn_is) (record {
+      fates = same_fates old new s.books living over h.fates;
+      heard =
+          let o = (happens s (Generation (Sender p) (Cleaner p) (LocalSpawner p) (RemoteSpawner p))).actors (codes "sender") in
+          subst (λ (m : Option Machine). IsHeard m o) (sym is) (subst (IsHeard (Some m)) (sym (new_sender s p)) ((p, refl), stands, tt));
+    })
+follows_generation old new s (Report slot letter text) start m told living over is stands h = absurd (cc)
+follows_generation old new s (End a read ready status) start m told living over is stands h = absurd (cc)
+follows_generation old new s (Stop a) start m told living over is stands h = absurd (cc)
+follows_generation old new s (Moment at) start m told living over is stands h = absurd (cc)
+follows_generation old new s (Halt how contents) start m told living over is stands h = absurd (cc)
+
+-- the same, by what a kept event is
+abbrev pub IsOther : Kept → Type 0
+IsOther (kept.Act a own) = ⊥
+IsOther (kept.Generation start) = ⊥
+IsOther k = Unit {0}
+
+pub other_told : (f : Fates) (s : State) (k : Kept) (e : Event) (x : Kept) → k ≡ x → IsOther x → Tells k e → IsMailStart e → Follows f s → Follows f (happens s e)
+other_told f s k e x is other told mail h = follows_other f s k e told mail h
+    (λ a own same. subst IsOther (sym is ∙ same) other)
+    (λ start same. subst IsOther (sym is ∙ same) other)
+
+pub generation_told : (old new : Fates) (s : State) (k : Kept) (e : Event) (start : ℕ) (m : Machine) → k ≡ kept.Generation start → Tells k e → new.living ≡ old.living → new.over ≡ old.over → new.sender ≡ Some m → Stands m None []
+    → Follows old s → Follows new (happens s e)
+generation_told old new s k e start m is told living over sender stands h =
+    follows_generation old new s e start m (subst (λ (x : Kept). Tells x e) is told) living over sender stands h
+
+-- An event of the sender
+
+by_start : (b : Books) (a : List ℕ) (start : ℕ) (past : List Own) (read : ℕ) (ready : Ready) (due : NeedData) (came : GotData)
+    → books_after b a (Sender 0) past read ready due came ≡ books_after b a (Sender start) past read ready due came
+by_start b a start past read ready (needs.File c) (got.Answered told) = refl
+by_start b a start past read ready (needs.Take p) came = refl
+by_start b a start past read ready due came = refl
+
+sender_at : (o : Option Actor) (m : Machine) → IsHeard (Some m) o → (x : Actor) × (o ≡ Some x) × (start : ℕ) × (x.program ≡ Sender start) × Stands m None x.past × IsRunBy (Next None) x.past
+sender_at None m h = absurd h
+sender_at (Some x) m h = (x, refl, h.0.0, h.0.1, h.1, h.2)
+
+-- what is known of the past of the newest sender, when this is its next event
+pub record IsNext (m : Machine) (s : State) (own : Own) (wrote : ℕ) : Type 0 where
+  pub actor : Actor
+  pub is : s.actors (codes "sender") ≡ Some actor
+  pub start : ℕ
+  pub program : actor.program ≡ Sender start
+  pub stands : Stands m None actor.past
+  pub due : HasDue actor.past own
+  pub may : MayCome own.due own.came
+
+pub is_next : (f : Fates) (s : State) (own : Own) (wrote : ℕ) (m : Machine) → IsMoment s.now → MayDo s (codes "sender") own wrote → f.sender ≡ Some m → Follows f s → IsNext m s own wrote
+is_next f s own wrote m moment does is h =
+    let w = sender_at (s.actors (codes "sender")) m (subst (λ (o : Option Machine). IsHeard o (s.actors (codes "sender"))) is h.heard) in
+    let same : does.actor ≡ w.0 = some_is does.actor w.0 (sym does.reads.is ∙ w.1) in
+    let no_later = does.reads.no_later in
+    record {
+      actor = w.0;
+      is = w.1;
+      start = w.2;
+      program = w.3;
+      stands = w.4;
+      due = record {
+        run = w.5;
+        moment = omega (arith, moment, no_later);
+        due = ap (λ (p : Program). next_of p w.0.past own.read own.ready) (sym w.3) ∙ ap (λ (x : Actor). next_of x.program x.past own.read own.ready) (sym same) ∙ does.due;
+      };
+      may = may_come s (codes "sender") own.due own.came wrote does.came;
+    }
+  where
+    some_is : (x y : Actor) → ◌≡◌ {A = Option Actor} (Some x) (Some y) → x ≡ y
+    some_is x y e = cc
+
+-- there is one, if a sender acts
+pub some_sender : (f : Fates) (s : State) (own : Own) (wrote : ℕ) → MayDo s (codes "sender") own wrote → f.sender ≡ None → Follows f s → ⊥
+some_sender f s own wrote does is h =
+    let none : s.actors (codes "sender") ≡ None = subst (λ (o : Option Machine). IsHeard o (s.actors (codes "sender"))) is h.heard in
+    let some = does.reads.is in
+    absurd (cc)
+
+pub follows_sender : (new : Fates) (s : State) (own : Own) (wrote : ℕ) (old m : Machine) → (next : IsNext old s own wrote) → new.sender ≡ Some m → Stands m None (own ∷ next.actor.past)
+    → AreFates new (heard_by next.actor.past own s.books) → Follows new (acted s (codes "sender") own wrote (s.actors (codes "sender")))
+follows_sender new s own wrote old m next is stands fates =
+    let x = next.actor in
+    let y : Actor = record { program = x.program; past = own ∷ x.past; life = x.life } in
+    rw next.is (record {
+      fates = subst (AreFates new)
+          (by_start s.books (codes "sender") next.start x.past own.read own.ready own.due own.came
+          ∙ ap (λ (p : Program). books_after s.books (codes "sender") p x.past own.read own.ready own.due own.came) (sym next.program))
+          fates;
+      heard = subst (λ (m : Option Machine). IsHeard m (put_at s.actors (codes "sender") (Some y) (codes "sender"))) (sym is)
+          (subst (IsHeard (Some m)) (sym (put_at_same s.actors (codes "sender") (Some y)))
+          ((next.start, next.program), stands, (next.due.run, (next.due.due, next.may))));
+    })
+
+-- An event of another actor
+
+heard_apart : (m : Option Machine) (s : State) (a : List ℕ) (own : Own) (wrote : ℕ) (o : Option Actor) → a ≢ codes "sender" → IsHeard m (s.actors (codes "sender")) → IsHeard m ((acted s a own wrote o).actors (codes "sender"))
+heard_apart m s a own wrote None apart h = h
+heard_apart m s a own wrote (Some x) apart h =
+    let y : Actor = record { program = x.program; past = own ∷ x.past; life = x.life } in
+    subst (IsHeard m) (sym (put_at_other s.actors a (Some y) (codes "sender") (λ e. apart (sym e)))) h
+
+-- one that sends nothing and links nothing
+quiet_books : (b : Books) (a : List ℕ) (program : Program) (past : List Own) (read : ℕ) (ready : Ready) (due : NeedData) (came : GotData) → (MayRun program → ⊥) → (IsSender program → ⊥)
+    → books_after b a program past read ready due came ≡ b
+quiet_books b a (Injector args) past read ready due came runs sends = absurd (runs tt)
+quiet_books b a (Sender start) past read ready due came runs sends = absurd (sends tt)
+quiet_books b a (Cleaner start) past read ready (needs.File c) (got.Answered told) runs sends = refl
+quiet_books b a (Cleaner start) past read ready due came runs sends = refl
+quiet_books b a (LocalSpawner start) past read ready (needs.File c) (got.Answered told) runs sends = refl
+quiet_books b a (LocalSpawner start) past read ready due came runs sends = refl
+quiet_books b a (RemoteSpawner start) past read ready (needs.File c) (got.Answered told) runs sends = refl
+quiet_books b a (RemoteSpawner start) past read ready due came runs sends = refl
+
+pub follows_member : (f : Fates) (s : State) (a : List ℕ) (own : Own) (wrote : ℕ) → AreNamed s → a ≢ codes "sender" → Contains members a → Follows f s → Follows f (acted s a own wrote (s.actors a))
+follows_member f s a own wrote named apart member h = by (s.actors a) refl where
+  by : (o : Option Actor) → s.actors a ≡ o → Follows f (acted s a own wrote o)
+  by None is = h
+  by (Some x) is = record {
+    fates = subst (AreFates f) (sym (quiet_books s.books a x.program x.past own.read own.ready own.due own.came (named.member a x is member) (λ sends. apart (named.sender a x is sends)))) h.fates;
+    heard = heard_apart f.sender s a own wrote (Some x) apart h.heard;
+  }
+
+pub apart_by : (a : List ℕ) → bytes_eq a (codes "sender") ≡ false → a ≢ codes "sender"
+apart_by a differs e = let same : true ≡ false = ap (λ (b : List ℕ). bytes_eq b (codes "sender")) (sym e) ∙ differs in absurd (cc)
+
+mail_is : (program : Program) → IsMail program → (args : Arguments) × (program ≡ Injector args)
+mail_is (Injector args) mail = (args, refl)
+mail_is (Cleaner start) mail = absurd mail
+mail_is (Sender start) mail = absurd mail
+mail_is (LocalSpawner start) mail = absurd mail
+mail_is (RemoteSpawner start) mail = absurd mail
+
+pub follows_mail : (old new : Fates) (s : State) (a : List ℕ) (own : Own) (wrote : ℕ) → AreNamed s → ¬ (Contains members a) → new.sender ≡ old.sender
+    → ((books : Books) (args : Arguments) (past : List Own) → AreFates old books → AreFates new (books_after books a (Injector args) past own.read own.ready own.due own.came))
+    → MayDo s a own wrote → Follows old s → Follows new (acted s a own wrote (s.actors a))
+follows_mail old new s a own wrote named mail sender link does h =
+    let x = does.actor in
+    let is = does.reads.is in
+    let it = mail_is x.program (named.mail a x is mail) in
+    rw is (record {
+      fates = subst (λ (p : Program). AreFates new (books_after s.books a p x.past own.read own.ready own.due own.came)) (sym it.1) (link s.books it.0 x.past h.fates);
+      heard = subst (λ (m : Option Machine). IsHeard m ((acted s a own wrote (Some x)).actors (codes "sender"))) (sym sender)
+          (heard_apart old.sender s a own wrote (Some x) (λ e. mail (subst (Contains members) (sym e) is_member_sender)) h.heard);
+    })
+
+-- Event by event
+
+pub first_follows : (f : Fates) (d : Disk) (ks : List Kept) (h : List Event) → f.sender ≡ None → ((n : ℕ) → get nat_cmp f.living n ≡ None) → f.over.items ≡ [] → ks ≡ [] → AllZip Tells ks h → Follows f (after d h)
+first_follows f d ks [] sender none over is told = record {
+  fates = record {
+    living = λ n n_is. subst (λ (t : Option Tenure). IsTenureIf t None) (sym (none n)) tt;
+    over = subst (λ (l : List Tenure). AllZip IsTenure (reverse l) []) (sym over) tt;
+    placed = λ n q e. absurd (cc);
+  };
+  heard = subst (λ (m : Option Machine). IsHeard m None) (sym sender) refl;
+}
+first_follows f d [] (e ∷ h) sender none over is told = absurd told
+first_follows f d (k ∷ ks) (e ∷ h) sender none over is told = absurd (cc)
+
+-- what is kept follows each history that these events tell, the newest first
+abbrev pub FollowsAll : Fates → List Kept → Type 0
+FollowsAll f ks = (d : Disk) (h : List Event) → Legal d h → AllZip Tells ks h → AreMailStarts h → Follows f (after d h)
+
+-- so it does after one event more
+abbrev pub Notes : Fates → Fates → Kept → Type 0
+Notes old new k = (s : State) (e : Event) → AreNamed s → IsMoment s.now → IsMailStart e → Allowed s e → Tells k e → Follows old s → Follows new (happens s e)
+
+one_more : (old new : Fates) (k : Kept) (ks : List Kept) → Notes old new k → FollowsAll old ks → FollowsAll new (k ∷ ks)
+one_more old new k ks notes before d [] legal told mails = absurd told
+one_more old new k ks notes before d (e ∷ h) legal told mails =
+    let so = orderly d ks h legal.0 told.1 mails.1 in
+    notes (after d h) e so.named so.moment mails.0 legal.1 told.0 (before d h legal.0 told.1 mails.1)
+
+pub next_follows : (old new : Fates) (events : List Kept) (i : ℕ) (k : Kept) → i < length events → k ≡ get_or events i k → Notes old new k → FollowsAll old (reverse (take i events)) → FollowsAll new (reverse (take (i + 1) events))
+next_follows old new events i k there is notes before =
+    let more : take (i + 1) events ≡ take i events ++ k ∷ [] = take_more events i k there ∙ ap (λ (x : Kept). take i events ++ x ∷ []) (sym is) in
+    subst (FollowsAll new) (sym (ap reverse more ∙ reverse-append (take i events) (k ∷ []))) (one_more old new k (reverse (take i events)) notes before)

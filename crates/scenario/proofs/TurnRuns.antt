@@ -1,0 +1,281 @@
+-- The parts of a turn and the rounds of `settle`, one after the other.
+use Rattle.std.proofs.Common.{◌≡◌, ◌≢◌, ◌⊎◌, inl, inr, ⊎_elim, ℕ, zero, suc, ◌+◌, ◌<◌, ◌≤◌, List, [], ◌∷◌, ◌++◌, length, Bool, true, false, ◌&&◌, ◌||◌, Option, Some, None, refl, sym, ap, ◌∙◌, subst, arith, append_assoc, length-append}
+use Rattle.std.specs.Prelude.{codes}
+use Rattle.std.specs.List.{list_all}
+use Rattle.std.proofs.lemmas.List.{append-nil}
+use Rattle.call_fs.specs.Disk.{Disk}
+use Rattle.call_fs.specs.Plan.{Plan}
+use Rattle.crash_fs.specs.Crash.{Crash}
+use Rattle.mail_world.specs.Generations.{lowest_unreported}
+use Rattle.mail_world.specs.History.{Event, after}
+use Rattle.mail_world.specs.World.{Seen}
+use Rattle.play_lines.specs.declared.line.Line.TheVariants as line
+use Rattle.play_lines.specs.declared.keyword.Alone.TheVariants as alone
+use Rattle.play_lines.specs.declared.keyword.OfLetter.TheVariants as of_letter
+use Rattle.script_words.specs.declared.letter.Letter.{Letter}
+use Rattle.scenario.specs.Chains.{EachFollows}
+use Rattle.scenario.specs.Steps.{plan_through, plan_by, idles, has_idled, IsRunOf, refusal_line}
+use Rattle.scenario.specs.Steps.Refusal.{Rounds}
+use Rattle.scenario.specs.Turns.{next_living, Part, events_of, text_of, place_after, TurnsOn, AreParts, IsTurnOf, Round, reports_of, slot_after, ReportsOn, AreReported, AreReportsAfter, round_events, IsRound, is_search, is_idle, has_bytes, events_in, is_last, text_in, most_rounds, SettlesOn, Settles, IsSettled}
+use Rattle.scenario.specs.Turns.Settles.{Rests, Full}
+use Rattle.scenario.specs.Playing.{IsPlaying, HasRun, HasParted, HasTurned, HasReported, HasRounded, HasPlayed}
+
+-- What events leave of a plan, in two steps
+pub plan_through-append : (plan : Plan) (later before : List Event) → plan_through plan (later ++ before) ≡ plan_through (plan_through plan before) later
+plan_through-append plan [] before = refl
+plan_through-append plan (e ∷ later) before = ap (plan_by e) (plan_through-append plan later before)
+
+-- the history and the plan after events, read as one list
+pub playing_on : (d : Disk) (w : Seen Crash) (plan : Plan) (later before h : List Event) → IsPlaying d w (plan_through (plan_through plan before) later) (later ++ (before ++ h))
+    → IsPlaying d w (plan_through plan (later ++ before)) ((later ++ before) ++ h)
+playing_on d w plan later before h playing =
+    subst (λ (p : Plan). IsPlaying d w p ((later ++ before) ++ h)) (sym (plan_through-append plan later before))
+    (subst (λ (l : List Event). IsPlaying d w (plan_through (plan_through plan before) later) l) (sym (append_assoc later before h)) playing)
+
+-- Parts
+
+-- So many parts were run, which printed nothing; the next one has this place or a later one.
+pub record HasTurnedOn (d : Disk) (h : List Event) (plan : Plan) (w : Seen Crash) (idle : Bool) (from : ℕ) : Type 0 where
+  pub parts : List Part
+  pub are : AreParts d h plan parts
+  pub quiet : text_of parts ≡ []
+  pub idled : idle ≡ has_idled d h (events_of parts)
+  pub place : from ≡ place_after parts
+  pub playing : IsPlaying d w (plan_through plan (events_of parts)) (events_of parts ++ h)
+
+abbrev pub turn_begins : (d : Disk) (h : List Event) (plan : Plan) (w : Seen Crash) → IsPlaying d w plan h → HasTurnedOn d h plan w false 0
+turn_begins d h plan w playing = record { parts = []; are = tt; quiet = refl; idled = refl; place = refl; playing = playing }
+
+-- the newest event of a turn is that of the part, if it has one
+pub idled_on : (d : Disk) (h : List Event) (events before : List Event) (was now : Bool) → was ≡ has_idled d h before
+    → ((events ≡ []) × (now ≡ was)) ⊎ ((events ≢ []) × (now ≡ has_idled d (before ++ h) events)) → now ≡ has_idled d h (events ++ before)
+idled_on d h [] before was now is (inl none) = none.1 ∙ is
+idled_on d h [] before was now is (inr some) = absurd (some.0 refl)
+idled_on d h (e ∷ events) before was now is (inl none) = absurd (let e = none.0 in cc)
+idled_on d h (e ∷ events) before was now is (inr some) = some.1 ∙ ap (λ (l : List Event). idles (after d l) e) (sym (append_assoc events before h))
+
+abbrev part_of : List ℕ → ℕ → List Event → List ℕ → Part
+part_of a place events text = record { actor = a; place = place; events = events; text = text }
+
+-- one part more
+pub record OnePart (d : Disk) (h : List Event) (plan : Plan) (v : Seen Crash) (now : Bool) (place : ℕ) (own : List ℕ) : Type 0 where
+  pub parts : List Part
+  pub are : AreParts d h plan parts
+  pub printed : text_of parts ≡ own
+  pub idled : now ≡ has_idled d h (events_of parts)
+  pub place_is : place + 1 ≡ place_after parts
+  pub playing : IsPlaying d v (plan_through plan (events_of parts)) (events_of parts ++ h)
+
+abbrev pub one_part : (d : Disk) (h : List Event) (plan : Plan) (w v : Seen Crash) (was now : Bool) (from place : ℕ) (a before after_text : List ℕ) (turn : HasTurnedOn d h plan w was from)
+    → next_living d (events_of turn.parts ++ h) from ≡ Some (a, place) → (part : HasParted d v a was now before after_text (plan_through plan (events_of turn.parts)) (events_of turn.parts ++ h))
+    → OnePart d h plan v now place part.own
+one_part d h plan w v was now from place a before after_text turn next part = record {
+  parts = part_of a place part.events part.own ∷ turn.parts;
+  are = (
+    turn.are,
+    record {
+      quiet = turn.quiet;
+      next = ap (next_living d (events_of turn.parts ++ h)) (sym turn.place) ∙ next;
+      run = part.run;
+    },
+  );
+  printed = refl;
+  idled = idled_on d h part.events (events_of turn.parts) was now turn.idled part.idled;
+  place_is = refl;
+  playing = playing_on d v plan part.events (events_of turn.parts) h part.playing;
+}
+
+abbrev pub part_goes_on : (d : Disk) (h : List Event) (plan : Plan) (v : Seen Crash) (now : Bool) (place from : ℕ) (own : List ℕ) → (part : OnePart d h plan v now place own) → own ≡ [] → from ≡ place + 1
+    → HasTurnedOn d h plan v now from
+part_goes_on d h plan v now place from own part none next = record {
+  parts = part.parts;
+  are = part.are;
+  quiet = part.printed ∙ none;
+  idled = part.idled;
+  place = next ∙ part.place_is;
+  playing = part.playing;
+}
+
+-- the turn is over: a part printed something, or no living actor is left
+abbrev pub turn_printed : (d : Disk) (h : List Event) (plan : Plan) (v : Seen Crash) (now : Bool) (place : ℕ) (own before after_text : List ℕ) → (part : OnePart d h plan v now place own) → own ≢ []
+    → after_text ≡ before ++ own → HasTurned d v now before after_text plan h
+turn_printed d h plan v now place own before after_text part some text = record {
+  parts = part.parts;
+  turn = record { are = part.are; over = inl (λ e. some (sym part.printed ∙ e)) };
+  idled = part.idled;
+  playing = part.playing;
+  text = text ∙ ap (λ t. before ++ t) (sym part.printed);
+}
+
+abbrev pub turn_rests : (d : Disk) (h : List Event) (plan : Plan) (w : Seen Crash) (idle : Bool) (from : ℕ) (text : List ℕ) (turn : HasTurnedOn d h plan w idle from)
+    → next_living d (events_of turn.parts ++ h) from ≡ None → HasTurned d w idle text text plan h
+turn_rests d h plan w idle from text turn none = record {
+  parts = turn.parts;
+  turn = record { are = turn.are; over = inr (ap (next_living d (events_of turn.parts ++ h)) (sym turn.place) ∙ none) };
+  idled = turn.idled;
+  playing = turn.playing;
+  text = sym (append-nil text) ∙ ap (λ t. text ++ t) (sym turn.quiet);
+}
+
+-- the part of a turn that a run is
+abbrev pub run_parted : (d : Disk) (w : Seen Crash) (a : List ℕ) (was idle now : Bool) (before after_text : List ℕ) (plan : Plan) (h : List Event) (run : HasRun d w a idle before after_text plan h)
+    → ((run.events ≡ []) × (now ≡ was)) ⊎ ((run.events ≢ []) × (now ≡ idle)) → HasParted d w a was now before after_text plan h
+run_parted d w a was idle now before after_text plan h run which = record {
+  events = run.events;
+  own = run.own;
+  run = run.run;
+  idled = ⊎_elim (λ none. inl none) (λ some. inr (some.0, some.1 ∙ run.idled)) which;
+  playing = run.playing;
+  text = run.text;
+}
+
+-- a turn as a line
+abbrev pub turn_played : (d : Disk) (w : Seen Crash) (plan : Plan) (idle : Bool) (before after_text : List ℕ) (h : List Event) → HasTurned d w idle before after_text plan h
+    → HasPlayed d w (line.Alone alone.Turn) before after_text plan h
+turn_played d w plan idle before after_text h turn = record {
+  events = events_of turn.parts;
+  own = text_of turn.parts;
+  plays = (turn.parts, turn.turn, refl, refl);
+  playing = turn.playing;
+  text = turn.text;
+}
+
+-- Reports
+
+-- reports leave each plan
+pub plan_reports : (plan : Plan) (letter : Letter) (slots : List ℕ) → plan_through plan (reports_of letter slots) ≡ plan
+plan_reports plan letter [] = refl
+plan_reports plan letter (slot ∷ slots) = plan_reports plan letter slots
+
+pub record HasReportedOn (d : Disk) (h : List Event) (letter : Letter) (w : Seen Crash) (plan : Plan) (from : ℕ) : Type 0 where
+  pub slots : List ℕ
+  pub are : EachFollows (ReportsOn d h letter) slots
+  pub place : from ≡ slot_after slots
+  pub playing : IsPlaying d w plan (reports_of letter slots ++ h)
+
+abbrev pub reports_begin : (d : Disk) (h : List Event) (letter : Letter) (w : Seen Crash) (plan : Plan) → IsPlaying d w plan h → HasReportedOn d h letter w plan 0
+reports_begin d h letter w plan playing = record { slots = []; are = tt; place = refl; playing = playing }
+
+abbrev pub one_report : (d : Disk) (h : List Event) (letter : Letter) (w v : Seen Crash) (plan : Plan) (from slot next : ℕ) (so : HasReportedOn d h letter w plan from)
+    → lowest_unreported from (after d (reports_of letter so.slots ++ h)) ≡ Some slot → next ≡ slot + 1 → IsPlaying d v plan (reports_of letter (slot ∷ so.slots) ++ h)
+    → HasReportedOn d h letter v plan next
+one_report d h letter w v plan from slot next so lowest is playing = record {
+  slots = slot ∷ so.slots;
+  are = (so.are, ap (λ n. lowest_unreported n (after d (reports_of letter so.slots ++ h))) (sym so.place) ∙ lowest);
+  place = is;
+  playing = playing;
+}
+
+abbrev pub all_reported : (d : Disk) (h : List Event) (letter : Letter) (w : Seen Crash) (plan : Plan) (from : ℕ) (so : HasReportedOn d h letter w plan from)
+    → lowest_unreported from (after d (reports_of letter so.slots ++ h)) ≡ None → HasReported d w letter plan h
+all_reported d h letter w plan from so none = record {
+  slots = so.slots;
+  reported = record { are = so.are; none = ap (λ n. lowest_unreported n (after d (reports_of letter so.slots ++ h))) (sym so.place) ∙ none };
+  playing = so.playing;
+}
+
+-- Rounds
+
+-- a turn that printed something is the last round, without reports
+pub reports_none : (d : Disk) (h : List Event) (letter : Letter) (text : List ℕ) → text ≢ [] → AreReportsAfter d h letter text []
+reports_none d h letter [] some = absurd (some refl)
+reports_none d h letter (b ∷ text) some = refl
+
+pub bytes_some : (text : List ℕ) → text ≢ [] → has_bytes text ≡ true
+bytes_some [] some = absurd (some refl)
+bytes_some (b ∷ text) some = refl
+
+abbrev pub round_printed : (d : Disk) (w : Seen Crash) (letter : Letter) (idle : Bool) (before after_text : List ℕ) (plan : Plan) (h : List Event) (turn : HasTurned d w idle before after_text plan h)
+    → text_of turn.parts ≢ [] → HasRounded d w letter true before after_text plan h
+round_printed d w letter idle before after_text plan h turn some =
+    let round : Round = record { parts = turn.parts; slots = [] } in
+    record {
+      round = round;
+      is = record { turn = turn.turn; reports = reports_none d (events_of turn.parts ++ h) letter (text_of turn.parts) some };
+      is_last = sym (ap (λ t. t || is_idle d h letter round) (bytes_some (text_of turn.parts) some));
+      playing = turn.playing;
+      text = turn.text;
+    }
+
+-- whether such a round is idle, by its events and by the newest one of its turn
+pub round_idle : (d : Disk) (h : List Event) (letter : Letter) (idle searches : Bool) (parts : List Part) (slots : List ℕ) → idle ≡ has_idled d h (events_of parts)
+    → searches ≡ list_all is_search (reports_of letter slots ++ events_of parts) → (idle && searches) ≡ is_idle d h letter (record { parts = parts; slots = slots })
+round_idle d h letter true searches parts [] idled all = all ∙ and_true searches (list_all is_search (events_of parts)) (has_idled d h (events_of parts)) all idled
+  where
+    and_true : (s t u : Bool) → s ≡ t → true ≡ u → t ≡ (t && u)
+    and_true s true u same is = is
+    and_true s false u same is = refl
+round_idle d h letter false searches parts [] idled all = and_false (list_all is_search (events_of parts)) (has_idled d h (events_of parts)) idled
+  where
+    and_false : (t u : Bool) → false ≡ u → false ≡ (t && u)
+    and_false true u is = is
+    and_false false u is = refl
+round_idle d h letter true searches parts (slot ∷ slots) idled all = all
+round_idle d h letter false searches parts (slot ∷ slots) idled all = refl
+
+pub reports_after : (d : Disk) (h : List Event) (letter : Letter) (text slots : List ℕ) → text ≡ [] → AreReported d h letter slots → AreReportsAfter d h letter text slots
+reports_after d h letter [] slots none reported = reported
+reports_after d h letter (b ∷ text) slots none reported = absurd (cc)
+
+abbrev pub round_reported : (d : Disk) (w v : Seen Crash) (letter : Letter) (idle searches : Bool) (before after_text : List ℕ) (plan : Plan) (h : List Event) (turn : HasTurned d w idle before after_text plan h)
+    → text_of turn.parts ≡ [] → (told : HasReported d v letter (plan_through plan (events_of turn.parts)) (events_of turn.parts ++ h))
+    → searches ≡ list_all is_search (reports_of letter told.slots ++ events_of turn.parts) → HasRounded d v letter (idle && searches) before after_text plan h
+round_reported d w v letter idle searches before after_text plan h turn quiet told all =
+    let round : Round = record { parts = turn.parts; slots = told.slots } in
+    record {
+      round = round;
+      is = record { turn = turn.turn; reports = reports_after d (events_of turn.parts ++ h) letter (text_of turn.parts) told.slots quiet told.reported };
+      is_last = round_idle d h letter idle searches turn.parts told.slots turn.idled all ∙ sym (ap (λ t. has_bytes t || is_idle d h letter round) quiet);
+      playing = playing_on d v plan (reports_of letter told.slots) (events_of turn.parts) h
+          (subst (λ (p : Plan). IsPlaying d v p (reports_of letter told.slots ++ (events_of turn.parts ++ h))) (sym (plan_reports (plan_through plan (events_of turn.parts)) letter told.slots)) told.playing);
+      text = turn.text;
+    }
+
+-- So many rounds were made, none of which was the last one.
+pub record HasSettledOn (d : Disk) (h : List Event) (plan : Plan) (letter : Letter) (w : Seen Crash) (made : ℕ) : Type 0 where
+  pub rounds : List Round
+  pub are : EachFollows (SettlesOn d h plan letter) rounds
+  pub more : is_last d h letter rounds ≡ false
+  pub count : length rounds ≡ made
+  pub playing : IsPlaying d w (plan_through plan (events_in letter rounds)) (events_in letter rounds ++ h)
+
+abbrev pub settle_begins : (d : Disk) (h : List Event) (plan : Plan) (letter : Letter) (w : Seen Crash) → IsPlaying d w plan h → HasSettledOn d h plan letter w 0
+settle_begins d h plan letter w playing = record { rounds = []; are = tt; more = refl; count = refl; playing = playing }
+
+-- one round more
+abbrev pub settle_goes_on : (d : Disk) (h : List Event) (plan : Plan) (letter : Letter) (w v : Seen Crash) (made : ℕ) (before after_text : List ℕ) (so : HasSettledOn d h plan letter w made) → made < most_rounds d h
+    → HasRounded d v letter false before after_text (plan_through plan (events_in letter so.rounds)) (events_in letter so.rounds ++ h) → HasSettledOn d h plan letter v (made + 1)
+settle_goes_on d h plan letter w v made before after_text so low round = record {
+  rounds = round.round ∷ so.rounds;
+  are = (so.are, record { few = let same = so.count in omega arith; more = so.more; is = round.is });
+  more = sym round.is_last;
+  count = let same = so.count in omega arith;
+  playing = playing_on d v plan (round_events letter round.round) (events_in letter so.rounds) h round.playing;
+}
+
+abbrev pub settle_rests : (d : Disk) (h : List Event) (plan : Plan) (letter : Letter) (w v : Seen Crash) (made : ℕ) (before after_text : List ℕ) (so : HasSettledOn d h plan letter w made) → made < most_rounds d h
+    → HasRounded d v letter true before after_text (plan_through plan (events_in letter so.rounds)) (events_in letter so.rounds ++ h) → HasPlayed d v (line.Letter of_letter.Settle letter) before after_text plan h
+settle_rests d h plan letter w v made before after_text so low round = record {
+  events = events_in letter (round.round ∷ so.rounds);
+  own = text_of round.round.parts;
+  plays = (
+    round.round ∷ so.rounds,
+    record {
+      are = (so.are, record { few = let same = so.count in omega arith; more = so.more; is = round.is });
+      stops = Rests (sym round.is_last) refl;
+    },
+    refl,
+  );
+  playing = playing_on d v plan (round_events letter round.round) (events_in letter so.rounds) h round.playing;
+  text = round.text;
+}
+
+abbrev pub settle_full : (d : Disk) (h : List Event) (plan : Plan) (letter : Letter) (w : Seen Crash) (made : ℕ) (text : List ℕ) (so : HasSettledOn d h plan letter w made) → made ≡ most_rounds d h
+    → HasPlayed d w (line.Letter of_letter.Settle letter) text (text ++ refusal_line Rounds (codes "settle")) plan h
+settle_full d h plan letter w made text so full = record {
+  events = events_in letter so.rounds;
+  own = refusal_line Rounds (codes "settle");
+  plays = (so.rounds, record { are = so.are; stops = Full so.more (so.count ∙ full) refl }, refl);
+  playing = so.playing;
+  text = refl;
+}

@@ -1,0 +1,135 @@
+-- What a world does is what comes of what is due, and who waits in it waits.
+use Rattle.std.proofs.Common.{◌≡◌, ◌≢◌, ℕ, ◌==◌, List, [], ◌∷◌, ◌++◌, length, take, Bool, true, false, not, ◌||◌, if◌then◌else◌, Option, Some, None, refl, sym, ap, ◌∙◌, subst}
+use Rattle.std.proofs.lemmas.Bool.{false≢true}
+use Rattle.call_fs.specs.Disk.{Disk}
+use Rattle.call_fs.specs.Plan.{Plan}
+use Rattle.call_fs.specs.declared.past.ChildData.TheVariants as child
+use Rattle.call_fs.specs.declared.past.GotData.{GotData}
+use Rattle.call_fs.specs.declared.past.GotData.TheVariants.{Took, End as Ends, Ended, Crashed, Gave, Started, Failed}
+use Rattle.call_fs.specs.declared.past.NeedData.{NeedData}
+use Rattle.call_fs.specs.declared.past.NeedData.TheVariants as needs
+use Rattle.call_fs.specs.declared.program.Port.{Port}
+use Rattle.call_fs.specs.declared.program.Port.TheVariants as port
+use Rattle.world_events.specs.declared.event.Program.{Program}
+use Rattle.world_pipes.specs.Pipes.{offered, end_of}
+use Rattle.mail_world.specs.Generations.{CanNot}
+use Rattle.mail_world.specs.History.{Event, Actor, Life, State, TenantEnds, IsStatusOf, after, next_of}
+use Rattle.mail_world.specs.History.Life.{Alive, Over, Stopped}
+use Rattle.mail_world.specs.Pipework.{Pipe, Pipework, Tenant, is_ready, pipes_after}
+use Rattle.mail_world.specs.Pipework.Tenant.{Runs, Remote}
+use Rattle.mail_world.specs.Readiness.{has_ended, found_in, is_over}
+use Rattle.mail_world.specs.World.{ComesWhole, most_of}
+use Rattle.scenario.specs.Steps.{DoesNext, StepsTo, next_pid, comes, does, own_by, status_in, status_of, status_told}
+use Rattle.scenario.specs.Steps.Outcome.{Is}
+use Rattle.scenario.specs.Steps.Refusal.{NotWaiting}
+use Rattle.scenario.proofs.Carried.{IsNoFile}
+use Rattle.scenario.proofs.Outcomes.{does_next}
+
+-- Who waits
+
+or_false : (p q : Bool) → (p || q) ≡ false → (p ≡ false) × (q ≡ false)
+or_false true q e = absurd (cc)
+or_false false q e = (refl, e)
+
+not_false : (p : Bool) → not p ≡ false → p ≡ true
+not_false true e = refl
+not_false false e = absurd (cc)
+
+nothing_offered : (most : ℕ) (pipe : Pipe) → is_ready pipe ≡ false → offered most pipe ≡ None
+nothing_offered most pipe none =
+    let tests = or_false (not (length pipe.bytes == 0)) pipe.shut none in
+    ap (λ t. if t then end_of pipe.shut else Some (Took (take most pipe.bytes))) (not_false (length pipe.bytes == 0) tests.0) ∙ ap end_of tests.1
+
+life_none : (life : Life) → is_over life ≡ false → status_told life ≡ None
+life_none Alive e = refl
+life_none (Over status) e = absurd (cc)
+life_none Stopped e = absurd (cc)
+
+tenant_none : (s : State) (o : Option Tenant) → has_ended s o ≡ false → status_in s o ≡ None
+tenant_none s None e = refl
+tenant_none s (Some (Runs a)) e = by (s.actors a) refl e
+  where
+    by : (x : Option Actor) → s.actors a ≡ x → has_ended s (Some (Runs a)) ≡ false → status_of (s.actors a) ≡ None
+    by None is e = ap status_of is
+    by (Some x) is e = ap status_of is ∙ life_none x.life (subst (λ (o : Option Actor). gone o ≡ false) is e)
+      where
+        gone : Option Actor → Bool
+        gone None = false
+        gone (Some x) = is_over x.life
+tenant_none s (Some (Remote true)) e = absurd (cc)
+tenant_none s (Some (Remote false)) e = refl
+
+pub cannot_none : (s : State) (pid : ℕ) (a : List ℕ) (program : Program) (due : NeedData) → CanNot s a due → comes s pid a program due ≡ None
+cannot_none s pid a program needs.Wait not_yet = refl
+cannot_none s pid a program (needs.Take (port.Status d)) not_yet = tenant_none s (s.pipework.programs a d) not_yet
+cannot_none s pid a program (needs.Take port.Input) not_yet = nothing_offered (most_of program) (s.pipework.pipes a port.Input) not_yet
+cannot_none s pid a program (needs.Take port.Output) not_yet = nothing_offered (most_of program) (s.pipework.pipes a port.Output) not_yet
+cannot_none s pid a program (needs.Take port.Clean) not_yet = nothing_offered (most_of program) (s.pipework.pipes a port.Clean) not_yet
+cannot_none s pid a program (needs.Take port.Lspawn) not_yet = nothing_offered (most_of program) (s.pipework.pipes a port.Lspawn) not_yet
+cannot_none s pid a program (needs.Take port.Rspawn) not_yet = nothing_offered (most_of program) (s.pipework.pipes a port.Rspawn) not_yet
+cannot_none s pid a program (needs.Take port.Todo) not_yet = nothing_offered (most_of program) (s.pipework.pipes a port.Todo) not_yet
+cannot_none s pid a program (needs.Take (port.Program d)) not_yet = nothing_offered (most_of program) (s.pipework.pipes a (port.Program d)) not_yet
+cannot_none s pid a program (needs.Give port bytes) not_yet = absurd not_yet
+cannot_none s pid a program (needs.Start child) not_yet = absurd not_yet
+cannot_none s pid a program (needs.File call) not_yet = absurd not_yet
+cannot_none s pid a program (needs.Command bytes) not_yet = absurd not_yet
+cannot_none s pid a program (needs.Ended status) not_yet = absurd not_yet
+
+cannot_file : (s : State) (a : List ℕ) (due : NeedData) → CanNot s a due → IsNoFile due
+cannot_file s a (needs.File call) not_yet = not_yet
+cannot_file s a due not_yet = tt
+
+waits_next : (plan : Plan) (s : State) (pid : ℕ) (a : List ℕ) (program : Program) (due : NeedData) → CanNot s a due → comes s pid a program due ≡ None → DoesNext plan s pid a program due (Is NotWaiting)
+waits_next plan s pid a program (needs.File call) not_yet none = absurd not_yet
+waits_next plan s pid a program (needs.Ended status) not_yet none = absurd not_yet
+waits_next plan s pid a program due not_yet none = sym (ap (does s a due) none)
+
+-- a living actor that can't do yet what is due is refused so
+pub waits_steps : (d : Disk) (h : List Event) (plan : Plan) (a : List ℕ) (x : Actor) → (after d h).actors a ≡ Some x → x.life ≡ Alive
+    → CanNot (after d h) a (next_of x.program x.past (after d h).now (found_in (after d h) a)) → StepsTo d h plan a (Is NotWaiting)
+waits_steps d h plan a x is alive not_yet =
+    let s = after d h in
+    let due = next_of x.program x.past s.now (found_in s a) in
+    does_next d h plan a s.now x due (Is NotWaiting) is alive refl refl
+    (waits_next plan s (next_pid h) a x.program due not_yet (cannot_none s (next_pid h) a x.program due not_yet))
+
+-- What is done
+
+status_some : (life : Life) (came : GotData) → IsStatusOf life came → status_told life ≡ Some came
+status_some Alive came is = absurd is
+status_some (Over status) came is = ap (λ (g : GotData). Some g) (sym is)
+status_some Stopped came is = ap (λ (g : GotData). Some g) (sym is)
+
+tenant_some : (s : State) (o : Option Tenant) (came : GotData) → TenantEnds s o came → status_in s o ≡ Some came
+tenant_some s None came ends = absurd ends
+tenant_some s (Some (Runs a)) came ends = ap status_of ends.1 ∙ status_some ends.0.life came ends.2
+tenant_some s (Some (Remote true)) came ends = ap (λ (g : GotData). Some g) (sym ends)
+tenant_some s (Some (Remote false)) came ends = absurd ends
+
+-- of what comes in a world
+pub all_comes : (s : State) (pid : ℕ) (a : List ℕ) (program : Program) (due : NeedData) (came : GotData) → IsNoFile due → ComesWhole s pid a program due came
+    → comes s pid a program due ≡ Some came
+all_comes s pid a program (needs.File call) came unfiled all = absurd unfiled
+all_comes s pid a program (needs.Take (port.Status d)) came unfiled all = tenant_some s (s.pipework.programs a d) came all
+all_comes s pid a program (needs.Take port.Input) came unfiled all = all
+all_comes s pid a program (needs.Take port.Output) came unfiled all = all
+all_comes s pid a program (needs.Take port.Clean) came unfiled all = all
+all_comes s pid a program (needs.Take port.Lspawn) came unfiled all = all
+all_comes s pid a program (needs.Take port.Rspawn) came unfiled all = all
+all_comes s pid a program (needs.Take port.Todo) came unfiled all = all
+all_comes s pid a program (needs.Take (port.Program d)) came unfiled all = all
+all_comes s pid a program (needs.Give port bytes) came unfiled all = ap (λ (g : GotData). Some g) (sym all)
+all_comes s pid a program (needs.Start (child.Remote slot domain sender recipient)) came unfiled all = ap (λ (g : GotData). Some g) (sym all)
+all_comes s pid a program (needs.Start (child.Bounce room)) came unfiled all = ap (λ (g : GotData). Some g) (sym all)
+all_comes s pid a program (needs.Start (child.Forward uid room)) came unfiled all = ap (λ (g : GotData). Some g) (sym all)
+all_comes s pid a program (needs.Start (child.Local slot words uid)) came unfiled all = ap (λ (g : GotData). Some g) (sym all)
+all_comes s pid a program (needs.Command bytes) came unfiled all = ap (λ (g : GotData). Some g) (sym all)
+all_comes s pid a program needs.Wait came unfiled all = absurd all
+all_comes s pid a program (needs.Ended status) came unfiled all = absurd all
+
+-- so it is what the step comes to
+pub passes_next : (plan : Plan) (s : State) (pid : ℕ) (a : List ℕ) (program : Program) (due : NeedData) (came : GotData) → IsNoFile due → comes s pid a program due ≡ Some came
+    → DoesNext plan s pid a program due (does s a due (Some came))
+passes_next plan s pid a program (needs.File call) came unfiled is = absurd unfiled
+passes_next plan s pid a program (needs.Ended status) came unfiled is = absurd (cc)
+passes_next plan s pid a program due came unfiled is = ap (does s a due) (sym is)

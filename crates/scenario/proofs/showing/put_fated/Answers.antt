@@ -1,0 +1,19 @@
+use Rattle.std.proofs.Common.{sym, ap, ◌∙◌}
+use Rattle.std.proofs.lemmas.Result.{on_ok_weaker}
+use Rattle.crash_fs.specs.Crash.{Crash, crash_disk}
+use Rattle.disk_numbers.specs.Controls.{controls_on}
+use Rattle.scenario.proofs.showing.put_fated.Goals as goal
+
+pub returns : goal.returns
+returns c =
+    on_ok_weaker c.put_all.result
+    (λ put. (
+      put.0,
+      put.1,
+      λ d plan h playing fates. put.2 d plan h playing (record {
+        disk = ap (λ (m : Crash). crash_disk m) c.disk-2.ensures ∙ sym playing.is.disk;
+        controls = c.in_ok-controls.ensures ∙ ap (λ (m : Crash). controls_on (crash_disk m)) c.disk.ensures ∙ ap controls_on (sym playing.is.disk);
+        fates = fates;
+      }),
+    ))
+    c.put_all.ensures

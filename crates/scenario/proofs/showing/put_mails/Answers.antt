@@ -1,0 +1,18 @@
+use Rattle.std.proofs.Common.{List, sym, ◌∙◌, subst}
+use Rattle.std.proofs.lemmas.Result.{on_ok_weaker}
+use Rattle.crash_fs.specs.Crash.{crash_disk}
+use Rattle.world_events.specs.declared.event.Event.{Event as Kept}
+use Rattle.mail_world.specs.World.{IsHistory}
+use Rattle.scenario.proofs.showing.put_mails.Goals as goal
+
+pub returns : goal.returns
+returns c =
+    let w = c.args.world.now in
+    on_ok_weaker c.put_fated.result
+    (λ put. (
+      put.0,
+      put.1,
+      λ d plan h playing. put.2 d plan h playing (c.in_ok-fates.ensures d (crash_disk w.disk) w.present h
+          (subst (λ (ks : List Kept). IsHistory d (crash_disk w.disk) ks w.present h) (sym (c.events.ensures ∙ c.history.ensures.events)) playing.is) playing.starts),
+    ))
+    c.put_fated.ensures

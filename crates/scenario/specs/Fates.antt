@@ -1,0 +1,99 @@
+-- The lives of messages, as `show` reads them off the events of a world, stand for the books of the history.
+use Rattle.std.specs.Prelude.{◌≡◌, ℕ, List, [], ◌∷◌, map, reverse, true, Option, Some, None, Contains, codes}
+use Rattle.std.specs.List.{AllZip, filter}
+use Rattle.std.specs.Ordering.{nat_cmp}
+use Rattle.std.specs.BTreeMap.{get}
+use Rattle.queue_inject.specs.declared.injection.Arguments.{Arguments}
+use Rattle.queue_paths.specs.Names.{is_number}
+use Rattle.world_events.specs.declared.event.Event.{Event as Kept}
+use Rattle.world_events.specs.declared.event.Event.TheVariants as kept
+use Rattle.world_events.specs.declared.event.Program.TheVariants as kinds
+use Rattle.world_events.specs.Programs.{injection_of}
+use Rattle.actor_names.specs.MailNames.{members}
+use Rattle.send_core.specs.Stands.{Machine as Sender, Stands}
+use Rattle.send_core.specs.Table.{Next}
+use Rattle.call_fs.specs.declared.past.Own.{Own}
+use Rattle.call_fs.specs.Past.{IsRunBy}
+use Rattle.mail_bytes.specs.Moments.{IsMoment}
+use Rattle.send_jobs.specs.declared.attempts.Mark.{Mark}
+use Rattle.send_jobs.specs.declared.channels.Channel.{Channel}
+use Rattle.mail_world.specs.ByKind.{IsMail}
+use Rattle.mail_world.specs.History.{Event, Actor, State, IsSender, MayRun, books_after}
+use Rattle.mail_world.specs.History.Event.{Start}
+use Rattle.queue_law.specs.Books.{Books, Injection, delivered_in}
+use Rattle.queue_law.specs.Ledgers.{Spot}
+use Rattle.scenario.specs.declared.fates.Fates.{Fates}
+use Rattle.scenario.specs.declared.fates.Spot.{Spot as KeptSpot}
+use Rattle.scenario.specs.declared.fates.Tenure.{Tenure}
+
+abbrev pub spot_of : KeptSpot → Spot
+spot_of s = record { channel = s.channel; place = s.place }
+
+-- a life stands for an injection
+pub record IsTenure (t : Tenure) (q : Injection) : Type 0 where
+  pub number : t.number ≡ q.number
+  pub mail : t.mail ≡ q.actor
+  pub delivered : map spot_of (reverse t.delivered.items) ≡ q.ledger.delivered
+
+abbrev pub IsTenureIf : Option Tenure → Option Injection → Type 0
+IsTenureIf None None = Unit {0}
+IsTenureIf None (Some q) = ⊥
+IsTenureIf (Some t) None = ⊥
+IsTenureIf (Some t) (Some q) = IsTenure t q
+
+-- a number that a message may have
+abbrev pub IsUsed : Option ℕ → Type 0
+IsUsed None = Unit {0}
+IsUsed (Some n) = is_number n ≡ true
+
+-- each life that lasts is kept under its own number
+pub record AreFates (f : Fates) (b : Books) : Type 0 where
+  pub living : (n : ℕ) → is_number n ≡ true → IsTenureIf (get nat_cmp f.living n) (b.living n)
+  pub over : AllZip IsTenure (reverse f.over.items) (filter (λ q. is_number q.number) b.over)
+  pub placed : (n : ℕ) (q : Injection) → b.living n ≡ Some q → q.number ≡ n
+
+-- the newest sender stands for its past, which is a run
+abbrev pub IsHeard : Option Sender → Option Actor → Type 0
+IsHeard None o = o ≡ None
+IsHeard (Some m) None = ⊥
+IsHeard (Some m) (Some x) = ((start : ℕ) × (x.program ≡ kinds.Sender start)) × Stands m None x.past × IsRunBy (Next None) x.past
+
+-- what is kept stands for a state
+pub record Follows (f : Fates) (s : State) : Type 0 where
+  pub fates : AreFates f s.books
+  pub heard : IsHeard f.sender (s.actors (codes "sender"))
+
+-- no mail has a member's name
+abbrev pub IsMailStart : Event → Type 0
+IsMailStart (Start a program) = ¬ (Contains members a)
+IsMailStart other = Unit {0}
+
+abbrev pub AreMailStarts : List Event → Type 0
+AreMailStarts [] = Unit {0}
+AreMailStarts (event ∷ before) = IsMailStart event × AreMailStarts before
+
+-- so who has a member's name is no mail, and who hasn't is one; and a sender has its own name
+pub record AreNamed (s : State) : Type 0 where
+  pub member : (a : List ℕ) (x : Actor) → s.actors a ≡ Some x → Contains members a → MayRun x.program → ⊥
+  pub mail : (a : List ℕ) (x : Actor) → s.actors a ≡ Some x → ¬ (Contains members a) → IsMail x.program
+  pub sender : (a : List ℕ) (x : Actor) → s.actors a ≡ Some x → IsSender x.program → a ≡ codes "sender"
+
+-- the books when the recipients of these marks of a channel are reported delivered, one after the other
+abbrev pub entered_of : Channel → List Mark → Books → Books
+entered_of c [] b = b
+entered_of c (m ∷ marks) b = entered_of c marks (delivered_in b m.attempt.n (record { channel = c; place = m.attempt.place }))
+
+-- an event of a sender is due by its past, which is a run
+pub record HasDue (past : List Own) (own : Own) : Type 0 where
+  pub run : IsRunBy (Next None) past
+  pub moment : IsMoment own.read
+  pub due : Next None past own.read own.ready ≡ own.due
+
+-- the books after an event of a sender
+abbrev pub heard_by : List Own → Own → Books → Books
+heard_by past own b = books_after b (codes "sender") (kinds.Sender 0) past own.read own.ready own.due own.came
+
+-- what the injector was started with that an event started
+abbrev pub arguments_in : Kept → Option Arguments
+arguments_in (kept.Start a program) = injection_of program
+arguments_in other = None

@@ -1,0 +1,20 @@
+-- What is read of a world for `show`.
+use Rattle.std.specs.Prelude.{◌≡◌, List}
+use Rattle.call_fs.specs.Disk.{Disk}
+use Rattle.crash_fs.specs.Crash.{crash_disk}
+use Rattle.disk_numbers.specs.Controls.{controls_on}
+use Rattle.mail_world.specs.History.{Event, after}
+use Rattle.queue_law.specs.Books.{Books}
+use Rattle.scenario.specs.declared.overview.Overview.{Overview}
+use Rattle.scenario.specs.Fates.{AreFates}
+use Rattle.scenario.specs.Shown.{View}
+
+-- what the disk and the control files say, with these books
+abbrev pub view_at : Overview → Books → View
+view_at o books = record { disk = crash_disk o.disk.now; controls = o.controls.now; books = books }
+
+-- it was read of a world in which this happened, since it began with this disk
+pub record IsOf (o : Overview) (d : Disk) (h : List Event) : Type 0 where
+  pub disk : crash_disk o.disk.now ≡ (after d h).disk
+  pub controls : o.controls.now ≡ controls_on (after d h).disk
+  pub fates : AreFates o.fates.now (after d h).books

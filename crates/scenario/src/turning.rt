@@ -1,0 +1,220 @@
+// Turns, and the rounds of `settle`.
+ghost use Rattle.std.specs.Prelude.{◌≡◌, ◌+◌, ◌*◌, List, ℕ, drop, length, IfOk, OnOk};
+ghost use Rattle.std.specs.List.{sum_by, list_all};
+ghost use Rattle.call_fs.specs.Disk.{Disk};
+ghost use Rattle.call_fs.specs.Plan.{Plan};
+ghost use Rattle.mail_world.specs.Generations.{next_living};
+ghost use Rattle.mail_world.specs.History.{Event as Happening};
+ghost use Rattle.play_lines.specs.declared.line.Line.TheVariants as LineOf;
+ghost use Rattle.play_lines.specs.declared.keyword.Alone.TheVariants as AloneOf;
+ghost use Rattle.play_lines.specs.declared.keyword.OfLetter.TheVariants as OfLetterOf;
+ghost use Rattle.scenario.specs.Playing.{IsPlaying, HasPlayed, HasTurned, HasParted, HasRounded, HasReported, AddsNoStart, is_search_kept};
+ghost use Rattle.scenario.specs.Turns.{counted, is_search_call};
+
+use crate::refusing::put_refusal;
+use crate::stepping::run;
+use call_fs::{CallData, NeedData};
+use crash_fs::CrashDisk;
+use mail_bytes::Memory;
+use mail_world::{ActorName, Entry, Event, World};
+use script_words::Letter;
+use std::alloc::{AllocError, Global};
+
+/// How many rounds `settle` makes at least, and how many more for each mail that was accepted and for each of its recipients.
+const FIRST_ROUNDS: u64 = 100;
+
+const MORE_ROUNDS: u64 = 40;
+
+/// Plays a turn: each living actor runs once, in order of start.
+pub fn play_turn(
+    alloc: Global,
+    world: &mut World<CrashDisk>,
+    text: &mut Vec<u8>,
+) -> Result<(), Memory>
+    ensures { OnOk result ((d : Disk) (plan : Plan) (h : List Happening) → IsPlaying d world.old plan h
+        → HasPlayed d world.new (LineOf.Alone AloneOf.Turn) text.old.items text.new.items plan h) }
+{
+    turn(alloc, world, text)?;
+    Ok(())
+}
+
+/// Each living actor runs once, in order of start, until one has made the most steps. Tells whether the newest event of the turn ended an
+/// idle turn of a sender.
+fn turn(alloc: Global, world: &mut World<CrashDisk>, text: &mut Vec<u8>) -> Result<bool, Memory>
+    ensures { IfOk result (λ idle. (d : Disk) (plan : Plan) (h : List Happening) → IsPlaying d world.old plan h
+        → HasTurned d world.new idle text.old.items text.new.items plan h) }
+{
+    let start = text.len();
+    let mut idle = false;
+    let mut from = 0;
+    loop {
+        let Some((actor, place)) = next_actor(world, from) else {
+            return Ok(idle);
+        };
+        idle = run_part(alloc, world, &actor, idle, text)?;
+        if text.len() > start {
+            return Ok(idle);
+        }
+        let Some(next) = place.checked_add(1) else {
+            return Err(AllocError);
+        };
+        from = next;
+    }
+}
+
+/// The next living actor in order of start, from a place on, and its place.
+fn next_actor(world: &World<CrashDisk>, from: u64) -> Option<(ActorName, u64)>
+    ensures { result ≡ next_living from world.now.events }
+{
+    let (actor, place) = world.next_living(from)?;
+    Some((actor.copy(), place))
+}
+
+/// Runs an actor in a turn. Tells whether the newest event of the turn ended an idle turn of a sender, if before it so was told.
+fn run_part(
+    alloc: Global,
+    world: &mut World<CrashDisk>,
+    actor: &ActorName,
+    idle: bool,
+    text: &mut Vec<u8>,
+) -> Result<bool, Memory>
+    ensures ran { IfOk result (λ now. (d : Disk) (plan : Plan) (h : List Happening) → IsPlaying d world.old plan h
+        → HasParted d world.new actor.now idle now text.old.items text.new.items plan h) }
+    ensures starts { AddsNoStart world.old.events world.new.events }
+{
+    let before = kept_in(world);
+    let ran = run(alloc, world, actor, text)?;
+    if kept_in(world) == before {
+        return Ok(idle);
+    }
+    Ok(ran)
+}
+
+/// How many events a world keeps.
+fn kept_in(world: &World<CrashDisk>) -> usize
+    ensures { result ≡ length world.now.events }
+{
+    world.history().len()
+}
+
+/// Plays `settle`: rounds of a turn and of reports with this letter, until one makes only an idle turn of the sender.
+pub fn settle(
+    alloc: Global,
+    world: &mut World<CrashDisk>,
+    letter: Letter,
+    text: &mut Vec<u8>,
+) -> Result<(), Memory>
+    ensures { OnOk result ((d : Disk) (plan : Plan) (h : List Happening) → IsPlaying d world.old plan h
+        → HasPlayed d world.new (LineOf.Letter OfLetterOf.Settle letter) text.old.items text.new.items plan h) }
+{
+    for _ in 0..most_rounds(world.books().entries())? {
+        if round(alloc, world, letter, text)? {
+            return Ok(());
+        }
+    }
+    put_refusal(text, b"rounds", b"settle")
+}
+
+/// The most rounds, by what the books have at the beginning.
+fn most_rounds(entries: &[Entry]) -> Result<u64, Memory>
+    ensures { IfOk result (λ most. most ≡ 100 + 40 * sum_by counted entries.now) }
+{
+    let mut count: u64 = 0;
+    for entry in entries {
+        count = with_entry(count, entry)?;
+    }
+    match count.checked_mul(MORE_ROUNDS) {
+        Some(more) => more.checked_add(FIRST_ROUNDS).ok_or(AllocError),
+        None => Err(AllocError),
+    }
+}
+
+/// A count of mails and recipients with those of one more mail, if it was accepted.
+fn with_entry(count: u64, entry: &Entry) -> Result<u64, Memory>
+    ensures { IfOk result (λ more. more ≡ count + counted entry.now) }
+{
+    if !entry.accepted {
+        return Ok(count);
+    }
+    match entry.recipients.checked_add(1) {
+        Some(more) => count.checked_add(more).ok_or(AllocError),
+        None => Err(AllocError),
+    }
+}
+
+/// One round: a turn, then a report for each program of the remote spawner that has none. Tells whether it is the last one: something was
+/// printed, or nothing happened but an idle turn of the sender.
+fn round(
+    alloc: Global,
+    world: &mut World<CrashDisk>,
+    letter: Letter,
+    text: &mut Vec<u8>,
+) -> Result<bool, Memory>
+    ensures { IfOk result (λ last. (d : Disk) (plan : Plan) (h : List Happening) → IsPlaying d world.old plan h
+        → HasRounded d world.new letter last text.old.items text.new.items plan h) }
+{
+    let start = text.len();
+    let before = world.history().len();
+    let idle = turn(alloc, world, text)?;
+    if text.len() > start {
+        return Ok(true);
+    }
+    report_all(alloc, world, letter)?;
+    Ok(idle && only_searches(world, before))
+}
+
+/// Whether all events after the first so many are searches of the sender for a message to preprocess.
+fn only_searches(world: &World<CrashDisk>, before: usize) -> bool
+    ensures { result ≡ list_all is_search_kept (drop before world.now.events) }
+{
+    match world.history().events().get(before..) {
+        Some(events) => events.iter().all(|event| is_search(event)),
+        None => true,
+    }
+}
+
+/// Whether an event is such a search.
+fn is_search(event: &Event) -> bool
+    ensures { result ≡ is_search_kept event.now }
+{
+    match event {
+        Event::Act { actor, own } => {
+            actor.as_slice() == b"sender".as_slice() && is_search_call(&own.due)
+        }
+        Event::Start { .. } | Event::Generation { .. } | Event::Report { .. } => false,
+        Event::End { .. } | Event::Stop { .. } | Event::Moment { .. } | Event::Halt { .. } => false,
+    }
+}
+
+/// Whether what was due is a search in `todo/`.
+fn is_search_call(due: &NeedData) -> bool
+    ensures { result ≡ is_search_call due.now }
+{
+    match due {
+        NeedData::File(CallData::NextName(dir, _)) => dir.as_slice() == b"todo".as_slice(),
+        _ => false,
+    }
+}
+
+/// Reports for each program of the living remote spawner that has no report, in order of its slot.
+fn report_all(alloc: Global, world: &mut World<CrashDisk>, letter: Letter) -> Result<(), Memory>
+    ensures { OnOk result ((d : Disk) (plan : Plan) (h : List Happening) → IsPlaying d world.old plan h
+        → HasReported d world.new letter plan h) }
+{
+    let mut from: u8 = 0;
+    loop {
+        let Some(slot) = world.unreported(from) else {
+            return Ok(());
+        };
+        if world
+            .report(alloc, slot, letter.byte(), b"settled")
+            .is_err()
+        {
+            return Err(AllocError);
+        }
+        match slot.checked_add(1) {
+            Some(next) => from = next,
+            None => return Ok(()),
+        }
+    }
+}

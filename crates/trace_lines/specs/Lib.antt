@@ -1,0 +1,2 @@
+-- the line of what an actor did
+pub mod Acts
