@@ -1,5 +1,6 @@
 -- What a change of the lists does to the disk that they stand for, and that it keeps them sound.
-use Rattle.std.proofs.Common.{◌≡◌, ◌≢◌, ◌⊎◌, ⊎_elim, inl, inr, ℕ, ◌+◌, Bool, true, false, cond, List, Option, Some, unwrap_or, nat_eq, refl, sym, ap, ◌∙◌, arith}
+use Rattle.std.proofs.Common.{◌≡◌, ◌≢◌, ◌⊎◌, ⊎_elim, inl, inr, ℕ, ◌+◌, Bool, true, false, cond, List, [], Option, Some, unwrap_or, nat_eq, refl, sym, ap, ◌∙◌, subst, arith}
+use Rattle.std.specs.List.Sorted.{IsStrictlySortedBy}
 use Rattle.std.specs.Option.{option_map}
 use Rattle.std.proofs.lemmas.Bool.Decides.{Decides-eqb}
 use Rattle.mem_fs.specs.declared.file.Inode.{Inode}
@@ -36,6 +37,17 @@ holds_put old new n i is m =
     let read : Option Inode → ℕ = λ o. unwrap_or (option_map (λ (e : Inode). e.opens) o) 0 in
     let step : holds_of new m ≡ read (put (at_number old) n (Some i) m) = ap (λ (f : ℕ → Option Inode). read (f m)) is in
     ⊎_elim (λ h. inl (h.0, step ∙ ap read h.1)) (λ h. inr (h.0, step ∙ ap read h.1)) (put_cases (at_number old) n (Some i) m)
+
+-- nothing at all
+pub sound-nothing : (h : Held) → h.names ≡ [] → h.files ≡ [] → h.opens ≡ [] → IsSound h
+unfolding IsStrictlySortedBy
+sound-nothing h names files opens = record {
+  names = subst (λ (es : List (List ℕ × ℕ)). AreNamesInOrder es) (sym names) tt;
+  files = subst (λ (es : List (ℕ × Inode)). AreNumbersInOrder es) (sym files) (record { in_order = λ i j d lt within. absurd (omega arith); positive = λ i d within. absurd (omega arith) });
+  opens = subst (λ (es : List (ℕ × Open)). AreNumbersInOrder es) (sym opens) (record { in_order = λ i j d lt within. absurd (omega arith); positive = λ i d within. absurd (omega arith) });
+  links = λ n. ap (λ (es : List (ℕ × Inode)). links_of es n) files ∙ sym (ap (λ (es : List (List ℕ × ℕ)). names_of es n) names);
+  holds = λ n. ap (λ (es : List (ℕ × Inode)). holds_of es n) files ∙ sym (ap (λ (es : List (ℕ × Open)). opens_counted es n) opens);
+}
 
 -- the entry of one number counts what uses it now, and the uses of the others stay
 pub sound-put : {h : Held} → IsSound h → (k : Held) (n : ℕ) (i : Inode)

@@ -1,4 +1,4 @@
--- The least number that nothing uses, and the greatest.
+-- The greatest number that nothing uses.
 use Rattle.std.proofs.Common.{◌≡◌, ◌≢◌, ◌⊎◌, ⊎_elim, ℕ, ◌+◌, ◌-◌, ◌^◌, ◌<◌, ◌≤◌, List, length, get_or, Some, sym, ap, ◌∙◌, subst, arith}
 use Rattle.std.proofs.lemmas.Bool.{cases_lt, cases_eq}
 use Rattle.std.proofs.lemmas.List.{get_or_default}
@@ -7,16 +7,11 @@ use Rattle.mem_fs.specs.Tables.{AreNumbersInOrder}
 use Rattle.mem_fs.specs.MemDisk.{IsIdle}
 use Rattle.mem_fs.proofs.Tables.{some_entry}
 use Rattle.mem_fs.proofs.NumberTable.{number-at}
-use Rattle.mem_fs.proofs.Counting.{AreFrom1, AreUpTo, next_missing, lower_there, candidate_missing, higher_there, from_1_more, rise}
+use Rattle.mem_fs.proofs.Counting.{AreUpTo, candidate_missing, higher_there, rise}
 use Rattle.mem_fs.proofs.FileTable.{idle-missing, idle-there, busy-there}
 
 abbrev pub IsUsed : Inode → Type 0
 IsUsed i = ¬ ((i.links ≡ 0) × (i.opens ≡ 0))
-
--- the first i numbers are those from 1 on, and each is used
-pub record AreBusyFrom1 (files : List (ℕ × Inode)) (i : ℕ) : Type 0 where
-  pub from_1 : AreFrom1 files i
-  pub busy : (j : ℕ) (d : ℕ × Inode) → j < i → IsUsed (get_or files j d).1
 
 -- the numbers from place i on are the last ones, and each is used; this one is the next below
 pub record AreBusyUpTo (files : List (ℕ × Inode)) (i number : ℕ) : Type 0 where
@@ -24,36 +19,6 @@ pub record AreBusyUpTo (files : List (ℕ × Inode)) (i number : ℕ) : Type 0 w
   pub sum : number + (length files - i) + 1 ≡ 2 ^ 64
   pub up_to : AreUpTo (2 ^ 64) files i
   pub busy : (j : ℕ) (d : ℕ × Inode) → i ≤ j → j < length files → IsUsed (get_or files j d).1
-
-module _ (files : List (ℕ × Inode)) (ordered : AreNumbersInOrder files) where
-  pub lower_busy : (i : ℕ) → i ≤ length files → AreBusyFrom1 files i → (m : ℕ) → 1 ≤ m → m < i + 1 → ¬ (IsIdle files m)
-  lower_busy i le so_far m positive lt idle =
-      let d = some_entry files (omega arith) in
-      so_far.busy (m - 1) d (omega arith) (busy-there files m _ (lower_there files ordered i le so_far.from_1 m positive lt d) idle)
-
-  -- the number of the place, by what stands there
-  pub idle_here : (i : ℕ) (e : ℕ × Inode) → i < length files → e ≡ get_or files i e → AreBusyFrom1 files i → (e.0 ≢ i + 1) ⊎ ((e.1.links ≡ 0) × (e.1.opens ≡ 0)) → IsIdle files (i + 1)
-  idle_here i e within read so_far why =
-      ⊎_elim
-      (λ (same : e.0 ≡ i + 1). ⊎_elim
-      (λ differs. absurd (differs same))
-      (λ idle. idle-there files (i + 1) e.1 (number-at files ordered (i + 1) i (record { within = within; has_key = λ d. ap (λ (x : ℕ × Inode). x.0) (get_or_default files i d e within ∙ sym read) ∙ same }) e ∙ ap (λ (x : ℕ × Inode). Some x.1) (sym read)) idle)
-      why)
-      (λ differs. idle-missing files (i + 1) (next_missing files ordered i so_far.from_1 (λ d _ is. differs (ap (λ (x : ℕ × Inode). x.0) (read ∙ get_or_default files i e d within) ∙ is))))
-      (cases_eq e.0 (i + 1))
-
-  pub idle_past : (i : ℕ) → length files ≤ i → AreBusyFrom1 files i → IsIdle files (i + 1)
-  idle_past i past so_far = idle-missing files (i + 1) (next_missing files ordered i so_far.from_1 (λ d within. absurd (omega arith)))
-
-pub busy_from_1_more : (files : List (ℕ × Inode)) (i : ℕ) (e : ℕ × Inode) → i < length files → e ≡ get_or files i e → e.0 ≡ i + 1 → IsUsed e.1 → AreBusyFrom1 files i → AreBusyFrom1 files (i + 1)
-busy_from_1_more files i e within read is used so_far = record {
-  from_1 = from_1_more files i e within read is so_far.from_1;
-  busy = λ j d lt. ⊎_elim
-      (λ low. so_far.busy j d low)
-      (λ high. let here : j ≡ i = omega arith in
-      subst (λ (x : ℕ × Inode). IsUsed x.1) (read ∙ get_or_default files i e d within ∙ ap (λ n. get_or files n d) (sym here)) used)
-      (cases_lt j i);
-}
 
 module _ (files : List (ℕ × Inode)) (ordered : AreNumbersInOrder files) where
   pub higher_busy : (i number : ℕ) → AreBusyUpTo files i number → (m : ℕ) → number < m → m < 2 ^ 64 → ¬ (IsIdle files m)

@@ -14,4 +14,5 @@ pub mod HaltedDisk
 pub mod Uses
 pub mod Changes
 pub mod Steps
+pub mod Low
 pub mod InTurn

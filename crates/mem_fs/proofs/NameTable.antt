@@ -1,92 +1,177 @@
--- Lists of pairs in byte order of their names.
-use Rattle.std.proofs.Common.{◌≡◌, ⊎_elim, ℕ, ◌+◌, ◌<◌, ◌≤◌, Bool, true, false, cond, List, length, get_or, Some, None, IsSome, Result, Ok, Err, IsOk, IsErr, not, bytes_eq, nat_cmp, count_by, Ordering, Less, Equal, Greater, refl, sym, ap, ◌∙◌, subst, arith}
-use Rattle.std.specs.List.{insert, remove}
+-- The names of a tree, by their bytes.
+use Rattle.std.proofs.Common.{◌≡◌, ◌⊎◌, ⊎_elim, inl, inr, ℕ, ◌+◌, ◌<◌, Bool, true, false, cond, List, [], ◌∷◌, length, get_or, filter, Option, Some, None, IsSome, unwrap_or, fold, nat_eq, bytes_eq, nat_cmp, Ordering, Less, Equal, Greater, refl, sym, ap, ◌∙◌, subst, arith}
+use mathlib.Core.Path.{fun_ext}
+use Rattle.std.specs.declared.vec.Vec.{Vec}
+use Rattle.std.specs.BTreeMap.{insert_entry, is_at}
 use Rattle.std.specs.Cmp.Lexicographic.{slice_cmp}
-use Rattle.std.specs.Ordering.{is_gt, ordering_reverse}
-use Rattle.std.specs.List.Sorted.{IsPartitionedBy, IsPartitionPoint}
-use Rattle.std.proofs.lemmas.Bool.{cases_lt}
-use Rattle.std.proofs.lemmas.Cmp.{nat_list_cmp_total, upto}
+use Rattle.std.specs.List.{AllByRecursion, IsDistinct, sum_by}
+use Rattle.std.specs.List.Sorted.{IsStrictlySortedBy}
+use Rattle.std.specs.Map.{lookup, keys_of, values_of, remove_entry}
+use Rattle.std.specs.Option.{option_map}
+use Rattle.std.specs.Ordering.{eq_by_cmp, match_ordering}
+use Rattle.std.proofs.lemmas.Cmp.{nat_list_cmp_total, nat_list_eq_equiv, tied_itself}
+use Rattle.std.proofs.lemmas.Map.{lookup-remove_entry}
+use Rattle.std.proofs.lemmas.Map.Entries.{lookup_from_place, sum_by-insert_entry, sum_by-remove_entry}
+use Rattle.std.proofs.lemmas.Map.Keys.{IsDistinct-from_sorted}
 use Rattle.std.proofs.lemmas.Map.Lookups.{exact_bytes}
-use Rattle.std.proofs.lemmas.List.Sums.{sum_by-insert, sum_by-remove}
+use Rattle.std.proofs.lemmas.Map.Text.{is_eq-slice_cmp}
+use Rattle.std.proofs.lemmas.Option.{slice_get-get_or}
+use Rattle.call_fs.specs.Disk.{Among}
 use Rattle.call_fs.specs.Maps.{put_at}
-use Rattle.mem_fs.specs.Tables.{at_name, AreNamesInOrder, IsAt, IsGapFor, IsPlace, IsEndOf}
 use Rattle.call_fs.proofs.Maps.{is_put_at, bytes_eq-decides}
-use Rattle.mem_fs.proofs.Tables.{some_entry, NoneBefore, NoneBehind, lookup-absent, lookup-at, lookup-insert, lookup-remove, none_before_at, none_behind_at, none_in_gap, in_order-insert, in_order-remove}
+use Rattle.mem_fs.specs.MemDisk.{names_of}
+use Rattle.mem_fs.specs.Tables.{at_name, AreNamesInOrder, texts}
+use Rattle.mem_fs.proofs.Tables.{hides, swaps}
 
-module _ {V : Type 0} (es : List (List ℕ × V)) (ordered : AreNamesInOrder es) (k : List ℕ) where
-  none_before : (i : ℕ) → IsAt es k i → NoneBefore es k i
-  none_before i at = none_before_at (slice_cmp nat_cmp) nat_list_cmp_total exact_bytes es ordered k i at
+-- ---- a tree's entries and their bytes
+module _ {A : Type 0} where
+  pub name-found : (es : List (Vec ℕ A × ℕ)) (q : List ℕ) → lookup (is_at (λ (k : Vec ℕ A). slice_cmp nat_cmp q k.items)) es ≡ at_name (texts es) q
+  name-found [] q = refl
+  name-found (e ∷ es) q =
+      ap (λ b. cond b (Some e.1) (lookup (is_at (λ (k : Vec ℕ A). slice_cmp nat_cmp q k.items)) es)) (is_eq-slice_cmp q e.0.items)
+      ∙ ap (cond (bytes_eq q e.0.items) (Some e.1)) (name-found es q)
 
-  none_behind : (i : ℕ) → IsAt es k i → NoneBehind es k i
-  none_behind i at = none_behind_at (slice_cmp nat_cmp) nat_list_cmp_total exact_bytes es ordered k i at
-
-  pub name-at : (i : ℕ) → IsAt es k i → (d : List ℕ × V) → at_name es k ≡ Some (get_or es i d).1
-  name-at i at d = lookup-at bytes_eq bytes_eq-decides es k i at (none_before i at) d
-
-  pub names-remove : (i : ℕ) → i < length es → AreNamesInOrder (remove es i)
-  names-remove i within = in_order-remove (slice_cmp nat_cmp) es ordered i within
-
-  pub name-remove : (i : ℕ) → IsAt es k i → at_name (remove es i) ≡ put_at (at_name es) k None
-  name-remove i at = is_put_at (at_name es) (at_name (remove es i)) k None (lookup-remove bytes_eq bytes_eq-decides es k i at (none_before i at) (none_behind i at))
-
-  pub count-remove : (test : List ℕ × V → Bool) (i : ℕ) → IsAt es k i → (v : V) → at_name es k ≡ Some v → count_by test es ≡ count_by test (remove es i) + cond (test (k, v)) 1 0
-  count-remove test i at v found =
-      let item : get_or es i (k, v) ≡ (k, v) = pair_is (get_or es i (k, v)) (at.has_key (k, v)) (let e = name-at i at (k, v) in cc) in
-      sym (sum_by-remove (λ x. cond (test x) 1 0) es i (k, v) at.within) ∙ ap (λ x. count_by test (remove es i) + cond (test x) 1 0) item
+  texts-insert : (es : List (Vec ℕ A × ℕ)) (k : Vec ℕ A) (v : ℕ) → texts (insert_entry (λ x y. slice_cmp nat_cmp x.items y.items) es k v) ≡ insert_entry (slice_cmp nat_cmp) (texts es) k.items v
+  texts-insert [] k v = refl
+  texts-insert (e ∷ es) k v = by (slice_cmp nat_cmp k.items e.0.items) (texts-insert es k v)
     where
-      pair_is : (x : List ℕ × V) {v : V} → x.0 ≡ k → x.1 ≡ v → x ≡ (k, v)
-      pair_is x {v} p q = ap (λ (n : List ℕ). (n, x.1)) p ∙ ap (λ (w : V). (k, w)) q
+      by : (r : Ordering) → texts (insert_entry (λ x y. slice_cmp nat_cmp x.items y.items) es k v) ≡ insert_entry (slice_cmp nat_cmp) (texts es) k.items v
+          → texts (match_ordering r ((k, v) ∷ e ∷ es) ((e.0, v) ∷ es) (e ∷ insert_entry (λ x y. slice_cmp nat_cmp x.items y.items) es k v))
+          ≡ match_ordering r ((k.items, v) ∷ texts (e ∷ es)) ((e.0.items, v) ∷ texts es) ((e.0.items, e.1) ∷ insert_entry (slice_cmp nat_cmp) (texts es) k.items v)
+      by Less later = refl
+      by Equal later = refl
+      by Greater later = ap (λ (xs : List (List ℕ × ℕ)). (e.0.items, e.1) ∷ xs) later
 
-  pub name-gap : (i : ℕ) → IsGapFor (slice_cmp nat_cmp) es k i → at_name es k ≡ None
-  name-gap i gap = lookup-absent bytes_eq bytes_eq-decides es k (none_in_gap (slice_cmp nat_cmp) nat_list_cmp_total exact_bytes es k i gap)
+  pub inserted : (es fs : List (Vec ℕ A × ℕ)) (k : Vec ℕ A) (v : ℕ) → fs ≡ insert_entry (λ x y. slice_cmp nat_cmp x.items y.items) es k v → texts fs ≡ insert_entry (slice_cmp nat_cmp) (texts es) k.items v
+  inserted es fs k v is = ap (λ (xs : List (Vec ℕ A × ℕ)). texts xs) is ∙ texts-insert es k v
 
-  pub names-insert : (i : ℕ) → IsGapFor (slice_cmp nat_cmp) es k i → (v : V) → AreNamesInOrder (insert es i (k, v))
-  names-insert i gap v = in_order-insert (slice_cmp nat_cmp) es ordered k v i gap
+  texts-remove : (es : List (Vec ℕ A × ℕ)) (q : List ℕ) → texts (remove_entry (is_at (λ (k : Vec ℕ A). slice_cmp nat_cmp q k.items)) es) ≡ remove_entry (bytes_eq q) (texts es)
+  texts-remove [] q = refl
+  texts-remove (e ∷ es) q =
+      ap (λ b. texts (cond b es (e ∷ remove_entry (is_at (λ (k : Vec ℕ A). slice_cmp nat_cmp q k.items)) es))) (is_eq-slice_cmp q e.0.items)
+      ∙ by (bytes_eq q e.0.items) (texts-remove es q)
+    where
+      by : (b : Bool) → texts (remove_entry (is_at (λ (k : Vec ℕ A). slice_cmp nat_cmp q k.items)) es) ≡ remove_entry (bytes_eq q) (texts es)
+          → texts (cond b es (e ∷ remove_entry (is_at (λ (k : Vec ℕ A). slice_cmp nat_cmp q k.items)) es)) ≡ cond b (texts es) ((e.0.items, e.1) ∷ remove_entry (bytes_eq q) (texts es))
+      by true later = refl
+      by false later = ap (λ (xs : List (List ℕ × ℕ)). (e.0.items, e.1) ∷ xs) later
 
-  pub name-insert : (i : ℕ) → IsGapFor (slice_cmp nat_cmp) es k i → (v : V) → at_name (insert es i (k, v)) ≡ put_at (at_name es) k (Some v)
-  name-insert i gap v = is_put_at (at_name es) (at_name (insert es i (k, v))) k (Some v)
-      (lookup-insert bytes_eq bytes_eq-decides es k v i (λ j d lt within. none_in_gap (slice_cmp nat_cmp) nat_list_cmp_total exact_bytes es k i gap j d within within))
+  pub removed : (es fs : List (Vec ℕ A × ℕ)) (q : List ℕ) → fs ≡ remove_entry (is_at (λ (k : Vec ℕ A). slice_cmp nat_cmp q k.items)) es → texts fs ≡ remove_entry (bytes_eq q) (texts es)
+  removed es fs q is = ap (λ (xs : List (Vec ℕ A × ℕ)). texts xs) is ∙ texts-remove es q
 
-  pub count-insert : (test : List ℕ × V → Bool) (i : ℕ) (v : V) → count_by test (insert es i (k, v)) ≡ count_by test es + cond (test (k, v)) 1 0
-  count-insert test i v = sum_by-insert (λ x. cond (test x) 1 0) es i (k, v)
+  above-texts : (x : List ℕ) (es : List (Vec ℕ A × ℕ)) → AllByRecursion (λ (y : Vec ℕ A). slice_cmp nat_cmp x y.items ≡ Less) (keys_of es) → AllByRecursion (λ y. slice_cmp nat_cmp x y ≡ Less) (keys_of (texts es))
+  above-texts x [] h = tt
+  above-texts x (e ∷ es) h = (h.0, above-texts x es h.1)
 
-  -- a name that has a value is found, and one that has none isn't
-  pub found_name : (r : Result ℕ ℕ) → IsPlace (slice_cmp nat_cmp) es k r → IsSome (at_name es k) → IsOk r
-  found_name (Ok i) place there = refl
-  found_name (Err i) place there = let none = name-gap i place in absurd cc
+  pub in_order-texts : (es : List (Vec ℕ A × ℕ)) → IsStrictlySortedBy (λ x y. slice_cmp nat_cmp x.items y.items) (keys_of es) → AreNamesInOrder (texts es)
+  unfolding IsStrictlySortedBy
+  in_order-texts [] h = tt
+  in_order-texts (e ∷ es) h = (above-texts e.0.items es h.0, in_order-texts es h.1)
 
-  pub missing_name : (r : Result ℕ ℕ) → IsPlace (slice_cmp nat_cmp) es k r → at_name es k ≡ None → IsErr r
-  missing_name (Ok i) place none = let there = name-at i place (some_entry es (omega (arith, place.within))) in absurd cc
-  missing_name (Err i) place none = refl
+-- ---- names in order
+same_order : eq_by_cmp (slice_cmp nat_cmp) ≡ bytes_eq
+same_order = fun_ext (λ x. fun_ext (λ y. is_eq-slice_cmp x y))
 
--- a search's answer, at what it is
-pub gap_of : {V : Type 0} (es : List (List ℕ × V)) (k : List ℕ) (r : Result ℕ ℕ) (i : ℕ) → r ≡ Err i → IsPlace (slice_cmp nat_cmp) es k r → IsGapFor (slice_cmp nat_cmp) es k i
-gap_of es k r i is place = subst (λ (x : Result ℕ ℕ). IsPlace (slice_cmp nat_cmp) es k x) is place
+is_at-bytes : (k : List ℕ) → is_at (slice_cmp nat_cmp k) ≡ bytes_eq k
+is_at-bytes k = fun_ext (λ x. is_eq-slice_cmp k x)
 
-pub at_of : {V : Type 0} (es : List (List ℕ × V)) (k : List ℕ) (r : Result ℕ ℕ) (i : ℕ) → r ≡ Ok i → IsPlace (slice_cmp nat_cmp) es k r → IsAt es k i
-at_of es k r i is place = subst (λ (x : Result ℕ ℕ). IsPlace (slice_cmp nat_cmp) es k x) is place
+distinct : (es : List (List ℕ × ℕ)) → AreNamesInOrder es → IsDistinct bytes_eq (keys_of es)
+distinct es ordered = subst (λ (eq : List ℕ → List ℕ → Bool). IsDistinct eq (keys_of es)) same_order (IsDistinct-from_sorted (slice_cmp nat_cmp) (keys_of es) ordered)
 
-is_above : (r : Ordering) → not (is_gt r) ≡ false → ordering_reverse r ≡ Less
-is_above Less e = absurd cc
-is_above Equal e = absurd cc
-is_above Greater e = refl
+pub name-at : (es : List (List ℕ × ℕ)) → AreNamesInOrder es → (i : ℕ) → i < length es → (d : List ℕ × ℕ) → at_name es (get_or es i d).0 ≡ Some (get_or es i d).1
+name-at es ordered i within d = lookup_from_place nat_list_eq_equiv es i (get_or es i d).0 (get_or es i d).1 (distinct es ordered) (slice_get-get_or es i d within)
 
-not_above : (r : Ordering) → not (is_gt r) ≡ true → is_gt r ≡ false
-not_above Less e = refl
-not_above Equal e = refl
-not_above Greater e = absurd cc
+put_in : (es : List (List ℕ × ℕ)) (k : List ℕ) (v : ℕ) (q : List ℕ) → at_name (insert_entry (slice_cmp nat_cmp) es k v) q ≡ cond (bytes_eq q k) (Some v) (at_name es q)
+put_in [] k v q = refl
+put_in (e ∷ es) k v q = by (slice_cmp nat_cmp k e.0) refl (put_in es k v q)
+  where
+    by : (r : Ordering) → slice_cmp nat_cmp k e.0 ≡ r → at_name (insert_entry (slice_cmp nat_cmp) es k v) q ≡ cond (bytes_eq q k) (Some v) (at_name es q)
+        → at_name (match_ordering r ((k, v) ∷ e ∷ es) ((e.0, v) ∷ es) (e ∷ insert_entry (slice_cmp nat_cmp) es k v)) q ≡ cond (bytes_eq q k) (Some v) (cond (bytes_eq q e.0) (Some e.1) (at_name es q))
+    by Less is later = refl
+    by Equal is later =
+        hides (bytes_eq q e.0) (Some v) (Some e.1) (at_name es q)
+        ∙ ap (λ (x : List ℕ). cond (bytes_eq q x) (Some v) (cond (bytes_eq q e.0) (Some e.1) (at_name es q))) (sym (exact_bytes k e.0 is))
+    by Greater is later =
+        ap (cond (bytes_eq q e.0) (Some e.1)) later
+        ∙ swaps (bytes_eq q e.0) (bytes_eq q k) (Some e.1) (Some v) (at_name es q)
+        (λ a b.
+        let same : k ≡ e.0 = sym ((bytes_eq-decides q k).0 b) ∙ (bytes_eq-decides q e.0).0 a in
+        let tied : slice_cmp nat_cmp k e.0 ≡ Equal = ap (slice_cmp nat_cmp k) (sym same) ∙ tied_itself nat_list_cmp_total k in
+        absurd cc)
 
--- a name below one that comes up to the limit comes up to it too
-pub end_of : {V : Type 0} (es : List (List ℕ × V)) → AreNamesInOrder es → (limit : List ℕ) (i : ℕ) → i ≤ length es
-    → (IsPartitionedBy (λ e. not (is_gt (slice_cmp nat_cmp e.0 limit))) es → IsPartitionPoint (λ e. not (is_gt (slice_cmp nat_cmp e.0 limit)) ≡ true) (λ e. not (is_gt (slice_cmp nat_cmp e.0 limit)) ≡ false) es i)
-    → IsEndOf es limit i
-end_of {V} es ordered limit i within parts =
-    let parted = parts (λ j k d le bound h. ⊎_elim
-    (λ lt. ap not (upto nat_list_cmp_total (get_or es j d).0 (get_or es k d).0 limit (ap is_gt (ordered j k d lt bound)) (not_above _ h)))
-    (λ ge. let is : j ≡ k = omega arith in ap (λ n. not (is_gt (slice_cmp nat_cmp (get_or es n d).0 limit))) is ∙ h)
-    (cases_lt j k)) in
-    record {
-      within = within;
-      before = λ j d lt. not_above _ (parted.0 j d (omega arith) lt);
-      after = λ j d le bound. nat_list_cmp_total.antisymm limit (get_or es j d).0 ∙ is_above _ (parted.1 j d le bound);
-    }
+pub name-insert : (es : List (List ℕ × ℕ)) (k : List ℕ) (v : ℕ) → at_name (insert_entry (slice_cmp nat_cmp) es k v) ≡ put_at (at_name es) k (Some v)
+name-insert es k v = is_put_at (at_name es) (at_name (insert_entry (slice_cmp nat_cmp) es k v)) k (Some v) (put_in es k v)
+
+pub name-remove : (es : List (List ℕ × ℕ)) → AreNamesInOrder es → (k : List ℕ) → at_name (remove_entry (bytes_eq k) es) ≡ put_at (at_name es) k None
+name-remove es ordered k = is_put_at (at_name es) (at_name (remove_entry (bytes_eq k) es)) k None (λ q.
+    lookup-remove_entry nat_list_eq_equiv (bytes_eq k) (λ x y t. ap (λ (z : List ℕ). bytes_eq z y) ((bytes_eq-decides k x).0 t)) q es (distinct es ordered)
+    ∙ ap (λ b. cond b None (at_name es q)) (nat_list_eq_equiv.symm k q))
+
+-- ---- how many names a number has
+fold_values : (n a : ℕ) (es : List (List ℕ × ℕ)) → fold (λ (b v : ℕ). b + cond (nat_eq v n) 1 0) a (values_of es) ≡ fold (λ (b : ℕ) (e : List ℕ × ℕ). b + cond (nat_eq e.1 n) 1 0) a es
+fold_values n a [] = refl
+fold_values n a (e ∷ es) = fold_values n (a + cond (nat_eq e.1 n) 1 0) es
+
+by_values : (es : List (List ℕ × ℕ)) (n : ℕ) → sum_by (λ v. cond (nat_eq v n) 1 0) (values_of es) ≡ names_of es n
+by_values es n = fold_values n 0 es
+
+pub count-insert : (es : List (List ℕ × ℕ)) → AreNamesInOrder es → (k : List ℕ) (v : ℕ) → at_name es k ≡ None → (n : ℕ) → names_of (insert_entry (slice_cmp nat_cmp) es k v) n ≡ names_of es n + cond (nat_eq v n) 1 0
+count-insert es ordered k v free n =
+    let sums = sum_by-insert_entry (λ (x : ℕ). cond (nat_eq x n) 1 0) nat_list_cmp_total es k v ordered in
+    let none : ◌≡◌ {A = ℕ} (unwrap_or (option_map (λ (x : ℕ). cond (nat_eq x n) 1 0) (lookup (is_at (slice_cmp nat_cmp k)) es)) 0) 0 =
+    ap (λ (o : Option ℕ). unwrap_or (option_map (λ (x : ℕ). cond (nat_eq x n) 1 0) o) 0) (ap (λ (test : List ℕ → Bool). lookup test es) (is_at-bytes k) ∙ free) in
+    omega (arith, sums, none, by_values es n, by_values (insert_entry (slice_cmp nat_cmp) es k v) n)
+
+pub count-remove : (es : List (List ℕ × ℕ)) (k : List ℕ) (v : ℕ) → at_name es k ≡ Some v → (n : ℕ) → names_of es n ≡ names_of (remove_entry (bytes_eq k) es) n + cond (nat_eq v n) 1 0
+count-remove es k v found n =
+    let sums = sum_by-remove_entry (λ (x : ℕ). cond (nat_eq x n) 1 0) (bytes_eq k) es in
+    let one : ◌≡◌ {A = ℕ} (unwrap_or (option_map (λ (x : ℕ). cond (nat_eq x n) 1 0) (at_name es k)) 0) (cond (nat_eq v n) 1 0) =
+    ap (λ (o : Option ℕ). unwrap_or (option_map (λ (x : ℕ). cond (nat_eq x n) 1 0) o) 0) found in
+    omega (arith, sums, one, by_values es n, by_values (remove_entry (bytes_eq k) es) n)
+
+-- ---- a part of a tree
+pub some_among : (es : List (List ℕ × ℕ)) (q : List ℕ) → Among q (keys_of es) → IsSome (at_name es q)
+some_among [] q h = absurd h
+some_among (e ∷ es) q h =
+    elim (bytes_eq q e.0) as (λ b. bytes_eq q e.0 ≡ b → IsSome (cond b (Some e.1) (at_name es q))) [
+      | true ↦ λ t. refl
+      | false ↦ λ t. ⊎_elim (λ here. let yes = (bytes_eq-decides q e.0).1 here in absurd cc) (λ later. some_among es q later) h
+    ] refl
+
+module _ {A : Type 0} (p : Vec ℕ A × ℕ → Bool) where
+  above-part : (x : List ℕ) (es : List (Vec ℕ A × ℕ)) → AllByRecursion (λ y. slice_cmp nat_cmp x y ≡ Less) (keys_of (texts es)) → AllByRecursion (λ y. slice_cmp nat_cmp x y ≡ Less) (keys_of (texts (filter p es)))
+  above-part x [] h = tt
+  above-part x (e ∷ es) h = by (p e) (above-part x es h.1)
+    where
+      by : (b : Bool) → AllByRecursion (λ y. slice_cmp nat_cmp x y ≡ Less) (keys_of (texts (filter p es))) → AllByRecursion (λ y. slice_cmp nat_cmp x y ≡ Less) (keys_of (texts (cond b (e ∷ filter p es) (filter p es))))
+      by true later = (h.0, later)
+      by false later = later
+
+  pub in_order-part : (es : List (Vec ℕ A × ℕ)) → AreNamesInOrder (texts es) → AreNamesInOrder (texts (filter p es))
+  unfolding IsStrictlySortedBy
+  in_order-part [] h = tt
+  in_order-part (e ∷ es) h = by (p e) (in_order-part es h.1)
+    where
+      by : (b : Bool) → AreNamesInOrder (texts (filter p es)) → AreNamesInOrder (texts (cond b (e ∷ filter p es) (filter p es)))
+      by true later = (above-part e.0.items es h.0, later)
+      by false later = later
+
+  pub among-whole : (es : List (Vec ℕ A × ℕ)) (q : List ℕ) → Among q (keys_of (texts (filter p es))) → Among q (keys_of (texts es))
+  among-whole [] q h = h
+  among-whole (e ∷ es) q h = by (p e) (among-whole es q) h
+    where
+      by : (b : Bool) → (Among q (keys_of (texts (filter p es))) → Among q (keys_of (texts es))) → Among q (keys_of (texts (cond b (e ∷ filter p es) (filter p es)))) → (q ≡ e.0.items) ⊎ Among q (keys_of (texts es))
+      by true deeper found = ⊎_elim (λ here. inl here) (λ later. inr (deeper later)) found
+      by false deeper found = inr (deeper found)
+
+  pub among-part : (q : List ℕ) → ((e : Vec ℕ A × ℕ) → q ≡ e.0.items → p e ≡ true) → (es : List (Vec ℕ A × ℕ)) → IsSome (at_name (texts es) q) → Among q (keys_of (texts (filter p es)))
+  among-part q passes [] some = absurd cc
+  among-part q passes (e ∷ es) some =
+      elim (bytes_eq q e.0.items) as (λ b. bytes_eq q e.0.items ≡ b → IsSome (cond b (Some e.1) (at_name (texts es) q)) → Among q (keys_of (texts (cond (p e) (e ∷ filter p es) (filter p es))))) [
+        | true ↦ λ t s. let same = (bytes_eq-decides q e.0.items).0 t in subst (λ b. Among q (keys_of (texts (cond b (e ∷ filter p es) (filter p es))))) (sym (passes e same)) (inl same)
+        | false ↦ λ t s. by (p e) (among-part q passes es s)
+      ] refl some
+    where
+      by : (b : Bool) → Among q (keys_of (texts (filter p es))) → Among q (keys_of (texts (cond b (e ∷ filter p es) (filter p es))))
+      by true later = inr later
+      by false later = later

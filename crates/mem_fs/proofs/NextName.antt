@@ -1,102 +1,110 @@
 -- The least later name of a directory, among names in order.
-use Rattle.std.proofs.Common.{◌≡◌, ⊎_elim, ℕ, ◌+◌, ◌<◌, ◌≤◌, true, false, List, [], ◌∷◌, ◌++◌, length, take, drop, get_or, ◌-◌, length-take, length-drop, Option, Some, None, IsSome, is_some, Contains, bytes_eq, nat_cmp, is_gt, Less, Greater, refl, sym, ap, ◌∙◌, arith}
+use Rattle.std.proofs.Common.{◌≡◌, ⊎_elim, inl, inr, ℕ, ◌≤◌, Bool, true, false, List, [], ◌∷◌, ◌++◌, length, filter, IsSome, Contains, nat_cmp, is_gt, Ordering, Less, Equal, Greater, refl, sym, ap, ◌∙◌, subst}
+use Rattle.std.specs.declared.vec.Vec.{Vec}
 use Rattle.std.specs.Cmp.Lexicographic.{slice_cmp}
-use Rattle.std.specs.Ordering.{ordering_reverse}
-use Rattle.std.proofs.lemmas.Cmp.{nat_list_cmp_total, tied_itself}
-use Rattle.std.proofs.lemmas.Bool.{cases_lt, cases_eq}
-use Rattle.std.proofs.lemmas.List.{get_or_default, get_or-drop, get_or-take}
-use Rattle.call_fs.specs.Disk.{Disk}
+use Rattle.std.specs.List.{AllByRecursion}
+use Rattle.std.specs.Map.{keys_of}
+use Rattle.std.specs.Ordering.{ordering_reverse, ordering_then}
+use Rattle.std.proofs.lemmas.Cmp.{nat_list_cmp_total, nat_cmp_total, tied_itself}
+use Rattle.std.proofs.lemmas.Map.Keys.{sorted_head, sorted_tail}
+use Rattle.std.proofs.lemmas.Map.Lookups.{exact_unsigned}
+use Rattle.call_fs.specs.Disk.{Disk, Among}
 use Rattle.call_fs.specs.Apply.{IsNextName, IsLastName, IsLater}
-use Rattle.mem_fs.specs.Tables.{at_name, AreNamesInOrder, IsEndOf}
-use Rattle.call_fs.proofs.Maps.{bytes_eq-decides}
-use Rattle.mem_fs.proofs.Tables.{place_of_found}
-use Rattle.mem_fs.proofs.NameTable.{name-at}
+use Rattle.mem_fs.specs.Tables.{at_name, AreNamesInOrder, IsRest, texts}
+use Rattle.mem_fs.proofs.NameTable.{some_among, in_order-part, among-whole, among-part}
 use Rattle.mem_fs.proofs.Parts.{same_part, slice_cmp-prefix}
 
--- from place low up to high no name is one part in this directory
-abbrev pub NoParts : List (List ℕ × ℕ) → List ℕ → ℕ → ℕ → Type 0
-NoParts names dir low high = (j : ℕ) (d : List ℕ × ℕ) → low ≤ j → j < high → (part : List ℕ) → (get_or names j d).0 ≡ dir ++ 47 ∷ part → ¬ (Contains part 47) → length part ≤ 255 → ⊥
+-- the entries of a tree in order that pass a test, which each one passes whose name comes after that one
+pub rest_of : {A : Type 0} (es : List (Vec ℕ A × ℕ)) → AreNamesInOrder (texts es) → (p : Vec ℕ A × ℕ → Bool) (dir after : List ℕ)
+    → ((e : Vec ℕ A × ℕ) → slice_cmp nat_cmp (dir ++ 47 ∷ after) e.0.items ≡ Less → p e ≡ true) → IsRest (texts es) dir after (texts (filter p es))
+rest_of {A} es ordered p dir after passes = record {
+  in_order = in_order-part p es ordered;
+  there = λ name among. some_among (texts es) name (among-whole p es name among);
+  all = λ other some later. among-part p (dir ++ 47 ∷ other) (λ e is. passes e (ap (slice_cmp nat_cmp (dir ++ 47 ∷ after)) (sym is) ∙ slice_cmp-prefix dir (47 ∷ after) (47 ∷ other) ∙ later.later)) es some;
+}
 
-value_of : (o : Option ℕ) → IsSome o → (n : ℕ) × (o ≡ Some n)
-value_of None h = absurd cc
-value_of (Some n) h = (n, refl)
+-- a name that is above the one of a part, and one that isn't
+pub comes_after : (x limit : List ℕ) → is_gt (slice_cmp nat_cmp x limit) ≡ true → slice_cmp nat_cmp limit x ≡ Less
+comes_after x limit greater = nat_list_cmp_total.antisymm limit x ∙ flipped (slice_cmp nat_cmp x limit) greater
+  where
+    flipped : (r : Ordering) → is_gt r ≡ true → ordering_reverse r ≡ Less
+    flipped Less h = absurd cc
+    flipped Equal h = absurd cc
+    flipped Greater h = refl
 
-module _ (names : List (List ℕ × ℕ)) (ordered : AreNamesInOrder names) (dir after : List ℕ) (start : ℕ) (end : IsEndOf names (dir ++ 47 ∷ after) start) where
-  -- a later name of the directory stands from the start on
-  behind_start : (other : List ℕ) (j : ℕ) (d : List ℕ × ℕ) → slice_cmp nat_cmp after other ≡ Less → (get_or names j d).0 ≡ dir ++ 47 ∷ other → start ≤ j
-  behind_start other j d later is =
-      ⊎_elim
-      (λ low.
-      let greater : slice_cmp nat_cmp (get_or names j d).0 (dir ++ 47 ∷ after) ≡ Greater =
-      ap (λ (x : List ℕ). slice_cmp nat_cmp x (dir ++ 47 ∷ after)) is ∙ slice_cmp-prefix dir (47 ∷ other) (47 ∷ after) ∙ nat_list_cmp_total.antisymm other after ∙ ap ordering_reverse later in
-      let test : is_gt (slice_cmp nat_cmp (get_or names j d).0 (dir ++ 47 ∷ after)) ≡ true = ap is_gt greater in
-      let before = end.before j d low in
-      absurd cc)
-      (λ high. high)
-      (cases_lt j start)
+pub not_after : (dir after x : List ℕ) → is_gt (slice_cmp nat_cmp x (dir ++ 47 ∷ after)) ≡ false → (other : List ℕ) → x ≡ dir ++ 47 ∷ other → ¬ (IsLater after other)
+not_after dir after x lower other is later =
+    let less : slice_cmp nat_cmp (dir ++ 47 ∷ after) x ≡ Less = ap (slice_cmp nat_cmp (dir ++ 47 ∷ after)) is ∙ slice_cmp-prefix dir (47 ∷ after) (47 ∷ other) ∙ later.later in
+    let greater : slice_cmp nat_cmp x (dir ++ 47 ∷ after) ≡ Greater = nat_list_cmp_total.antisymm x (dir ++ 47 ∷ after) ∙ ap ordering_reverse less in
+    let test : is_gt (slice_cmp nat_cmp x (dir ++ 47 ∷ after)) ≡ true = ap is_gt greater in
+    absurd cc
 
-  least_of : (part : List ℕ) (i : ℕ) (other : List ℕ) (j : ℕ) → start ≤ i → i < length names → NoParts names dir start i → ((d : List ℕ × ℕ) → (get_or names i d).0 ≡ dir ++ 47 ∷ part) → ¬ (Contains part 47) → length part ≤ 255
-      → j < length names → ((d : List ℕ × ℕ) → (get_or names j d).0 ≡ dir ++ 47 ∷ other) → IsLater after other → is_gt (slice_cmp nat_cmp part other) ≡ false
-  least_of part i other j le within none is whole short bound that later =
-      let from = behind_start other j ([], 0) later.later (that ([], 0)) in
-      ⊎_elim
-      (λ low. absurd (none j ([], 0) from low other (that ([], 0)) later.whole later.short))
-      (λ high. ⊎_elim
-      (λ (here : j ≡ i).
-      let same : part ≡ other = same_part dir part other (sym (is ([], 0)) ∙ ap (λ n. (get_or names n ([], 0)).0) (sym here) ∙ that ([], 0)) in
-      ap (λ (x : List ℕ). is_gt (slice_cmp nat_cmp part x)) (sym same) ∙ ap is_gt (tied_itself nat_list_cmp_total part))
-      (λ differs.
-      ap is_gt (sym (slice_cmp-prefix dir (47 ∷ part) (47 ∷ other)) ∙ ap (λ (x : List ℕ). slice_cmp nat_cmp x (dir ++ 47 ∷ other)) (sym (is ([], 0))) ∙ ap (slice_cmp nat_cmp (get_or names i ([], 0)).0) (sym (that ([], 0)))
-      ∙ ordered i j ([], 0) (omega arith) bound))
-      (cases_eq j i))
-      (cases_lt j i)
+-- what is among names above another is above it
+above : (x : List ℕ) (ks : List (List ℕ)) → AllByRecursion (λ y. slice_cmp nat_cmp x y ≡ Less) ks → (q : List ℕ) → Among q ks → slice_cmp nat_cmp x q ≡ Less
+above x [] all q h = absurd h
+above x (k ∷ ks) all q h = ⊎_elim (λ here. ap (slice_cmp nat_cmp x) here ∙ all.0) (λ later. above x ks all.1 q later) h
 
-  pub is_next : (i : ℕ) (part : List ℕ) → start ≤ i → i < length names → NoParts names dir start i → ((d : List ℕ × ℕ) → (get_or names i d).0 ≡ dir ++ 47 ∷ part) → ¬ (Contains part 47) → length part ≤ 255
-      → (d : Disk) → d.names ≡ at_name names → IsNextName d dir after part
-  is_next i part le within none is whole short d same = record {
-    stands = (
-      rw same (some_value (at_name names (dir ++ 47 ∷ part)) _ (name-at names ordered (dir ++ 47 ∷ part) i (record { within = within; has_key = is }) ([], 0))),
-      record {
-        whole = whole;
-        short = short;
-        later = sym (slice_cmp-prefix dir (47 ∷ after) (47 ∷ part)) ∙ sym (ap (slice_cmp nat_cmp (dir ++ 47 ∷ after)) (is ([], 0))) ∙ end.after i ([], 0) le within;
-      },
-    );
-    least = λ other there.
-        let found = value_of (at_name names (dir ++ 47 ∷ other)) (rw same at there.0) in
-        let place = place_of_found bytes_eq bytes_eq-decides names (dir ++ 47 ∷ other) found.0 found.1 in
-        least_of part i other place.0 le within none is whole short place.1 (λ e. ap (λ (x : List ℕ × ℕ). x.0) (place.2 e)) there.1;
-  }
-    where
-      some_value : (o : Option ℕ) (n : ℕ) → o ≡ Some n → IsSome o
-      some_value o n e = ap is_some e
+-- what lies between two texts with a common prefix has it too
+between : (front a b x : List ℕ) → slice_cmp nat_cmp (front ++ a) x ≡ Less → slice_cmp nat_cmp x (front ++ b) ≡ Less → (c : List ℕ) × (x ≡ front ++ c) × (slice_cmp nat_cmp a c ≡ Less) × (slice_cmp nat_cmp c b ≡ Less)
+between [] a b x low high = (x, refl, low, high)
+between (y ∷ front) a b [] low high = absurd cc
+between (y ∷ front) a b (z ∷ x) low high = by (nat_cmp y z) refl low (between front a b x)
+  where
+    by : (r : Ordering) → nat_cmp y z ≡ r → ordering_then r (slice_cmp nat_cmp (front ++ a) x) ≡ Less
+        → (slice_cmp nat_cmp (front ++ a) x ≡ Less → slice_cmp nat_cmp x (front ++ b) ≡ Less → (c : List ℕ) × (x ≡ front ++ c) × (slice_cmp nat_cmp a c ≡ Less) × (slice_cmp nat_cmp c b ≡ Less))
+        → (c : List ℕ) × (z ∷ x ≡ y ∷ front ++ c) × (slice_cmp nat_cmp a c ≡ Less) × (slice_cmp nat_cmp c b ≡ Less)
+    by Less is from deeper =
+        let flipped : nat_cmp z y ≡ Greater = nat_cmp_total.antisymm z y ∙ ap ordering_reverse is in
+        let over : slice_cmp nat_cmp (z ∷ x) (y ∷ front ++ b) ≡ Greater = ap (λ r. ordering_then r (slice_cmp nat_cmp x (front ++ b))) flipped in
+        absurd cc
+    by Equal is from deeper =
+        let same : y ≡ z = exact_unsigned y z is in
+        let tied : nat_cmp z y ≡ Equal = nat_cmp_total.antisymm z y ∙ ap ordering_reverse is in
+        let found = deeper from (sym (ap (λ r. ordering_then r (slice_cmp nat_cmp x (front ++ b))) tied) ∙ high) in
+        (found.0, ap (λ (n : ℕ). n ∷ x) (sym same) ∙ ap (λ (xs : List ℕ). y ∷ xs) found.1, found.2, found.3)
+    by Greater is from deeper = absurd cc
 
-  pub is_last : NoParts names dir start (length names) → (d : Disk) → d.names ≡ at_name names → IsLastName d dir after
-  is_last none d same = λ other there.
-      let found = value_of (at_name names (dir ++ 47 ∷ other)) (rw same at there.0) in
-      let place = place_of_found bytes_eq bytes_eq-decides names (dir ++ 47 ∷ other) found.0 found.1 in
-      let that : (get_or names place.0 ([], 0)).0 ≡ dir ++ 47 ∷ other = ap (λ (x : List ℕ × ℕ). x.0) (place.2 ([], 0)) in
-      none place.0 ([], 0) (behind_start other place.0 ([], 0) there.1.later that) place.1 other that there.1.whole there.1.short
+-- so what lies between two names of a directory begins as they do
+below_dir : (dir after other x : List ℕ) → slice_cmp nat_cmp (dir ++ 47 ∷ after) x ≡ Less → slice_cmp nat_cmp x (dir ++ 47 ∷ other) ≡ Less → (rest : List ℕ) × (x ≡ dir ++ 47 ∷ rest)
+below_dir dir after other x low high =
+    let in_dir = between dir (47 ∷ after) (47 ∷ other) x low high in
+    let slash = between (47 ∷ []) after other in_dir.0 in_dir.2 in_dir.3 in
+    (slash.0, in_dir.1 ∙ ap (λ (c : List ℕ). dir ++ c) slash.1)
 
--- an entry of the rest of a list
-pub item_there : (names : List (List ℕ × ℕ)) (start i : ℕ) (item : List ℕ × ℕ) → i < length (take (length names - start) (drop start names)) → item ≡ get_or (take (length names - start) (drop start names)) i item
-    → (start + i < length names) × ((d : List ℕ × ℕ) → get_or names (start + i) d ≡ item)
-item_there names start i item within is =
-    let bound : start + i < length names = omega (arith, length-take (length names - start) (drop start names), length-drop start names) in (
-      bound,
-      λ d. get_or_default names (start + i) d item bound ∙ sym (get_or-drop start names i item) ∙ sym (get_or-take (length names - start) (drop start names) i item (omega arith)) ∙ sym is,
-    )
+module _ (names : List (List ℕ × ℕ)) (dir after : List ℕ) where
+  -- nothing is left
+  pub is_last : IsRest names dir after [] → (d : Disk) → d.names ≡ at_name names → IsLastName d dir after
+  is_last none d same = λ other there. none.all other (rw same at there.0) there.1
 
-pub no_parts_more : (names : List (List ℕ × ℕ)) (dir : List ℕ) (start i : ℕ) (item : List ℕ × ℕ) → ((d : List ℕ × ℕ) → get_or names (start + i) d ≡ item) → NoParts names dir start (start + i)
-    → ((part : List ℕ) → item.0 ≡ dir ++ 47 ∷ part → ¬ (Contains part 47) → length part ≤ 255 → ⊥)
-    → NoParts names dir start (start + (i + 1))
-no_parts_more names dir start i item is none differs j d le lt part that =
-    ⊎_elim
-    (λ low. none j d le low part that)
-    (λ high. let here : j ≡ start + i = omega arith in differs part (sym (ap (λ (e : List ℕ × ℕ). e.0) (ap (λ n. get_or names n d) here ∙ is d)) ∙ that))
-    (cases_lt j (start + i))
+  module _ (e : List ℕ × ℕ) (rest : List (List ℕ × ℕ)) (is_rest : IsRest names dir after (e ∷ rest)) where
+    first_below : (name : List ℕ) → Among name (keys_of rest) → slice_cmp nat_cmp e.0 name ≡ Less
+    first_below name among = above e.0 (keys_of rest) (sorted_head (slice_cmp nat_cmp) e.0 (keys_of rest) is_rest.in_order) name among
 
--- a loop that came to its end saw all
-pub no_parts_all : (names : List (List ℕ × ℕ)) (dir : List ℕ) (start i : ℕ) → start ≤ length names → length (take (length names - start) (drop start names)) ≤ i → NoParts names dir start (start + i) → NoParts names dir start (length names)
-no_parts_all names dir start i le all none j d low high =
-    none j d low (omega (arith, length-take (length names - start) (drop start names), length-drop start names))
+    -- the first one isn't a later name of the directory
+    pub without_first : ((other : List ℕ) → e.0 ≡ dir ++ 47 ∷ other → ¬ (IsLater after other)) → IsRest names dir after rest
+    without_first differs = record {
+      in_order = sorted_tail (slice_cmp nat_cmp) e.0 (keys_of rest) is_rest.in_order;
+      there = λ name among. is_rest.there name (inr among);
+      all = λ other some later. ⊎_elim (λ here. absurd (differs other (sym here) later)) (λ among. among) (is_rest.all other some later);
+    }
+
+    -- the first one is
+    pub is_next : slice_cmp nat_cmp (dir ++ 47 ∷ after) e.0 ≡ Less → (part : List ℕ) → e.0 ≡ dir ++ 47 ∷ part → ¬ (Contains part 47) → length part ≤ 255
+        → (d : Disk) → d.names ≡ at_name names → IsNextName d dir after part
+    is_next from part is whole short d same = record {
+      stands = (
+        rw same (subst (λ (name : List ℕ). IsSome (at_name names name)) is (is_rest.there e.0 (inl refl))),
+        record { whole = whole; short = short; later = sym (slice_cmp-prefix dir (47 ∷ after) (47 ∷ part)) ∙ ap (slice_cmp nat_cmp (dir ++ 47 ∷ after)) (sym is) ∙ from },
+      );
+      least = λ other there. ⊎_elim
+          (λ here. ap (λ (x : List ℕ). is_gt (slice_cmp nat_cmp part x)) (same_part dir other part (here ∙ is)) ∙ ap is_gt (tied_itself nat_list_cmp_total part))
+          (λ among. ap is_gt (sym (slice_cmp-prefix dir (47 ∷ part) (47 ∷ other)) ∙ ap (λ (x : List ℕ). slice_cmp nat_cmp x (dir ++ 47 ∷ other)) (sym is) ∙ first_below (dir ++ 47 ∷ other) among))
+          (is_rest.all other (rw same at there.0) there.1);
+    }
+
+    -- the first one stands after all names of the directory
+    pub is_past : slice_cmp nat_cmp (dir ++ 47 ∷ after) e.0 ≡ Less → ((rest : List ℕ) → ¬ (e.0 ≡ dir ++ 47 ∷ rest)) → (d : Disk) → d.names ≡ at_name names → IsLastName d dir after
+    is_past from outside d same = λ other there. ⊎_elim
+        (λ here. outside other (sym here))
+        (λ among. let inside = below_dir dir after other e.0 from (first_below (dir ++ 47 ∷ other) among) in outside inside.0 inside.1)
+        (is_rest.all other (rw same at there.0) there.1)

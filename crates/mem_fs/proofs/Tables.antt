@@ -23,11 +23,11 @@ NoneBefore {K} {V} es k i = (j : ℕ) (d : K × V) → j < i → j < length es �
 abbrev pub NoneBehind : {K V : Type 0} → List (K × V) → K → ℕ → Type 0
 NoneBehind {K} {V} es k i = (j : ℕ) (d : K × V) → i < j → j < length es → (get_or es j d).0 ≢ k
 
-hides : {X : Type 0} (b : Bool) (v w x : X) → cond b v x ≡ cond b v (cond b w x)
+pub hides : {X : Type 0} (b : Bool) (v w x : X) → cond b v x ≡ cond b v (cond b w x)
 hides true v w x = refl
 hides false v w x = refl
 
-swaps : {X : Type 0} (a b : Bool) (v w x : X) → (a ≡ true → b ≡ true → ⊥) → cond a v (cond b w x) ≡ cond b w (cond a v x)
+pub swaps : {X : Type 0} (a b : Bool) (v w x : X) → (a ≡ true → b ≡ true → ⊥) → cond a v (cond b w x) ≡ cond b w (cond a v x)
 swaps true true v w x apart = absurd (apart refl refl)
 swaps true false v w x apart = refl
 swaps false b v w x apart = refl

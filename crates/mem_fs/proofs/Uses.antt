@@ -79,10 +79,7 @@ module _ (h : Held) (sound : IsSound h) where
   linked_name n some =
       let found = counted (λ (k : ℕ). k) h.names n (omega (arith, sound.links n, some)) in
       let name = (get_or h.names found.0 ([], 0)).0 in
-      (name, name-at h.names sound.names name found.0 (record { within = found.1; has_key = λ d. key_same found.0 found.1 d }) ([], 0) ∙ ap (λ (m : ℕ). Some m) (found.2 ([], 0)))
-    where
-      key_same : (i : ℕ) → i < length h.names → (d : List ℕ × ℕ) → (get_or h.names i d).0 ≡ (get_or h.names i ([], 0)).0
-      key_same i within d = ap (λ (e : List ℕ × ℕ). e.0) (get_or_default h.names i d ([], 0) within)
+      (name, name-at h.names sound.names found.0 found.1 ([], 0) ∙ ap (λ (m : ℕ). Some m) (found.2 ([], 0)))
 
   -- a number that nothing uses is idle, and the other way round
   pub unused_idle : (n : ℕ) → IsUnused (disk_of h) n → IsIdle h.files n

@@ -87,6 +87,10 @@ IsPickedNumber d (Some pick) picks n left =
 abbrev pub IsIdle : List (ℕ × Inode) → ℕ → Type 0
 IsIdle files n = (links_of files n ≡ 0) × (holds_of files n ≡ 0)
 
+-- each number from 1 below this one is used
+abbrev pub AreUsedBelow : List (ℕ × Inode) → ℕ → Type 0
+AreUsedBelow files low = (n : ℕ) → 1 ≤ n → n < low → ¬ (IsIdle files n)
+
 -- how the entry of a file changes
 abbrev pub on_file : (File → File) → Inode → Inode
 on_file f i = record { links = i.links; opens = i.opens; file = f i.file }

@@ -1,10 +1,14 @@
 -- Lists of pairs of a key and a value, in order of their keys, read as maps.
-use Rattle.std.specs.Prelude.{◌≡◌, ℕ, ◌<◌, ◌≤◌, false, List, length, Option, Result, MatchResult, bytes_eq, nat_eq, slice_index_or}
+use Rattle.std.specs.Prelude.{◌≡◌, ℕ, ◌<◌, ◌≤◌, List, ◌∷◌, ◌++◌, length, map, Option, Result, MatchResult, IsSome, bytes_eq, nat_eq, slice_index_or}
 use Rattle.std.specs.declared.cmp.Ordering.{Ordering}
-use Rattle.std.specs.Ordering.{nat_cmp, is_gt}
+use Rattle.std.specs.declared.vec.Vec.{Vec}
+use Rattle.std.specs.List.Sorted.{IsStrictlySortedBy}
+use Rattle.std.specs.Ordering.{nat_cmp}
 use Rattle.std.specs.Cmp.Lexicographic.{slice_cmp}
 use Rattle.std.specs.declared.cmp.Ordering.TheVariants.{Less}
-use Rattle.std.specs.Map.{lookup}
+use Rattle.std.specs.Map.{lookup, keys_of}
+use Rattle.call_fs.specs.Disk.{Among}
+use Rattle.call_fs.specs.Apply.{IsLater}
 
 -- the value of a name, and of a number
 abbrev pub at_name : {V : Type 0} → List (List ℕ × V) → List ℕ → Option V
@@ -17,9 +21,9 @@ at_number es n = lookup (nat_eq n) es
 abbrev pub AreKeysInOrder : {K V : Type 0} → (K → K → Ordering) → List (K × V) → Type 0
 AreKeysInOrder {K} {V} R es = (i j : ℕ) (d : K × V) → i < j → j < length es → R (slice_index_or es i d).0 (slice_index_or es j d).0 ≡ Less
 
--- the order of names is byte by byte
+-- each name is below those after it, byte by byte
 abbrev pub AreNamesInOrder : {V : Type 0} → List (List ℕ × V) → Type 0
-AreNamesInOrder es = AreKeysInOrder (slice_cmp nat_cmp) es
+AreNamesInOrder es = IsStrictlySortedBy (slice_cmp nat_cmp) (keys_of es)
 
 -- the numbers rise, and are from 1
 pub record AreNumbersInOrder {V : Type 0} (es : List (ℕ × V)) : Type 0 where
@@ -41,8 +45,12 @@ pub record IsGapFor {K V : Type 0} (R : K → K → Ordering) (es : List (K × V
 abbrev pub IsPlace : {K V : Type 0} → (K → K → Ordering) → List (K × V) → K → Result ℕ ℕ → Type 0
 IsPlace R es k place = MatchResult place (IsAt es k) (IsGapFor R es k)
 
--- the names that come up to this one stand before place i
-pub record IsEndOf {V : Type 0} (es : List (List ℕ × V)) (limit : List ℕ) (i : ℕ) : Type 0 where
-  pub within : i ≤ length es
-  pub before : (j : ℕ) (d : List ℕ × V) → j < i → is_gt (slice_cmp nat_cmp (slice_index_or es j d).0 limit) ≡ false
-  pub after : (j : ℕ) (d : List ℕ × V) → i ≤ j → j < length es → slice_cmp nat_cmp limit (slice_index_or es j d).0 ≡ Less
+-- entries of a tree, by the bytes of their names
+abbrev pub texts : {A : Type 0} → List (Vec ℕ A × ℕ) → List (List ℕ × ℕ)
+texts entries = map (λ e. (e.0.items, e.1)) entries
+
+-- some of the names in order, among them each one of the directory that comes after that one
+pub record IsRest (names : List (List ℕ × ℕ)) (dir after : List ℕ) (rest : List (List ℕ × ℕ)) : Type 0 where
+  pub in_order : AreNamesInOrder rest
+  pub there : (name : List ℕ) → Among name (keys_of rest) → IsSome (at_name names name)
+  pub all : (other : List ℕ) → IsSome (at_name names (dir ++ 47 ∷ other)) → IsLater after other → Among (dir ++ 47 ∷ other) (keys_of rest)

@@ -19,8 +19,8 @@ use mail_bytes::{Memory, NameBuf};
 use std::alloc::Global;
 use std::marker::Model;
 
-/// A disk in memory. It keeps plain lists, tells what it holds, and fails at the calls that were planned and at no
-/// others. A file that nothing uses any more is kept until its number is taken again.
+/// A disk in memory. It keeps a tree of names and plain lists, tells what it holds, and fails at the calls that were
+/// planned and at no others. A file that nothing uses any more is kept until its number is taken again.
 #[derive(Drop)]
 pub struct MemFs {
     store: Store,

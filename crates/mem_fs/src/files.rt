@@ -3,7 +3,7 @@ ghost use Rattle.std.specs.Prelude.{◌≡◌, ◌≢◌, ◌≤◌, ◌<◌, �
 ghost use Rattle.mail_bytes.specs.Moments.{IsMoment};
 ghost use Rattle.call_fs.specs.Apply.{grown, overwritten, cut, synced};
 ghost use Rattle.mem_fs.specs.Tables.{at_number, AreNumbersInOrder};
-ghost use Rattle.mem_fs.specs.MemDisk.{file_at, links_of, holds_of, IsIdle, Changes, on_file, linked_inode, unlinked_inode, opened_inode, closed_inode};
+ghost use Rattle.mem_fs.specs.MemDisk.{file_at, links_of, holds_of, IsIdle, AreUsedBelow, Changes, on_file, linked_inode, unlinked_inode, opened_inode, closed_inode};
 
 use crate::file::{FileData, Inode};
 use crate::numbers;
@@ -151,20 +151,39 @@ pub fn is_idle(files: &[(u64, Inode)], number: u64) -> bool
     }
 }
 
-/// The least number from 1 that nothing uses; None only if every u64 is used.
-pub fn least_idle(files: &[(u64, Inode)]) -> Option<u64>
-    requires { AreNumbersInOrder files.now }
+/// The least number from 1 that nothing uses; None only if every u64 is used. The conditions: `low` is from 1, and each
+/// number from 1 below it is used.
+pub fn least_idle(files: &[(u64, Inode)], low: u64) -> Option<u64>
+    requires in_order { AreNumbersInOrder files.now }
+    requires positive { 1 ≤ low }
+    requires used { AreUsedBelow files.now low }
     ensures some { IfSome result (λ n. (1 ≤ n) × IsIdle files.now n
         × ((lower : ℕ) → 1 ≤ lower → lower < n → ¬ (IsIdle files.now lower))) }
     ensures none { IfNone result ((n : ℕ) → 1 ≤ n → n < 2 ^ 64 → ¬ (IsIdle files.now n)) }
 {
-    for (at, entry) in files.iter().enumerate() {
-        let number = at as u64 + 1;
-        if entry.0 != number || entry.1.is_idle() {
-            return Some(number);
-        }
+    let mut number = low;
+    while !is_idle(files, number) {
+        number = number.checked_add(1)?;
     }
-    (files.len() as u64).checked_add(1)
+    Some(number)
+}
+
+/// A number from 1 below which each is used, after the uses of `number` changed. The conditions: each number from 1 below
+/// `low` is used, except maybe `number`, and both are from 1.
+pub fn low_after(files: &[(u64, Inode)], low: u64, number: u64) -> u64
+    requires in_order { AreNumbersInOrder files.now }
+    requires positive { (1 ≤ low) × (1 ≤ number) }
+    requires used { (n : ℕ) → 1 ≤ n → n < low → n ≢ number → ¬ (IsIdle files.now n) }
+    ensures positive { 1 ≤ result }
+    ensures used { AreUsedBelow files.now result }
+{
+    if is_idle(files, number) {
+        low.min(number)
+    } else if number == low {
+        low.saturating_add(1)
+    } else {
+        low
+    }
 }
 
 /// The greatest u64 that nothing uses; None only if every u64 from 1 is used.

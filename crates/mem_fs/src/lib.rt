@@ -1,4 +1,4 @@
-//! A disk in memory, over plain lists of names and files, which tells what it holds and fails by plan.
+//! A disk in memory, over a tree of names and plain lists of files, which tells what it holds and fails by plan.
 #![tactic(auto)]
 
 mod disk;

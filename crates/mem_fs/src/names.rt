@@ -1,79 +1,97 @@
 // The names of a disk in memory, in byte order, with their numbers.
-ghost use Rattle.std.specs.Prelude.{◌≡◌, ◌<◌, ◌+◌, ◌++◌, ◌∷◌, ℕ, List, Bool, Some, None, IsSome, IfSome, IfNone, vec_len, vec_capacity, count_by, if◌then◌else◌};
-ghost use Rattle.std.specs.Ordering.{nat_cmp};
-ghost use Rattle.std.specs.Cmp.Lexicographic.{slice_cmp};
+ghost use Rattle.std.specs.Prelude.{◌≡◌, ◌<◌, ◌+◌, ◌^◌, ◌++◌, ◌∷◌, ◌==◌, ℕ, List, length, Some, None, IsSome, IfSome, IfNone, IfOk, OnOk, OnErr, if◌then◌else◌};
 ghost use Rattle.call_fs.specs.Maps.{put_at};
 ghost use Rattle.call_fs.specs.Disk.{Disk};
 ghost use Rattle.call_fs.specs.Apply.{IsNextName, IsLastName};
-ghost use Rattle.mem_fs.specs.Tables.{at_name, AreNamesInOrder, IsPlace, IsEndOf};
+ghost use Rattle.mem_fs.specs.Tables.{at_name, texts, AreNamesInOrder, IsRest};
+ghost use Rattle.mem_fs.specs.MemDisk.{names_of};
 
 use crate::part;
-use mail_bytes::ByteText;
+use mail_bytes::Memory;
+use std::alloc::Global;
+use std::collections::BTreeMap;
+use std::collections::btree_map::Range;
+use std::ops::Bound;
 
-/// Where the name is, or where it would go.
-fn place_of(names: &[(ByteText, u64)], name: &[u8]) -> Result<usize, usize>
-    requires { AreNamesInOrder names.now }
-    ensures { IsPlace (slice_cmp nat_cmp) names.now name.now result }
-{
-    names.binary_search_by(|entry| entry.0.as_slice().cmp(name))
-}
+/// The names with their numbers.
+pub type Names = BTreeMap<Vec<u8>, u64>;
 
 /// The number of a name.
-pub fn number_of(names: &[(ByteText, u64)], name: &[u8]) -> Option<u64>
-    requires { AreNamesInOrder names.now }
-    ensures { result ≡ at_name names.now name.now }
+pub fn number_of(names: &Names, name: &[u8]) -> Option<u64>
+    ensures { result ≡ at_name (texts names.now.entries) name.now }
 {
-    match place_of(names, name) {
-        Ok(at) => Some(names[at].1),
-        Err(_) => None,
-    }
+    names.get(name).copied()
 }
 
-/// Adds a name. The conditions: it isn't there, and there is room for one more.
-pub fn insert(names: &mut Vec<(ByteText, u64)>, name: ByteText, number: u64)
-    requires in_order { AreNamesInOrder names.old.items }
-    requires free { at_name names.old.items name ≡ None }
-    requires room { vec_len names.old < vec_capacity names.old }
-    ensures in_order { AreNamesInOrder names.new.items }
-    ensures value { at_name names.new.items ≡ put_at (at_name names.old.items) name (Some number) }
-    ensures count { (test : List ℕ × ℕ → Bool)
-        → count_by test names.new.items ≡ count_by test names.old.items + (if test (name, number) then 1 else 0) }
+/// Adds a name. After an `Err` all is as before. The condition: it isn't there.
+pub fn insert(names: &mut Names, name: Vec<u8>, number: u64) -> Result<(), Memory>
+    requires { at_name (texts names.old.entries) name.items ≡ None }
+    ensures in_order { AreNamesInOrder (texts names.new.entries) }
+    ensures value { OnOk result (at_name (texts names.new.entries) ≡ put_at (at_name (texts names.old.entries)) name.items (Some number)) }
+    ensures count { OnOk result ((n : ℕ)
+        → names_of (texts names.new.entries) n ≡ names_of (texts names.old.entries) n + (if number == n then 1 else 0)) }
+    ensures small { OnOk result (length (texts names.new.entries) < 2 ^ 63) }
+    ensures err { OnErr result (texts names.new.entries ≡ texts names.old.entries) }
 {
-    let at = place_of(names, name.as_slice()).unwrap_err();
-    names.insert(at, (name, number)).unwrap();
+    names.insert(name, number)?;
+    prove!(names.len() < usize::MAX);
+    Ok(())
 }
 
 /// Takes a name away. The condition: it is there.
-pub fn remove(names: &mut Vec<(ByteText, u64)>, name: &[u8])
-    requires in_order { AreNamesInOrder names.old.items }
-    requires there { IsSome (at_name names.old.items name.now) }
-    ensures in_order { AreNamesInOrder names.new.items }
-    ensures value { at_name names.new.items ≡ put_at (at_name names.old.items) name.now None }
-    ensures count { (test : List ℕ × ℕ → Bool) (number : ℕ) → at_name names.old.items name.now ≡ Some number
-        → count_by test names.old.items ≡ count_by test names.new.items + (if test (name.now, number) then 1 else 0) }
+pub fn remove(names: &mut Names, name: &[u8])
+    requires in_order { AreNamesInOrder (texts names.old.entries) }
+    requires there { IsSome (at_name (texts names.old.entries) name.now) }
+    ensures in_order { AreNamesInOrder (texts names.new.entries) }
+    ensures value { at_name (texts names.new.entries) ≡ put_at (at_name (texts names.old.entries)) name.now None }
+    ensures count { (number : ℕ) → at_name (texts names.old.entries) name.now ≡ Some number → (n : ℕ)
+        → names_of (texts names.old.entries) n ≡ names_of (texts names.new.entries) n + (if number == n then 1 else 0) }
 {
-    let at = place_of(names, name).unwrap();
-    names.remove(at);
+    names.remove(name);
 }
 
-/// How many names stand up to the name of a part in a directory.
-fn count_up_to(names: &[(ByteText, u64)], dir: &[u8], part: &[u8]) -> usize
-    requires { AreNamesInOrder names.now }
-    ensures { IsEndOf names.now (dir.now ++ 47 ∷ part.now) result }
+/// The name of a part in a directory.
+fn joined(alloc: Global, dir: &[u8], part: &[u8]) -> Result<Vec<u8>, Memory>
+    ensures { IfOk result (λ name. name.items ≡ dir.now ++ 47 ∷ part.now) }
 {
-    names.partition_point(|entry| !part::compare(entry.0.as_slice(), dir, part).is_gt())
+    let mut name = Vec::with_capacity(alloc, dir.len().saturating_add(256))?;
+    name.extend_from_slice(dir)?;
+    name.push(b'/')?;
+    name.extend_from_slice(part)?;
+    Ok(name)
+}
+
+/// The names from that one in the directory on, without it. If memory runs out, all names.
+fn rest_after<'a>(
+    alloc: Global,
+    names: &'a Names,
+    dir: &[u8],
+    after: &[u8],
+) -> Range<'a, Vec<u8>, u64>
+    ensures { IsRest (texts names.now.entries) dir.now after.now (texts result) }
+{
+    match joined(alloc, dir, after) {
+        Ok(name) => names.range((Bound::Excluded(&name), Bound::Unbounded)),
+        Err(_) => names.range(..),
+    }
 }
 
 /// The least name in a directory after that one.
-pub fn next<'a>(names: &'a [(ByteText, u64)], dir: &[u8], after: &[u8]) -> Option<&'a [u8]>
-    requires { AreNamesInOrder names.now }
-    ensures some { IfSome result (λ name. (d : Disk) → d.names ≡ at_name names.now → IsNextName d dir.now after.now name.now) }
-    ensures none { IfNone result ((d : Disk) → d.names ≡ at_name names.now → IsLastName d dir.now after.now) }
+pub fn next<'a>(alloc: Global, names: &'a Names, dir: &[u8], after: &[u8]) -> Option<&'a [u8]>
+    ensures some { IfSome result (λ name. (d : Disk) → d.names ≡ at_name (texts names.now.entries)
+        → IsNextName d dir.now after.now name.now) }
+    ensures none { IfNone result ((d : Disk) → d.names ≡ at_name (texts names.now.entries)
+        → IsLastName d dir.now after.now) }
 {
-    let start = count_up_to(names, dir, after);
-    for entry in &names[start..] {
-        if let Some(name) = part::part_of(entry.0.as_slice(), dir) {
-            return Some(name);
+    for (name, _) in rest_after(alloc, names, dir, after) {
+        let name = name.as_slice();
+        if part::compare(name, dir, after).is_gt() {
+            if let Some(part) = part::part_of(name, dir) {
+                return Some(part);
+            }
+            if !part::is_below(name, dir) {
+                return None;
+            }
         }
     }
     None

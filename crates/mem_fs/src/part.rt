@@ -39,6 +39,19 @@ pub fn part_of<'a>(name: &'a [u8], dir: &[u8]) -> Option<&'a [u8]>
     }
 }
 
+/// Whether a name begins with the directory and a `/`.
+pub fn is_below(name: &[u8], dir: &[u8]) -> bool
+    ensures { IsTrue result ↔ ((rest : List ℕ) × (name.now ≡ dir.now ++ 47 ∷ rest)) }
+{
+    let Some(rest) = name.strip_prefix(dir) else {
+        return false;
+    };
+    match rest.split_first() {
+        Some((first, _)) => *first == b'/',
+        None => false,
+    }
+}
+
 /// How a name compares with the name of a part in a directory.
 pub fn compare(name: &[u8], dir: &[u8], part: &[u8]) -> Ordering
     ensures { result ≡ slice_cmp nat_cmp name.now (dir.now ++ 47 ∷ part.now) }

@@ -13,31 +13,38 @@ ghost use Rattle.call_fs.specs.Free.{IsFree, IsLeastFree, IsNextDescriptor};
 ghost use Rattle.mem_fs.specs.MemDisk.{disk_of, held_nothing, IsOpenOn, bytes_at, IsGreatestFree, NoneFree, AllOpen, with_dir, Places, PlacesNew};
 
 use crate::file::{FileData, Inode};
+use crate::names::Names;
 use crate::open_file::OpenFile;
 use crate::{files, halt, names, numbers, part};
 use call_fs::{Fd, How, Stat, Survival, is_name};
 use mail_bytes::{ByteText, Memory};
 use std::alloc::{AllocError, Global};
+use std::collections::BTreeMap;
 use std::marker::Model;
 
 /// Directories, names, files and open descriptors. A file that nothing uses any more is kept until its number is taken
-/// again.
+/// again. Each number from 1 below `low` is used, so that the search for the least free one starts there.
 #[derive(Drop)]
 pub struct Store {
     dirs: Vec<ByteText>,
-    names: Vec<(ByteText, u64)>,
+    names: Names,
     files: Vec<(u64, Inode)>,
     opens: Vec<(u64, OpenFile)>,
+    low: u64,
+    alloc: Global,
 }
 
 impl Model for Store {
-    ghost use Rattle.mem_fs.specs.MemDisk.{Held, IsSound};
+    ghost use Rattle.std.specs.Prelude.{◌≤◌};
+    ghost use Rattle.mem_fs.specs.MemDisk.{Held, IsSound, AreUsedBelow};
+    ghost use Rattle.mem_fs.specs.Tables.{texts};
 
     ghost Value = { Held };
 
-    ghost view = { λ s. record { dirs = s.dirs.items; names = s.names.items; files = s.files.items; opens = s.opens.items } };
+    ghost view = { λ s. record { dirs = s.dirs.items; names = texts s.names.entries; files = s.files.items; opens = s.opens.items } };
 
-    ghost invariant = { λ s. IsSound (record { dirs = s.dirs.items; names = s.names.items; files = s.files.items; opens = s.opens.items }) };
+    ghost invariant = { λ s. IsSound (record { dirs = s.dirs.items; names = texts s.names.entries; files = s.files.items; opens = s.opens.items })
+        × (1 ≤ s.low) × AreUsedBelow s.files.items s.low };
 }
 
 impl Store {
@@ -47,9 +54,11 @@ impl Store {
     {
         Store {
             dirs: Vec::new(alloc),
-            names: Vec::new(alloc),
+            names: BTreeMap::new(alloc),
             files: Vec::new(alloc),
             opens: Vec::new(alloc),
+            low: 1,
+            alloc,
         }
     }
 
@@ -86,7 +95,7 @@ impl Store {
         ensures some { IfSome result (IsLeastFree (disk_of self.now)) }
         ensures none { IfNone result (NoneFree (disk_of self.now)) }
     {
-        files::least_idle(&self.files)
+        files::least_idle(&self.files, self.low)
     }
 
     /// The greatest number that a new file may take; None only if each u64 from 1 is used.
@@ -121,18 +130,18 @@ impl Store {
         ensures ok { OnOk result (disk_of self.new ≡ effect (disk_of self.old) now (call.CreateExcl name.now) (answer.Created fd number) 0) }
         ensures err { OnErr result (self.new ≡ self.old) }
     {
-        let name = ByteText::from_slice(alloc, name)?;
-        self.names.reserve(1)?;
+        let name = Vec::from_slice(alloc, name)?;
         self.files.reserve(1)?;
         self.opens.reserve(1)?;
+        names::insert(&mut self.names, name, number)?;
         let inode = Inode {
             links: 1,
             opens: 1,
             file: FileData::new(alloc, now),
         };
-        names::insert(&mut self.names, name, number);
         numbers::insert(&mut self.files, number, inode);
         numbers::insert(&mut self.opens, fd.0, OpenFile::created(number));
+        self.low = files::low_after(&self.files, self.low, number);
         Ok(())
     }
 
@@ -211,6 +220,7 @@ impl Store {
         let number = self.opened(fd);
         numbers::remove(&mut self.opens, fd.0);
         files::drop_open(&mut self.files, number);
+        self.low = files::low_after(&self.files, self.low, number);
     }
 
     /// Gives the file of `old` the name `new` too. After an `Err` it is as before.
@@ -221,11 +231,9 @@ impl Store {
         ensures err { OnErr result (self.new ≡ self.old) }
     {
         let number = names::number_of(&self.names, old).unwrap();
-        let name = ByteText::from_slice(alloc, new)?;
-        self.names.reserve(1)?;
-        prove!(self.names.len() < self.names.capacity());
+        let name = Vec::from_slice(alloc, new)?;
+        names::insert(&mut self.names, name, number)?;
         files::add_link(&mut self.files, number);
-        names::insert(&mut self.names, name, number);
         Ok(())
     }
 
@@ -237,6 +245,7 @@ impl Store {
         let number = names::number_of(&self.names, name).unwrap();
         names::remove(&mut self.names, name);
         files::drop_link(&mut self.files, number);
+        self.low = files::low_after(&self.files, self.low, number);
     }
 
     /// The number of an open descriptor.
@@ -284,7 +293,7 @@ impl Store {
         ensures some { IfSome result (λ name. IsNextName (disk_of self.now) dir.now after.now name.now) }
         ensures none { IfNone result (IsLastName (disk_of self.now) dir.now after.now) }
     {
-        names::next(&self.names, dir, after)
+        names::next(self.alloc, &self.names, dir, after)
     }
 
     /// The machine stops and starts again. After an `Err` it is as before.
@@ -295,6 +304,7 @@ impl Store {
         let files = halt::settled_entries(alloc, how, &self.files)?;
         self.files = files;
         self.opens.clear();
+        self.low = 1;
         Ok(())
     }
 
@@ -332,15 +342,14 @@ impl Store {
         let Some(number) = self.greatest_free() else {
             return Err(AllocError);
         };
-        let name = ByteText::from_slice(alloc, name)?;
-        self.names.reserve(1)?;
+        let name = Vec::from_slice(alloc, name)?;
         self.files.reserve(1)?;
+        names::insert(&mut self.names, name, number)?;
         let inode = Inode {
             links: 1,
             opens: 0,
             file,
         };
-        names::insert(&mut self.names, name, number);
         numbers::insert(&mut self.files, number, inode);
         Ok(())
     }

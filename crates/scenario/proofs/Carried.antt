@@ -1,9 +1,8 @@
 -- What a script's history keeps beside being legal: finitely many names, and what each living actor's past holds open.
-use Rattle.std.proofs.Common.{◌≡◌, ◌≢◌, ◌⊎◌, inl, inr, ⊎_elim, ℕ, zero, suc, ◌<◌, ◌≤◌, List, [], ◌∷◌, ◌++◌, length, take, drop, All, Contains, Bool, true, false, ◌&&◌, if◌then◌else◌, bytes_eq, Option, Some, None, refl, sym, ap, ◌∙◌, subst, arith}
+use Rattle.std.proofs.Common.{◌≡◌, ◌≢◌, ◌⊎◌, inl, inr, ⊎_elim, ℕ, zero, suc, ◌<◌, ◌≤◌, List, [], ◌∷◌, length, take, drop, All, Contains, Bool, true, false, ◌&&◌, if◌then◌else◌, bytes_eq, Option, Some, None, refl, sym, ap, ◌∙◌, subst, arith}
 use Rattle.std.specs.Prelude.{◌==◌, codes}
 use Rattle.std.proofs.lemmas.Bool.{false≢true, eqb-true}
 use Rattle.std.proofs.lemmas.List.{take-append-drop}
-use Rattle.std.proofs.lemmas.Bool.Decides.{eqb_tells}
 use Rattle.std.proofs.lemmas.List.Elements.{All-nil, All-cons, All-contains}
 use Rattle.call_fs.specs.declared.calls.CallData.{CallData}
 use Rattle.call_fs.specs.declared.calls.Told.{Told}
@@ -29,8 +28,8 @@ use Rattle.world_events.specs.declared.event.Program.TheVariants.{Injector, Clea
 use Rattle.world_pipes.specs.Pipes.{offered, end_of}
 use Rattle.mail_world.specs.Generations.{lives_in, is_unreported}
 use Rattle.mail_world.specs.World.{most_of}
-use Rattle.mail_world.specs.History.{Event, call_act, Actor, Life, State, Legal, MayRead, MayFind, MayRun, MayBegin, IsLiving, ComesOf, TenantEnds, IsFed, InputIsFound, next_of, latest, newborn, start_of, stopped, after, acted, begins, disk_after, holder_after, happens, called, finished, unless_by, shut_by}
-use Rattle.mail_world.specs.History.Event.{Start, Act, Generation, Report, End, Stop, Moment, Halt}
+use Rattle.mail_world.specs.History.{Event, call_act, Actor, Life, State, Legal, MayRead, MayFind, MayRun, IsLiving, ComesOf, TenantEnds, IsFed, InputIsFound, next_of, latest, newborn, start_of, stopped, after, acted, begins, disk_after, holder_after, happens, called, finished, unless_by, shut_by}
+use Rattle.mail_world.specs.History.Event.{Start, Act, Report, End, Stop, Moment, Halt}
 use Rattle.mail_world.specs.History.Life.{Alive, Over, Stopped}
 use Rattle.mail_world.specs.Inside.{Owns}
 use Rattle.mail_world.specs.Acting.{MayMake}
@@ -42,7 +41,7 @@ use Rattle.mail_world.specs.Pipework.Tenant.{Runs, Remote}
 use Rattle.mail_world.proofs.Programs.{mail_runs, program_uses}
 use Rattle.mail_world.proofs.Worlds.{may_make}
 use Rattle.mail_world.proofs.Hands.{own_after}
-use Rattle.scenario.specs.Steps.{Outcome, DoesNext, DoesAlive, DoesStep, StepsTo, next_pid, status_told, status_of, status_in, comes, own_by, does}
+use Rattle.scenario.specs.Steps.{DoesNext, DoesAlive, DoesStep, StepsTo, next_pid, status_told, status_in, comes, own_by, does}
 use Rattle.scenario.specs.Steps.Outcome.{Happens}
 use Rattle.scenario.specs.Turns.{first_alive, generation_at, awaits_report}
 use Rattle.crash_fs.specs.Answers.{Answers, IsFinite}

@@ -1,8 +1,8 @@
 -- Each run, turn and `settle` comes to its end, and keeps what a script's history keeps.
-use Rattle.std.proofs.Common.{◌≡◌, ◌≢◌, ◌⊎◌, inl, inr, ⊎_elim, ℕ, zero, suc, ◌+◌, ◌-◌, ◌<◌, ◌≤◌, List, [], ◌∷◌, ◌++◌, length, get_or, Bool, true, false, not, ◌&&◌, Option, Some, None, refl, sym, ap, ◌∙◌, subst, arith, append_assoc, length-append}
+use Rattle.std.proofs.Common.{◌≡◌, ◌≢◌, ◌⊎◌, inl, inr, ⊎_elim, ℕ, ◌+◌, ◌-◌, ◌<◌, ◌≤◌, List, [], ◌∷◌, ◌++◌, length, get_or, Bool, true, false, not, ◌&&◌, Option, Some, None, refl, sym, ap, ◌∙◌, subst, arith, append_assoc}
 use Rattle.std.specs.Prelude.{nat_lt, if◌then◌else◌, bytes_eq, codes}
 use Rattle.std.specs.List.{list_any, range_with_len}
-use Rattle.std.proofs.lemmas.Bool.{cases_lt, ltb-false, false≢true}
+use Rattle.std.proofs.lemmas.Bool.{cases_lt, ltb-false}
 use Rattle.std.proofs.lemmas.List.{append-nil}
 use Rattle.std.proofs.lemmas.List.Quantifiers.{position-Some}
 use Rattle.std.proofs.lemmas.List.FromFn.{get_or-range_with_len, length-range_with_len}
@@ -15,14 +15,14 @@ use Rattle.mail_world.specs.Readiness.{found_in}
 use Rattle.script_words.specs.declared.letter.Letter.{Letter}
 use Rattle.script_words.specs.Words.{letter_byte}
 use Rattle.scenario.specs.Chains.{EachFollows}
-use Rattle.scenario.specs.Steps.{Refusal, Outcome, DoesAlive, DoesStep, StepsTo, next_pid, RunsOn, AreSteps, plan_through, has_idled, most_steps, Stops, IsRunOf, stop_text, refusal_line}
+use Rattle.scenario.specs.Steps.{Outcome, DoesAlive, DoesStep, StepsTo, next_pid, RunsOn, AreSteps, plan_through, has_idled, most_steps, Stops, IsRunOf, stop_text, refusal_line}
 use Rattle.scenario.specs.Steps.Stops.{Idles, Refused, Full}
 use Rattle.scenario.specs.Steps.Outcome.{Happens, Is}
 use Rattle.scenario.specs.Steps.Refusal.{Unknown, Gone, Steps, Rounds}
 use Rattle.scenario.specs.Turns.{awaits_report, started_in, starts_of, is_next, next_in, next_living, Part, events_of, text_of, place_after, TurnsOn, AreParts, IsTurnOf, Round, reports_of, slot_after, ReportsOn, AreReported, AreReportsAfter, round_events, IsRound, events_in, is_last, text_in, most_rounds, SettlesOn, Settles, IsSettled}
 use Rattle.scenario.specs.Turns.Settles.{Rests, Full as All}
-use Rattle.scenario.proofs.Chains.{Grown, OneMore, grow}
-use Rattle.scenario.proofs.Carried.{Carries, Goes, HasStepped, HasDone, due_may, has_stepped, goes_on, goes_report, both_true}
+use Rattle.scenario.proofs.Chains.{OneMore, grow}
+use Rattle.scenario.proofs.Carried.{Carries, Goes, HasDone, due_may, has_stepped, goes_on, goes_report, both_true}
 use Rattle.scenario.proofs.Carried.HasDone.{Calls, Finishes, Passes}
 use Rattle.scenario.proofs.Outcomes.{due_comes, is_gone}
 use Rattle.scenario.proofs.TurnStarts.{place_told}

@@ -41,6 +41,7 @@ use Rattle.mail_world.specs.Pipework.{Pipe, Tenant, Yields, with_generation}
 use Rattle.mail_world.specs.Pipework.Tenant.{Runs, Remote}
 use Rattle.mail_world.specs.World.{Tells}
 use Rattle.scenario.specs.declared.fates.Fates.{Fates}
+use Rattle.scenario.specs.declared.fates.Following.{Following}
 use Rattle.scenario.specs.declared.fates.Tenure.{Tenure}
 use Rattle.scenario.specs.Fates.{AreFates, AreMailStarts, AreNamed, Follows, HasDue, IsHeard, IsMailStart, IsTenure, IsTenureIf, heard_by}
 
@@ -273,13 +274,6 @@ orderly d (k ∷ ks) (e ∷ h) legal told mails =
 
 -- What follows a state
 
-pub same_fates : (old new : Fates) (b : Books) → new.living ≡ old.living → new.over ≡ old.over → AreFates old b → AreFates new b
-same_fates old new b living over h = record {
-  living = λ n is. rw living (h.living n is);
-  over = rw over h.over;
-  placed = h.placed;
-}
-
 heard_same : (m : Option Machine) (x y : Actor) → y.program ≡ x.program → y.past ≡ x.past → IsHeard m (Some x) → IsHeard m (Some y)
 heard_same None x y program past h = absurd (cc)
 heard_same (Some m) x y program past h = ((h.0.0, program ∙ h.0.1), subst (Stands m None) (sym past) h.1, subst (IsRunBy (Next None)) (sym past) h.2)
@@ -292,7 +286,7 @@ heard_put m actors a x y is program past h = ⊎_elim
     (λ e. subst (IsHeard m) (sym e.1) h)
     (put_at_cases actors a (Some y) (codes "sender"))
 
-follows_finished : (f : Fates) (s : State) (a : List ℕ) (life : Life) (o : Option Actor) → s.actors a ≡ o → Follows f s → Follows f (finished s a life o)
+follows_finished : (f : Following) (s : State) (a : List ℕ) (life : Life) (o : Option Actor) → s.actors a ≡ o → Follows f s → Follows f (finished s a life o)
 follows_finished f s a life None is h = h
 follows_finished f s a life (Some x) is h = record {
   fates = h.fates;
@@ -305,7 +299,7 @@ heard_stopped None (Some x) h = absurd (cc)
 heard_stopped (Some m) None h = h
 heard_stopped (Some m) (Some x) h = h
 
-pub follows_start : (f : Fates) (s : State) (a : List ℕ) (program : Program) → ¬ (Contains members a) → Follows f s → Follows f (happens s (Start a program))
+pub follows_start : (f : Following) (s : State) (a : List ℕ) (program : Program) → ¬ (Contains members a) → Follows f s → Follows f (happens s (Start a program))
 follows_start f s a program mail h = record {
   fates = h.fates;
   heard = ⊎_elim
@@ -314,7 +308,7 @@ follows_start f s a program mail h = record {
       (put_at_cases s.actors a (Some (newborn program)) (codes "sender"));
 }
 
-pub follows_other : (f : Fates) (s : State) (k : Kept) (e : Event) → Tells k e → IsMailStart e → Follows f s → ((a : List ℕ) (own : Own) → k ≢ kept.Act a own) → ((start : ℕ) → k ≢ kept.Generation start) → Follows f (happens s e)
+pub follows_other : (f : Following) (s : State) (k : Kept) (e : Event) → Tells k e → IsMailStart e → Follows f s → ((a : List ℕ) (own : Own) → k ≢ kept.Act a own) → ((start : ℕ) → k ≢ kept.Generation start) → Follows f (happens s e)
 follows_other f s k (Start a program) told mail h act generation = follows_start f s a program mail h
 follows_other f s k (Act a own wrote) told mail h act generation = absurd (act a own told)
 follows_other f s k (Child parent own a program) told mail h act generation = absurd told
@@ -343,25 +337,25 @@ new_sender s start =
     head_is : (x y : List ℕ) → x ≡ y → head x ≡ head y
     head_is x y e = ap head e
 
-pub follows_generation : (old new : Fates) (s : State) (e : Event) (start : ℕ) (m : Machine) → Tells (kept.Generation start) e → new.living ≡ old.living → new.over ≡ old.over → new.sender ≡ Some m → Stands m None []
+pub follows_generation : (old new : Following) (s : State) (e : Event) (start : ℕ) (m : Machine) → Tells (kept.Generation start) e → new.fates ≡ old.fates → new.sender ≡ Some m → Stands m None []
     → Follows old s → Follows new (happens s e)
-follows_generation old new s (Start a program) start m told living over is stands h = absurd (cc)
-follows_generation old new s (Act a own wrote) start m told living over is stands h = absurd (cc)
-follows_generation old new s (Child parent own a program) start m told living over is stands h = absurd told
-follows_generation old new s (Generation sender clean lspawn rspawn) start m told living over is stands h =
+follows_generation old new s (Start a program) start m told fates is stands h = absurd (cc)
+follows_generation old new s (Act a own wrote) start m told fates is stands h = absurd (cc)
+follows_generation old new s (Child parent own a program) start m told fates is stands h = absurd told
+follows_generation old new s (Generation sender clean lspawn rspawn) start m told fates is stands h =
     let are = told.2 in
     let p = told.0 in
     rw (are.sender_is, are.clean_is, are.lspawn_is, are.rspawn_is) (record {
-      fates = same_fates old new s.books living over h.fates;
+      fates = subst (λ (f : Fates). AreFates f s.books) (sym fates) h.fates;
       heard =
           let o = (happens s (Generation (Sender p) (Cleaner p) (LocalSpawner p) (RemoteSpawner p))).actors (codes "sender") in
           subst (λ (m : Option Machine). IsHeard m o) (sym is) (subst (IsHeard (Some m)) (sym (new_sender s p)) ((p, refl), stands, tt));
     })
-follows_generation old new s (Report slot letter text) start m told living over is stands h = absurd (cc)
-follows_generation old new s (End a read ready status) start m told living over is stands h = absurd (cc)
-follows_generation old new s (Stop a) start m told living over is stands h = absurd (cc)
-follows_generation old new s (Moment at) start m told living over is stands h = absurd (cc)
-follows_generation old new s (Halt how contents) start m told living over is stands h = absurd (cc)
+follows_generation old new s (Report slot letter text) start m told fates is stands h = absurd (cc)
+follows_generation old new s (End a read ready status) start m told fates is stands h = absurd (cc)
+follows_generation old new s (Stop a) start m told fates is stands h = absurd (cc)
+follows_generation old new s (Moment at) start m told fates is stands h = absurd (cc)
+follows_generation old new s (Halt how contents) start m told fates is stands h = absurd (cc)
 
 -- the same, by what a kept event is
 abbrev pub IsOther : Kept → Type 0
@@ -369,15 +363,15 @@ IsOther (kept.Act a own) = ⊥
 IsOther (kept.Generation start) = ⊥
 IsOther k = Unit {0}
 
-pub other_told : (f : Fates) (s : State) (k : Kept) (e : Event) (x : Kept) → k ≡ x → IsOther x → Tells k e → IsMailStart e → Follows f s → Follows f (happens s e)
+pub other_told : (f : Following) (s : State) (k : Kept) (e : Event) (x : Kept) → k ≡ x → IsOther x → Tells k e → IsMailStart e → Follows f s → Follows f (happens s e)
 other_told f s k e x is other told mail h = follows_other f s k e told mail h
     (λ a own same. subst IsOther (sym is ∙ same) other)
     (λ start same. subst IsOther (sym is ∙ same) other)
 
-pub generation_told : (old new : Fates) (s : State) (k : Kept) (e : Event) (start : ℕ) (m : Machine) → k ≡ kept.Generation start → Tells k e → new.living ≡ old.living → new.over ≡ old.over → new.sender ≡ Some m → Stands m None []
+pub generation_told : (old new : Following) (s : State) (k : Kept) (e : Event) (start : ℕ) (m : Machine) → k ≡ kept.Generation start → Tells k e → new.fates ≡ old.fates → new.sender ≡ Some m → Stands m None []
     → Follows old s → Follows new (happens s e)
-generation_told old new s k e start m is told living over sender stands h =
-    follows_generation old new s e start m (subst (λ (x : Kept). Tells x e) is told) living over sender stands h
+generation_told old new s k e start m is told fates sender stands h =
+    follows_generation old new s e start m (subst (λ (x : Kept). Tells x e) is told) fates sender stands h
 
 -- An event of the sender
 
@@ -401,7 +395,7 @@ pub record IsNext (m : Machine) (s : State) (own : Own) (wrote : ℕ) : Type 0 w
   pub due : HasDue actor.past own
   pub may : MayCome own.due own.came
 
-pub is_next : (f : Fates) (s : State) (own : Own) (wrote : ℕ) (m : Machine) → IsMoment s.now → MayDo s (codes "sender") own wrote → f.sender ≡ Some m → Follows f s → IsNext m s own wrote
+pub is_next : (f : Following) (s : State) (own : Own) (wrote : ℕ) (m : Machine) → IsMoment s.now → MayDo s (codes "sender") own wrote → f.sender ≡ Some m → Follows f s → IsNext m s own wrote
 is_next f s own wrote m moment does is h =
     let w = sender_at (s.actors (codes "sender")) m (subst (λ (o : Option Machine). IsHeard o (s.actors (codes "sender"))) is h.heard) in
     let same : does.actor ≡ w.0 = some_is does.actor w.0 (sym does.reads.is ∙ w.1) in
@@ -424,19 +418,19 @@ is_next f s own wrote m moment does is h =
     some_is x y e = cc
 
 -- there is one, if a sender acts
-pub some_sender : (f : Fates) (s : State) (own : Own) (wrote : ℕ) → MayDo s (codes "sender") own wrote → f.sender ≡ None → Follows f s → ⊥
+pub some_sender : (f : Following) (s : State) (own : Own) (wrote : ℕ) → MayDo s (codes "sender") own wrote → f.sender ≡ None → Follows f s → ⊥
 some_sender f s own wrote does is h =
     let none : s.actors (codes "sender") ≡ None = subst (λ (o : Option Machine). IsHeard o (s.actors (codes "sender"))) is h.heard in
     let some = does.reads.is in
     absurd (cc)
 
-pub follows_sender : (new : Fates) (s : State) (own : Own) (wrote : ℕ) (old m : Machine) → (next : IsNext old s own wrote) → new.sender ≡ Some m → Stands m None (own ∷ next.actor.past)
-    → AreFates new (heard_by next.actor.past own s.books) → Follows new (acted s (codes "sender") own wrote (s.actors (codes "sender")))
+pub follows_sender : (new : Following) (s : State) (own : Own) (wrote : ℕ) (old m : Machine) → (next : IsNext old s own wrote) → new.sender ≡ Some m → Stands m None (own ∷ next.actor.past)
+    → AreFates new.fates (heard_by next.actor.past own s.books) → Follows new (acted s (codes "sender") own wrote (s.actors (codes "sender")))
 follows_sender new s own wrote old m next is stands fates =
     let x = next.actor in
     let y : Actor = record { program = x.program; past = own ∷ x.past; life = x.life } in
     rw next.is (record {
-      fates = subst (AreFates new)
+      fates = subst (AreFates new.fates)
           (by_start s.books (codes "sender") next.start x.past own.read own.ready own.due own.came
           ∙ ap (λ (p : Program). books_after s.books (codes "sender") p x.past own.read own.ready own.due own.came) (sym next.program))
           fates;
@@ -465,12 +459,12 @@ quiet_books b a (LocalSpawner start) past read ready due came runs sends = refl
 quiet_books b a (RemoteSpawner start) past read ready (needs.File c) (got.Answered told) runs sends = refl
 quiet_books b a (RemoteSpawner start) past read ready due came runs sends = refl
 
-pub follows_member : (f : Fates) (s : State) (a : List ℕ) (own : Own) (wrote : ℕ) → AreNamed s → a ≢ codes "sender" → Contains members a → Follows f s → Follows f (acted s a own wrote (s.actors a))
+pub follows_member : (f : Following) (s : State) (a : List ℕ) (own : Own) (wrote : ℕ) → AreNamed s → a ≢ codes "sender" → Contains members a → Follows f s → Follows f (acted s a own wrote (s.actors a))
 follows_member f s a own wrote named apart member h = by (s.actors a) refl where
   by : (o : Option Actor) → s.actors a ≡ o → Follows f (acted s a own wrote o)
   by None is = h
   by (Some x) is = record {
-    fates = subst (AreFates f) (sym (quiet_books s.books a x.program x.past own.read own.ready own.due own.came (named.member a x is member) (λ sends. apart (named.sender a x is sends)))) h.fates;
+    fates = subst (AreFates f.fates) (sym (quiet_books s.books a x.program x.past own.read own.ready own.due own.came (named.member a x is member) (λ sends. apart (named.sender a x is sends)))) h.fates;
     heard = heard_apart f.sender s a own wrote (Some x) apart h.heard;
   }
 
@@ -484,22 +478,22 @@ mail_is (Sender start) mail = absurd mail
 mail_is (LocalSpawner start) mail = absurd mail
 mail_is (RemoteSpawner start) mail = absurd mail
 
-pub follows_mail : (old new : Fates) (s : State) (a : List ℕ) (own : Own) (wrote : ℕ) → AreNamed s → ¬ (Contains members a) → new.sender ≡ old.sender
-    → ((books : Books) (args : Arguments) (past : List Own) → AreFates old books → AreFates new (books_after books a (Injector args) past own.read own.ready own.due own.came))
+pub follows_mail : (old new : Following) (s : State) (a : List ℕ) (own : Own) (wrote : ℕ) → AreNamed s → ¬ (Contains members a) → new.sender ≡ old.sender
+    → ((books : Books) (args : Arguments) (past : List Own) → AreFates old.fates books → AreFates new.fates (books_after books a (Injector args) past own.read own.ready own.due own.came))
     → MayDo s a own wrote → Follows old s → Follows new (acted s a own wrote (s.actors a))
 follows_mail old new s a own wrote named mail sender link does h =
     let x = does.actor in
     let is = does.reads.is in
     let it = mail_is x.program (named.mail a x is mail) in
     rw is (record {
-      fates = subst (λ (p : Program). AreFates new (books_after s.books a p x.past own.read own.ready own.due own.came)) (sym it.1) (link s.books it.0 x.past h.fates);
+      fates = subst (λ (p : Program). AreFates new.fates (books_after s.books a p x.past own.read own.ready own.due own.came)) (sym it.1) (link s.books it.0 x.past h.fates);
       heard = subst (λ (m : Option Machine). IsHeard m ((acted s a own wrote (Some x)).actors (codes "sender"))) (sym sender)
           (heard_apart old.sender s a own wrote (Some x) (λ e. mail (subst (Contains members) (sym e) is_member_sender)) h.heard);
     })
 
 -- Event by event
 
-pub first_follows : (f : Fates) (d : Disk) (ks : List Kept) (h : List Event) → f.sender ≡ None → ((n : ℕ) → get nat_cmp f.living n ≡ None) → f.over.items ≡ [] → ks ≡ [] → AllZip Tells ks h → Follows f (after d h)
+pub first_follows : (f : Following) (d : Disk) (ks : List Kept) (h : List Event) → f.sender ≡ None → ((n : ℕ) → get nat_cmp f.fates.living n ≡ None) → f.fates.over.items ≡ [] → ks ≡ [] → AllZip Tells ks h → Follows f (after d h)
 first_follows f d ks [] sender none over is told = record {
   fates = record {
     living = λ n n_is. subst (λ (t : Option Tenure). IsTenureIf t None) (sym (none n)) tt;
@@ -512,20 +506,20 @@ first_follows f d [] (e ∷ h) sender none over is told = absurd told
 first_follows f d (k ∷ ks) (e ∷ h) sender none over is told = absurd (cc)
 
 -- what is kept follows each history that these events tell, the newest first
-abbrev pub FollowsAll : Fates → List Kept → Type 0
+abbrev pub FollowsAll : Following → List Kept → Type 0
 FollowsAll f ks = (d : Disk) (h : List Event) → Legal d h → AllZip Tells ks h → AreMailStarts h → Follows f (after d h)
 
 -- so it does after one event more
-abbrev pub Notes : Fates → Fates → Kept → Type 0
+abbrev pub Notes : Following → Following → Kept → Type 0
 Notes old new k = (s : State) (e : Event) → AreNamed s → IsMoment s.now → IsMailStart e → Allowed s e → Tells k e → Follows old s → Follows new (happens s e)
 
-one_more : (old new : Fates) (k : Kept) (ks : List Kept) → Notes old new k → FollowsAll old ks → FollowsAll new (k ∷ ks)
+one_more : (old new : Following) (k : Kept) (ks : List Kept) → Notes old new k → FollowsAll old ks → FollowsAll new (k ∷ ks)
 one_more old new k ks notes before d [] legal told mails = absurd told
 one_more old new k ks notes before d (e ∷ h) legal told mails =
     let so = orderly d ks h legal.0 told.1 mails.1 in
     notes (after d h) e so.named so.moment mails.0 legal.1 told.0 (before d h legal.0 told.1 mails.1)
 
-pub next_follows : (old new : Fates) (events : List Kept) (i : ℕ) (k : Kept) → i < length events → k ≡ get_or events i k → Notes old new k → FollowsAll old (reverse (take i events)) → FollowsAll new (reverse (take (i + 1) events))
+pub next_follows : (old new : Following) (events : List Kept) (i : ℕ) (k : Kept) → i < length events → k ≡ get_or events i k → Notes old new k → FollowsAll old (reverse (take i events)) → FollowsAll new (reverse (take (i + 1) events))
 next_follows old new events i k there is notes before =
     let more : take (i + 1) events ≡ take i events ++ k ∷ [] = take_more events i k there ∙ ap (λ (x : Kept). take i events ++ x ∷ []) (sym is) in
     subst (FollowsAll new) (sym (ap reverse more ∙ reverse-append (take i events) (k ∷ []))) (one_more old new k (reverse (take i events)) notes before)

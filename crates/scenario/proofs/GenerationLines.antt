@@ -1,7 +1,6 @@
 -- `sender` and `report`.
-use Rattle.std.proofs.Common.{◌≡◌, ◌≢◌, ◌⊎◌, inl, inr, ⊎_elim, ℕ, List, [], ◌∷◌, ◌++◌, reverse, All, Contains, Bool, true, false, ◌&&◌, if◌then◌else◌, Option, Some, None, refl, sym, ap, ◌∙◌, subst, arith}
+use Rattle.std.proofs.Common.{◌≡◌, ◌≢◌, ℕ, List, [], ◌∷◌, ◌++◌, reverse, All, Contains, Bool, true, false, ◌&&◌, if◌then◌else◌, Option, Some, None, refl, sym, ap, ◌∙◌, subst, arith}
 use Rattle.std.specs.Prelude.{codes}
-use Rattle.std.proofs.lemmas.Bool.{false≢true}
 use Rattle.std.proofs.lemmas.List.{append-nil}
 use Rattle.std.proofs.lemmas.List.Elements.{All-nil, All-cons, All-head, All-tail, Contains-append_right}
 use Rattle.call_fs.specs.Disk.{Disk}
@@ -11,12 +10,10 @@ use Rattle.actor_names.specs.MailNames.{members}
 use Rattle.world_events.specs.declared.event.Event.{Event as Kept}
 use Rattle.world_events.specs.declared.event.Event.TheVariants as kept
 use Rattle.mail_world.specs.Generations.{generation_world, reported_world, IsFirstAlive, is_lasting, lives_in, is_unreported}
-use Rattle.mail_world.specs.History.{Event, Actor, Life, State, MayReport, IsLiving, after}
+use Rattle.mail_world.specs.History.{Event, Actor, State, MayReport, after}
 use Rattle.mail_world.specs.History.Event.{Report}
 use Rattle.mail_world.specs.History.Life.{Alive}
 use Rattle.mail_world.specs.Known.{known}
-use Rattle.mail_world.specs.Pipework.{Tenant}
-use Rattle.mail_world.specs.Pipework.Tenant.{Remote}
 use Rattle.mail_world.specs.World.{Seen, IsHistory, GoesOn, Span, span_of}
 use Rattle.mail_world.specs.World.Span.{Unborn, Lasting, OverAt}
 use Rattle.mail_world.specs.Wired.{AreWholeGivings}
@@ -26,7 +23,7 @@ use Rattle.play_lines.specs.declared.line.Line.TheVariants as line
 use Rattle.play_lines.specs.declared.keyword.Alone.TheVariants as alone
 use Rattle.script_words.specs.declared.letter.Letter.{Letter}
 use Rattle.script_words.specs.Words.{letter_byte}
-use Rattle.scenario.specs.Steps.{Refusal, Outcome, outcome_events, printed, refusal_line}
+use Rattle.scenario.specs.Steps.{Refusal, outcome_events, printed, refusal_line}
 use Rattle.scenario.specs.Steps.Outcome.{Happens, Is}
 use Rattle.scenario.specs.Turns.{first_alive, generation_at, generation_events, generation_text, awaits_report, report_comes}
 use Rattle.scenario.specs.Playing.{IsPlaying, HasPlayed}

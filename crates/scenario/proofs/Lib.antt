@@ -16,6 +16,8 @@ pub mod ScriptSteps
 pub mod ScriptRuns
 -- the next living actor
 pub mod NextLiving
+-- the starts of actors that live no more
+pub mod DeadStarts
 -- the parts of a turn and the rounds of `settle`
 pub mod TurnRuns
 -- a turn goes through the starts, and comes to its end

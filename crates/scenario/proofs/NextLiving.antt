@@ -1,12 +1,11 @@
 -- The next living actor by the kept events is that of each history that they tell.
-use Rattle.std.proofs.Common.{◌≡◌, ◌≢◌, ◌⊎◌, inl, inr, ⊎_elim, ℕ, ◌+◌, List, [], ◌∷◌, ◌++◌, reverse, Bool, true, false, not, ◌&&◌, Option, Some, None, refl, sym, ap, ◌∙◌, subst}
+use Rattle.std.proofs.Common.{◌≡◌, ℕ, ◌+◌, List, [], ◌∷◌, ◌++◌, reverse, not, ◌&&◌, Option, Some, None, refl, sym, ap, ◌∙◌}
 use Rattle.std.specs.Prelude.{nat_lt, if◌then◌else◌, bytes_eq}
 use Rattle.std.specs.List.{AllZip, list_any}
 use Rattle.call_fs.specs.Disk.{Disk}
 use Rattle.world_events.specs.declared.event.Event.{Event as Kept}
-use Rattle.world_events.specs.declared.event.Event.TheVariants as kept
 use Rattle.mail_world.specs.Generations.{lives_in, is_lasting, started_in as kept_started, starts_of as kept_starts, is_next as is_kept_next, next_among, next_living as kept_next}
-use Rattle.mail_world.specs.History.{Event, Actor, Life, State, Legal, after}
+use Rattle.mail_world.specs.History.{Event, Actor, Legal, after}
 use Rattle.mail_world.specs.History.Event.{Start, Act, Child, Generation, Report, End, Stop, Moment, Halt}
 use Rattle.mail_world.specs.World.{Tells, Span, span_of}
 use Rattle.mail_world.specs.World.Span.{Unborn, Lasting, OverAt}
@@ -15,7 +14,7 @@ use Rattle.scenario.specs.Turns.{started_in, starts_of, is_next, next_in, next_l
 use Rattle.scenario.proofs.Carried.{lives_actor, dead_actor}
 
 -- an event starts what its kept one does
-same_started : (k : Kept) (e : Event) → Tells k e → kept_started k ≡ started_in e
+pub same_started : (k : Kept) (e : Event) → Tells k e → kept_started k ≡ started_in e
 same_started k (Start a program) told = ap kept_started told
 same_started k (Act a own w) told = ap kept_started told
 same_started k (Child parent own a program) told = absurd told

@@ -1,12 +1,12 @@
 -- The first events of a history, event by event.
-use Rattle.std.proofs.Common.{◌≡◌, ◌⊎◌, inl, inr, ⊎_elim, ℕ, zero, suc, ◌+◌, ◌-◌, ◌<◌, List, [], ◌∷◌, ◌++◌, length, drop, reverse, Option, Some, None, refl, sym, ap, ◌∙◌, subst, arith}
+use Rattle.std.proofs.Common.{◌≡◌, ◌⊎◌, inl, inr, ⊎_elim, ℕ, zero, suc, ◌+◌, ◌-◌, ◌<◌, List, [], ◌∷◌, ◌++◌, length, drop, reverse, Some, refl, sym, ap, ◌∙◌, subst, arith}
 use Rattle.std.specs.List.{AllZip, slice_get}
 use Rattle.std.proofs.lemmas.List.{length-reverse, reverse-append}
 use Rattle.call_fs.specs.Disk.{Disk}
 use Rattle.world_events.specs.declared.event.Event.{Event as Kept}
-use Rattle.mail_world.specs.History.{Event, Allowed, Legal, after}
+use Rattle.mail_world.specs.History.{Event, Legal}
 use Rattle.mail_world.specs.World.{Tells}
-use Rattle.scenario.specs.Fates.{AreMailStarts, IsMailStart}
+use Rattle.scenario.specs.Fates.{AreMailStarts}
 
 -- the oldest so many events of a history, newest first as it is
 abbrev pub oldest : ℕ → List Event → List Event

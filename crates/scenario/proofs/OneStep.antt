@@ -1,5 +1,5 @@
 -- A step comes to one outcome, and a run is one list of steps.
-use Rattle.std.proofs.Common.{◌≡◌, ℕ, ◌<◌, ◌≤◌, List, [], ◌∷◌, ◌++◌, length, Bool, true, false, Option, Some, None, IsSome, refl, sym, ap, ◌∙◌, subst, inl, inr, ⊎_elim, arith}
+use Rattle.std.proofs.Common.{◌≡◌, ℕ, List, ◌++◌, length, Option, Some, None, IsSome, sym, ap, ◌∙◌, subst, inl, inr, ⊎_elim, arith}
 use Rattle.std.proofs.lemmas.Bool.{false≢true}
 use Rattle.call_fs.specs.declared.calls.Told.{Told}
 use Rattle.call_fs.specs.Disk.{Disk}
@@ -11,7 +11,7 @@ use Rattle.world_events.specs.declared.event.Program.{Program}
 use Rattle.mail_world.specs.History.{Event, Life, State, Actor, call_act, next_of, after}
 use Rattle.mail_world.specs.History.Life.{Alive, Over, Stopped}
 use Rattle.mail_world.specs.Readiness.{found_in}
-use Rattle.scenario.specs.Steps.{Refusal, Outcome, DoesNext, DoesAlive, DoesStep, StepsTo, RunsOn, AreSteps, next_pid, plan_through, most_steps, has_idled, Stops, IsRunOf, stop_text, refusal_line}
+use Rattle.scenario.specs.Steps.{Refusal, Outcome, DoesNext, DoesAlive, DoesStep, StepsTo, RunsOn, next_pid, plan_through, Stops, IsRunOf, stop_text}
 use Rattle.scenario.specs.Steps.Stops.{Idles, Refused, Full}
 use Rattle.scenario.specs.Steps.Outcome.{Happens, Is}
 use Rattle.scenario.specs.Played.{MailComesTo}

@@ -1,13 +1,13 @@
 -- A turn is one list of parts, and `settle` one list of rounds.
-use Rattle.std.proofs.Common.{◌≡◌, ◌≢◌, ◌⊎◌, ℕ, ◌<◌, List, [], ◌∷◌, ◌++◌, length, Bool, true, false, Option, Some, None, refl, sym, ap, ◌∙◌, subst, inl, inr, ⊎_elim, arith}
+use Rattle.std.proofs.Common.{◌≡◌, ◌≢◌, ◌⊎◌, ℕ, List, [], ◌∷◌, ◌++◌, Option, Some, None, sym, ap, ◌∙◌, subst, inl, inr, arith}
 use Rattle.std.proofs.lemmas.Bool.{false≢true}
 use Rattle.call_fs.specs.Disk.{Disk}
 use Rattle.call_fs.specs.Plan.{Plan}
 use Rattle.mail_world.specs.History.{Event, after}
 use Rattle.mail_world.specs.Generations.{lowest_unreported}
 use Rattle.script_words.specs.declared.letter.Letter.{Letter}
-use Rattle.scenario.specs.Steps.{plan_through, refusal_line, IsRunOf}
-use Rattle.scenario.specs.Turns.{Part, TurnsOn, IsTurnOf, next_living, events_of, text_of, place_after, Round, ReportsOn, AreReported, AreReportsAfter, slot_after, reports_of, IsRound, is_last, events_in, text_in, SettlesOn, Settles, IsSettled}
+use Rattle.scenario.specs.Steps.{plan_through, IsRunOf}
+use Rattle.scenario.specs.Turns.{Part, TurnsOn, IsTurnOf, next_living, events_of, text_of, place_after, Round, ReportsOn, AreReported, AreReportsAfter, slot_after, reports_of, IsRound, events_in, SettlesOn, Settles, IsSettled}
 use Rattle.scenario.specs.Turns.Settles.{Rests, Full}
 use Rattle.scenario.proofs.Chains.{one_chain}
 use Rattle.scenario.proofs.OneStep.{one_run}

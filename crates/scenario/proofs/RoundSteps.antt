@@ -14,7 +14,7 @@ use Rattle.play_lines.specs.declared.keyword.OfLetter.TheVariants as of_letter
 use Rattle.script_words.specs.declared.letter.Letter.{Letter}
 use Rattle.scenario.specs.Steps.{plan_through, refusal_line}
 use Rattle.scenario.specs.Steps.Refusal.{Rounds}
-use Rattle.scenario.specs.Turns.{counted, most_rounds, is_search, is_idle, events_of, text_of, events_in, reports_of}
+use Rattle.scenario.specs.Turns.{NoneBefore, counted, most_rounds, is_search, is_idle, events_of, text_of, events_in, reports_of}
 use Rattle.scenario.specs.Playing.{IsPlaying, HasTurned, HasReported, HasRounded, HasPlayed, is_search_kept}
 use Rattle.scenario.proofs.Searches.{searches_told}
 use Rattle.scenario.proofs.TurnRuns.{round_printed, round_reported, HasSettledOn, settle_goes_on, settle_rests, settle_full}
@@ -50,7 +50,7 @@ round_ends d old w v letter idle searches before after_text plan h was turn none
 pub most_told : (d : Disk) (h : List Event) (most : ℕ) (entries books : List Entry) → most ≡ 100 + 40 * sum_by counted entries → entries ≡ books → books ≡ books_in d h → most ≡ most_rounds d h
 most_told d h most entries books is told said = is ∙ ap (λ (l : List Entry). 100 + 40 * sum_by counted l) (told ∙ said)
 
-module _ (d : Disk) (h : List Event) (plan : Plan) (letter : Letter) (w v : Seen Crash) (made : ℕ) (last : Bool) (start before after_text : List ℕ) (so : HasSettledOn d h plan letter w made)
+module _ (d : Disk) (h : List Event) (plan : Plan) (letter : Letter) (w v : Seen Crash) (made was first : ℕ) (last : Bool) (start before after_text : List ℕ) (so : HasSettledOn d h plan letter w made was)
     (same : before ≡ start) (low : made < most_rounds d h)
     (round : HasRounded d v letter last before after_text (plan_through plan (events_in letter so.rounds)) (events_in letter so.rounds ++ h)) where
   abbrev ByLast : Bool → Type 0
@@ -61,17 +61,17 @@ module _ (d : Disk) (h : List Event) (plan : Plan) (letter : Letter) (w v : Seen
       let g = events_in letter so.rounds ++ h in
       same_text before after_text (text_of round.round.parts) round.text (quiet_round (text_of round.round.parts) (is_idle d g letter round.round) (sym more ∙ round.is_last)) ∙ same
 
-  pub settled_on : last ≡ false → HasSettledOn d h plan letter v (made + 1)
-  settled_on more = settle_goes_on d h plan letter w v made before after_text so low (subst ByLast more round)
+  pub settled_on : last ≡ false → NoneBefore d (events_in letter so.rounds ++ h) first → HasSettledOn d h plan letter v (made + 1) first
+  settled_on more none = settle_goes_on d h plan letter w v made was first before after_text so low none (subst ByLast more round)
 
   pub settled_over : last ≡ true → HasPlayed d v (line.Letter of_letter.Settle letter) start after_text plan h
   settled_over over =
       subst (λ (t : List ℕ). HasPlayed d v (line.Letter of_letter.Settle letter) t after_text plan h) same
-      (settle_rests d h plan letter w v made before after_text so low (subst ByLast over round))
+      (settle_rests d h plan letter w v made was before after_text so low (subst ByLast over round))
 
 -- as many as may be
-pub settled_full : (d : Disk) (h : List Event) (plan : Plan) (letter : Letter) (w : Seen Crash) (made : ℕ) (start before after_text : List ℕ) → HasSettledOn d h plan letter w made → before ≡ start
+pub settled_full : (d : Disk) (h : List Event) (plan : Plan) (letter : Letter) (w : Seen Crash) (made was : ℕ) (start before after_text : List ℕ) → HasSettledOn d h plan letter w made was → before ≡ start
     → made ≡ most_rounds d h → after_text ≡ before ++ refusal_line Rounds (codes "settle") → HasPlayed d w (line.Letter of_letter.Settle letter) start after_text plan h
-settled_full d h plan letter w made start before after_text so same full is =
+settled_full d h plan letter w made was start before after_text so same full is =
     subst (λ (t : List ℕ). HasPlayed d w (line.Letter of_letter.Settle letter) start t plan h) (ap (λ (t : List ℕ). t ++ refusal_line Rounds (codes "settle")) (sym same) ∙ sym is)
-    (settle_full d h plan letter w made start so full)
+    (settle_full d h plan letter w made was start so full)

@@ -29,14 +29,14 @@ use Rattle.mail_world.specs.Known.{known}
 use Rattle.mail_world.specs.Pipework.{Pipe, Pipework, pipes_after, pipework_after}
 use Rattle.mail_world.specs.Wired.{AreWholeGivings, GivesWhole}
 use Rattle.mail_world.specs.History.Event.{Act, End}
-use Rattle.mail_world.specs.History.Life.{Alive, Over, Stopped}
+use Rattle.mail_world.specs.History.Life.{Over}
 use Rattle.mail_world.specs.Readiness.{found_in}
 use Rattle.mail_world.specs.World.{kept_call, next_pid as kept_pid, pid_after, Seen, IsHistory, GoesOn, GoesByPlan, IsStep, IsOwnOf, ComesWhole, IsPlannedOwn, EndsAt, was_started}
 use Rattle.mail_world.proofs.Lives.{started_is, starts_is, ended_is}
 use Rattle.mail_world.proofs.Piped.{whole_push}
 use Rattle.crash_fs.proofs.CountedCalls.{done_by}
 use Rattle.scenario.proofs.HalfWritten.{call_wrote_none}
-use Rattle.scenario.specs.Steps.{Outcome, Refusal, plan_by, plan_left_of, DoesNext, DoesStep, StepsTo, next_pid, comes, does, idles, own_by, IsRefusalOf}
+use Rattle.scenario.specs.Steps.{plan_by, plan_left_of, DoesNext, DoesStep, StepsTo, next_pid, comes, idles, own_by}
 use Rattle.scenario.specs.Steps.Outcome.{Happens, Is}
 use Rattle.scenario.specs.Steps.Refusal.{Gone, Unknown, NotWaiting}
 use Rattle.scenario.specs.Fates.{IsMailStart}

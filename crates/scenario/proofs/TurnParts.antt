@@ -57,7 +57,7 @@ own_some before after_text own is more none =
 
 -- Parts
 
-next_told : (d : Disk) (h : List Event) (plan : Plan) (w : Seen Crash) (from : ℕ) (next : Option (List ℕ × ℕ)) → IsPlaying d w plan h → next ≡ kept_next from w.events → next_living d h from ≡ next
+pub next_told : (d : Disk) (h : List Event) (plan : Plan) (w : Seen Crash) (from : ℕ) (next : Option (List ℕ × ℕ)) → IsPlaying d w plan h → next ≡ kept_next from w.events → next_living d h from ≡ next
 next_told d h plan w from next playing is = sym (next_is d h w.events playing.is.legal playing.is.told from) ∙ sym is
 
 -- The turn goes on after a part if the text is as long as at the start, and then it is that text.

@@ -1,5 +1,5 @@
 -- The parts of a turn and the rounds of `settle`, one after the other.
-use Rattle.std.proofs.Common.{◌≡◌, ◌≢◌, ◌⊎◌, inl, inr, ⊎_elim, ℕ, zero, suc, ◌+◌, ◌<◌, ◌≤◌, List, [], ◌∷◌, ◌++◌, length, Bool, true, false, ◌&&◌, ◌||◌, Option, Some, None, refl, sym, ap, ◌∙◌, subst, arith, append_assoc, length-append}
+use Rattle.std.proofs.Common.{◌≡◌, ◌≢◌, ◌⊎◌, inl, inr, ⊎_elim, ℕ, ◌+◌, ◌<◌, List, [], ◌∷◌, ◌++◌, length, Bool, true, false, ◌&&◌, ◌||◌, Some, None, refl, sym, ap, ◌∙◌, subst, arith, append_assoc}
 use Rattle.std.specs.Prelude.{codes}
 use Rattle.std.specs.List.{list_all}
 use Rattle.std.proofs.lemmas.List.{append-nil}
@@ -14,10 +14,11 @@ use Rattle.play_lines.specs.declared.keyword.Alone.TheVariants as alone
 use Rattle.play_lines.specs.declared.keyword.OfLetter.TheVariants as of_letter
 use Rattle.script_words.specs.declared.letter.Letter.{Letter}
 use Rattle.scenario.specs.Chains.{EachFollows}
-use Rattle.scenario.specs.Steps.{plan_through, plan_by, idles, has_idled, IsRunOf, refusal_line}
+use Rattle.scenario.specs.Steps.{plan_through, plan_by, idles, has_idled, refusal_line}
 use Rattle.scenario.specs.Steps.Refusal.{Rounds}
-use Rattle.scenario.specs.Turns.{next_living, Part, events_of, text_of, place_after, TurnsOn, AreParts, IsTurnOf, Round, reports_of, slot_after, ReportsOn, AreReported, AreReportsAfter, round_events, IsRound, is_search, is_idle, has_bytes, events_in, is_last, text_in, most_rounds, SettlesOn, Settles, IsSettled}
+use Rattle.scenario.specs.Turns.{next_living, NoneBefore, Part, events_of, text_of, place_after, AreParts, Round, reports_of, slot_after, ReportsOn, AreReported, AreReportsAfter, round_events, is_search, is_idle, has_bytes, events_in, is_last, most_rounds, SettlesOn}
 use Rattle.scenario.specs.Turns.Settles.{Rests, Full}
+use Rattle.scenario.proofs.DeadStarts.{none_skipped, none_stays}
 use Rattle.scenario.specs.Playing.{IsPlaying, HasRun, HasParted, HasTurned, HasReported, HasRounded, HasPlayed}
 
 -- What events leave of a plan, in two steps
@@ -34,17 +35,17 @@ playing_on d w plan later before h playing =
 
 -- Parts
 
--- So many parts were run, which printed nothing; the next one has this place or a later one.
+-- So many parts were run, which printed nothing; the next one is the first from this place on.
 pub record HasTurnedOn (d : Disk) (h : List Event) (plan : Plan) (w : Seen Crash) (idle : Bool) (from : ℕ) : Type 0 where
   pub parts : List Part
   pub are : AreParts d h plan parts
   pub quiet : text_of parts ≡ []
   pub idled : idle ≡ has_idled d h (events_of parts)
-  pub place : from ≡ place_after parts
+  pub next_is : next_living d (events_of parts ++ h) (place_after parts) ≡ next_living d (events_of parts ++ h) from
   pub playing : IsPlaying d w (plan_through plan (events_of parts)) (events_of parts ++ h)
 
-abbrev pub turn_begins : (d : Disk) (h : List Event) (plan : Plan) (w : Seen Crash) → IsPlaying d w plan h → HasTurnedOn d h plan w false 0
-turn_begins d h plan w playing = record { parts = []; are = tt; quiet = refl; idled = refl; place = refl; playing = playing }
+abbrev pub turn_begins : (d : Disk) (h : List Event) (plan : Plan) (w : Seen Crash) (first : ℕ) → IsPlaying d w plan h → NoneBefore d h first → HasTurnedOn d h plan w false first
+turn_begins d h plan w first playing none = record { parts = []; are = tt; quiet = refl; idled = refl; next_is = none_skipped d h first none; playing = playing }
 
 -- the newest event of a turn is that of the part, if it has one
 pub idled_on : (d : Disk) (h : List Event) (events before : List Event) (was now : Bool) → was ≡ has_idled d h before
@@ -75,7 +76,7 @@ one_part d h plan w v was now from place a before after_text turn next part = re
     turn.are,
     record {
       quiet = turn.quiet;
-      next = ap (next_living d (events_of turn.parts ++ h)) (sym turn.place) ∙ next;
+      next = turn.next_is ∙ next;
       run = part.run;
     },
   );
@@ -92,7 +93,7 @@ part_goes_on d h plan v now place from own part none next = record {
   are = part.are;
   quiet = part.printed ∙ none;
   idled = part.idled;
-  place = next ∙ part.place_is;
+  next_is = ap (next_living d (events_of part.parts ++ h)) (sym (next ∙ part.place_is));
   playing = part.playing;
 }
 
@@ -111,7 +112,7 @@ abbrev pub turn_rests : (d : Disk) (h : List Event) (plan : Plan) (w : Seen Cras
     → next_living d (events_of turn.parts ++ h) from ≡ None → HasTurned d w idle text text plan h
 turn_rests d h plan w idle from text turn none = record {
   parts = turn.parts;
-  turn = record { are = turn.are; over = inr (ap (next_living d (events_of turn.parts ++ h)) (sym turn.place) ∙ none) };
+  turn = record { are = turn.are; over = inr (turn.next_is ∙ none) };
   idled = turn.idled;
   playing = turn.playing;
   text = sym (append-nil text) ∙ ap (λ t. text ++ t) (sym turn.quiet);
@@ -231,31 +232,35 @@ round_reported d w v letter idle searches before after_text plan h turn quiet to
       text = turn.text;
     }
 
--- So many rounds were made, none of which was the last one.
-pub record HasSettledOn (d : Disk) (h : List Event) (plan : Plan) (letter : Letter) (w : Seen Crash) (made : ℕ) : Type 0 where
+-- So many rounds were made, none of which was the last one; no actor that lives started before that first place.
+pub record HasSettledOn (d : Disk) (h : List Event) (plan : Plan) (letter : Letter) (w : Seen Crash) (made first : ℕ) : Type 0 where
   pub rounds : List Round
   pub are : EachFollows (SettlesOn d h plan letter) rounds
   pub more : is_last d h letter rounds ≡ false
   pub count : length rounds ≡ made
+  pub none : NoneBefore d (events_in letter rounds ++ h) first
   pub playing : IsPlaying d w (plan_through plan (events_in letter rounds)) (events_in letter rounds ++ h)
 
-abbrev pub settle_begins : (d : Disk) (h : List Event) (plan : Plan) (letter : Letter) (w : Seen Crash) → IsPlaying d w plan h → HasSettledOn d h plan letter w 0
-settle_begins d h plan letter w playing = record { rounds = []; are = tt; more = refl; count = refl; playing = playing }
+abbrev pub settle_begins : (d : Disk) (h : List Event) (plan : Plan) (letter : Letter) (w : Seen Crash) → IsPlaying d w plan h → HasSettledOn d h plan letter w 0 0
+settle_begins d h plan letter w playing = record { rounds = []; are = tt; more = refl; count = refl; none = tt; playing = playing }
 
 -- one round more
-abbrev pub settle_goes_on : (d : Disk) (h : List Event) (plan : Plan) (letter : Letter) (w v : Seen Crash) (made : ℕ) (before after_text : List ℕ) (so : HasSettledOn d h plan letter w made) → made < most_rounds d h
-    → HasRounded d v letter false before after_text (plan_through plan (events_in letter so.rounds)) (events_in letter so.rounds ++ h) → HasSettledOn d h plan letter v (made + 1)
-settle_goes_on d h plan letter w v made before after_text so low round = record {
+abbrev pub settle_goes_on : (d : Disk) (h : List Event) (plan : Plan) (letter : Letter) (w v : Seen Crash) (made was first : ℕ) (before after_text : List ℕ) (so : HasSettledOn d h plan letter w made was) → made < most_rounds d h
+    → NoneBefore d (events_in letter so.rounds ++ h) first
+    → HasRounded d v letter false before after_text (plan_through plan (events_in letter so.rounds)) (events_in letter so.rounds ++ h) → HasSettledOn d h plan letter v (made + 1) first
+settle_goes_on d h plan letter w v made was first before after_text so low none round = record {
   rounds = round.round ∷ so.rounds;
   are = (so.are, record { few = let same = so.count in omega arith; more = so.more; is = round.is });
   more = sym round.is_last;
   count = let same = so.count in omega arith;
+  none = subst (λ (l : List Event). NoneBefore d l first) (sym (append_assoc (round_events letter round.round) (events_in letter so.rounds) h))
+      (none_stays d v (plan_through (plan_through plan (events_in letter so.rounds)) (round_events letter round.round)) (round_events letter round.round) (events_in letter so.rounds ++ h) first round.playing none);
   playing = playing_on d v plan (round_events letter round.round) (events_in letter so.rounds) h round.playing;
 }
 
-abbrev pub settle_rests : (d : Disk) (h : List Event) (plan : Plan) (letter : Letter) (w v : Seen Crash) (made : ℕ) (before after_text : List ℕ) (so : HasSettledOn d h plan letter w made) → made < most_rounds d h
+abbrev pub settle_rests : (d : Disk) (h : List Event) (plan : Plan) (letter : Letter) (w v : Seen Crash) (made was : ℕ) (before after_text : List ℕ) (so : HasSettledOn d h plan letter w made was) → made < most_rounds d h
     → HasRounded d v letter true before after_text (plan_through plan (events_in letter so.rounds)) (events_in letter so.rounds ++ h) → HasPlayed d v (line.Letter of_letter.Settle letter) before after_text plan h
-settle_rests d h plan letter w v made before after_text so low round = record {
+settle_rests d h plan letter w v made was before after_text so low round = record {
   events = events_in letter (round.round ∷ so.rounds);
   own = text_of round.round.parts;
   plays = (
@@ -270,9 +275,9 @@ settle_rests d h plan letter w v made before after_text so low round = record {
   text = round.text;
 }
 
-abbrev pub settle_full : (d : Disk) (h : List Event) (plan : Plan) (letter : Letter) (w : Seen Crash) (made : ℕ) (text : List ℕ) (so : HasSettledOn d h plan letter w made) → made ≡ most_rounds d h
+abbrev pub settle_full : (d : Disk) (h : List Event) (plan : Plan) (letter : Letter) (w : Seen Crash) (made was : ℕ) (text : List ℕ) (so : HasSettledOn d h plan letter w made was) → made ≡ most_rounds d h
     → HasPlayed d w (line.Letter of_letter.Settle letter) text (text ++ refusal_line Rounds (codes "settle")) plan h
-settle_full d h plan letter w made text so full = record {
+settle_full d h plan letter w made was text so full = record {
   events = events_in letter so.rounds;
   own = refusal_line Rounds (codes "settle");
   plays = (so.rounds, record { are = so.are; stops = Full so.more (so.count ∙ full) refl }, refl);

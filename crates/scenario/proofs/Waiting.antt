@@ -1,25 +1,23 @@
 -- What a world does is what comes of what is due, and who waits in it waits.
-use Rattle.std.proofs.Common.{◌≡◌, ◌≢◌, ℕ, ◌==◌, List, [], ◌∷◌, ◌++◌, length, take, Bool, true, false, not, ◌||◌, if◌then◌else◌, Option, Some, None, refl, sym, ap, ◌∙◌, subst}
-use Rattle.std.proofs.lemmas.Bool.{false≢true}
+use Rattle.std.proofs.Common.{◌≡◌, ℕ, ◌==◌, List, length, take, Bool, true, false, not, ◌||◌, if◌then◌else◌, Option, Some, None, refl, sym, ap, ◌∙◌, subst}
 use Rattle.call_fs.specs.Disk.{Disk}
 use Rattle.call_fs.specs.Plan.{Plan}
 use Rattle.call_fs.specs.declared.past.ChildData.TheVariants as child
 use Rattle.call_fs.specs.declared.past.GotData.{GotData}
-use Rattle.call_fs.specs.declared.past.GotData.TheVariants.{Took, End as Ends, Ended, Crashed, Gave, Started, Failed}
+use Rattle.call_fs.specs.declared.past.GotData.TheVariants.{Took}
 use Rattle.call_fs.specs.declared.past.NeedData.{NeedData}
 use Rattle.call_fs.specs.declared.past.NeedData.TheVariants as needs
-use Rattle.call_fs.specs.declared.program.Port.{Port}
 use Rattle.call_fs.specs.declared.program.Port.TheVariants as port
 use Rattle.world_events.specs.declared.event.Program.{Program}
 use Rattle.world_pipes.specs.Pipes.{offered, end_of}
 use Rattle.mail_world.specs.Generations.{CanNot}
 use Rattle.mail_world.specs.History.{Event, Actor, Life, State, TenantEnds, IsStatusOf, after, next_of}
 use Rattle.mail_world.specs.History.Life.{Alive, Over, Stopped}
-use Rattle.mail_world.specs.Pipework.{Pipe, Pipework, Tenant, is_ready, pipes_after}
+use Rattle.mail_world.specs.Pipework.{Pipe, Tenant, is_ready}
 use Rattle.mail_world.specs.Pipework.Tenant.{Runs, Remote}
 use Rattle.mail_world.specs.Readiness.{has_ended, found_in, is_over}
 use Rattle.mail_world.specs.World.{ComesWhole, most_of}
-use Rattle.scenario.specs.Steps.{DoesNext, StepsTo, next_pid, comes, does, own_by, status_in, status_of, status_told}
+use Rattle.scenario.specs.Steps.{DoesNext, StepsTo, next_pid, comes, does, status_in, status_of, status_told}
 use Rattle.scenario.specs.Steps.Outcome.{Is}
 use Rattle.scenario.specs.Steps.Refusal.{NotWaiting}
 use Rattle.scenario.proofs.Carried.{IsNoFile}

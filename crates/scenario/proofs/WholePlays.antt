@@ -1,5 +1,5 @@
 -- Each line plays, so all lines do: a script has a text, and what was begun of it is a prefix of its text.
-use Rattle.std.proofs.Common.{◌≡◌, ◌⊎◌, inl, inr, ⊎_elim, ℕ, zero, suc, ◌+◌, ◌<◌, List, [], ◌∷◌, ◌++◌, length, Bool, true, false, Option, Some, None, refl, sym, ap, ◌∙◌, subst, arith, append_assoc}
+use Rattle.std.proofs.Common.{◌≡◌, inl, inr, ⊎_elim, ℕ, ◌<◌, List, [], ◌∷◌, ◌++◌, length, Bool, true, false, Option, Some, None, refl, sym, ap, ◌∙◌, subst, arith, append_assoc}
 use Rattle.std.specs.Prelude.{◌^◌, flat_map, codes, if◌then◌else◌}
 use Rattle.std.specs.List.{AllZip}
 use Rattle.mail_bytes.specs.Decimal.{digits}
@@ -8,7 +8,7 @@ use Rattle.mail_bytes.specs.Moments.{IsMoment}
 use Rattle.mem_fs.specs.MemDisk.{bytes_at}
 use Rattle.queue_inject.specs.declared.injection.Arguments.{Arguments}
 use Rattle.world_events.specs.declared.event.Program.TheVariants.{Injector}
-use Rattle.mail_world.specs.History.{Event, Actor, Life, State, Legal, after}
+use Rattle.mail_world.specs.History.{Event, Actor, Life, State, after}
 use Rattle.mail_world.specs.History.Event.{Start, Report, Stop, Moment, Halt}
 use Rattle.mail_world.specs.History.Life.{Alive, Over, Stopped}
 use Rattle.actor_names.specs.MailNames.{IsMailName, IsLetter, IsLetterOrDigit, members}

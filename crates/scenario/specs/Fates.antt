@@ -23,6 +23,7 @@ use Rattle.mail_world.specs.History.Event.{Start}
 use Rattle.queue_law.specs.Books.{Books, Injection, delivered_in}
 use Rattle.queue_law.specs.Ledgers.{Spot}
 use Rattle.scenario.specs.declared.fates.Fates.{Fates}
+use Rattle.scenario.specs.declared.fates.Following.{Following}
 use Rattle.scenario.specs.declared.fates.Spot.{Spot as KeptSpot}
 use Rattle.scenario.specs.declared.fates.Tenure.{Tenure}
 
@@ -59,8 +60,8 @@ IsHeard (Some m) None = ⊥
 IsHeard (Some m) (Some x) = ((start : ℕ) × (x.program ≡ kinds.Sender start)) × Stands m None x.past × IsRunBy (Next None) x.past
 
 -- what is kept stands for a state
-pub record Follows (f : Fates) (s : State) : Type 0 where
-  pub fates : AreFates f s.books
+pub record Follows (f : Following) (s : State) : Type 0 where
+  pub fates : AreFates f.fates s.books
   pub heard : IsHeard f.sender (s.actors (codes "sender"))
 
 -- no mail has a member's name

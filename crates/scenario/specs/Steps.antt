@@ -1,6 +1,6 @@
 -- A step and a run of an actor: what each comes to, and what is printed of it. A file call fails if the script says so, and
 -- only then, and nothing else fails.
-use Rattle.std.specs.Prelude.{◌≡◌, ◌⊎◌, ℕ, zero, suc, ◌+◌, ◌<◌, ◌≤◌, List, [], ◌∷◌, ◌++◌, length, Bool, true, false, if◌then◌else◌, Option, Some, None, codes}
+use Rattle.std.specs.Prelude.{◌≡◌, ◌⊎◌, ℕ, zero, suc, ◌<◌, List, [], ◌∷◌, ◌++◌, length, Bool, true, false, if◌then◌else◌, Option, Some, None, codes}
 use Rattle.std.specs.List.{sum_by}
 use Rattle.call_fs.specs.declared.calls.Told.{Told}
 use Rattle.call_fs.specs.Disk.{Disk}

@@ -1,9 +1,8 @@
 -- Generations, and what runs more than one actor: a turn, and the rounds of `settle`.
-use Rattle.std.specs.Prelude.{◌≡◌, ◌≢◌, ◌⊎◌, ℕ, ◌+◌, ◌*◌, ◌<◌, List, [], ◌∷◌, ◌++◌, length, map, reverse, All, Bool, true, false, not, ◌&&◌, ◌||◌, Option, Some, None, if◌then◌else◌, bytes_eq, codes, nat_lt}
+use Rattle.std.specs.Prelude.{◌≡◌, ◌≢◌, ◌⊎◌, ℕ, zero, suc, ◌+◌, ◌*◌, ◌<◌, List, [], ◌∷◌, ◌++◌, length, map, Bool, true, false, not, ◌&&◌, ◌||◌, Option, Some, None, if◌then◌else◌, bytes_eq, codes, nat_lt}
 use Rattle.std.specs.List.{sum_by, list_any, list_all}
 use Rattle.call_fs.specs.Disk.{Disk}
 use Rattle.call_fs.specs.Plan.{Plan}
-use Rattle.call_fs.specs.declared.calls.CallData.{CallData}
 use Rattle.call_fs.specs.declared.calls.CallData.TheVariants.{NextName}
 use Rattle.call_fs.specs.declared.past.NeedData.{NeedData}
 use Rattle.call_fs.specs.declared.past.NeedData.TheVariants.{File}
@@ -17,7 +16,7 @@ use Rattle.mail_world.specs.History.Event.{Start, Act, Child, Generation, Report
 use Rattle.script_words.specs.declared.letter.Letter.{Letter}
 use Rattle.script_words.specs.Words.{letter_byte}
 use Rattle.scenario.specs.Chains.{EachFollows}
-use Rattle.scenario.specs.Steps.{Refusal, Outcome, refusal_line, plan_through, has_idled, IsRunOf}
+use Rattle.scenario.specs.Steps.{Outcome, refusal_line, plan_through, has_idled, IsRunOf}
 use Rattle.scenario.specs.Steps.Outcome.{Happens, Is}
 use Rattle.scenario.specs.Steps.Refusal.{Alive, NotWaiting, Rounds}
 
@@ -80,6 +79,16 @@ next_in s from at (a ∷ later) = if is_next s from at a later then Some (a, at)
 -- the next living actor in order of start, from that place on
 abbrev pub next_living : Disk → List Event → ℕ → Option (List ℕ × ℕ)
 next_living d h from = next_in (after d h) from 0 (starts_of h)
+
+-- none of the first so many of these starts is the newest of an actor that lives
+abbrev pub NoneAmong : State → ℕ → List (List ℕ) → Type 0
+NoneAmong s zero starts = Unit {0}
+NoneAmong s (suc n) [] = ⊥
+NoneAmong s (suc n) (a ∷ later) = ((not (list_any (bytes_eq a) later) && lives_in (s.actors a)) ≡ false) × NoneAmong s n later
+
+-- no actor that lives started at a place before this one, which is a place of a start or the next one
+abbrev pub NoneBefore : Disk → List Event → ℕ → Type 0
+NoneBefore d h place = NoneAmong (after d h) place (starts_of h)
 
 -- a part of a turn: the run of that actor, which has that place in the order of starts; its events, newest first, and what it prints
 pub record Part : Type 0 where

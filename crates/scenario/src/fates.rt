@@ -57,6 +57,12 @@ pub struct Fates {
     living: BTreeMap<u64, Tenure>,
     /// Those that are over.
     over: Vec<Tenure>,
+}
+
+/// The lives of messages while events come, one after the other.
+#[derive(Drop)]
+struct Following {
+    fates: Fates,
     /// The newest sender, as its own events left it.
     sender: Option<Sender>,
 }
@@ -67,14 +73,8 @@ impl Fates {
         ensures { IfOk result (λ fates. (d now : Disk) (present : ℕ) (h : List Happening) → IsHistory d now events.now present h → AreMailStarts h
             → AreFates fates (after d h).books) }
     {
-        let mut fates = Fates {
-            living: BTreeMap::new(alloc),
-            over: Vec::new(alloc),
-            sender: None,
-        };
-        for event in events {
-            fates.note(alloc, event)?;
-        }
+        let Following { fates, sender } = Following::of(alloc, events)?;
+        drop(sender);
         Ok(fates)
     }
 
@@ -108,41 +108,9 @@ impl Fates {
             .any(|one| one.number == n && one.is_of(mail) && one.has(spot))
     }
 
-    /// Takes one event more into account.
-    fn note(&mut self, alloc: Global, event: &Event) -> Result<(), Memory>
-        ensures { OnOk result ((s : State) (happening : Happening) → AreNamed s → IsMoment s.now → IsMailStart happening → Allowed s happening
-            → Tells event.now happening → Follows self.old s → Follows self.new (happens s happening)) }
-    {
-        match event {
-            Event::Act { actor, own } => self.act(alloc, actor, own),
-            Event::Generation { .. } => {
-                self.sender = Some(Sender::new(alloc, None)?);
-                Ok(())
-            }
-            Event::Start { .. } | Event::Report { .. } | Event::End { .. } => Ok(()),
-            Event::Stop { .. } | Event::Moment { .. } | Event::Halt { .. } => Ok(()),
-        }
-    }
-
-    /// The same, of an event of this actor.
-    fn act(&mut self, alloc: Global, actor: &ActorName, own: &Own) -> Result<(), Memory>
-        ensures { OnOk result ((s : State) (wrote : ℕ) → AreNamed s → IsMoment s.now → MayDo s actor.now own.now wrote
-            → Follows self.old s → Follows self.new (acted s actor.now own.now wrote (s.actors actor.now))) }
-    {
-        let name = actor.as_slice();
-        if name == b"sender".as_slice() {
-            self.hear(alloc, own)
-        } else if is_member(name) {
-            Ok(())
-        } else {
-            self.link(alloc, actor, own)
-        }
-    }
-
-    /// The same, of an event of the injector of this mail: if it linked the name of its message, that one's life begins.
+    /// Takes an event of the injector of this mail into account: if it linked the name of its message, that one's life begins.
     fn link(&mut self, alloc: Global, actor: &ActorName, own: &Own) -> Result<(), Memory>
-        ensures sender { self.new.sender ≡ self.old.sender }
-        ensures books { OnOk result ((books : Books) (args : Arguments) (past : List Own) → AreFates self.old books
+        ensures { OnOk result ((books : Books) (args : Arguments) (past : List Own) → AreFates self.old books
             → AreFates self.new (books_after books actor.now (Injector args) past own.now.read own.now.ready own.now.due own.now.came)) }
     {
         let Some(number) = number_by(own) else {
@@ -159,20 +127,7 @@ impl Fates {
         Ok(())
     }
 
-    /// The same, of an event of the newest sender.
-    fn hear(&mut self, alloc: Global, own: &Own) -> Result<(), Memory>
-        ensures { OnOk result ((s : State) (wrote : ℕ) → IsMoment s.now → MayDo s (codes "sender") own.now wrote
-            → Follows self.old s → Follows self.new (acted s (codes "sender") own.now wrote (s.actors (codes "sender")))) }
-    {
-        let Some(mut sender) = self.sender.take() else {
-            return Ok(());
-        };
-        self.hear_from(alloc, &mut sender, own)?;
-        self.sender = Some(sender);
-        Ok(())
-    }
-
-    /// The same, of that sender.
+    /// Takes an event of this sender into account.
     fn hear_from(&mut self, alloc: Global, sender: &mut Sender, own: &Own) -> Result<(), Memory>
         ensures stands { OnOk result ((past : List Own) → HasDue past own.now → Stands sender.old None past
             → Stands sender.new None (own.now ∷ past)) }
@@ -206,8 +161,7 @@ impl Fates {
 
     /// Enters the recipients of the marks of a channel after so many.
     fn enter(&mut self, channel: Channel, marks: &Marks, before: usize) -> Result<(), Memory>
-        ensures sender { self.new.sender ≡ self.old.sender }
-        ensures books { OnOk result ((books : Books) → AreFates self.old books
+        ensures { OnOk result ((books : Books) → AreFates self.old books
             → AreFates self.new (entered_of channel (drop before marks.now) books)) }
     {
         for at in before..marks.len() {
@@ -220,8 +174,7 @@ impl Fates {
 
     /// Enters the recipient of a mark.
     fn enter_mark(&mut self, channel: Channel, mark: &Mark) -> Result<(), Memory>
-        ensures sender { self.new.sender ≡ self.old.sender }
-        ensures books { OnOk result ((books : Books) → AreFates self.old books
+        ensures { OnOk result ((books : Books) → AreFates self.old books
             → AreFates self.new (entered_of channel (mark.now ∷ []) books)) }
     {
         if let Some(tenure) = self.living.get_mut(&mark.attempt.n) {
@@ -230,6 +183,70 @@ impl Fates {
                 place: mark.attempt.place,
             })?;
         }
+        Ok(())
+    }
+}
+
+impl Following {
+    /// By these events, the oldest first.
+    fn of(alloc: Global, events: &[Event]) -> Result<Following, Memory>
+        ensures { IfOk result (λ following. (d now : Disk) (present : ℕ) (h : List Happening) → IsHistory d now events.now present h → AreMailStarts h
+            → Follows following (after d h)) }
+    {
+        let mut following = Following {
+            fates: Fates {
+                living: BTreeMap::new(alloc),
+                over: Vec::new(alloc),
+            },
+            sender: None,
+        };
+        for event in events {
+            following.note(alloc, event)?;
+        }
+        Ok(following)
+    }
+
+    /// Takes one event more into account.
+    fn note(&mut self, alloc: Global, event: &Event) -> Result<(), Memory>
+        ensures { OnOk result ((s : State) (happening : Happening) → AreNamed s → IsMoment s.now → IsMailStart happening → Allowed s happening
+            → Tells event.now happening → Follows self.old s → Follows self.new (happens s happening)) }
+    {
+        match event {
+            Event::Act { actor, own } => self.act(alloc, actor, own),
+            Event::Generation { .. } => {
+                self.sender = Some(Sender::new(alloc, None)?);
+                Ok(())
+            }
+            Event::Start { .. } | Event::Report { .. } | Event::End { .. } => Ok(()),
+            Event::Stop { .. } | Event::Moment { .. } | Event::Halt { .. } => Ok(()),
+        }
+    }
+
+    /// The same, of an event of this actor.
+    fn act(&mut self, alloc: Global, actor: &ActorName, own: &Own) -> Result<(), Memory>
+        ensures { OnOk result ((s : State) (wrote : ℕ) → AreNamed s → IsMoment s.now → MayDo s actor.now own.now wrote
+            → Follows self.old s → Follows self.new (acted s actor.now own.now wrote (s.actors actor.now))) }
+    {
+        let name = actor.as_slice();
+        if name == b"sender".as_slice() {
+            self.hear(alloc, own)
+        } else if is_member(name) {
+            Ok(())
+        } else {
+            self.fates.link(alloc, actor, own)
+        }
+    }
+
+    /// The same, of an event of the newest sender.
+    fn hear(&mut self, alloc: Global, own: &Own) -> Result<(), Memory>
+        ensures { OnOk result ((s : State) (wrote : ℕ) → IsMoment s.now → MayDo s (codes "sender") own.now wrote
+            → Follows self.old s → Follows self.new (acted s (codes "sender") own.now wrote (s.actors (codes "sender")))) }
+    {
+        let Some(mut sender) = self.sender.take() else {
+            return Ok(());
+        };
+        self.fates.hear_from(alloc, &mut sender, own)?;
+        self.sender = Some(sender);
         Ok(())
     }
 }

@@ -9,7 +9,7 @@ ghost use Rattle.play_lines.specs.declared.line.Line.TheVariants as LineOf;
 ghost use Rattle.play_lines.specs.declared.keyword.Alone.TheVariants as AloneOf;
 ghost use Rattle.play_lines.specs.declared.keyword.OfLetter.TheVariants as OfLetterOf;
 ghost use Rattle.scenario.specs.Playing.{IsPlaying, HasPlayed, HasTurned, HasParted, HasRounded, HasReported, AddsNoStart, is_search_kept};
-ghost use Rattle.scenario.specs.Turns.{counted, is_search_call};
+ghost use Rattle.scenario.specs.Turns.{counted, is_search_call, NoneBefore};
 
 use crate::refusing::put_refusal;
 use crate::stepping::run;
@@ -34,19 +34,34 @@ pub fn play_turn(
     ensures { OnOk result ((d : Disk) (plan : Plan) (h : List Happening) → IsPlaying d world.old plan h
         → HasPlayed d world.new (LineOf.Alone AloneOf.Turn) text.old.items text.new.items plan h) }
 {
-    turn(alloc, world, text)?;
+    turn(alloc, world, 0, text)?;
     Ok(())
 }
 
-/// Each living actor runs once, in order of start, until one has made the most steps. Tells whether the newest event of the turn ended an
-/// idle turn of a sender.
-fn turn(alloc: Global, world: &mut World<CrashDisk>, text: &mut Vec<u8>) -> Result<bool, Memory>
-    ensures { IfOk result (λ idle. (d : Disk) (plan : Plan) (h : List Happening) → IsPlaying d world.old plan h
+/// Where the first living actor from this place on in the order of starts started; the place itself if none did.
+fn first_place(world: &World<CrashDisk>, from: u64) -> u64
+    ensures { (d : Disk) (plan : Plan) (h : List Happening) → IsPlaying d world.now plan h → NoneBefore d h from → NoneBefore d h result }
+{
+    match world.next_living(from) {
+        Some((_, place)) => place,
+        None => from,
+    }
+}
+
+/// Each living actor runs once, in order of start, until one has made the most steps. None of them started before that first place. Tells
+/// whether the newest event of the turn ended an idle turn of a sender.
+fn turn(
+    alloc: Global,
+    world: &mut World<CrashDisk>,
+    first: u64,
+    text: &mut Vec<u8>,
+) -> Result<bool, Memory>
+    ensures { IfOk result (λ idle. (d : Disk) (plan : Plan) (h : List Happening) → IsPlaying d world.old plan h → NoneBefore d h first
         → HasTurned d world.new idle text.old.items text.new.items plan h) }
 {
     let start = text.len();
     let mut idle = false;
-    let mut from = 0;
+    let mut from = first;
     loop {
         let Some((actor, place)) = next_actor(world, from) else {
             return Ok(idle);
@@ -107,8 +122,10 @@ pub fn settle(
     ensures { OnOk result ((d : Disk) (plan : Plan) (h : List Happening) → IsPlaying d world.old plan h
         → HasPlayed d world.new (LineOf.Letter OfLetterOf.Settle letter) text.old.items text.new.items plan h) }
 {
+    let mut first = 0;
     for _ in 0..most_rounds(world.books().entries())? {
-        if round(alloc, world, letter, text)? {
+        first = first_place(world, first);
+        if round(alloc, world, first, letter, text)? {
             return Ok(());
         }
     }
@@ -142,20 +159,21 @@ fn with_entry(count: u64, entry: &Entry) -> Result<u64, Memory>
     }
 }
 
-/// One round: a turn, then a report for each program of the remote spawner that has none. Tells whether it is the last one: something was
-/// printed, or nothing happened but an idle turn of the sender.
+/// One round: a turn, in which no actor runs that started before that first place, and then a report for each program of the remote spawner
+/// that has none. Tells whether it is the last one: something was printed, or nothing happened but an idle turn of the sender.
 fn round(
     alloc: Global,
     world: &mut World<CrashDisk>,
+    first: u64,
     letter: Letter,
     text: &mut Vec<u8>,
 ) -> Result<bool, Memory>
-    ensures { IfOk result (λ last. (d : Disk) (plan : Plan) (h : List Happening) → IsPlaying d world.old plan h
+    ensures { IfOk result (λ last. (d : Disk) (plan : Plan) (h : List Happening) → IsPlaying d world.old plan h → NoneBefore d h first
         → HasRounded d world.new letter last text.old.items text.new.items plan h) }
 {
     let start = text.len();
     let before = world.history().len();
-    let idle = turn(alloc, world, text)?;
+    let idle = turn(alloc, world, first, text)?;
     if text.len() > start {
         return Ok(true);
     }

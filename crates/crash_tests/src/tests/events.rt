@@ -1,42 +1,57 @@
-// The events of a message's way through the queue, from its injection until nothing is left to do, and the lines of scripts
-// that make them one by one.
+// The events of a message's way through the queue, from its injection until nothing is left to do, for good or until the next
+// retry, and the lines of scripts that make them one by one.
 use super::playing::{printed, prints};
 use super::stages::Stage;
 use mail_bytes::Memory;
 use std::test::Fail;
 
-/// A script of one mail.
-const ONE: &str = "trace\nmail a a@x b@y : hi%0A\nrun a\nsender\nsettle K\n";
+/// A script whose events are gone through, and what differs by it in what comes after a stop.
+#[derive(Clone, Copy)]
+pub struct Base {
+    script: &'static str,
+    /// The lines that put in the second mail, if there is one.
+    pub put_in_b: &'static str,
+    /// What comes of the second mail if nothing keeps it from its end, if there is one.
+    pub fate_of_b: &'static str,
+    /// The lines of a second stop, after which what is left alone is old enough to be removed.
+    pub later: &'static str,
+}
 
-/// A script of two mails. The second one comes when the message of the first is gone, and takes the same number.
-const TWO: &str =
-    "trace\nmail a a@x b@y : hi%0A\nrun a\nsender\nsettle K\nmail b c@x d@y : ho\nrun b\nsettle K\n";
+/// One mail.
+pub const ONE: Base = Base {
+    script: "trace\nmail a a@x b@y : hi%0A\nrun a\nsender\nsettle K\n",
+    put_in_b: "",
+    fate_of_b: "",
+    later: "halt keep\nmoment 129601\n",
+};
 
-/// What comes after each stop: a new generation does what is left to do, at the same moment. Then the machine stops, and when
-/// what is left alone is old enough to be removed, a last generation does the same.
-pub const AFTERWARDS: &str =
-    "sender\nsettle K\nshow\nhalt keep\nmoment 129601\nsender\nsettle K\nshow\n";
+/// Two mails. The second one comes when the message of the first is gone, and takes the same number.
+pub const TWO: Base = Base {
+    script: "trace\nmail a a@x b@y : hi%0A\nrun a\nsender\nsettle K\nmail b c@x d@y : ho\nrun b\nsettle K\n",
+    put_in_b: "mail b c@x d@y : ho\nrun b\n",
+    fate_of_b: "b 0\nb.1 delivered\n",
+    later: "halt keep\nmoment 129601\n",
+};
+
+/// One mail, whose delivery is deferred; a week later it is tried again, and deferred again.
+pub const DEFERRED: Base = Base {
+    script: "trace\nmail a a@x b@y : hi%0A\nrun a\nsender\nsettle Z\nmoment 604800\nsettle Z\n",
+    put_in_b: "",
+    fate_of_b: "",
+    later: "halt keep\nmoment 734401\n",
+};
+
+/// What comes after each stop, and once more after the second one: a new generation does what is left to do. It tries each
+/// recipient that isn't done at once, also one that was deferred just before, since a generation doesn't know when a message
+/// was tried by another.
+pub const GENERATION: &str = "sender\nsettle K\nshow\n";
 
 /// The second mail need not be put in once it is there.
 pub const PUT_IN: [Stage; 1] = [("b start", "")];
 
-/// The lines that put in the second mail, if there is one.
-pub fn put_in_b(two: bool) -> &'static str {
-    if two {
-        "mail b c@x d@y : ho\nrun b\n"
-    } else {
-        ""
-    }
-}
-
-/// What comes of the second mail if nothing keeps it from its end, if there is one.
-pub fn fate_of_b(two: bool) -> &'static str {
-    if two { "b 0\nb.1 delivered\n" } else { "" }
-}
-
-/// The events of one mail or of two, a line each.
-pub fn events_of(rt: &HostRuntime, two: bool) -> Result<String, Memory> {
-    printed(rt, if two { TWO } else { ONE })
+/// The events of a script, a line each.
+pub fn events_of(rt: &HostRuntime, base: Base) -> Result<String, Memory> {
+    printed(rt, base.script)
 }
 
 /// Appends the line of a script that makes an event. A generation starts with one line, that of its sender's start.
@@ -47,6 +62,8 @@ pub fn push_line(script: &mut String, event: &str) -> Result<(), Memory> {
         "b start" => script.push_str("mail b c@x d@y : ho\n"),
         "sender start" => script.push_str("sender\n"),
         "rspawn report 0 K" => script.push_str("report 0 K settled\n"),
+        "rspawn report 0 Z" => script.push_str("report 0 Z settled\n"),
+        "world moment 604800" => script.push_str("moment 604800\n"),
         _ => push_step(script, event),
     }
 }
@@ -77,8 +94,8 @@ fn is_made_line_by_line(rt: &HostRuntime, script: &str) -> Result<bool, Memory> 
 
 #[test]
 fn the_events_of_a_script_are_made_line_by_line(rt: HostRuntime) -> Result<(), Fail> {
-    for script in &[ONE, TWO] {
-        assert!(rt; is_made_line_by_line(&rt, script)?, "{script}");
+    for base in &[ONE, TWO, DEFERRED] {
+        assert!(rt; is_made_line_by_line(&rt, base.script)?, "{}", base.script);
     }
     Ok(())
 }

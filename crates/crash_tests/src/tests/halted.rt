@@ -1,6 +1,6 @@
 // A machine stop after each event. Afterwards a new generation does what is left to do, at the same moment; then the machine
 // stops once more, and another generation does the same when what is left alone is old enough to be removed.
-use super::events::{AFTERWARDS, PUT_IN, events_of, fate_of_b, push_line, put_in_b};
+use super::events::{Base, DEFERRED, GENERATION, ONE, PUT_IN, TWO, events_of, push_line};
 use super::playing::prints;
 use super::stages::{Stage, Stages};
 use mail_bytes::Memory;
@@ -54,6 +54,7 @@ const MAIL_B: [Stage; 3] = [
 /// in the second mail after it.
 #[derive(Drop)]
 struct Course {
+    base: Base,
     script: String,
     left: Stages,
     mail_a: Stages,
@@ -63,13 +64,14 @@ struct Course {
 
 impl Course {
     /// No event has come. The second mail is put in at the end if there is one.
-    fn new(rt: &HostRuntime, two: bool) -> Self {
+    fn new(rt: &HostRuntime, base: Base) -> Self {
         Course {
+            base,
             script: String::new(rt.alloc()),
             left: Stages::new("pid 0\n", &LEFT),
             mail_a: Stages::new("", &MAIL_A),
-            mail_b: Stages::new(fate_of_b(two), &MAIL_B),
-            put_in: Stages::new(put_in_b(two), &PUT_IN),
+            mail_b: Stages::new(base.fate_of_b, &MAIL_B),
+            put_in: Stages::new(base.put_in_b, &PUT_IN),
         }
     }
 
@@ -86,7 +88,8 @@ impl Course {
     fn script(&self, rt: &HostRuntime, halt: &str) -> Result<String, Memory> {
         let script = self.script.as_str();
         let put_in = self.put_in.now();
-        format!(in rt.alloc(); "{script}{halt}\n{put_in}{AFTERWARDS}")
+        let later = self.base.later;
+        format!(in rt.alloc(); "{script}{halt}\n{put_in}{GENERATION}{later}{GENERATION}")
     }
 
     /// What that script prints.
@@ -106,8 +109,8 @@ impl Course {
 }
 
 /// Before which event something else is printed first; nothing if before none, nor at the end.
-fn first_wrong(rt: &HostRuntime, events: &str, two: bool, halt: &str) -> Result<String, Memory> {
-    let mut course = Course::new(rt, two);
+fn first_wrong(rt: &HostRuntime, events: &str, base: Base, halt: &str) -> Result<String, Memory> {
+    let mut course = Course::new(rt, base);
     for event in events.lines() {
         if !course.is_as_expected(rt, halt)? {
             return String::from_str(rt.alloc(), event);
@@ -122,10 +125,10 @@ fn first_wrong(rt: &HostRuntime, events: &str, two: bool, halt: &str) -> Result<
 fn a_machine_stop_after_any_event_of_a_mail_loses_no_accepted_one(
     rt: HostRuntime,
 ) -> Result<(), Fail> {
-    let events = events_of(&rt, false)?;
+    let events = events_of(&rt, ONE)?;
     for halt in &HALTS {
         assert_eq!(rt;
-            first_wrong(&rt, &events, false, halt)?.as_str(),
+            first_wrong(&rt, &events, ONE, halt)?.as_str(),
             "",
             "{halt}"
         );
@@ -137,10 +140,25 @@ fn a_machine_stop_after_any_event_of_a_mail_loses_no_accepted_one(
 fn a_machine_stop_after_any_event_of_two_mails_loses_no_accepted_one(
     rt: HostRuntime,
 ) -> Result<(), Fail> {
-    let events = events_of(&rt, true)?;
+    let events = events_of(&rt, TWO)?;
     for halt in &HALTS {
         assert_eq!(rt;
-            first_wrong(&rt, &events, true, halt)?.as_str(),
+            first_wrong(&rt, &events, TWO, halt)?.as_str(),
+            "",
+            "{halt}"
+        );
+    }
+    Ok(())
+}
+
+#[test]
+fn a_machine_stop_after_any_event_of_a_deferred_mail_loses_no_accepted_one(
+    rt: HostRuntime,
+) -> Result<(), Fail> {
+    let events = events_of(&rt, DEFERRED)?;
+    for halt in &HALTS {
+        assert_eq!(rt;
+            first_wrong(&rt, &events, DEFERRED, halt)?.as_str(),
             "",
             "{halt}"
         );

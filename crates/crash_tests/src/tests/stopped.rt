@@ -1,6 +1,6 @@
 // A stop of a member of a generation after each event from its start on. The others do what they still can, and end; then a
 // new generation does what is left to do, as after a machine stop.
-use super::events::{AFTERWARDS, PUT_IN, events_of, fate_of_b, push_line, put_in_b};
+use super::events::{Base, DEFERRED, GENERATION, ONE, PUT_IN, TWO, events_of, push_line};
 use super::playing::prints;
 use super::stages::{Stage, Stages};
 use mail_bytes::Memory;
@@ -64,6 +64,39 @@ const MEMBERS: [Member; 4] = [
     },
 ];
 
+/// The members, if the delivery is deferred twice and not made before the stop. If the cleaner is gone, the sender delivers the
+/// mail and ends, since it can't have the message file removed; but between a deferral and the next retry it has nothing to do.
+/// Once a week has gone by, the message file is old enough to be removed at once.
+const MEMBERS_IF_DEFERRED: [Member; 4] = [
+    Member {
+        name: "sender",
+        left: &[],
+        ending: &[],
+    },
+    Member {
+        name: "clean",
+        left: &[
+            ("clean give output", "pid 0\n1 S2\n"),
+            ("rspawn report 0 Z", "pid 0\n"),
+        ],
+        ending: &[
+            ("rspawn report 0 Z", ""),
+            ("world moment", ENDS),
+            ("rspawn report 0 Z", ""),
+        ],
+    },
+    Member {
+        name: "lspawn",
+        left: &[],
+        ending: &[],
+    },
+    Member {
+        name: "rspawn",
+        left: &[],
+        ending: &[],
+    },
+];
+
 /// The generation lives once its sender was started.
 const LIVES: [Stage; 1] = [("sender start", "alive")];
 
@@ -71,24 +104,24 @@ const LIVES: [Stage; 1] = [("sender start", "alive")];
 /// printed while the others end, what comes of the second mail, and the lines that put it in after the stop.
 #[derive(Drop)]
 struct Course {
+    base: Base,
     script: String,
     life: Stages,
     left: Stages,
     ending: Stages,
-    mail_b: &'static str,
     put_in: Stages,
 }
 
 impl Course {
     /// No event has come. The second mail is put in at the end if there is one.
-    fn new(rt: &HostRuntime, two: bool, member: &Member) -> Self {
+    fn new(rt: &HostRuntime, base: Base, member: &Member) -> Self {
         Course {
+            base,
             script: String::new(rt.alloc()),
             life: Stages::new("", &LIVES),
             left: Stages::new("pid 0\n", member.left),
             ending: Stages::new(ENDS, member.ending),
-            mail_b: fate_of_b(two),
-            put_in: Stages::new(put_in_b(two), &PUT_IN),
+            put_in: Stages::new(base.put_in_b, &PUT_IN),
         }
     }
 
@@ -105,8 +138,9 @@ impl Course {
     fn script(&self, rt: &HostRuntime, member: &str) -> Result<String, Memory> {
         let script = self.script.as_str();
         let put_in = self.put_in.now();
+        let later = self.base.later;
         format!(in rt.alloc();
-            "{script}stop {member}\nsettle K\nstop sender\nsettle K\n{put_in}{AFTERWARDS}"
+            "{script}stop {member}\nsettle K\nstop sender\nsettle K\n{put_in}{GENERATION}{later}{GENERATION}"
         )
     }
 
@@ -114,7 +148,7 @@ impl Course {
     fn printed(&self, rt: &HostRuntime) -> Result<String, Memory> {
         let ending = self.ending.now();
         let left = self.left.now();
-        let b = self.mail_b;
+        let b = self.base.fate_of_b;
         format!(in rt.alloc();
             "{ending}refused rounds settle\n{left}a 0\na.1 delivered\n{b}pid 0\na 0\na.1 delivered\n{b}"
         )
@@ -135,10 +169,10 @@ impl Course {
 fn first_wrong(
     rt: &HostRuntime,
     events: &str,
-    two: bool,
+    base: Base,
     member: &Member,
 ) -> Result<String, Memory> {
-    let mut course = Course::new(rt, two, member);
+    let mut course = Course::new(rt, base, member);
     for event in events.lines() {
         if !course.is_as_expected(rt, member.name)? {
             return String::from_str(rt.alloc(), event);
@@ -151,10 +185,10 @@ fn first_wrong(
 
 #[test]
 fn a_stop_of_a_member_after_any_event_of_a_mail_loses_none(rt: HostRuntime) -> Result<(), Fail> {
-    let events = events_of(&rt, false)?;
+    let events = events_of(&rt, ONE)?;
     for member in &MEMBERS {
         assert_eq!(rt;
-            first_wrong(&rt, &events, false, member)?.as_str(),
+            first_wrong(&rt, &events, ONE, member)?.as_str(),
             "",
             "{}",
             member.name
@@ -165,10 +199,26 @@ fn a_stop_of_a_member_after_any_event_of_a_mail_loses_none(rt: HostRuntime) -> R
 
 #[test]
 fn a_stop_of_a_member_after_any_event_of_two_mails_loses_none(rt: HostRuntime) -> Result<(), Fail> {
-    let events = events_of(&rt, true)?;
+    let events = events_of(&rt, TWO)?;
     for member in &MEMBERS {
         assert_eq!(rt;
-            first_wrong(&rt, &events, true, member)?.as_str(),
+            first_wrong(&rt, &events, TWO, member)?.as_str(),
+            "",
+            "{}",
+            member.name
+        );
+    }
+    Ok(())
+}
+
+#[test]
+fn a_stop_of_a_member_after_any_event_of_a_deferred_mail_loses_none(
+    rt: HostRuntime,
+) -> Result<(), Fail> {
+    let events = events_of(&rt, DEFERRED)?;
+    for member in &MEMBERS_IF_DEFERRED {
+        assert_eq!(rt;
+            first_wrong(&rt, &events, DEFERRED, member)?.as_str(),
             "",
             "{}",
             member.name

@@ -1,27 +1,21 @@
-use Rattle.std.proofs.Common.{◌≡◌}
-use Rattle.std.specs.List.{insert}
-use Rattle.mem_fs.proofs.NameTable.{missing_name, gap_of, names-insert, name-insert, count-insert}
+use Rattle.std.proofs.Common.{List, ℕ, ap, ◌∙◌}
+use Rattle.mem_fs.specs.MemDisk.{names_of}
+use Rattle.mem_fs.specs.Tables.{at_name, texts}
+use Rattle.mem_fs.proofs.NameTable.{inserted, in_order-texts, name-insert, count-insert}
 use Rattle.mem_fs.proofs.names.insert.Goals as goal
 
-pub unwrap_err-at-requires : goal.unwrap_err-at-requires
-unwrap_err-at-requires c = missing_name c.args.names.now.items c.requires.in_order c.args.name c.place_of.result (rw (c.deref.ensures.value, c.as_slice.ensures) at c.place_of.ensures) c.requires.free
+pub returns-in_err-insert-clause-in_order : goal.returns-in_err-insert-clause-in_order
+returns-in_err-insert-clause-in_order c = in_order-texts c.insert.new.self.entries c.insert.ensures.ordered
 
 pub returns-clause-in_order : goal.returns-clause-in_order
-returns-clause-in_order c =
-    let items = c.insert.ensures.items in
-    let made : c.insert.new.self.items ≡ insert c.args.names.now.items c.unwrap_err-at.result (c.args.name, c.args.number) = rw c.unwrap.ensures at items in
-    rw made (names-insert c.args.names.now.items c.requires.in_order c.args.name c.unwrap_err-at.result
-    (gap_of c.args.names.now.items c.args.name c.place_of.result c.unwrap_err-at.result c.unwrap_err-at.ensures (rw (c.deref.ensures.value, c.as_slice.ensures) at c.place_of.ensures)) c.args.number)
+returns-clause-in_order c = in_order-texts c.insert.new.self.entries c.insert.ensures.ordered
 
 pub returns-clause-value : goal.returns-clause-value
 returns-clause-value c =
-    let items = c.insert.ensures.items in
-    let made : c.insert.new.self.items ≡ insert c.args.names.now.items c.unwrap_err-at.result (c.args.name, c.args.number) = rw c.unwrap.ensures at items in
-    rw made (name-insert c.args.names.now.items c.requires.in_order c.args.name c.unwrap_err-at.result
-    (gap_of c.args.names.now.items c.args.name c.place_of.result c.unwrap_err-at.result c.unwrap_err-at.ensures (rw (c.deref.ensures.value, c.as_slice.ensures) at c.place_of.ensures)) c.args.number)
+    ap (λ (es : List (List ℕ × ℕ)). at_name es) (inserted c.args.names.now.entries c.insert.new.self.entries c.args.name c.args.number c.in_ok-insert.ensures.entries)
+    ∙ name-insert (texts c.args.names.now.entries) c.args.name.items c.args.number
 
 pub returns-clause-count : goal.returns-clause-count
-returns-clause-count c = λ test.
-    let items = c.insert.ensures.items in
-    let made : c.insert.new.self.items ≡ insert c.args.names.now.items c.unwrap_err-at.result (c.args.name, c.args.number) = rw c.unwrap.ensures at items in
-    rw made (count-insert c.args.names.now.items c.requires.in_order c.args.name test c.unwrap_err-at.result c.args.number)
+returns-clause-count c = λ n.
+    ap (λ (es : List (List ℕ × ℕ)). names_of es n) (inserted c.args.names.now.entries c.insert.new.self.entries c.args.name c.args.number c.in_ok-insert.ensures.entries)
+    ∙ count-insert (texts c.args.names.now.entries) (in_order-texts c.args.names.now.entries c.insert.ensures.was_ordered) c.args.name.items c.args.number c.requires n

@@ -1,6 +1,5 @@
-use Rattle.std.proofs.Common.{◌+◌}
-use Rattle.mem_fs.proofs.NextName.{NoParts}
+use Rattle.mem_fs.specs.Tables.{texts, IsRest}
 use Rattle.mem_fs.proofs.names.next.Given as goal
 
-abbrev pub invariant-loop-entry : goal.invariant-loop-entry
-invariant-loop-entry l = NoParts l.names l.dir l.start (l.start + l.entry-index)
+abbrev pub invariant-loop-name : goal.invariant-loop-name
+invariant-loop-name l = IsRest (texts l.names.entries) l.dir l.after (texts l.name-iterator)

@@ -1,22 +1,18 @@
-use Rattle.mem_fs.specs.Tables.{IsAt}
-use Rattle.mem_fs.proofs.NameTable.{found_name, at_of, names-remove, name-remove, count-remove}
+use Rattle.std.proofs.Common.{◌+◌, List, ℕ, cond, nat_eq, ap, sym, ◌∙◌}
+use Rattle.mem_fs.specs.MemDisk.{names_of}
+use Rattle.mem_fs.specs.Tables.{at_name, texts}
+use Rattle.mem_fs.proofs.NameTable.{removed, in_order-texts, name-remove, count-remove}
 use Rattle.mem_fs.proofs.names.remove.Goals as goal
 
-pub unwrap-at-requires : goal.unwrap-at-requires
-unwrap-at-requires c = found_name c.args.names.now.items c.requires.in_order c.args.name.now c.place_of.result (rw c.deref.ensures.value at c.place_of.ensures) c.requires.there
-
 pub returns-clause-in_order : goal.returns-clause-in_order
-returns-clause-in_order c =
-    let at : IsAt c.args.names.now.items c.args.name.now c.unwrap-at.result =
-    at_of c.args.names.now.items c.args.name.now c.place_of.result c.unwrap-at.result c.unwrap-at.ensures (rw c.deref.ensures.value at c.place_of.ensures) in
-    rw c.remove.ensures.items (names-remove c.args.names.now.items c.requires.in_order c.args.name.now c.unwrap-at.result at.within)
+returns-clause-in_order c = in_order-texts c.remove.new.self.entries c.remove.ensures.ordered
 
 pub returns-clause-value : goal.returns-clause-value
 returns-clause-value c =
-    rw c.remove.ensures.items (name-remove c.args.names.now.items c.requires.in_order c.args.name.now c.unwrap-at.result
-    (at_of c.args.names.now.items c.args.name.now c.place_of.result c.unwrap-at.result c.unwrap-at.ensures (rw c.deref.ensures.value at c.place_of.ensures)))
+    ap (λ (es : List (List ℕ × ℕ)). at_name es) (removed c.args.names.now.entries c.remove.new.self.entries c.args.name.now c.remove.ensures.entries)
+    ∙ name-remove (texts c.args.names.now.entries) c.requires.in_order c.args.name.now
 
 pub returns-clause-count : goal.returns-clause-count
-returns-clause-count c = λ test number found.
-    rw c.remove.ensures.items (count-remove c.args.names.now.items c.requires.in_order c.args.name.now test c.unwrap-at.result
-    (at_of c.args.names.now.items c.args.name.now c.place_of.result c.unwrap-at.result c.unwrap-at.ensures (rw c.deref.ensures.value at c.place_of.ensures)) number found)
+returns-clause-count c = λ number found n.
+    count-remove (texts c.args.names.now.entries) c.args.name.now number found n
+    ∙ ap (λ (es : List (List ℕ × ℕ)). names_of es n + cond (nat_eq number n) 1 0) (sym (removed c.args.names.now.entries c.remove.new.self.entries c.args.name.now c.remove.ensures.entries))

@@ -1,4 +1,4 @@
-use Rattle.std.proofs.Common.{◌≡◌, ◌++◌, All, List, ℕ, Option, sym, ap, ◌∙◌, subst}
+use Rattle.std.proofs.Common.{◌≡◌, ◌++◌, All, List, ℕ, sym, ap, ◌∙◌, subst}
 use Rattle.std.specs.Prelude.{reverse}
 use Rattle.std.proofs.lemmas.Result.{on_ok_weaker}
 use Rattle.crash_fs.specs.Crash.{crash_disk}
@@ -6,7 +6,6 @@ use Rattle.disk_numbers.specs.Controls.{controls_on}
 use Rattle.world_events.specs.declared.books.Entry.{Entry}
 use Rattle.world_events.specs.declared.event.Event.{Event as Kept}
 use Rattle.world_events.specs.Books.{books_of}
-use Rattle.mail_world.specs.Books.{books_in}
 use Rattle.mail_world.specs.History.{after}
 use Rattle.scenario.specs.Fates.{IsUsed}
 use Rattle.scenario.specs.Shown.{View}

@@ -1,9 +1,7 @@
 use Rattle.std.proofs.Common.{◌≡◌, ◌++◌, All}
-use Rattle.std.specs.Prelude.{drop, flat_map}
-use Rattle.std.specs.List.{filter_map, zip}
-use Rattle.queue_inject.specs.Texts.{recipients_of}
+use Rattle.std.specs.Prelude.{drop}
 use Rattle.queue_law.specs.Books.{Books}
-use Rattle.scenario.specs.Fates.{AreFates, IsUsed, arguments_in}
+use Rattle.scenario.specs.Fates.{AreFates, IsUsed}
 use Rattle.scenario.specs.Viewed.{view_at}
 use Rattle.scenario.proofs.EachMail.{left_lines}
 use Rattle.scenario.proofs.showing.put_each.Given as goal

@@ -1,4 +1,4 @@
-use Rattle.std.proofs.Common.{◌≡◌, ℕ, ◌++◌, Bool, true, false, ◌&&◌, refl, sym, ap, ◌∙◌, subst, drop, length, arith}
+use Rattle.std.proofs.Common.{◌≡◌, ℕ, ◌++◌, Bool, ◌&&◌, refl, sym, ap, ◌∙◌, subst, drop, length, arith}
 use Rattle.std.specs.List.{list_all}
 use Rattle.scenario.specs.Playing.{HasRounded, is_search_kept}
 use Rattle.scenario.specs.Steps.{plan_through}
@@ -7,12 +7,12 @@ use Rattle.scenario.proofs.RoundSteps.{round_stops, round_ends}
 use Rattle.scenario.proofs.turning.round.Goals as goal
 
 pub returns-then-len-start : goal.returns-then-len-start
-returns-then-len-start c = λ d plan h playing.
-    round_stops d c.turn.new.world c.args.letter c.in_ok-idle.idle c.args.text.now.items c.turn.new.text.items plan h (c.in_ok-idle.ensures d plan h playing) (omega arith)
+returns-then-len-start c = λ d plan h playing none.
+    round_stops d c.turn.new.world c.args.letter c.in_ok-idle.idle c.args.text.now.items c.turn.new.text.items plan h (c.in_ok-idle.ensures d plan h playing none) (omega arith)
 
 pub returns-then-idle : goal.returns-then-idle
-returns-then-idle c = λ d plan h playing.
-    let turn = c.in_ok-idle.ensures d plan h playing in
+returns-then-idle c = λ d plan h playing none.
+    let turn = c.in_ok-idle.ensures d plan h playing none in
     let told = c.in_ok-report_all.ensures d (plan_through plan (events_of turn.parts)) (events_of turn.parts ++ h) turn.playing in
     let before = c.args.text.now.items in
     let after_text = c.turn.new.text.items in
@@ -24,8 +24,8 @@ returns-then-idle c = λ d plan h playing.
     (round_ends d c.args.world.now c.turn.new.world c.report_all.new.world c.args.letter c.in_ok-idle.idle c.only_searches.result before after_text plan h playing turn (λ more. omega arith) told all)
 
 pub returns-else-idle : goal.returns-else-idle
-returns-else-idle c = λ d plan h playing.
-    let turn = c.in_ok-idle.ensures d plan h playing in
+returns-else-idle c = λ d plan h playing none.
+    let turn = c.in_ok-idle.ensures d plan h playing none in
     let told = c.in_ok-report_all.ensures d (plan_through plan (events_of turn.parts)) (events_of turn.parts ++ h) turn.playing in
     let before = c.args.text.now.items in
     let after_text = c.turn.new.text.items in

@@ -7,22 +7,22 @@ use Rattle.scenario.proofs.TurnStarts.{fewer_starts}
 use Rattle.scenario.proofs.turning.turn.Goals as goal
 
 pub loop-actor-init : goal.loop-actor-init
-loop-actor-init c = λ d plan h playing. (refl, turn_begins d h plan c.args.world.now playing)
+loop-actor-init c = λ d plan h playing none. (refl, turn_begins d h plan c.args.world.now c.args.first playing none)
 
 pub returns-in_default : goal.returns-in_default
-returns-in_default c = λ d plan h playing.
-    turn_over d h plan c.loop-actor.world c.loop-actor.idle c.loop-actor.from c.args.text.now.items c.loop-actor.text.items (c.loop-actor.invariant d plan h playing) (sym c.in_default.is ∙ c.next_actor.ensures)
+returns-in_default c = λ d plan h playing none.
+    turn_over d h plan c.loop-actor.world c.loop-actor.idle c.loop-actor.from c.args.text.now.items c.loop-actor.text.items (c.loop-actor.invariant d plan h playing none) (sym c.in_default.is ∙ c.next_actor.ensures)
 
 pub returns-then-len-start : goal.returns-then-len-start
-returns-then-len-start c = λ d plan h playing.
-    let on = c.loop-actor.invariant d plan h playing in
+returns-then-len-start c = λ d plan h playing none.
+    let on = c.loop-actor.invariant d plan h playing none in
     let part = c.in_ok-idle.ensures.ran d (plan_through plan (events_of on.1.parts)) (events_of on.1.parts ++ h) on.1.playing in
     part_over d h plan c.loop-actor.world c.run_part.new.world c.loop-actor.idle _ c.loop-actor.from c.in-Some.place c.in-Some.actor
     c.args.text.now.items c.loop-actor.text.items c.run_part.new.text.items on c.in-Some.ensures part (omega arith)
 
 pub loop-actor-preserved : goal.loop-actor-preserved
-loop-actor-preserved c = λ d plan h playing.
-    let on = c.loop-actor.invariant d plan h playing in
+loop-actor-preserved c = λ d plan h playing none.
+    let on = c.loop-actor.invariant d plan h playing none in
     let part = c.in_ok-idle.ensures.ran d (plan_through plan (events_of on.1.parts)) (events_of on.1.parts ++ h) on.1.playing in
     part_on d h plan c.loop-actor.world c.run_part.new.world c.loop-actor.idle _ c.loop-actor.from c.in-Some.place c.in-Some-checked_add.next c.in-Some.actor
     c.args.text.now.items c.loop-actor.text.items c.run_part.new.text.items on c.in-Some.ensures part (omega arith) c.in-Some-checked_add.ensures.1

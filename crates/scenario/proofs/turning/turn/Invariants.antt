@@ -4,11 +4,12 @@ use Rattle.call_fs.specs.Plan.{Plan}
 use Rattle.mail_world.specs.Generations.{starts_of}
 use Rattle.mail_world.specs.History.{Event}
 use Rattle.scenario.specs.Playing.{IsPlaying}
+use Rattle.scenario.specs.Turns.{NoneBefore}
 use Rattle.scenario.proofs.TurnParts.{GoesOnFrom}
 use Rattle.scenario.proofs.turning.turn.Given as goal
 
 abbrev pub invariant-loop-actor : goal.invariant-loop-actor
-invariant-loop-actor l = (d : Disk) (plan : Plan) (h : List Event) → IsPlaying d l.initial.world plan h
+invariant-loop-actor l = (d : Disk) (plan : Plan) (h : List Event) → IsPlaying d l.initial.world plan h → NoneBefore d h l.first
     → GoesOnFrom d h plan l.world l.idle l.from l.initial.text.items l.text.items
 
 abbrev pub decreases-loop-actor : goal.decreases-loop-actor

@@ -5,29 +5,39 @@ use Rattle.mem_fs.specs.declared.file.Inode.{Inode}
 use Rattle.call_fs.specs.Apply.{effect}
 use Rattle.call_fs.specs.Disk.{Open}
 use Rattle.call_fs.specs.Maps.{put, put_at}
-use Rattle.mem_fs.specs.Tables.{at_name, at_number}
+use Rattle.mem_fs.specs.Tables.{at_name, at_number, texts}
 use Rattle.mem_fs.specs.MemDisk.{Held, disk_of}
 use Rattle.mem_fs.proofs.Uses.{unused_idle}
 use Rattle.mem_fs.proofs.Steps.{sound-created, disk-created}
+use Rattle.mem_fs.proofs.Low.{beside_put}
 use Rattle.mem_fs.proofs.store.Store.create.Goals as goal
+
+pub low_after-self-inside-requires-clause-used : goal.low_after-self-inside-requires-clause-used
+low_after-self-inside-requires-clause-used c =
+    rw c.deref.ensures.value
+    (beside_put c.self.inside.files.items c.insert-2.new.entries.items c.args.number (record { links = 1; opens = 1; file = c.new.result })
+    (rw (← c.in_ok-reserve.ensures.items) c.insert-2.ensures.value) c.self.inside.low c.self.invariant.2)
 
 pub invariant_of-self-2 : goal.invariant_of-self-2
 invariant_of-self-2 c =
     let free = rw (← c.self.view_is) at c.requires.number in
-    let closed : at_number c.self.inside.opens.items c.args.fd.0 ≡ None = rw (← c.self.view_is) at c.requires.descriptor.not_open in
-    sound-created c.self.invariant c.insert.new.names.items c.insert-2.new.entries.items c.insert-3.new.entries.items c.args.number c.created.result c.new.result
-    (unused_idle _ c.self.invariant c.args.number free.1)
-    c.insert.ensures.in_order (λ m. rw (← c.in_ok-reserve.ensures.items) (c.insert.ensures.count (λ e. nat_eq e.1 m)))
-    c.insert-2.ensures.in_order (rw (← c.in_ok-reserve-2.ensures.items) c.insert-2.ensures.value)
-    c.insert-3.ensures.in_order (λ m. rw (← c.in_ok-reserve-3.ensures.items) (c.insert-3.ensures.count (λ e. nat_eq e.1.number m) (ap (λ (es : List (ℕ × Open)). at_number es c.args.fd.0) c.in_ok-reserve-3.ensures.items ∙ closed)))
-    (ap (λ (o : Open). o.number) c.created.ensures)
+    let closed : at_number c.self.inside.opens.items c.args.fd.0 ≡ None = rw (← c.self.view_is) at c.requires.descriptor.not_open in (
+      sound-created c.self.invariant.0 (texts c.insert.new.names.entries) c.insert-2.new.entries.items c.insert-3.new.entries.items c.args.number c.created.result c.new.result
+          (unused_idle _ c.self.invariant.0 c.args.number free.1)
+          c.insert.ensures.in_order c.in_ok-insert.ensures.count
+          c.insert-2.ensures.in_order (rw (← c.in_ok-reserve.ensures.items) c.insert-2.ensures.value)
+          c.insert-3.ensures.in_order (λ m. rw (← c.in_ok-reserve-2.ensures.items) (c.insert-3.ensures.count (λ e. nat_eq e.1.number m) (ap (λ (es : List (ℕ × Open)). at_number es c.args.fd.0) c.in_ok-reserve-2.ensures.items ∙ closed)))
+          (ap (λ (o : Open). o.number) c.created.ensures),
+      c.low_after-self-inside.ensures.positive,
+      rw c.deref.ensures.value at c.low_after-self-inside.ensures.used,
+    )
 
 pub returns-clause-ok : goal.returns-clause-ok
 returns-clause-ok c =
-    let named : at_name c.insert.new.names.items ≡ put_at (at_name c.self.inside.names.items) c.args.name.now (Some c.args.number) =
-    c.insert.ensures.value ∙ ap (λ (es : List (List ℕ × ℕ)). put_at (at_name es) c.in_ok-name.name (Some c.args.number)) c.in_ok-reserve.ensures.items ∙ ap (λ (x : List ℕ). put_at (at_name c.self.inside.names.items) x (Some c.args.number)) c.in_ok-name.ensures in
-    disk-created _ c.insert.new.names.items c.insert-2.new.entries.items c.insert-3.new.entries.items c.args.now c.args.name.now c.args.fd c.args.number (record { links = 1; opens = 1; file = c.new.result }) c.created.result
+    let named : at_name (texts c.insert.new.names.entries) ≡ put_at (at_name (texts c.self.inside.names.entries)) c.args.name.now (Some c.args.number) =
+    c.in_ok-insert.ensures.value ∙ ap (λ (x : List ℕ). put_at (at_name (texts c.self.inside.names.entries)) x (Some c.args.number)) c.in_ok-name.ensures.items in
+    disk-created _ (texts c.insert.new.names.entries) c.insert-2.new.entries.items c.insert-3.new.entries.items c.args.now c.args.name.now c.args.fd c.args.number (record { links = 1; opens = 1; file = c.new.result }) c.created.result
     named
-    (c.insert-2.ensures.value ∙ ap (λ (es : List (ℕ × Inode)). put (at_number es) c.args.number (Some (record { links = 1; opens = 1; file = c.new.result }))) c.in_ok-reserve-2.ensures.items) c.new.ensures
-    (c.insert-3.ensures.value ∙ ap (λ (es : List (ℕ × Open)). put (at_number es) c.args.fd.0 (Some c.created.result)) c.in_ok-reserve-3.ensures.items) c.created.ensures
+    (c.insert-2.ensures.value ∙ ap (λ (es : List (ℕ × Inode)). put (at_number es) c.args.number (Some (record { links = 1; opens = 1; file = c.new.result }))) c.in_ok-reserve.ensures.items) c.new.ensures
+    (c.insert-3.ensures.value ∙ ap (λ (es : List (ℕ × Open)). put (at_number es) c.args.fd.0 (Some c.created.result)) c.in_ok-reserve-2.ensures.items) c.created.ensures
     ∙ ap (λ (h : Held). effect (disk_of h) c.args.now (CreateExcl c.args.name.now) (Created c.args.fd c.args.number) 0) c.self.view_is

@@ -1,12 +1,13 @@
+use Rattle.std.proofs.Common.{arith}
 use Rattle.mem_fs.proofs.HaltedDisk.{sound-halted, disk-halted}
 use Rattle.mem_fs.proofs.store.Store.halt.Goals as goal
 
 pub invariant_of-self : goal.invariant_of-self
 invariant_of-self c =
-    rw (c.in_ok-files.ensures.value, c.deref.ensures.value, c.clear.ensures.items) (sound-halted c.args.how _ c.self.invariant)
+    (rw (c.in_ok-files.ensures.value, c.deref.ensures.value, c.clear.ensures.items) (sound-halted c.args.how _ c.self.invariant.0), omega arith, λ n positive lt. absurd (omega (arith, positive, lt)))
 
 pub returns-clause-ok : goal.returns-clause-ok
 returns-clause-ok c =
     let all = rw c.deref.ensures.value at c.in_ok-files.ensures.survivors in
     rw (c.in_ok-files.ensures.value, c.deref.ensures.value, c.clear.ensures.items)
-    (rw (← c.self.view_is) (disk-halted c.args.how _ c.self.invariant all))
+    (rw (← c.self.view_is) (disk-halted c.args.how _ c.self.invariant.0 all))

@@ -8,9 +8,9 @@ use Rattle.mem_fs.proofs.store.Store.least_free.Goals as goal
 pub returns-clause-some : goal.returns-clause-some
 returns-clause-some c =
     subst (λ h. IfSome c.least_idle.result (IsLeastFree (disk_of h))) c.self.view_is
-    (least_free_from c.self.invariant c.least_idle.result (rw c.deref.ensures.value at c.least_idle.ensures.some))
+    (least_free_from c.self.invariant.0 c.least_idle.result (rw c.deref.ensures.value at c.least_idle.ensures.some))
 
 pub returns-clause-none : goal.returns-clause-none
 returns-clause-none c =
     subst (λ h. IfNone c.least_idle.result (NoneFree (disk_of h))) c.self.view_is
-    (none_free_from c.self.invariant c.least_idle.result (rw c.deref.ensures.value at c.least_idle.ensures.none))
+    (none_free_from c.self.invariant.0 c.least_idle.result (rw c.deref.ensures.value at c.least_idle.ensures.none))

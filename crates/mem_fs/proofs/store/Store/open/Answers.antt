@@ -1,34 +1,39 @@
-use Rattle.std.proofs.Common.{◌≡◌, ℕ, List, Some, None, nat_eq, ap, refl, sym, ◌∙◌}
+use Rattle.std.proofs.Common.{◌≡◌, ℕ, List, Some, None, nat_eq, ap, refl, sym, ◌∙◌, arith}
 use Rattle.call_fs.specs.declared.calls.CallData.TheVariants.{Open}
 use Rattle.call_fs.specs.declared.calls.Answer.TheVariants.{Opened}
 use Rattle.call_fs.specs.Disk.{Open as OpenFile}
 use Rattle.call_fs.specs.Apply.{effect}
 use Rattle.call_fs.specs.Maps.{put}
-use Rattle.mem_fs.specs.Tables.{at_name, at_number}
+use Rattle.mem_fs.specs.Tables.{at_name, at_number, texts}
 use Rattle.mem_fs.specs.MemDisk.{Held, disk_of, opened_inode}
 use Rattle.mem_fs.proofs.Uses.{named_entry}
 use Rattle.mem_fs.proofs.Steps.{sound-opened, files-same, disk-opened}
+use Rattle.mem_fs.proofs.Low.{used_change}
 use Rattle.mem_fs.proofs.store.Store.open.Goals as goal
 
 pub add_open-requires-clause-there : goal.add_open-requires-clause-there
 add_open-requires-clause-there c =
-    let found : at_name c.self.inside.names.items c.args.name.now ≡ Some c.unwrap-number.result = ap (λ (es : List (List ℕ × ℕ)). at_name es c.args.name.now) (sym c.deref.ensures.value) ∙ sym c.number_of.ensures ∙ c.unwrap-number.ensures in
-    named_entry _ c.self.invariant c.args.name.now c.unwrap-number.result found
+    let found : at_name (texts c.self.inside.names.entries) c.args.name.now ≡ Some c.unwrap-number.result = sym c.number_of.ensures ∙ c.unwrap-number.ensures in
+    named_entry _ c.self.invariant.0 c.args.name.now c.unwrap-number.result found
 
 pub invariant_of-self-2 : goal.invariant_of-self-2
 invariant_of-self-2 c =
-    let found : at_name c.self.inside.names.items c.args.name.now ≡ Some c.unwrap-number.result = ap (λ (es : List (List ℕ × ℕ)). at_name es c.args.name.now) (sym c.deref.ensures.value) ∙ sym c.number_of.ensures ∙ c.unwrap-number.ensures in
-    let closed : at_number c.self.inside.opens.items c.args.fd.0 ≡ None = rw (← c.self.view_is) at c.requires.descriptor.not_open in
-    sound-opened c.self.invariant c.add_open.new.files.items c.insert.new.entries.items c.unwrap-number.result c.opened.result
-    (named_entry _ c.self.invariant c.args.name.now c.unwrap-number.result found)
-    c.insert.ensures.in_order (λ m. rw (← c.in_ok-reserve.ensures.items) (c.insert.ensures.count (λ e. nat_eq e.1.number m) (ap (λ (es : List (ℕ × OpenFile)). at_number es c.args.fd.0) c.in_ok-reserve.ensures.items ∙ closed)))
-    (ap (λ (o : OpenFile). o.number) c.opened.ensures) c.add_open.ensures
+    let found : at_name (texts c.self.inside.names.entries) c.args.name.now ≡ Some c.unwrap-number.result = sym c.number_of.ensures ∙ c.unwrap-number.ensures in
+    let closed : at_number c.self.inside.opens.items c.args.fd.0 ≡ None = rw (← c.self.view_is) at c.requires.descriptor.not_open in (
+      sound-opened c.self.invariant.0 c.add_open.new.files.items c.insert.new.entries.items c.unwrap-number.result c.opened.result
+          (named_entry _ c.self.invariant.0 c.args.name.now c.unwrap-number.result found)
+          c.insert.ensures.in_order (λ m. rw (← c.in_ok-reserve.ensures.items) (c.insert.ensures.count (λ e. nat_eq e.1.number m) (ap (λ (es : List (ℕ × OpenFile)). at_number es c.args.fd.0) c.in_ok-reserve.ensures.items ∙ closed)))
+          (ap (λ (o : OpenFile). o.number) c.opened.ensures) c.add_open.ensures,
+      c.self.invariant.1,
+      used_change c.self.inside.files.items c.add_open.new.files.items c.unwrap-number.result opened_inode (named_entry _ c.self.invariant.0 c.args.name.now c.unwrap-number.result found) c.add_open.ensures
+          (λ i. (omega arith, omega arith)) c.self.inside.low c.self.invariant.2,
+    )
 
 pub returns-clause-ok : goal.returns-clause-ok
 returns-clause-ok c =
-    let found : at_name c.self.inside.names.items c.args.name.now ≡ Some c.unwrap-number.result = ap (λ (es : List (List ℕ × ℕ)). at_name es c.args.name.now) (sym c.deref.ensures.value) ∙ sym c.number_of.ensures ∙ c.unwrap-number.ensures in
+    let found : at_name (texts c.self.inside.names.entries) c.args.name.now ≡ Some c.unwrap-number.result = sym c.number_of.ensures ∙ c.unwrap-number.ensures in
     disk-opened _ c.add_open.new.files.items c.insert.new.entries.items c.args.name.now c.args.how c.args.fd c.unwrap-number.result c.opened.result
     found
-    (files-same c.self.inside.files.items c.add_open.new.files.items c.unwrap-number.result opened_inode (λ i. refl) (named_entry _ c.self.invariant c.args.name.now c.unwrap-number.result found) c.add_open.ensures)
+    (files-same c.self.inside.files.items c.add_open.new.files.items c.unwrap-number.result opened_inode (λ i. refl) (named_entry _ c.self.invariant.0 c.args.name.now c.unwrap-number.result found) c.add_open.ensures)
     (c.insert.ensures.value ∙ ap (λ (es : List (ℕ × OpenFile)). put (at_number es) c.args.fd.0 (Some c.opened.result)) c.in_ok-reserve.ensures.items) c.opened.ensures
     ∙ ap (λ (h : Held). effect (disk_of h) 0 (Open c.args.name.now c.args.how) (Opened c.args.fd) 0) c.self.view_is

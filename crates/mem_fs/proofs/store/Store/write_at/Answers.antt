@@ -4,21 +4,27 @@ use Rattle.call_fs.specs.Apply.{changed, overwritten}
 use Rattle.mem_fs.specs.Tables.{at_number}
 use Rattle.mem_fs.specs.MemDisk.{Held, disk_of}
 use Rattle.mem_fs.proofs.Steps.{open_entry, sound-file_or, disk-changed}
+use Rattle.mem_fs.proofs.Low.{used_file_or}
 use Rattle.mem_fs.proofs.store.Store.write_at.Goals as goal
 
 pub overwrite-requires-clause-there : goal.overwrite-requires-clause-there
-overwrite-requires-clause-there c = open_entry c.self.invariant c.args.fd.0 c.opened-number.result (rw (← c.self.view_is) at c.opened-number.ensures)
+overwrite-requires-clause-there c = open_entry c.self.invariant.0 c.args.fd.0 c.opened-number.result (rw (← c.self.view_is) at c.opened-number.ensures)
 
 pub invariant_of-self : goal.invariant_of-self
-invariant_of-self c =
-    sound-file_or c.self.invariant c.overwrite.new.files.items c.opened-number.result (overwritten c.args.now c.args.at c.args.bytes.now) c.overwrite.result
-    (open_entry c.self.invariant c.args.fd.0 c.opened-number.result (rw (← c.self.view_is) at c.opened-number.ensures))
-    c.overwrite.ensures.ok c.overwrite.ensures.err
+invariant_of-self c = (
+  sound-file_or c.self.invariant.0 c.overwrite.new.files.items c.opened-number.result (overwritten c.args.now c.args.at c.args.bytes.now) c.overwrite.result
+      (open_entry c.self.invariant.0 c.args.fd.0 c.opened-number.result (rw (← c.self.view_is) at c.opened-number.ensures))
+      c.overwrite.ensures.ok c.overwrite.ensures.err,
+  c.self.invariant.1,
+  used_file_or c.self.inside.files.items c.overwrite.new.files.items c.opened-number.result (overwritten c.args.now c.args.at c.args.bytes.now) c.overwrite.result
+      (open_entry c.self.invariant.0 c.args.fd.0 c.opened-number.result (rw (← c.self.view_is) at c.opened-number.ensures))
+      c.overwrite.ensures.ok c.overwrite.ensures.err c.self.inside.low c.self.invariant.2,
+)
 
 pub returns-clause-ok : goal.returns-clause-ok
 returns-clause-ok c =
     let f = overwritten c.args.now c.args.at c.args.bytes.now in
     on_ok_weaker c.overwrite.result
-    (λ changes. disk-changed c.self.invariant c.overwrite.new.files.items c.args.fd.0 c.opened-number.result f (rw (← c.self.view_is) at c.opened-number.ensures) changes
+    (λ changes. disk-changed c.self.invariant.0 c.overwrite.new.files.items c.args.fd.0 c.opened-number.result f (rw (← c.self.view_is) at c.opened-number.ensures) changes
     ∙ ap (λ (h : Held). changed (disk_of h) (at_number h.opens c.args.fd.0) f) c.self.view_is)
     c.overwrite.ensures.ok

@@ -1,4 +1,4 @@
-use Rattle.std.proofs.Common.{◌≡◌, ℕ, ◌+◌, ◌<◌, ◌≤◌, List, drop, length, take, Some, None, sym, ap, ◌∙◌, subst, arith, rules}
+use Rattle.std.proofs.Common.{◌≡◌, ℕ, ◌+◌, ◌<◌, ◌≤◌, List, drop, length, take, Some, None, sym, subst, arith, rules}
 use Rattle.std.specs.Prelude.{slice_get}
 use Rattle.std.proofs.lemmas.Option.{get_or_from_slice_get}
 use Rattle.queue_law.specs.Books.{Books}
@@ -19,13 +19,11 @@ loop-at-preserved c =
     elim c.match-get.branch [
       | in-Some+in_ok-enter_mark w ↦
           let m : Mark = w.in-Some.mark.now in
-          let there : slice_get marks at ≡ Some m = search rules in (
-            ap (λ (f : Fates). f.sender) w.self-is ∙ w.enter_mark.ensures.sender ∙ c.loop-at.invariant.0,
-            λ books h.
-                subst (λ (f : Fates). AreFates f (entered_of c.args.channel (drop before (take (at + 1) marks)) books)) (sym w.self-is)
-                (subst (λ (b : Books). AreFates w.enter_mark.new.self b) (sym (entered_more c.args.channel marks before at m books low high (sym (get_or_from_slice_get marks at m m there))))
-                (w.in_ok-enter_mark.ensures.books (entered_of c.args.channel (drop before (take at marks)) books) (c.loop-at.invariant.1 books h))),
-          )
+          let there : slice_get marks at ≡ Some m = search rules in
+          λ books h.
+          subst (λ (f : Fates). AreFates f (entered_of c.args.channel (drop before (take (at + 1) marks)) books)) (sym w.self-is)
+          (subst (λ (b : Books). AreFates w.enter_mark.new.self b) (sym (entered_more c.args.channel marks before at m books low high (sym (get_or_from_slice_get marks at m m there))))
+          (w.in_ok-enter_mark.ensures (entered_of c.args.channel (drop before (take at marks)) books) (c.loop-at.invariant books h)))
       | in_default w ↦
           let none : slice_get marks at ≡ None = search rules in
           absurd (not_past marks at high none)

@@ -1,4 +1,4 @@
-use Rattle.std.proofs.Common.{◌≡◌, drop, take}
+use Rattle.std.proofs.Common.{drop, take}
 use Rattle.queue_law.specs.Books.{Books}
 use Rattle.scenario.specs.Fates.{AreFates, entered_of}
 use Rattle.scenario.proofs.fates.Fates.enter.Given as goal
@@ -6,5 +6,4 @@ use Rattle.scenario.proofs.fates.Fates.enter.Given as goal
 -- the recipients of the marks so far are entered
 abbrev pub invariant-loop-at : goal.invariant-loop-at
 invariant-loop-at l =
-    (l.self.sender ≡ l.initial.self.sender)
-    × ((books : Books) → AreFates l.initial.self books → AreFates l.self (entered_of l.channel (drop l.before (take l.at l.marks)) books))
+    (books : Books) → AreFates l.initial.self books → AreFates l.self (entered_of l.channel (drop l.before (take l.at l.marks)) books)

@@ -7,25 +7,25 @@ use Rattle.scenario.specs.declared.fates.Tenure.{Tenure}
 use Rattle.scenario.proofs.Lives.{enters_at, enters_nowhere, enters_one}
 use Rattle.scenario.proofs.fates.Fates.enter_mark.Goals as goal
 
-pub returns-in_ok-push-clause-books : goal.returns-in_ok-push-clause-books
-returns-in_ok-push-clause-books c = λ books h.
+pub returns-in_ok-push : goal.returns-in_ok-push
+returns-in_ok-push c = λ books h.
     let n = c.args.mark.now.attempt.n in
     let s : KeptSpot = record { channel = c.args.channel; place = c.args.mark.now.attempt.place } in
     let old : Fates = c.args.self.now in
     let was : Tenure = c.in-Some.tenure.now in
     let now : Tenure = record { number = was.number; mail = was.mail; delivered = c.push.new.self } in
-    let new : Fates = record { living = c.get_mut.follows.lender now; over = old.over; sender = old.sender } in
+    let new : Fates = record { living = c.get_mut.follows.lender now; over = old.over } in
     let there : get nat_cmp old.living n ≡ Some was = search rules in
     enters_one old new books n s
     (enters_at old new n s was now there ((c.get_mut.follows.holds now).3 (search rules)) (refl, refl, c.in_ok-push.ensures.items) refl)
     h
 
-pub returns-in_default-clause-books : goal.returns-in_default-clause-books
-returns-in_default-clause-books c = λ books h.
+pub returns-in_default : goal.returns-in_default
+returns-in_default c = λ books h.
     let n = c.args.mark.now.attempt.n in
     let s : KeptSpot = record { channel = c.args.channel; place = c.args.mark.now.attempt.place } in
     let old : Fates = c.args.self.now in
-    let new : Fates = record { living = c.get_mut.follows.lender-at-none; over = old.over; sender = old.sender } in
+    let new : Fates = record { living = c.get_mut.follows.lender-at-none; over = old.over } in
     let stays = c.get_mut.follows.holds-at-none in
     let there : get nat_cmp old.living n ≡ None = search rules in
     enters_one old new books n s (enters_nowhere old new n s there (λ k. ap (λ m. get nat_cmp m k) stays) refl) h

@@ -9,16 +9,16 @@ use Rattle.scenario.specs.declared.fates.Tenure.{Tenure}
 use Rattle.scenario.proofs.Lives.{begins_at, linked_one, unlinked}
 use Rattle.scenario.proofs.fates.Fates.link.Goals as goal
 
-pub returns-in_default-clause-books : goal.returns-in_default-clause-books
-returns-in_default-clause-books c = λ books args past h.
+pub returns-in_default : goal.returns-in_default
+returns-in_default c = λ books args past h.
     let none : number_by c.args.own.now.due c.args.own.now.came ≡ None = search rules in
     unlinked c.args.self.now books c.args.actor.now args past c.args.own.now none h
 
-pub returns-in_ok-push-clause-books : goal.returns-in_ok-push-clause-books
-returns-in_ok-push-clause-books c = λ books args past h.
+pub returns-in_ok-push : goal.returns-in_ok-push
+returns-in_ok-push c = λ books args past h.
     let old : Fates = c.args.self.now in
     let n = c.in-Some.number in
-    let new : Fates = record { living = c.insert.new.self; over = c.push.new.self; sender = old.sender } in
+    let new : Fates = record { living = c.insert.new.self; over = c.push.new.self } in
     let t : Tenure = record { number = n; mail = c.copy.result; delivered = c.new.result } in
     let some : number_by c.args.own.now.due c.args.own.now.came ≡ Some n = search rules in
     let had : get nat_cmp old.living n ≡ Some c.in-Some-2.before = search rules in
@@ -27,11 +27,11 @@ returns-in_ok-push-clause-books c = λ books args past h.
     (c.in_ok-push.ensures.items ∙ ap (λ (o : Option Tenure). old.over.items ++ option_to_list o) (sym had)))
     h
 
-pub returns-in_default-2-clause-books : goal.returns-in_default-2-clause-books
-returns-in_default-2-clause-books c = λ books args past h.
+pub returns-in_default-2 : goal.returns-in_default-2
+returns-in_default-2 c = λ books args past h.
     let old : Fates = c.args.self.now in
     let n = c.in-Some.number in
-    let new : Fates = record { living = c.insert.new.self; over = old.over; sender = old.sender } in
+    let new : Fates = record { living = c.insert.new.self; over = old.over } in
     let t : Tenure = record { number = n; mail = c.copy.result; delivered = c.new.result } in
     let some : number_by c.args.own.now.due c.args.own.now.came ≡ Some n = search rules in
     let had : get nat_cmp old.living n ≡ None = search rules in

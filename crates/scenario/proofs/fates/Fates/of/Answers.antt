@@ -1,5 +1,4 @@
-use Rattle.scenario.proofs.Followed.{next_follows}
 use Rattle.scenario.proofs.fates.Fates.of.Goals as goal
 
-pub loop-event-preserved : goal.loop-event-preserved
-loop-event-preserved c = next_follows c.loop-event.fates c.note.new.self c.args.events.now c.loop-event.event-index c.event-item.result c.loop-event-test.true c.event-item.is c.in_ok-note.ensures c.loop-event.invariant
+pub returns : goal.returns
+returns c = λ d now present h history mails. (c.in_ok-fates.ensures d now present h history mails).fates

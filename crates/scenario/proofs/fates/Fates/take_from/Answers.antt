@@ -13,4 +13,4 @@ returns-clause-books c =
     subst (AreFates c.enter.new.self)
     (taking_is past c.args.own.now c.args.channel books old new c.len-before.result c.marks-2.result.now due takes stands (c.in_ok-go_on.ensures past due stands) (search rules) (search rules))
     (enters books h))
-    c.enter.ensures.books
+    c.enter.ensures

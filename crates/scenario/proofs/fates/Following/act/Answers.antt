@@ -1,9 +1,9 @@
-use Rattle.std.proofs.Common.{◌≡◌, true, false, bytes_eq, Contains, sym, subst, rules, tests}
+use Rattle.std.proofs.Common.{◌≡◌, true, false, bytes_eq, Contains, refl, sym, subst, rules, tests}
 use Rattle.std.specs.Prelude.{codes}
 use Rattle.std.proofs.lemmas.Result.{on_ok_weaker}
 use Rattle.actor_names.specs.MailNames.{members}
 use Rattle.scenario.proofs.Followed.{apart_by, follows_mail, follows_member}
-use Rattle.scenario.proofs.fates.Fates.act.Goals as goal
+use Rattle.scenario.proofs.fates.Following.act.Goals as goal
 
 pub returns-then-is_member : goal.returns-then-is_member
 returns-then-is_member c =
@@ -16,5 +16,5 @@ returns-else-is_member c =
     let apart : ¬ (Contains members c.args.actor.now) = λ m. let both : false ≡ true = c.if-is_member.ensures.1 (subst (Contains members) (sym c.as_slice-name.ensures) m) in absurd (cc) in
     on_ok_weaker c.link.result
     (λ link s wrote named moment does h.
-    follows_mail c.args.self.now c.link.new.self s c.args.actor.now c.args.own.now wrote named apart c.link.ensures.sender link does h)
-    c.link.ensures.books
+    follows_mail c.args.self.now (record { fates = c.link.new.self; sender = c.args.self.now.sender }) s c.args.actor.now c.args.own.now wrote named apart refl link does h)
+    c.link.ensures

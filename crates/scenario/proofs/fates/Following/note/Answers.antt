@@ -1,15 +1,15 @@
 use Rattle.std.proofs.Common.{Some, ⊎_elim, refl}
 use Rattle.world_events.specs.declared.event.Event.TheVariants as kept
-use Rattle.scenario.specs.declared.fates.Fates.{Fates}
+use Rattle.scenario.specs.declared.fates.Following.{Following}
 use Rattle.scenario.proofs.Followed.{generation_told, other_told}
-use Rattle.scenario.proofs.fates.Fates.note.Goals as goal
+use Rattle.scenario.proofs.fates.Following.note.Goals as goal
 
 pub returns-in_ok-new-in-Generation : goal.returns-in_ok-new-in-Generation
 returns-in_ok-new-in-Generation c = λ s e named moment mail may tells h.
-    let old : Fates = c.args.self.now in
+    let old : Following = c.args.self.now in
     let m = c.in_ok-new-in-Generation.field-0 in
-    let new : Fates = record { living = old.living; over = old.over; sender = Some m } in
-    generation_told old new s c.args.event.now e c.in-Generation.start m c.in-Generation.is tells refl refl refl c.in_ok-new-in-Generation.ensures.stands h
+    let new : Following = record { fates = old.fates; sender = Some m } in
+    generation_told old new s c.args.event.now e c.in-Generation.start m c.in-Generation.is tells refl refl c.in_ok-new-in-Generation.ensures.stands h
 
 pub returns-in-Start : goal.returns-in-Start
 returns-in-Start c = λ s e named moment mail may tells h. ⊎_elim
