@@ -16,3 +16,5 @@ pub mod HoldsReturn
 pub mod Written
 -- what a return has read and given at each of its rows
 pub mod Injected
+-- notes rest on whole lines
+pub mod Resting

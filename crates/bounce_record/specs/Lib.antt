@@ -14,3 +14,5 @@ pub mod Rows
 pub mod Inside
 -- runs of the two machines, and what a written note leaves on a disk
 pub mod Runs
+-- whole lines that notes rest on
+pub mod Resting

@@ -2,6 +2,7 @@
 ghost use Rattle.std.specs.Prelude.{◌≡◌, ◌≢◌, ◌↔◌, ◌++◌, ◌∷◌, ◌+◌, ◌-◌, ◌≤◌, [], ℕ, List, Some, codes, length, drop, count_by, if◌then◌else◌, bytes_eq};
 ghost use Rattle.bounce_record.specs.Bounces.{return_address};
 ghost use Rattle.bounce_record.specs.Notes.{IsSoftened, count, heading, named, note_name, notes_of, parting, softened, with_note};
+ghost use Rattle.bounce_record.specs.Resting.{NotesRest};
 ghost use Rattle.bounce_record.specs.Runs.{CallsUseWhatIsHeld, NotesAreWritten, UnlinksWhatIsReturned};
 
 /// Which newlines of a note become `/`, which lines name which addresses, and where a bounce goes, as relations.
@@ -42,4 +43,11 @@ pub fn written_notes_are_whole()
 /// made on the disk.
 pub fn bounces_are_queued_first()
     ensures { UnlinksWhatIsReturned }
+{}
+
+/// Notes rest on whole lines that every version of a bounce file begins with since its last sync. What is put at its end, also in
+/// part, and a machine stop leave them; a sync makes them all that the file then holds. A file that was given a note is whole lines,
+/// and one that begins with whole lines names no one less often than they do.
+pub fn notes_rest_on_whole_lines()
+    ensures { NotesRest }
 {}

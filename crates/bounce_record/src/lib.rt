@@ -26,10 +26,10 @@ pub use bounce_sender::BounceSender;
 pub use bounces::{Bounce, bounce_message};
 pub use laws::{
     bounces_are_queued_first, calls_use_what_is_held, notes_are_counted, notes_are_exact,
-    written_notes_are_whole,
+    notes_rest_on_whole_lines, written_notes_are_whole,
 };
 pub use lines::add_returned;
 pub use note_row::NoteRow;
 pub use note_writer::NoteWriter;
-pub use notes::{late_report, note, notes_of};
+pub use notes::{late_report, note, note_name, notes_of};
 pub use return_row::ReturnRow;

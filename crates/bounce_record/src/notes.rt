@@ -43,6 +43,15 @@ fn plain_note(alloc: Global, address: &[u8], report: &[u8]) -> Result<Vec<u8>, M
     Ok(text)
 }
 
+/// An address as a note names it: each newline as `_`.
+pub fn note_name(alloc: Global, address: &[u8]) -> Result<ByteText, Memory>
+    ensures { IfOk result (λ name. name ≡ note_name address.now) }
+{
+    let mut name = Vec::new(alloc);
+    put_name(&mut name, address)?;
+    Ok(ByteText::from_vec(name))
+}
+
 /// Puts an address at the end of a text, each newline as `_`.
 fn put_name(text: &mut Vec<u8>, address: &[u8]) -> Result<(), Memory>
     ensures { OnOk result (text.new.items ≡ text.old.items ++ note_name address.now) }

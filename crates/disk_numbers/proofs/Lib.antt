@@ -6,5 +6,7 @@ pub mod Gathered
 pub mod NumbersInUse
 -- where each record stands, as one recipient more comes
 pub mod Recorded
+-- the names of which a file has notes
+pub mod Naming
 -- what holds of the recipients of an envelope, as its bytes are read
 pub mod Envelopes

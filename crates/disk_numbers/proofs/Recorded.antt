@@ -15,7 +15,7 @@ use Rattle.todo_pass.specs.Places.{place_by}
 use Rattle.todo_pass.specs.Sorting.{channel_text, local_of, remote_of, locals_of, remotes_of}
 use Rattle.disk_numbers.specs.declared.routes.Lanes.{Lanes}
 use Rattle.disk_numbers.specs.declared.routes.Routed.{Routed}
-use Rattle.disk_numbers.specs.Routes.{routed_after, routes_after, routes_in, AreLanes}
+use Rattle.disk_numbers.specs.Routes.{put_there, routed_after, routes_after, routes_in, AreLanes}
 
 -- what holds if all went well
 pub on_ok_both : {T E : Type 0} (P Q : Type 0) (r : Result T E) → OnOk r P → OnOk r Q → OnOk r (P × Q)
@@ -41,40 +41,36 @@ routes_push controls earlier (x ∷ recipients) r =
     ap (λ l. routed_after controls earlier x ∷ l) (routes_push controls (earlier ++ x ∷ []) recipients r
     ∙ ap (λ l. routes_after controls (earlier ++ x ∷ []) recipients ++ routed_after controls l r ∷ []) (append_assoc earlier (x ∷ []) recipients))
 
--- the record of an address on a channel, with this place
-abbrev pub put_there : Channel → ℕ → List ℕ → Routed
-put_there c place address = record { channel = c; place = place; text = record_of address }
-
 routed_as : (controls : Controls) (recipients : List (List ℕ)) (r : List ℕ) (way : Route) → route_of controls r ≡ way
-    → routed_after controls recipients r ≡ put_there (channel_of way) (place_by controls recipients way) (address_in way)
-routed_as controls recipients r way is = ap (λ (w : Route). put_there (channel_of w) (place_by controls recipients w) (address_in w)) is
+    → routed_after controls recipients r ≡ put_there controls (channel_of way) (place_by controls recipients way) (address_in way)
+routed_as controls recipients r way is = ap (λ (w : Route). put_there controls (channel_of w) (place_by controls recipients w) (address_in w)) is
 
 pub added_local : (controls : Controls) (recipients : List (List ℕ)) (r address : List ℕ) (old new : Lanes) → AreLanes controls recipients old → route.Local address ≡ route_of controls r
     → new.local.items ≡ old.local.items ++ record_of address → new.remote ≡ old.remote
-    → new.routed.items ≡ old.routed.items ++ put_there (channel_of (route.Local address)) (length old.local.items) address ∷ []
+    → new.routed.items ≡ old.routed.items ++ put_there controls (channel_of (route.Local address)) (length old.local.items) address ∷ []
     → AreLanes controls (recipients ++ r ∷ []) new
 added_local controls recipients r address old new are way text other routed = record {
   local = text ∙ ap (λ (l : List ℕ). l ++ record_of address) are.local ∙ sym (text_push (locals_of controls recipients) address)
       ∙ ap (λ (w : Route). channel_text (locals_of controls recipients ++ cons_option (local_of w) [])) way ∙ sym (locals_push controls recipients r);
   remote = ap (λ v. v.items) other ∙ are.remote ∙ ap channel_text (sym (append-nil (remotes_of controls recipients)))
       ∙ ap (λ (w : Route). channel_text (remotes_of controls recipients ++ cons_option (remote_of w) [])) way ∙ sym (remotes_push controls recipients r);
-  routed = routed ∙ ap (λ (l : List Routed). l ++ put_there (channel_of (route.Local address)) (length old.local.items) address ∷ []) are.routed
-      ∙ ap (λ (t : List ℕ). routes_in controls recipients ++ put_there (channel_of (route.Local address)) (length t) address ∷ []) are.local
+  routed = routed ∙ ap (λ (l : List Routed). l ++ put_there controls (channel_of (route.Local address)) (length old.local.items) address ∷ []) are.routed
+      ∙ ap (λ (t : List ℕ). routes_in controls recipients ++ put_there controls (channel_of (route.Local address)) (length t) address ∷ []) are.local
       ∙ ap (λ (x : Routed). routes_in controls recipients ++ x ∷ []) (sym (routed_as controls recipients r (route.Local address) (sym way)))
       ∙ sym (routes_push controls [] recipients r);
 }
 
 pub added_remote : (controls : Controls) (recipients : List (List ℕ)) (r address : List ℕ) (old new : Lanes) → AreLanes controls recipients old → route.Remote address ≡ route_of controls r
     → new.remote.items ≡ old.remote.items ++ record_of address → new.local ≡ old.local
-    → new.routed.items ≡ old.routed.items ++ put_there (channel_of (route.Remote address)) (length old.remote.items) address ∷ []
+    → new.routed.items ≡ old.routed.items ++ put_there controls (channel_of (route.Remote address)) (length old.remote.items) address ∷ []
     → AreLanes controls (recipients ++ r ∷ []) new
 added_remote controls recipients r address old new are way text other routed = record {
   local = ap (λ v. v.items) other ∙ are.local ∙ ap channel_text (sym (append-nil (locals_of controls recipients)))
       ∙ ap (λ (w : Route). channel_text (locals_of controls recipients ++ cons_option (local_of w) [])) way ∙ sym (locals_push controls recipients r);
   remote = text ∙ ap (λ (l : List ℕ). l ++ record_of address) are.remote ∙ sym (text_push (remotes_of controls recipients) address)
       ∙ ap (λ (w : Route). channel_text (remotes_of controls recipients ++ cons_option (remote_of w) [])) way ∙ sym (remotes_push controls recipients r);
-  routed = routed ∙ ap (λ (l : List Routed). l ++ put_there (channel_of (route.Remote address)) (length old.remote.items) address ∷ []) are.routed
-      ∙ ap (λ (t : List ℕ). routes_in controls recipients ++ put_there (channel_of (route.Remote address)) (length t) address ∷ []) are.remote
+  routed = routed ∙ ap (λ (l : List Routed). l ++ put_there controls (channel_of (route.Remote address)) (length old.remote.items) address ∷ []) are.routed
+      ∙ ap (λ (t : List ℕ). routes_in controls recipients ++ put_there controls (channel_of (route.Remote address)) (length t) address ∷ []) are.remote
       ∙ ap (λ (x : Routed). routes_in controls recipients ++ x ∷ []) (sym (routed_as controls recipients r (route.Remote address) (sym way)))
       ∙ sym (routes_push controls [] recipients r);
 }

@@ -4,3 +4,5 @@ pub mod Numbers
 pub mod Controls
 -- where the record of each recipient stands
 pub mod Routes
+-- what the files of a message tell of a recipient
+pub mod Records

@@ -1,22 +1,26 @@
 -- Where the record of each recipient of a mail stands once it is preprocessed.
 use Rattle.std.specs.Prelude.{◌≡◌, ℕ, List, [], ◌∷◌, ◌++◌}
 use Rattle.address_rules.specs.declared.controls.Controls.{Controls}
+use Rattle.address_rules.specs.Names.{stripped}
 use Rattle.address_rules.specs.Routes.{address_in, route_of}
+use Rattle.bounce_record.specs.Notes.{note_name}
 use Rattle.envelope_records.specs.Envelope.{record_of}
 use Rattle.queue_law.specs.Routes.{channel_of}
+use Rattle.send_jobs.specs.declared.channels.Channel.{Channel}
 use Rattle.todo_pass.specs.Places.{place_by}
 use Rattle.todo_pass.specs.Sorting.{channel_text, locals_of, remotes_of}
 use Rattle.disk_numbers.specs.declared.routes.Lanes.{Lanes}
 use Rattle.disk_numbers.specs.declared.routes.Routed.{Routed}
 
--- That of an address that comes after these in the envelope: its channel, the place there, and `T`, the routed address, NUL.
--- Both `a@x`, which is local, and `b@y`, which isn't, are at place 0.
+-- the record of a routed address at this place of a channel's file: `T`, the address, NUL; and the name by which a note tells it
+abbrev pub put_there : Controls → Channel → ℕ → List ℕ → Routed
+put_there controls c place address = record { channel = c; place = place; text = record_of address; name = note_name (stripped controls.virtual_domains address) }
+
+-- That of an address that comes after these in the envelope, in the file of its channel. Both `a@x`, which is local, and `b@y`, which
+-- isn't, are at place 0.
 abbrev pub routed_after : Controls → List (List ℕ) → List ℕ → Routed
-routed_after controls earlier address = record {
-  channel = channel_of (route_of controls address);
-  place = place_by controls earlier (route_of controls address);
-  text = record_of (address_in (route_of controls address));
-}
+routed_after controls earlier address =
+    let way = route_of controls address in put_there controls (channel_of way) (place_by controls earlier way) (address_in way)
 
 -- those of these recipients, which come after the others
 abbrev pub routes_after : Controls → List (List ℕ) → List (List ℕ) → List Routed

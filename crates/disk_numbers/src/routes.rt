@@ -2,9 +2,10 @@
 ghost use Rattle.std.specs.Prelude.{◌≡◌, ◌++◌, ◌∷◌, [], List, ℕ, IfOk, OnOk, length};
 ghost use Rattle.envelope_records.specs.Envelope.{record_of};
 ghost use Rattle.queue_inject.specs.Texts.{recipients_of};
-ghost use Rattle.disk_numbers.specs.Routes.{AreLanes, routes_in};
+ghost use Rattle.disk_numbers.specs.Routes.{AreLanes, put_there, routes_in};
 
-use address_rules::{Controls, Route, rewrite};
+use address_rules::{Controls, Route, rewrite, strip_prefix};
+use bounce_record::note_name;
 use envelope_records::{EnvStep, EnvelopeReader};
 use mail_bytes::{ByteText, Memory};
 use queue_inject::Arguments;
@@ -21,6 +22,8 @@ pub struct Routed {
     pub place: u64,
     /// The record as preprocessing writes it: `T`, the routed address, NUL.
     pub text: ByteText,
+    /// The name by which a note tells the recipient: the routed address without the prefix of its virtual domain.
+    pub name: ByteText,
 }
 
 /// Where the record of each recipient of a mail stands once it is preprocessed under these control files (INTERNALS, "How
@@ -85,6 +88,7 @@ impl Lanes {
         match rewrite(alloc, controls, address)? {
             Route::Local(routed) => put(
                 alloc,
+                controls,
                 &mut self.local,
                 &mut self.routed,
                 Channel::Local,
@@ -92,6 +96,7 @@ impl Lanes {
             ),
             Route::Remote(routed) => put(
                 alloc,
+                controls,
                 &mut self.remote,
                 &mut self.routed,
                 Channel::Remote,
@@ -104,6 +109,7 @@ impl Lanes {
 /// Puts the record of an address at the end of the file of a channel, and where it stands at the end of the list.
 fn put(
     alloc: Global,
+    controls: &Controls,
     text: &mut Vec<u8>,
     routed: &mut Vec<Routed>,
     channel: Channel,
@@ -111,15 +117,17 @@ fn put(
 ) -> Result<(), Memory>
     ensures text { OnOk result (text.new.items ≡ text.old.items ++ record_of address.now) }
     ensures routed { OnOk result (routed.new.items ≡ routed.old.items
-        ++ record { channel = channel; place = length text.old.items; text = record_of address.now } ∷ []) }
+        ++ put_there controls.now channel (length text.old.items) address.now ∷ []) }
 {
     let place = text.len() as u64;
     let own = record_of(alloc, address)?;
+    let name = note_name(alloc, strip_prefix(controls, address))?;
     text.extend_from_slice(own.as_slice())?;
     routed.push(Routed {
         channel,
         place,
         text: own,
+        name,
     })?;
     Ok(())
 }

@@ -32,7 +32,7 @@ use Rattle.queue_law.proofs.Looks.{mapped_some}
 use Rattle.world_events.specs.declared.event.Event.{Event as Kept}
 use Rattle.world_events.specs.declared.event.Program.{Program}
 use Rattle.world_events.specs.declared.event.Program.TheVariants.{Injector}
-use Rattle.mail_world.specs.History.{Event, Actor, Injection, Books, Life, State, MayRun, newborn, next_of, own_call, stopped, acted, finished, begun, accept, linked, booked, books_after, happens, after}
+use Rattle.mail_world.specs.History.{Event, Actor, Injection, Books, Life, State, MayRun, newborn, next_of, own_call, stopped, acted, finished, begun, accept, linked, booked, bouncer_of, books_after, happens, after}
 use Rattle.mail_world.specs.History.Event.{Start, Act, Child, Generation, Report, End, Stop, Moment, Halt}
 use Rattle.mail_world.specs.History.Life.{Over, Stopped}
 use Rattle.mail_world.specs.World.{Tells}
@@ -451,7 +451,7 @@ old_number b a o before n none is = ⊎_elim
 call_told : (h : List Event) (s : State) (b : List ℕ) (read : ℕ) (ready : Ready) (c : CallData) (got : Told) (wrote : ℕ) (program : Program) (past : List Own) (life : Life) → MayRun program
     → s.actors b ≡ Some (record { program = program; past = past; life = life }) → next_of program past read ready ≡ needs.File c → IsMailed (mails_of h) b program
     → EachIn s.books (IsTold h s.actors)
-    → EachIn (books_after s.books b program past read ready (needs.File c) (Answered got))
+    → EachIn (books_after (bouncer_of s b) s.books b program past read ready (needs.File c) (Answered got))
     (IsTold (Act b (own_call read ready c got) wrote ∷ h) (put_at s.actors b (Some (record { program = program; past = own_call read ready c got ∷ past; life = life }))))
 call_told h s b read ready c got wrote (Injector args) past life runs is due mailed all =
     let row = row_after args past in

@@ -105,22 +105,30 @@ module _ (controls : Controls) (s : State) (I : Inv controls s) where
   abbrev KeepsBy : List ℕ → (Option Actor → State) → Option Actor → Type 0
   KeepsBy a change o = KeptBy controls s a (program_of o) (change o)
 
-  -- a call, by the program that makes it
-  called_by : (a : List ℕ) (read : ℕ) (ready : Found) (call : CallData) (told : Told) (wrote : ℕ) (x : Actor)
-      → MayRead s a x read → next_of x.program x.past read ready ≡ needs.File call
-      → Fits s.disk call told.answer wrote → KeepsBy a (called s a read ready call told wrote) (Some x)
-  called_by a read ready call told wrote x reads next fits =
+  -- a call, by the program that makes it, which is no sender's
+  called_on : (a : List ℕ) (read : ℕ) (ready : Found) (call : CallData) (told : Told) (wrote : ℕ) (program : Program) (past : List Own) (life : Life)
+      → MayRead s a (record { program = program; past = past; life = life }) read → next_of program past read ready ≡ needs.File call
+      → Fits s.disk call told.answer wrote → FaresBy s.now (queue s I.role) a program past life
+      → KeepsBy a (called s a read ready call told wrote) (Some (record { program = program; past = past; life = life }))
+  called_on a read ready call told wrote (Injector args) past life reads next fits F =
       let q = queue s I.role in
-      let w = fares_calls controls s.now q a x.program x.past x.life read ready call told wrote I.sound (I.actors a x reads.is) reads.alive reads.no_earlier reads.no_stall next fits in
+      let w = fares_calls controls s.now q a (Injector args) past life read ready call told wrote I.sound F reads.alive reads.no_earlier reads.no_stall next fits in
       record {
-        inv = kept_by a w.number (queue_by q a x.program read call told.answer wrote w.role) s.pipework
-            (with_own x (own_call read ready call told))
+        inv = kept_by a w.number (queue_by q a (Injector args) read call told.answer wrote w.role) s.pipework
+            (record { program = Injector args; past = own_call read ready call told ∷ past; life = life })
             w.elsewhere w.sound (w.early I.early) w.fares;
         outside = w.outside;
         opens = w.elsewhere.opens;
         accepted = w.accepted;
         sorted = w.sorted;
       }
+  called_on a read ready call told wrote other past life reads next fits F = absurd F
+
+  called_by : (a : List ℕ) (read : ℕ) (ready : Found) (call : CallData) (told : Told) (wrote : ℕ) (x : Actor)
+      → MayRead s a x read → next_of x.program x.past read ready ≡ needs.File call
+      → Fits s.disk call told.answer wrote → KeepsBy a (called s a read ready call told wrote) (Some x)
+  called_by a read ready call told wrote x reads next fits =
+      called_on a read ready call told wrote x.program x.past x.life reads next fits (I.actors a x reads.is)
 
   kept_call : (a : List ℕ) (read : ℕ) (ready : Found) (call : CallData) (told : Told) (wrote : ℕ)
       → MayCall s a read ready call told wrote → KeepsBy a (called s a read ready call told wrote) (s.actors a)

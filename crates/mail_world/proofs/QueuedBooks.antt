@@ -30,7 +30,8 @@ use Rattle.queue_paths.proofs.Paths.{exact}
 use Rattle.world_events.specs.declared.event.Event.{Event as Kept}
 use Rattle.world_events.specs.declared.event.Program.{Program}
 use Rattle.world_events.specs.declared.event.Program.TheVariants.{Injector}
-use Rattle.mail_world.specs.History.{Event, Actor, Injection, Books, Life, State, MayRun, next_of, own_call, stopped, acted, finished, begun, accept, linked, booked, books_after, told_by, after}
+use Rattle.mail_world.specs.History.{Event, Actor, Injection, Books, Life, State, MayRun, next_of, own_call, stopped, acted, finished, begun, accept, linked, booked, bouncer_of, books_after, told_by, after}
+use Rattle.queue_law.specs.Books.{Child as Bouncer}
 use Rattle.mail_world.specs.History.Event.{Start, Act, Child, Generation, Report, End, Stop, Moment, Halt}
 use Rattle.mail_world.specs.History.Life.{Over, Stopped}
 use Rattle.mail_world.specs.Waiting.{IsBooked, HasQueued}
@@ -125,25 +126,26 @@ call_linked b a args (call.Unlink name) answer said h mine = h
 call_linked b a args (call.Stat name) answer said h mine = h
 call_linked b a args (call.NextName dir name) answer said h mine = h
 
-program_linked : (b : Books) (a : List ℕ) (program : Program) (past : List Own) (read : ℕ) (ready : Ready) (c : CallData) (got : Told) (said : List ℕ → Bool) → MayRun program → AreLinked b said → (is_accepting c got.answer ≡ true → said a ≡ true)
-    → AreLinked (books_after b a program past read ready (needs.File c) (Answered got)) said
-program_linked b a (Injector args) past read ready c got said runs h mine = call_linked b a args c got.answer said h mine
-program_linked b a other past read ready c got said runs h mine = absurd runs
+program_linked : (child : Option Bouncer) (b : Books) (a : List ℕ) (program : Program) (past : List Own) (read : ℕ) (ready : Ready) (c : CallData) (got : Told) (said : List ℕ → Bool) → MayRun program → AreLinked b said → (is_accepting c got.answer ≡ true → said a ≡ true)
+    → AreLinked (books_after child b a program past read ready (needs.File c) (Answered got)) said
+program_linked child b a (Injector args) past read ready c got said runs h mine = call_linked b a args c got.answer said h mine
+program_linked child b a other past read ready c got said runs h mine = absurd runs
 
 -- what passes between programs changes no books, if it isn't a sender's
-take_books : (b : Books) (program : Program) (past : List Own) (read : ℕ) (ready : Ready) (came : GotData) → MayRun program → told_by b program past read ready came ≡ b
-take_books b (Injector args) past read ready came runs = refl
-take_books b other past read ready came runs = absurd runs
+take_books : (child : Option Bouncer) (b : Books) (program : Program) (past : List Own) (read : ℕ) (ready : Ready) (came : GotData) → MayRun program
+    → told_by child b program past read ready came ≡ b
+take_books child b (Injector args) past read ready came runs = refl
+take_books child b other past read ready came runs = absurd runs
 
-pass_books : (b : Books) (a : List ℕ) (program : Program) (past : List Own) (read : ℕ) (ready : Ready) (due : NeedData) (came : GotData) → MayRun program → IsPass due
-    → books_after b a program past read ready due came ≡ b
-pass_books b a program past read ready (needs.Take port) came runs pass = take_books b program past read ready came runs
-pass_books b a program past read ready (needs.Give port bytes) came runs pass = refl
-pass_books b a program past read ready (needs.Start asked) came runs pass = refl
-pass_books b a program past read ready (needs.Command bytes) came runs pass = refl
-pass_books b a program past read ready (needs.File c) came runs pass = absurd pass
-pass_books b a program past read ready needs.Wait came runs pass = absurd pass
-pass_books b a program past read ready (needs.Ended status) came runs pass = absurd pass
+pass_books : (child : Option Bouncer) (b : Books) (a : List ℕ) (program : Program) (past : List Own) (read : ℕ) (ready : Ready) (due : NeedData) (came : GotData) → MayRun program → IsPass due
+    → books_after child b a program past read ready due came ≡ b
+pass_books child b a program past read ready (needs.Take port) came runs pass = take_books child b program past read ready came runs
+pass_books child b a program past read ready (needs.Give port bytes) came runs pass = refl
+pass_books child b a program past read ready (needs.Start asked) came runs pass = refl
+pass_books child b a program past read ready (needs.Command bytes) came runs pass = refl
+pass_books child b a program past read ready (needs.File c) came runs pass = absurd pass
+pass_books child b a program past read ready needs.Wait came runs pass = absurd pass
+pass_books child b a program past read ready (needs.Ended status) came runs pass = absurd pass
 
 finished_books : (s : State) (b : List ℕ) (life : Life) (o : Option Actor) → (finished s b life o).books ≡ s.books
 finished_books s b life None = refl
@@ -151,7 +153,7 @@ finished_books s b life (Some x) = refl
 
 abbrev LinksOn : State → List ℕ → Own → Type 0
 LinksOn s b own = (x : Actor) → s.actors b ≡ Some x → (said : List ℕ → Bool) → AreLinked s.books said → (is_accepting_by own.due own.came ≡ true → said b ≡ true)
-    → AreLinked (books_after s.books b x.program x.past own.read own.ready own.due own.came) said
+    → AreLinked (books_after (bouncer_of s b) s.books b x.program x.past own.read own.ready own.due own.came) said
 
 linked_told : (d : Disk) (events : List Kept) (h : List Event) → AreLone d h → AllZip Tells events h → AreLinked (after d h).books (λ a. is_accepted a h)
 linked_told d [] [] legal told q is agreed = ⊎_elim (λ w. absurd (cc)) (λ w. absurd w) is
@@ -165,8 +167,8 @@ linked_told d (k ∷ events) ((Act b own wrote) ∷ h) legal told q is agreed =
     let said : List ℕ → Bool = λ a. (bytes_eq b a && t) || is_accepted a h in
     let on : LinksOn s b own =
     by_act s b wrote (LinksOn s b)
-    (λ read ready c got may x here said old mine. program_linked s.books b x.program x.past read ready c got said (runs_always d h legal.0 b x here) old mine)
-    (λ x read ready due came reads next pass y here said old mine. subst (λ (books : Books). AreLinked books said) (sym (pass_books s.books b y.program y.past read ready due came (runs_always d h legal.0 b y here) pass)) old)
+    (λ read ready c got may x here said old mine. program_linked (bouncer_of s b) s.books b x.program x.past read ready c got said (runs_always d h legal.0 b x here) old mine)
+    (λ x read ready due came reads next pass y here said old mine. subst (λ (books : Books). AreLinked books said) (sym (pass_books (bouncer_of s b) s.books b y.program y.past read ready due came (runs_always d h legal.0 b y here) pass)) old)
     own legal.1 in
     let before : AreLinked s.books said =
     λ q is agreed. ap (λ c. (bytes_eq b q.actor && t) || c) (linked_told d events h legal.0 told.1 q is agreed) ∙ or-true (bytes_eq b q.actor && t) in

@@ -31,7 +31,8 @@ use Rattle.queue_paths.specs.Names.{Part, path}
 use Rattle.queue_paths.specs.Names.Name.{Of}
 use Rattle.queue_inject.specs.Table.{Next, has_input}
 use Rattle.queue_clean.specs.Table.{Next as CleansNext}
-use Rattle.send_core.specs.Delivered.{delivered_at}
+use Rattle.queue_law.specs.Books.{Child as Bouncer}
+use Rattle.send_core.specs.Booked.{booked_at}
 use Rattle.send_core.specs.Table.{Next as SendsNext, desk_after, row_now}
 use Rattle.no_mailbox.specs.Table.{Next as AnswersNext}
 use Rattle.remote_spawn.specs.Table.{Next as SpawnsNext}
@@ -43,7 +44,7 @@ use Rattle.mail_world.specs.Pipework.Tenant.{Runs, Remote}
 -- whether an actor's event started a program
 pub use Rattle.world_events.specs.Starting.{starts_program}
 -- the injections of the books
-pub use Rattle.queue_law.specs.Books.{own_call, last_read, Injection, Books, begun, accept, linked, booked, entered_all, held_by}
+pub use Rattle.queue_law.specs.Books.{own_call, last_read, Injection, Books, begun, accept, linked, booked, booked_all, held_by}
 
 -- One event. `own` is an event of the actor's own past, and the start of a child is its parent's too. `wrote` is how many
 -- bytes a failed write had written, or a failed giving had given, which no program is told. A generation is its four
@@ -118,7 +119,23 @@ pub record State : Type 0 where
   pub books : Books
   pub pipework : Pipework
 
--- What they say after a call, by the program that made it. A sender's calls enter nothing.
+-- the injector of a bounce, which a sender has started: in its slot 0
+abbrev pub bouncing : List ℕ → Program → Option Bouncer
+bouncing a (Injector args) = Some (record { actor = a; args = args })
+bouncing a other = None
+
+abbrev pub bouncer_at : List ℕ → Option Actor → Option Bouncer
+bouncer_at a None = None
+bouncer_at a (Some x) = bouncing a x.program
+
+abbrev pub bouncer_in : (List ℕ → Option Actor) → Option Tenant → Option Bouncer
+bouncer_in actors (Some (Runs a)) = bouncer_at a (actors a)
+bouncer_in actors tenant = None
+
+abbrev pub bouncer_of : State → List ℕ → Option Bouncer
+bouncer_of s a = bouncer_in s.actors (s.pipework.programs a 0)
+
+-- What they say after a call, by the program that made it, of injections.
 abbrev pub booked_by : Books → List ℕ → Program → CallData → Answer → Books
 booked_by b a (Injector args) call answer = booked b a args call answer
 booked_by b a (Cleaner start) call answer = b
@@ -126,17 +143,18 @@ booked_by b a (Sender start) call answer = b
 booked_by b a (LocalSpawner start) call answer = b
 booked_by b a (RemoteSpawner start) call answer = b
 
--- What they say after a taking: a sender's enters those of whom the reports that it brings say that they were delivered.
-abbrev pub told_by : Books → Program → List Own → ℕ → Ready → GotData → Books
-told_by b (Injector args) past read ready came = b
-told_by b (Cleaner start) past read ready came = b
-told_by b (Sender start) past read ready came =
-    let d = desk_after None past in entered_all (delivered_at (row_now d read ready) came d) b
-told_by b (LocalSpawner start) past read ready came = b
-told_by b (RemoteSpawner start) past read ready came = b
+-- What a sender did is entered by what came: what the reports of a taking say, a note that is synced, what it reads of a bounce file, a
+-- bounce whose injector ended with 0, and a bounce file that it drops.
+abbrev pub told_by : Option Bouncer → Books → Program → List Own → ℕ → Ready → GotData → Books
+told_by child b (Injector args) past read ready came = b
+told_by child b (Cleaner start) past read ready came = b
+told_by child b (Sender start) past read ready came =
+    let d = desk_after None past in booked_all child (booked_at (row_now d read ready) came d) b
+told_by child b (LocalSpawner start) past read ready came = b
+told_by child b (RemoteSpawner start) past read ready came = b
 
--- What an event of an actor does to the disk, to the descriptors and to the books: a file call its effect, a sender's taking what it
--- enters, any other nothing.
+-- What an event of an actor does to the disk, to the descriptors and to the books: a file call its effect, that and a taking what a
+-- sender enters, any other nothing.
 abbrev pub disk_after : Disk → ℕ → NeedData → GotData → ℕ → Disk
 disk_after d read (needs.File call) (Answered told) wrote = effect d read call told.answer wrote
 disk_after d read due came wrote = d
@@ -145,10 +163,10 @@ abbrev pub holder_after : (ℕ → Option (List ℕ)) → List ℕ → NeedData 
 holder_after holder a (needs.File call) (Answered told) = held_by holder a call told.answer
 holder_after holder a due came = holder
 
-abbrev pub books_after : Books → List ℕ → Program → List Own → ℕ → Ready → NeedData → GotData → Books
-books_after b a program past read ready (needs.File call) (Answered told) = booked_by b a program call told.answer
-books_after b a program past read ready (needs.Take port) came = told_by b program past read ready came
-books_after b a program past read ready due came = b
+abbrev pub books_after : Option Bouncer → Books → List ℕ → Program → List Own → ℕ → Ready → NeedData → GotData → Books
+books_after child b a program past read ready (needs.File call) (Answered told) = told_by child (booked_by b a program call told.answer) program past read ready (Answered told)
+books_after child b a program past read ready (needs.Take port) came = told_by child b program past read ready came
+books_after child b a program past read ready due came = b
 
 -- the state after an event of an actor, which is the newest of its own past then
 abbrev pub acted : State → List ℕ → Own → ℕ → Option Actor → State
@@ -158,7 +176,7 @@ acted s a own wrote (Some x) = record {
   holder = holder_after s.holder a own.due own.came;
   now = s.now;
   actors = put_at s.actors a (Some (record { program = x.program; past = own ∷ x.past; life = x.life }));
-  books = books_after s.books a x.program x.past own.read own.ready own.due own.came;
+  books = books_after (bouncer_of s a) s.books a x.program x.past own.read own.ready own.due own.came;
   pipework = pipework_after s.pipework a own.due own.came wrote;
 }
 

@@ -14,13 +14,13 @@ use Rattle.send_jobs.specs.declared.channels.Channel.{Channel}
 use Rattle.queue_law.specs.Ledgers.{Spot}
 use Rattle.queue_law.specs.Routes.{spot_of, routed, lane_part, lane_text}
 use Rattle.queue_law.specs.Books.{Injection}
-use Rattle.queue_law.specs.Marks.{IsDelivered}
+use Rattle.queue_law.specs.Marks.{IsDone}
 use Rattle.queue_law.specs.Numbers.{Queue, about, Sound}
 use Rattle.queue_law.specs.Senders.{called_queue, MayMark, MarksOne, UnlinksOne}
 use Rattle.queue_law.proofs.Looks.{find_far, find_near, find_gone}
 use Rattle.queue_law.proofs.Deeds.{written, named_other}
 use Rattle.queue_law.proofs.Marks.{over, is_over}
-use Rattle.queue_law.proofs.Places.{record_on, inside}
+use Rattle.queue_law.proofs.Places.{record_on, inside, done_spot}
 use Rattle.queue_law.proofs.Sends.{lane_role, lane_there, lane_file, lane_made, marking, same_injection}
 
 -- a mark that was made, or cut off
@@ -43,9 +43,9 @@ module _ (controls : Controls) (q : Queue) (a : List ℕ) (G : Sound controls q)
   place_within =
       let h = marking controls 0 q a G n ch fd place may in
       let i = h.taken.injection in
-      let delivered = subst (λ (z : Injection). IsDelivered z.ledger ch place) (same_injection controls 0 q a G n ch fd place may) may.delivered in
+      let done = subst (λ (z : Injection). IsDone z.ledger ch place) (same_injection controls 0 q a G n ch fd place may) may.done in
       let marked = lane_there controls (about q n) i ch may.lane.file may.lane.there (h.lanes ch) in
-      let s = h.taken.spots ch place delivered in
+      let s = done_spot controls i h.taken.spots ch place done in
       let there : (spot_of controls i.args s.0).place ≡ place = sym (ap (λ (z : Spot). z.place) s.1) in
       let on : (spot_of controls i.args s.0).channel ≡ ch = sym (ap (λ (z : Spot). z.channel) s.1) in
       let within = inside (lane_text controls i.args ch) (spot_of controls i.args s.0).place (routed controls i.args s.0) (record_on controls i.args s.0 ch on) in

@@ -36,11 +36,12 @@ use Rattle.send_jobs.specs.declared.channels.Channel.{Channel}
 use Rattle.send_jobs.specs.declared.channels.Channel.TheVariants as channel
 use Rattle.queue_law.specs.Books.{Injection}
 use Rattle.queue_law.specs.Routes.{lane_part, lane_text, channel_of, Recipient, spot_of}
-use Rattle.queue_law.specs.Numbers.{Entry, entry, Role, Queue, look, IsPidRole, IsRecent, About, about, Phase, LaneState, IsPreprocessed, Sound}
+use Rattle.queue_law.specs.Numbers.{Entry, entry, Role, Queue, look, IsPidRole, IsRecent, About, about, file_in, Phase, LaneState, IsPreprocessed, Sound}
 use Rattle.queue_law.specs.Numbers.Role.{AsMessage, AsPart, AsOld}
 use Rattle.queue_law.specs.Numbers.Phase.{Free, Queued, Sorted, Finished}
 use Rattle.queue_law.specs.Numbers.LaneState.{LaneThere, LaneGone}
-use Rattle.queue_law.specs.Numbers.NotesState.{NotYet}
+use Rattle.queue_law.specs.Notes.NotesDone.{Nothing}
+use Rattle.queue_law.specs.Notes.NotesState.{Gone}
 use Rattle.queue_law.specs.Marks.{AllMarked}
 use Rattle.queue_law.specs.Injectors.{InTime}
 use Rattle.queue_law.specs.Ready.{IsSpent, HasSynced, IsMade, IsReady}
@@ -276,7 +277,8 @@ module _ (controls : Controls) (now : ℕ) (a : List ℕ) (q : Queue) (G : Sound
         info_there = other Info (λ s. cc) ∙ h.info.there;
         text = h.info.synced;
         lanes = λ ch. lane_state controls w v h.queued.taken.injection ch (other (lane_part ch) (lane_far ch).1) (h.lanes ch);
-        notes = NotYet (other Bounce (λ s. cc) ∙ h.queued.no_bounce) h.queued.unnoted;
+        notes = Gone (ap file_in (other Bounce (λ s. cc) ∙ h.queued.no_bounce)) (Nothing h.queued.unnoted);
+        unsettled = λ ch there. h.queued.unreturned;
       }
 
   -- The rows of a command

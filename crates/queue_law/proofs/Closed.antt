@@ -102,6 +102,7 @@ queued_same controls w v living mess todo bounce h = record {
   text = h.text;
   no_bounce = bounce;
   unnoted = h.unnoted;
+  unreturned = h.unreturned;
 }
 
 module _ (now : ℕ) (a : List ℕ) (q : Queue) (S : NamesSuit q) (n : ℕ) (c : IsClosed now q n) where

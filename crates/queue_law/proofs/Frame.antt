@@ -13,6 +13,7 @@ use Rattle.queue_law.specs.Numbers.{Entry, Queue, look, About, about}
 use Rattle.queue_law.specs.Injectors.{created, IsBegun, Holds, AtLink, AtMess, AtUnlink, AtTodo, Relies, Settles, InTime, InjectorFares}
 use Rattle.queue_law.specs.Numbers.Role.{AsMessage}
 use Rattle.queue_law.specs.Steps.{Touches, Elsewhere, Outside}
+use Rattle.queue_law.proofs.Growth.{grown_same}
 
 -- a disk with the same names and files
 pub outside_same : (d : Disk) (opens : ℕ → Option Open) → Outside d (record { dirs = d.dirs; names = d.names; files = d.files; opens = opens })
@@ -20,7 +21,7 @@ outside_same d opens = record { names = λ _ _. refl; files = λ _ _. refl; unqu
 
 -- the same injection, with the same ledger
 pub same_later : (i : Injection) → IsLater i i
-same_later i = record { number_is = refl; actor_is = refl; args_are = refl; accepted_is = refl; delivered = λ s h. h }
+same_later i = record { number_is = refl; actor_is = refl; args_are = refl; accepted_is = refl; grown = grown_same i.ledger }
 
 -- an injection that is still in the books
 pub still_there : (b : Books) (i : Injection) → IsInjected b i → (j : Injection) × IsInjected b j × IsLater i j

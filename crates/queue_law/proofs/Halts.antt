@@ -11,11 +11,13 @@ use Rattle.send_jobs.specs.declared.channels.Channel.{Channel}
 use Rattle.queue_law.specs.Books.{Injection}
 use Rattle.queue_law.specs.Routes.{lane_part}
 use Rattle.queue_law.proofs.Marks.{marked_survives}
+use Rattle.queue_law.specs.Notes.{HasNotes, NotesState}
+use Rattle.queue_law.specs.Notes.NotesState.{Gone, There}
+use Rattle.queue_law.proofs.Notes.{notes_stay}
 use Rattle.call_fs.specs.declared.past.Own.{Own}
 use Rattle.queue_inject.specs.declared.injection.Arguments.{Arguments}
-use Rattle.queue_law.specs.Numbers.{Entry, entry, Role, Queue, look, IsRecent, about, LaneState, NotesState, Phase, Sound, IsEarly}
+use Rattle.queue_law.specs.Numbers.{Entry, entry, Role, Queue, look, IsRecent, about, file_in, LaneState, Phase, Sound, IsEarly}
 use Rattle.queue_law.specs.Numbers.LaneState.{LaneThere, LaneGone}
-use Rattle.queue_law.specs.Numbers.NotesState.{NotYet}
 use Rattle.queue_law.proofs.Tests.{off}
 use Rattle.queue_law.proofs.Looks.{find_some, find_none, not_found, found}
 use Rattle.queue_law.specs.Injectors.{InjectorFares}
@@ -100,8 +102,25 @@ module _ (q : Queue) (contents : ℕ → List ℕ) (survives : AllSurvive q.disk
       LaneThere (after_file y) (still_there (Of (lane_part ch) n) y there)
       (marked_survives controls i ch y.file (contents y.number) marked (subst (λ (z : Entry). Survives z.file (contents y.number)) (sym w.1) s))
 
-  notes_after : (n : ℕ) (i : Injection) → NotesState (about q n) i → NotesState (about (after_halt contents q) n) i
-  notes_after n i (NotYet none unnoted) = NotYet (still_absent (Of Bounce n) none) unnoted
+  -- the notes that a bounce file has stay
+  notes_by : (controls : Controls) (n : ℕ) (i : Injection) (o : Option Entry) → look q (Of Bounce n) ≡ o → NotesState controls i (file_in o)
+      → NotesState controls i (file_in (look (after_halt contents q) (Of Bounce n)))
+  unfolding after_file
+  notes_by controls n i None none (There f is has) = let w : ◌≡◌ {A = Option File} None (Some f) = is in absurd (cc)
+  notes_by controls n i None none (Gone is settled) = Gone (ap file_in (still_absent (Of Bounce n) none)) settled
+  notes_by controls n i (Some y) there (There f is has) =
+      let w = found q.disk.names q.disk.files (Of Bounce n) y there in
+      let s = survives _ y.number w.0 in
+      let first : ◌≡◌ {A = Option File} (Some y.file) (Some f) = is in
+      let same : y.file ≡ f = cc in
+      let kept : HasNotes controls i y.file = subst (HasNotes controls i) (sym same) has in
+      There (settled (contents y.number) y.file) (ap file_in (still_there (Of Bounce n) y there))
+      (notes_stay.survives controls i (contents y.number) y.file kept (subst (λ (z : Entry). Survives z.file (contents y.number)) (sym w.1) s))
+  notes_by controls n i (Some y) there (Gone is settled) = let w : ◌≡◌ {A = Option File} (Some y.file) None = is in absurd (cc)
+
+  notes_after : (controls : Controls) (n : ℕ) (i : Injection) → NotesState controls i (file_in (look q (Of Bounce n)))
+      → NotesState controls i (file_in (look (after_halt contents q) (Of Bounce n)))
+  notes_after controls n i h = notes_by controls n i (look q (Of Bounce n)) refl h
 
   phase_after : (controls : Controls) (n : ℕ) → Phase controls (about q n) → Phase controls (about (after_halt contents q) n)
   phase_after controls n (Free h) = Free (record {
@@ -126,6 +145,7 @@ module _ (q : Queue) (contents : ℕ → List ℕ) (survives : AllSurvive q.disk
     text = still_synced (Of Todo n) h.todo _ h.todo_there h.text;
     no_bounce = still_absent (Of Bounce n) h.no_bounce;
     unnoted = h.unnoted;
+    unreturned = h.unreturned;
   })
   phase_after controls n (Sorted h) = Sorted (record {
     taken = record {
@@ -144,7 +164,8 @@ module _ (q : Queue) (contents : ℕ → List ℕ) (survives : AllSurvive q.disk
     info_there = still_there (Of Info n) h.info h.info_there;
     text = still_synced (Of Info n) h.info _ h.info_there h.text;
     lanes = λ ch. lane_after controls n h.taken.injection ch (h.lanes ch);
-    notes = notes_after n h.taken.injection h.notes;
+    notes = notes_after controls n h.taken.injection h.notes;
+    unsettled = λ ch there. h.unsettled ch (λ none. there (still_absent (Of (lane_part ch) n) none));
   })
   phase_after controls n (Finished h) = Finished (record {
     injection = h.injection;

@@ -14,6 +14,10 @@ pub mod Rows
 pub mod Links
 -- one call of one injector
 pub mod Step
+-- ledgers that grow
+pub mod Growth
+-- what a line leaves that is entered in one
+pub mod Lines
 -- channel files
 pub mod Marks
 -- where records stand
@@ -40,6 +44,8 @@ pub mod PassesMake
 pub mod Injectors
 -- what a sender does
 pub mod Sends
+-- what a sender does to a bounce file
+pub mod Bouncing
 -- what a mark and an unlink change
 pub mod Changes
 -- what an actor holds open
@@ -52,3 +58,5 @@ pub mod Readings
 pub mod Worked
 -- a sound queue is safe
 pub mod Claims
+-- the notes that a bounce file has stay
+pub mod Notes

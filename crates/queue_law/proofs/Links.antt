@@ -245,12 +245,18 @@ module _ (controls : Controls) (now : ℕ) (q : Queue) (a : List ℕ) (args : Ar
           mess_there = named_other q x (Some h.number) c (Of Mess n) (λ s. cc) ∙ w.begins.mess;
           message = w.message;
           valid = valid;
-          spots = λ ch place none. absurd none;
+          spots = record {
+            delivered = λ s none. absurd none;
+            failed = λ s none. absurd none;
+            noted = λ s none. absurd none;
+            bounced = λ b none. absurd none;
+          };
         };
         todo = y;
         todo_there = find_put q.disk.names q.disk.files x h.number ∙ ap Some (sym is);
         text = w.fulfils;
         no_bounce = named_other q x (Some h.number) c (Of Bounce n) (λ s. cc) ∙ w.begins.unsorted Bounce refl;
         unnoted = refl;
+        unreturned = record { none = refl; kept = refl };
       }))
       (tt, (taken a args n, inl lives, refl, refl, refl))

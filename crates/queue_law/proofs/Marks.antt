@@ -6,10 +6,11 @@ use Rattle.call_fs.specs.Disk.{File, Among, IsSynced}
 use Rattle.call_fs.specs.Survival.{HadAt, Survives, settled}
 use Rattle.call_fs.specs.Apply.{lying, put_over, overwritten, overwritten_part}
 use Rattle.send_jobs.specs.declared.channels.Channel.{Channel}
-use Rattle.queue_law.specs.Ledgers.{Spot}
-use Rattle.queue_law.specs.Books.{Injection, with_delivered}
-use Rattle.queue_law.specs.Routes.{lane_text}
-use Rattle.queue_law.specs.Marks.{IsDelivered, IsMarked, AllMarked}
+use Rattle.queue_law.specs.Ledgers.{Ledger, Line, HasGrown, line_in}
+use Rattle.queue_law.specs.Books.{Injection, with_line}
+use Rattle.queue_law.specs.Routes.{lane_text, spot_of}
+use Rattle.queue_law.specs.Marks.{IsDelivered, IsDone, IsMarked, IsNoted, AllMarked, IsLaneDone}
+use Rattle.queue_law.proofs.Growth.{line_grows}
 
 -- a machine stop: a mark may be lost, and none is made up
 pub marked_survives : (controls : Controls) (i : Injection) (ch : Channel) (f : File) (bytes : List ℕ) → AllMarked controls i ch f → Survives f bytes
@@ -20,11 +21,11 @@ marked_survives controls i ch f bytes m s = record { present = here; synced = he
     long = le_antisymm (omega (arith, s.no_longer, m.no_longer)) (omega (arith, s.no_shorter, m.no_shorter))
 
     had : (k : ℕ) (value : Option ℕ) → k < length (lane_text controls i.args ch) → HadAt f k value
-        → (value ≡ slice_get (lane_text controls i.args ch) k) ⊎ (IsDelivered i.ledger ch k × (value ≡ Some 68))
+        → (value ≡ slice_get (lane_text controls i.args ch) k) ⊎ (IsDone i.ledger ch k × (value ≡ Some 68))
     had k value lt w = ⊎_elim
         (λ (kept : value ≡ slice_get f.kept k). ⊎_elim
         (λ (e : slice_get f.kept k ≡ slice_get (lane_text controls i.args ch) k). inl (kept ∙ e))
-        (λ (e : IsDelivered i.ledger ch k × (slice_get f.kept k ≡ Some 68)). inr (e.0, kept ∙ e.1))
+        (λ (e : IsDone i.ledger ch k × (slice_get f.kept k ≡ Some 68)). inr (e.0, kept ∙ e.1))
         (m.synced.each k lt))
         (λ given. let e = m.since k given.0 given.1 in inr (e.1, given.2 ∙ ap Some e.0))
         w
@@ -120,10 +121,10 @@ marks_given m n at place value h = ⊎_elim
     (few m))
     (few n)
 
--- a mark at the place of a recipient that was delivered
-pub marked_over : (controls : Controls) (i : Injection) (ch : Channel) (f : File) (now at : ℕ) → IsDelivered i.ledger ch at → AllMarked controls i ch f
+-- a mark at the place of a recipient that was delivered, or is noted
+pub marked_over : (controls : Controls) (i : Injection) (ch : Channel) (f : File) (now at : ℕ) → IsDone i.ledger ch at → AllMarked controls i ch f
     → AllMarked controls i ch (overwritten now at (68 ∷ []) f)
-marked_over controls i ch f now at delivered m =
+marked_over controls i ch f now at done m =
     let w = is_over at f.bytes in
     record {
       present = record {
@@ -131,45 +132,56 @@ marked_over controls i ch f now at delivered m =
         each = λ k lt. ⊎_elim
             (λ (e : slice_get (over at f.bytes) k ≡ slice_get f.bytes k). ⊎_elim
             (λ (v : slice_get f.bytes k ≡ slice_get (lane_text controls i.args ch) k). inl (e ∙ v))
-            (λ (v : IsDelivered i.ledger ch k × (slice_get f.bytes k ≡ Some 68)). inr (v.0, e ∙ v.1))
+            (λ (v : IsDone i.ledger ch k × (slice_get f.bytes k ≡ Some 68)). inr (v.0, e ∙ v.1))
             (m.present.each k lt))
-            (λ (e : (k ≡ at) × (slice_get (over at f.bytes) k ≡ Some 68)). inr (subst (IsDelivered i.ledger ch) (sym e.0) delivered, e.1))
+            (λ (e : (k ≡ at) × (slice_get (over at f.bytes) k ≡ Some 68)). inr (subst (IsDone i.ledger ch) (sym e.0) done, e.1))
             (w.each k);
       };
       synced = m.synced;
       since = λ place value h. ⊎_elim
           (λ (v : Among (place, value) f.given). m.since place value v)
-          (λ v. let g = marks_given _ _ at place value v in (g.1, subst (IsDelivered i.ledger ch) (sym g.0) delivered))
+          (λ v. let g = marks_given _ _ at place value v in (g.1, subst (IsDone i.ledger ch) (sym g.0) done))
           (among_append (place, value) f.given _ h);
       no_shorter = m.no_shorter;
       no_longer = m.no_longer;
     }
 
 -- so of one that failed, after however many bytes
-pub marked_part : (controls : Controls) (i : Injection) (ch : Channel) (f : File) (now at wrote : ℕ) → IsDelivered i.ledger ch at → AllMarked controls i ch f
+pub marked_part : (controls : Controls) (i : Injection) (ch : Channel) (f : File) (now at wrote : ℕ) → IsDone i.ledger ch at → AllMarked controls i ch f
     → AllMarked controls i ch (overwritten_part now at (68 ∷ []) wrote f)
-marked_part controls i ch f now at zero delivered m = m
-marked_part controls i ch f now at (suc zero) delivered m = marked_over controls i ch f now at delivered m
-marked_part controls i ch f now at (suc (suc k)) delivered m = marked_over controls i ch f now at delivered m
+marked_part controls i ch f now at zero done m = m
+marked_part controls i ch f now at (suc zero) done m = marked_over controls i ch f now at done m
+marked_part controls i ch f now at (suc (suc k)) done m = marked_over controls i ch f now at done m
 
-grown_bytes : (text bytes : List ℕ) (i : Injection) (s : Spot) (ch : Channel) → IsMarked text i.ledger ch bytes → IsMarked text (with_delivered s i).ledger ch bytes
-grown_bytes text bytes i s ch m = record {
-  long = m.long;
+done_grown : (l m : Ledger) → HasGrown l m → (ch : Channel) (place : ℕ) → IsDone l ch place → IsDone m ch place
+done_grown l m g ch place done = ⊎_elim
+    (λ (delivered : IsDelivered l ch place). inl (g.delivered (record { channel = ch; place = place }) delivered))
+    (λ (noted : IsNoted l ch place). inr (g.noted (record { channel = ch; place = place }) noted))
+    done
+
+grown_bytes : (text bytes : List ℕ) (l m : Ledger) → HasGrown l m → (ch : Channel) → IsMarked text l ch bytes → IsMarked text m ch bytes
+grown_bytes text bytes l m g ch marked = record {
+  long = marked.long;
   each = λ k lt. ⊎_elim
       (λ (e : slice_get bytes k ≡ slice_get text k). inl e)
-      (λ (e : IsDelivered i.ledger ch k × (slice_get bytes k ≡ Some 68)). inr (inr e.0, e.1))
-      (m.each k lt);
+      (λ (e : IsDone l ch k × (slice_get bytes k ≡ Some 68)). inr (done_grown l m g ch k e.0, e.1))
+      (marked.each k lt);
 }
 
 -- a ledger that grows
-pub marked_grown : (controls : Controls) (i : Injection) (s : Spot) (ch : Channel) (f : File) → AllMarked controls i ch f → AllMarked controls (with_delivered s i) ch f
-marked_grown controls i s ch f m = record {
-  present = grown_bytes (lane_text controls i.args ch) f.bytes i s ch m.present;
-  synced = grown_bytes (lane_text controls i.args ch) f.kept i s ch m.synced;
-  since = λ place value h. let w = m.since place value h in (w.0, inr w.1);
-  no_shorter = m.no_shorter;
-  no_longer = m.no_longer;
-}
+pub marked_grown : (controls : Controls) (i : Injection) (line : Line) (ch : Channel) (f : File) → AllMarked controls i ch f → AllMarked controls (with_line line i) ch f
+marked_grown controls i line ch f m =
+    let g = line_grows line i.ledger in
+    record {
+      present = grown_bytes (lane_text controls i.args ch) f.bytes i.ledger (line_in line i.ledger) g ch m.present;
+      synced = grown_bytes (lane_text controls i.args ch) f.kept i.ledger (line_in line i.ledger) g ch m.synced;
+      since = λ place value h. let w = m.since place value h in (w.0, done_grown i.ledger (line_in line i.ledger) g ch place w.1);
+      no_shorter = m.no_shorter;
+      no_longer = m.no_longer;
+    }
+
+pub lane_grown : (controls : Controls) (i : Injection) (line : Line) (ch : Channel) → IsLaneDone controls i ch → IsLaneDone controls (with_line line i) ch
+lane_grown controls i line ch all r on = done_grown i.ledger (line_in line i.ledger) (line_grows line i.ledger) ch (spot_of controls i.args r).place (all r on)
 
 -- as preprocessing wrote it, no record is marked
 pub marked_new : (controls : Controls) (i : Injection) (ch : Channel) (f : File) → IsSynced f (lane_text controls i.args ch) → AllMarked controls i ch f

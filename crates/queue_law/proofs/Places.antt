@@ -17,8 +17,8 @@ use Rattle.todo_pass.specs.Sorting.{local_of, remote_of, channel_text, sorted_of
 use Rattle.todo_pass.proofs.Places.{each_at_its_place}
 use Rattle.queue_law.specs.Ledgers.{Spot}
 use Rattle.queue_law.specs.Books.{Injection}
-use Rattle.queue_law.specs.Routes.{Recipient, channel_of, lane_text, routed, spot_of, todo_in}
-use Rattle.queue_law.specs.Marks.{IsDelivered, IsMarked, HasItsSpots}
+use Rattle.queue_law.specs.Routes.{IsSpot, Recipient, channel_of, lane_text, routed, spot_of, todo_in}
+use Rattle.queue_law.specs.Marks.{IsDelivered, IsDone, IsMarked, IsNoted, HasItsSpots}
 
 text_is : (controls : Controls) (args : Arguments) (route : Route) → text_by (sorted_of controls (todo_in args)) route ≡ lane_text controls args (channel_of route)
 text_is controls args (Local address) = refl
@@ -38,7 +38,7 @@ get_here [] x rest = refl
 get_here (y ∷ front) x rest = get_here front x rest
 
 -- it begins with `T`
-letter : (text : List ℕ) (place : ℕ) (address : List ℕ) → HasRecord text place address → slice_get text place ≡ Some 84
+pub letter : (text : List ℕ) (place : ℕ) (address : List ℕ) → HasRecord text place address → slice_get text place ≡ Some 84
 letter text place address h =
     (λ i. slice_get (h.split i) (h.place_is i)) ∙ get_here h.front 84 ((address ++ 0 ∷ []) ++ h.rest)
 
@@ -54,10 +54,18 @@ inside text place address h =
 pub some_apart : ◌≡◌ {A = Option ℕ} (Some 68) (Some 84) → ⊥
 some_apart e = let w : ◌≡◌ {A = ℕ} 68 84 = ap (λ (o : Option ℕ). unwrap_or o 0) e in omega arith
 
--- a record that reads `D` is of a recipient that was delivered
+-- what is done is a recipient of the message
+pub done_spot : (controls : Controls) (i : Injection) → HasItsSpots controls i → (ch : Channel) (k : ℕ) → IsDone i.ledger ch k
+    → IsSpot controls i.args (record { channel = ch; place = k })
+done_spot controls i h ch k done = ⊎_elim
+    (λ (delivered : IsDelivered i.ledger ch k). h.delivered (record { channel = ch; place = k }) delivered)
+    (λ (noted : IsNoted i.ledger ch k). h.failed (record { channel = ch; place = k }) (h.noted (record { channel = ch; place = k }) noted))
+    done
+
+-- a record that reads `D` is of a recipient that was delivered, or is noted
 pub reads_done : (controls : Controls) (i : Injection) (ch : Channel) (bytes : List ℕ) → IsMarked (lane_text controls i.args ch) i.ledger ch bytes
     → (r : Recipient i.args) → (spot_of controls i.args r).channel ≡ ch → slice_get bytes (spot_of controls i.args r).place ≡ Some 68
-    → IsDelivered i.ledger ch (spot_of controls i.args r).place
+    → IsDone i.ledger ch (spot_of controls i.args r).place
 reads_done controls i ch bytes m r on reads =
     let place = (spot_of controls i.args r).place in
     let h = record_on controls i.args r ch on in
@@ -65,7 +73,7 @@ reads_done controls i ch bytes m r on reads =
     ⊎_elim
     (λ (same : slice_get bytes place ≡ slice_get (lane_text controls i.args ch) place).
     absurd (some_apart (sym reads ∙ same ∙ letter (lane_text controls i.args ch) place (routed controls i.args r) h)))
-    (λ (done : IsDelivered i.ledger ch place × (slice_get bytes place ≡ Some 68)). done.0)
+    (λ (done : IsDone i.ledger ch place × (slice_get bytes place ≡ Some 68)). done.0)
     (m.each place (omega arith))
 
 -- the address of a channel that a recipient has there, if it goes there
@@ -102,7 +110,7 @@ prefixes (x ∷ e) (y ∷ f) l m a b h =
     (prefixes e f l m a b tail)
 
 -- one that comes later stands after the record of this one
-longer : (to : List ℕ → Option (List ℕ)) (e g : List (List ℕ)) (a address : List ℕ) → to a ≡ Some address
+pub longer : (to : List ℕ → Option (List ℕ)) (e g : List (List ℕ)) (a address : List ℕ) → to a ≡ Some address
     → length (channel_text (filter_map to e)) + length (record_of address) ≤ length (channel_text (filter_map to (e ++ a ∷ g)))
 longer to [] g a address is = subst (λ (o : Option (List ℕ)). 0 + length (record_of address) ≤ length (channel_text (cons_option o (filter_map to g)))) (sym is) here
   where
@@ -189,8 +197,8 @@ reads_open controls i ch bytes spots m r on same =
         let far : k ≢ (spot_of controls i.args r).place = w.1 in
         ⊎_elim
         (λ (e : slice_get bytes k ≡ slice_get (lane_text controls i.args ch) k). e)
-        (λ (done : IsDelivered i.ledger ch k × (slice_get bytes k ≡ Some 68)).
-        let s = spots ch k done.0 in
+        (λ (done : IsDone i.ledger ch k × (slice_get bytes k ≡ Some 68)).
+        let s = done_spot controls i spots ch k done.0 in
         let there : (spot_of controls i.args s.0).place ≡ k = sym (ap (λ (z : Spot). z.place) s.1) in
         let on' : (spot_of controls i.args s.0).channel ≡ ch = sym (ap (λ (z : Spot). z.channel) s.1) in
         let more = λ (lt : (spot_of controls i.args r).place < (spot_of controls i.args s.0).place). apart_records controls i.args ch r s.0 on on' lt in

@@ -27,9 +27,9 @@ use Rattle.todo_pass.specs.Sorting.{local_of, remote_of, channel_text}
 use Rattle.queue_law.specs.Ledgers.{Spot}
 use Rattle.queue_law.specs.Books.{Injection, IsValid}
 use Rattle.queue_law.specs.Routes.{Recipient, channel_of, spot_of, routed, lane_text}
-use Rattle.queue_law.specs.Marks.{IsDelivered, HasItsSpots}
+use Rattle.queue_law.specs.Marks.{IsDone, HasItsSpots}
 use Rattle.queue_law.specs.Accounts.{IsRecordOf, RecipientsAreNumbered, RecordsAreOfRecipients}
-use Rattle.queue_law.proofs.Places.{some_apart, to, size, on_route, rest_part, apart_records}
+use Rattle.queue_law.proofs.Places.{some_apart, to, size, on_route, rest_part, apart_records, done_spot}
 
 -- The recipients of a valid message have no NUL
 
@@ -115,13 +115,13 @@ module _ (controls : Controls) (i : Injection) (ch : Channel) (plain : (r : Reci
 
   -- the bytes that records of these recipients have, after those of others
   abbrev Agrees : List (List ℕ) → List (List ℕ) → List ℕ → Type 0
-  Agrees earlier later bytes = (k : ℕ) → k < length bytes → (slice_get bytes k ≡ slice_get (text later) k) ⊎ (IsDelivered i.ledger ch (size controls ch earlier + k) × (slice_get bytes k ≡ Some 68))
+  Agrees earlier later bytes = (k : ℕ) → k < length bytes → (slice_get bytes k ≡ slice_get (text later) k) ⊎ (IsDone i.ledger ch (size controls ch earlier + k) × (slice_get bytes k ≡ Some 68))
 
   -- they are read as records of these recipients, one for each
   record Reads (earlier later : List (List ℕ)) (records : List Record) : Type 0 where
     each : (it : Record) → Among it records → (r : Recipient i.args) × IsRecordOf controls i ch r it
     all : (middle rest : List (List ℕ)) (x a : List ℕ) → later ≡ middle ++ x ∷ rest → to controls ch x ≡ Some a
-        → (it : Record) × Among it records × ((it.place ≡ size controls ch (earlier ++ middle)) × ((it.address ≡ a) × (it.done ≡ true → IsDelivered i.ledger ch it.place)))
+        → (it : Record) × Among it records × ((it.place ≡ size controls ch (earlier ++ middle)) × ((it.address ≡ a) × (it.done ≡ true → IsDone i.ledger ch it.place)))
 
   size_next : (earlier : List (List ℕ)) (x : List ℕ) (o : Option (List ℕ)) → to controls ch x ≡ o
       → size controls ch (earlier ++ x ∷ []) ≡ size controls ch earlier + length (channel_text (cons_option o []))
@@ -136,7 +136,7 @@ module _ (controls : Controls) (i : Injection) (ch : Channel) (plain : (r : Reci
   reads_skip earlier later x records none h = record { each = h.each; all = all }
     where
       all : (middle rest : List (List ℕ)) (y a : List ℕ) → x ∷ later ≡ middle ++ y ∷ rest → to controls ch y ≡ Some a
-          → (it : Record) × Among it records × ((it.place ≡ size controls ch (earlier ++ middle)) × ((it.address ≡ a) × (it.done ≡ true → IsDelivered i.ledger ch it.place)))
+          → (it : Record) × Among it records × ((it.place ≡ size controls ch (earlier ++ middle)) × ((it.address ≡ a) × (it.done ≡ true → IsDone i.ledger ch it.place)))
       all [] rest y a e is = let same : x ≡ y = cc in let w = ap (to controls ch) same in absurd (cc)
       all (z ∷ middle) rest y a e is =
           let same : x ≡ z = cc in
@@ -147,7 +147,7 @@ module _ (controls : Controls) (i : Injection) (ch : Channel) (plain : (r : Reci
 
   -- a recipient of this one, and its record
   reads_next : (earlier later : List (List ℕ)) (x a : List ℕ) (it : Record) (records : List Record) → (split : recipients_of i.args ≡ earlier ++ x ∷ later)
-      → to controls ch x ≡ Some a → it.place ≡ size controls ch earlier → it.address ≡ a → (it.done ≡ true → IsDelivered i.ledger ch it.place)
+      → to controls ch x ≡ Some a → it.place ≡ size controls ch earlier → it.address ≡ a → (it.done ≡ true → IsDone i.ledger ch it.place)
       → Reads (earlier ++ x ∷ []) later records → Reads earlier (x ∷ later) (it ∷ records)
   reads_next earlier later x a it records split is place address done h = record { each = each; all = all }
     where
@@ -161,7 +161,7 @@ module _ (controls : Controls) (i : Injection) (ch : Channel) (plain : (r : Reci
       each other (inr rest) = h.each other rest
 
       all : (middle rest : List (List ℕ)) (y b : List ℕ) → x ∷ later ≡ middle ++ y ∷ rest → to controls ch y ≡ Some b
-          → (other : Record) × Among other (it ∷ records) × ((other.place ≡ size controls ch (earlier ++ middle)) × ((other.address ≡ b) × (other.done ≡ true → IsDelivered i.ledger ch other.place)))
+          → (other : Record) × Among other (it ∷ records) × ((other.place ≡ size controls ch (earlier ++ middle)) × ((other.address ≡ b) × (other.done ≡ true → IsDone i.ledger ch other.place)))
       all [] rest y b e goes =
           let same : x ≡ y = cc in
           let w = ap (to controls ch) same in
@@ -193,8 +193,8 @@ module _ (controls : Controls) (i : Injection) (ch : Channel) (plain : (r : Reci
       (rec (earlier ++ x ∷ []) bytes records (split ∙ sym (append_assoc earlier (x ∷ []) later)) (long ∙ ap length same)
       (λ k lt. ⊎_elim
       (λ (e : slice_get bytes k ≡ slice_get (text (x ∷ later)) k). inl (e ∙ ap (λ z. slice_get z k) same))
-      (λ (e : IsDelivered i.ledger ch (size controls ch earlier + k) × (slice_get bytes k ≡ Some 68)).
-      inr (subst (λ n. IsDelivered i.ledger ch (n + k)) still e.0, e.1))
+      (λ (e : IsDone i.ledger ch (size controls ch earlier + k) × (slice_get bytes k ≡ Some 68)).
+      inr (subst (λ n. IsDone i.ledger ch (n + k)) still e.0, e.1))
       (agrees k lt))
       is p (subst (λ n. AreFrom n records) still from))
 
@@ -225,8 +225,8 @@ module _ (controls : Controls) (i : Injection) (ch : Channel) (plain : (r : Reci
           let size_p = length-append (a ++ 0 ∷ []) (text later) in
           ⊎_elim
           (λ (e : slice_get (c ∷ tail) (suc k) ≡ slice_get (text (x ∷ later)) (suc k)). e ∙ ap (λ z. slice_get z (suc k)) t)
-          (λ (e : IsDelivered i.ledger ch (size controls ch earlier + suc k) × (slice_get (c ∷ tail) (suc k) ≡ Some 68)).
-          let s = spots ch (size controls ch earlier + suc k) e.0 in
+          (λ (e : IsDone i.ledger ch (size controls ch earlier + suc k) × (slice_get (c ∷ tail) (suc k) ≡ Some 68)).
+          let s = done_spot controls i spots ch (size controls ch earlier + suc k) e.0 in
           let there : (spot_of controls i.args s.0).place ≡ size controls ch earlier + suc k = sym (ap (λ (z : Spot). z.place) s.1) in
           let on : (spot_of controls i.args s.0).channel ≡ ch = sym (ap (λ (z : Spot). z.channel) s.1) in
           let here = w.1.1 in
@@ -248,14 +248,14 @@ module _ (controls : Controls) (i : Injection) (ch : Channel) (plain : (r : Reci
       cut = same_cut a new.0 it.address (flat_map text_of records) (subst HasNoNul w.1.0 (plain r)) (All-head Plain it records p)
           (sym (append_assoc a (0 ∷ []) new.0) ∙ sym new.1 ∙ rest_is ∙ append_assoc it.address (0 ∷ []) (flat_map text_of records))
 
-      done : it.done ≡ true → IsDelivered i.ledger ch it.place
+      done : it.done ≡ true → IsDone i.ledger ch it.place
       done marked = ⊎_elim
           (λ (e : slice_get (c ∷ tail) 0 ≡ slice_get (text (x ∷ later)) 0).
           absurd (some_apart (ap Some (sym (head ∙ ap letter_of marked)) ∙ e ∙ ap (λ z. slice_get z 0) t)))
-          (λ (e : IsDelivered i.ledger ch (size controls ch earlier + 0) × (slice_get (c ∷ tail) 0 ≡ Some 68)).
+          (λ (e : IsDone i.ledger ch (size controls ch earlier + 0) × (slice_get (c ∷ tail) 0 ≡ Some 68)).
           let at = from.0 in
           let here : size controls ch earlier + 0 ≡ it.place = omega (arith, at) in
-          subst (IsDelivered i.ledger ch) here e.0)
+          subst (IsDone i.ledger ch) here e.0)
           (agrees 0 (omega arith))
 
       size_new : length new.0 ≡ length (text later)
@@ -273,7 +273,7 @@ module _ (controls : Controls) (i : Injection) (ch : Channel) (plain : (r : Reci
       place_new = let one = step_is in let two = ap (λ z. length (z ++ 0 ∷ [])) cut.0 in omega (arith, one, two)
 
       agrees_new : (k : ℕ) → k < length new.0 → (slice_get new.0 k ≡ slice_get (text later) k)
-          ⊎ (IsDelivered i.ledger ch (size controls ch (earlier ++ x ∷ []) + k) × (slice_get new.0 k ≡ Some 68))
+          ⊎ (IsDone i.ledger ch (size controls ch (earlier ++ x ∷ []) + k) × (slice_get new.0 k ≡ Some 68))
       agrees_new k lt =
           let long_t = ap length new.1 in
           let long_p = length-append (a ++ 0 ∷ []) new.0 in
@@ -285,8 +285,8 @@ module _ (controls : Controls) (i : Injection) (ch : Channel) (plain : (r : Reci
           let at : size controls ch earlier + suc (length (a ++ 0 ∷ []) + k) ≡ size controls ch (earlier ++ x ∷ []) + k = omega (arith, one) in
           ⊎_elim
           (λ (e : slice_get (c ∷ tail) (suc (length (a ++ 0 ∷ []) + k)) ≡ slice_get (text (x ∷ later)) (suc (length (a ++ 0 ∷ []) + k))). inl (here ∙ e ∙ there))
-          (λ (e : IsDelivered i.ledger ch (size controls ch earlier + suc (length (a ++ 0 ∷ []) + k)) × (slice_get (c ∷ tail) (suc (length (a ++ 0 ∷ []) + k)) ≡ Some 68)).
-          inr (subst (IsDelivered i.ledger ch) at e.0, here ∙ e.1))
+          (λ (e : IsDone i.ledger ch (size controls ch earlier + suc (length (a ++ 0 ∷ []) + k)) × (slice_get (c ∷ tail) (suc (length (a ++ 0 ∷ []) + k)) ≡ Some 68)).
+          inr (subst (IsDone i.ledger ch) at e.0, here ∙ e.1))
           (agrees (suc (length (a ++ 0 ∷ []) + k)) (omega (arith, long_t, long_p, lt)))
 
   lined_by : (x : List ℕ) (later : List (List ℕ)) → Lined later → (o : Option (List ℕ)) → to controls ch x ≡ o → Lined (x ∷ later)
@@ -310,7 +310,7 @@ records_are controls i ch bytes records none valid spots m read =
     let at : k ≡ 0 + k = omega arith in
     ⊎_elim
     (λ (e : slice_get bytes k ≡ slice_get (lane_text controls i.args ch) k). inl (e ∙ ap (λ z. slice_get z k) lane))
-    (λ (e : IsDelivered i.ledger ch k × (slice_get bytes k ≡ Some 68)). inr (subst (IsDelivered i.ledger ch) at e.0, e.1))
+    (λ (e : IsDone i.ledger ch k × (slice_get bytes k ≡ Some 68)). inr (subst (IsDone i.ledger ch) at e.0, e.1))
     (m.each k (omega (arith, size_b, lt))))
     read.text read.plain (are_from bytes records read [] records refl) in
     record {

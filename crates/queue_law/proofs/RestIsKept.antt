@@ -99,6 +99,7 @@ module _ (q : Queue) (contents : ℕ → List ℕ) (survives : AllSurvive q.disk
     text = still_synced q contents survives (Of Todo n) h.todo _ h.todo_there h.text;
     no_bounce = still_absent q contents survives (Of Bounce n) h.no_bounce;
     unnoted = h.unnoted;
+    unreturned = h.unreturned;
   }
 
   needs_halt : (controls : Controls) (it : Command) (n : ℕ) → Needs controls it (about q n) → Needs controls it (about (after_halt contents q) n)

@@ -17,23 +17,26 @@ use Rattle.queue_paths.specs.Names.Name.{Of}
 use Rattle.queue_paths.specs.Names.Part.{Mess, Intd, Todo, Info, Local, Remote, Bounce}
 use Rattle.send_jobs.specs.declared.channels.Channel.{Channel}
 use Rattle.send_jobs.specs.declared.channels.Channel.TheVariants as channel
-use Rattle.queue_law.specs.Ledgers.{Spot}
-use Rattle.queue_law.specs.Books.{Injection, IsInjected, IsLater, begun, with_delivered, delivered_in}
-use Rattle.queue_law.specs.Routes.{Recipient, IsSpot, lane_part}
-use Rattle.queue_law.specs.Marks.{IsDelivered, AllMarked, HasItsSpots, IsLaneDelivered}
-use Rattle.queue_law.specs.Numbers.{Entry, Role, Queue, look, Suits, IsRecent, About, about, is_later, IsUnsorted, IsTaken, LaneState, NotesState, IsPreprocessed, Phase, Sound}
+use Rattle.queue_law.specs.Ledgers.{Line}
+use Rattle.queue_law.specs.Books.{Injection, IsInjected, IsLater, begun, with_line, entered_in}
+use Rattle.queue_law.specs.Routes.{Recipient, lane_part}
+use Rattle.queue_law.specs.Marks.{IsDone, AllMarked, IsLaneDone}
+use Rattle.queue_law.specs.Notes.{NotesDone, NotesState}
+use Rattle.queue_law.specs.Notes.NotesState.{Gone, There}
+use Rattle.queue_law.specs.Numbers.{Entry, Role, Queue, look, Suits, IsRecent, About, about, NamesSuit, file_in, is_later, IsUnsorted, IsTaken, LaneState, IsPreprocessed, Phase, Sound}
 use Rattle.queue_law.specs.Numbers.Role.{AsOld, AsPart}
 use Rattle.queue_law.specs.Numbers.Phase.{Free, Queued, Sorted, Finished}
 use Rattle.queue_law.specs.Numbers.LaneState.{LaneThere, LaneGone}
-use Rattle.queue_law.specs.Numbers.NotesState.{NotYet}
 use Rattle.queue_law.specs.Injectors.{IsHeld}
-use Rattle.queue_law.specs.Steps.{Concerns, Apart, Elsewhere}
-use Rattle.queue_law.specs.Senders.{called_queue, LeadsOn, OnlyReads, HasLane, MayMark, MayDrop, MayEnd, MayEnter, entered_queue}
+use Rattle.queue_law.specs.Steps.{Concerns, Apart, Elsewhere, LeavesOld, Outside}
+use Rattle.queue_law.specs.Senders.{called_queue, LeadsOn, OnlyReads, HasLane, MayMark, MayDrop, MayEnd, MayEnter, MayReturn, LineFits, entered_queue}
 use Rattle.queue_law.proofs.Tests.{off, tells_number}
 use Rattle.queue_law.proofs.Looks.{find_far, find_near, find_gone, found}
 use Rattle.queue_law.proofs.Frame.{outside_same, still_there, about_same}
 use Rattle.queue_law.proofs.Deeds.{written, named, at_number, made_for, its_number, named_other, named_suits, written_suits, written_old}
-use Rattle.queue_law.proofs.Marks.{marked_over, marked_part, marked_grown}
+use Rattle.queue_law.proofs.Growth.{line_grows}
+use Rattle.queue_law.proofs.Lines.{done_on, noted_on, notes_on, spots_on, unreturned_on}
+use Rattle.queue_law.proofs.Marks.{lane_grown, marked_over, marked_part, marked_grown}
 use Rattle.queue_law.proofs.Places.{reads_done}
 
 -- no injector may touch a number whose message is accepted, while its file is there
@@ -83,8 +86,9 @@ module _ (controls : Controls) (ch : Channel) (w v : About) (same : (P : Part) �
   early_far : (P : Part) → is_later P ≡ false → P ≢ lane_part ch
   early_far P early e = off (sym early ∙ ap is_later e ∙ lane_later ch)
 
-notes_kept : (w v : About) (i : Injection) → v.parts Bounce ≡ w.parts Bounce → NotesState w i → NotesState v i
-notes_kept w v i same (NotYet none unnoted) = NotYet (same ∙ none) unnoted
+notes_kept : (controls : Controls) (w v : About) (i : Injection) → v.parts Bounce ≡ w.parts Bounce → NotesState controls i (file_in (w.parts Bounce))
+    → NotesState controls i (file_in (v.parts Bounce))
+notes_kept controls w v i same h = subst (λ (o : Option Entry). NotesState controls i (file_in o)) (sym same) h
 
 lanes_of : (controls : Controls) (ch : Channel) (w v : About) → ((P : Part) → P ≢ lane_part ch → v.parts P ≡ w.parts P) → (i : Injection)
     → ((c : Channel) → LaneState controls w i c) → LaneState controls v i ch → (c : Channel) → LaneState controls v i c
@@ -97,10 +101,18 @@ other_parts : (ch : Channel) → (Info ≢ lane_part ch) × (Bounce ≢ lane_par
 other_parts channel.Local = ((λ s. cc), (λ s. cc))
 other_parts channel.Remote = ((λ s. cc), (λ s. cc))
 
+-- a channel file that is there was there before
+still_lane : (ch : Channel) (w v : About) → ((P : Part) → P ≢ lane_part ch → v.parts P ≡ w.parts P) → (v.parts (lane_part ch) ≢ None → w.parts (lane_part ch) ≢ None)
+    → (c : Channel) → v.parts (lane_part c) ≢ None → w.parts (lane_part c) ≢ None
+still_lane channel.Local w v same was channel.Local there = was there
+still_lane channel.Local w v same was channel.Remote there = λ none. there (same Remote (λ s. cc) ∙ none)
+still_lane channel.Remote w v same was channel.Local there = λ none. there (same Local (λ s. cc) ∙ none)
+still_lane channel.Remote w v same was channel.Remote there = was there
+
 -- so a number stays preprocessed whose channel's file changed
 resorted : (controls : Controls) (ch : Channel) (w v : About) → ((P : Part) → P ≢ lane_part ch → v.parts P ≡ w.parts P) → v.living ≡ w.living
-    → (h : IsPreprocessed controls w) → LaneState controls v h.taken.injection ch → IsPreprocessed controls v
-resorted controls ch w v same living h new =
+    → (h : IsPreprocessed controls w) → LaneState controls v h.taken.injection ch → (v.parts (lane_part ch) ≢ None → w.parts (lane_part ch) ≢ None) → IsPreprocessed controls v
+resorted controls ch w v same living h new was =
     let far = other_parts ch in
     let early = early_far controls ch w v same in
     record {
@@ -120,7 +132,8 @@ resorted controls ch w v same living h new =
       info_there = same Info far.0 ∙ h.info_there;
       text = h.text;
       lanes = lanes_of controls ch w v same h.taken.injection h.lanes new;
-      notes = notes_kept w v h.taken.injection (same Bounce far.1) h.notes;
+      notes = notes_kept controls w v h.taken.injection (same Bounce far.1) h.notes;
+      unsettled = λ c there. h.unsettled c (still_lane ch w v same was c there);
     }
 
 -- a number that has a channel's file, and no todo, is preprocessed
@@ -138,7 +151,7 @@ lane_there controls w i ch y there (LaneGone none all) = absurd (cc)
 
 module _ (controls : Controls) (now : ℕ) (q : Queue) (a : List ℕ) (G : Sound controls q) where
   -- other descriptors are open, and all else is as it was
-  opens_leads : (opens : ℕ → Option OpenFile) (holder : ℕ → Option (List ℕ))
+  pub opens_leads : (opens : ℕ → Option OpenFile) (holder : ℕ → Option (List ℕ))
       → ((o : List ℕ) (fd : ℕ) (how : OpenFile) → o ≢ a → IsHeld q.disk.opens q.holder o fd how → IsHeld opens holder o fd how)
       → LeadsOn controls now a None q (record {
         disk = record { dirs = q.disk.dirs; names = q.disk.names; files = q.disk.files; opens = opens };
@@ -287,19 +300,20 @@ module _ (controls : Controls) (now : ℕ) (q : Queue) (a : List ℕ) (G : Sound
     same_injection = let w = may.lane.lives in let v = marking.taken.lives in cc
 
     -- every version of the file keeps to the rule when this is written
-    mark_leads : (g : File → File) → ((f : File) → IsDelivered marking.taken.injection.ledger ch place → AllMarked controls marking.taken.injection ch f
+    mark_leads : (g : File → File) → ((f : File) → IsDone marking.taken.injection.ledger ch place → AllMarked controls marking.taken.injection ch f
         → AllMarked controls marking.taken.injection ch (g f)) → LeadsOn controls now a (Some n) q (written q j (g (q.disk.files j)))
     mark_leads g keeps =
         let f = g (q.disk.files j) in
-        let delivered = subst (λ (i : Injection). IsDelivered i.ledger ch place) same_injection may.delivered in
+        let done = subst (λ (i : Injection). IsDone i.ledger ch place) same_injection may.done in
         let old = lane_there controls (about q n) marking.taken.injection ch may.lane.file may.lane.there (marking.lanes ch) in
-        let marked = keeps (q.disk.files j) delivered (subst (AllMarked controls marking.taken.injection ch) lane_file old) in
+        let marked = keeps (q.disk.files j) done (subst (AllMarked controls marking.taken.injection ch) lane_file old) in
         let others = λ (P : Part) (far : P ≢ lane_part ch). find_far q.disk.names q.disk.files (Of P n) j f (λ z h same.
         far (lane_role P n z.number (q.role z.number) ch (G.suits (Of P n) z h).0 (ap q.role same ∙ lane_made))) in
         let there = find_near q.disk.names q.disk.files (Of (lane_part ch) n) may.lane.file f may.lane.there in
         written_leads (Of (lane_part ch) n) j f n lane_name (ap (made_for j) lane_made) (λ was. let w = lane_made in absurd (cc)) (taken_apart controls now q a n marking.taken)
         (subst (IsRecent f) (sym lane_made) tt)
-        (Sorted (resorted controls ch (about q n) (about (written q j f) n) others refl marking (LaneThere (record { number = j; file = f }) there marked)))
+        (Sorted (resorted controls ch (about q n) (about (written q j f) n) others refl marking (LaneThere (record { number = j; file = f }) there marked)
+        (λ _. is_there (look q (Of (lane_part ch) n)) may.lane.file may.lane.there)))
 
     behind : (g : File → File) → LeadsOn controls now a (Some n) q (written q j (g (q.disk.files j)))
         → LeadsOn controls now a (Some n) q (record { disk = changed q.disk (q.disk.opens fd) g; holder = q.holder; books = q.books; role = q.role })
@@ -327,13 +341,14 @@ module _ (controls : Controls) (now : ℕ) (q : Queue) (a : List ℕ) (G : Sound
       let x = Of (lane_part ch) n in
       let same : may.lane.injection ≡ h.taken.injection = (let w = may.lane.lives in let v = h.taken.lives in cc) in
       let marked = lane_there controls (about q n) h.taken.injection ch may.lane.file may.lane.there (h.lanes ch) in
-      let all = subst (λ (i : Injection). AllMarked controls i ch may.lane.file.file → IsLaneDelivered controls i ch) same
+      let all = subst (λ (i : Injection). AllMarked controls i ch may.lane.file.file → IsLaneDone controls i ch) same
       (λ (m : AllMarked controls may.lane.injection ch may.lane.file.file) (r : Recipient may.lane.injection.args) on.
       ⊎_elim (λ reads. reads_done controls may.lane.injection ch may.lane.file.file.bytes m.present r on reads) (λ done. done) (may.each r on))
       marked in
       Sorted (resorted controls ch (about q n) (about (named q x None q.books) n)
       (λ P far. named_other q x None q.books (Of P n) (λ s. far (cc)))
-      refl h (LaneGone (find_gone q.disk.names q.disk.files x) all))
+      refl h (LaneGone (find_gone q.disk.names q.disk.files x) all)
+      (λ there. absurd (there (find_gone q.disk.names q.disk.files x))))
 
   pub drops_keep : (read n : ℕ) (ch : Channel) (told : Answer) (wrote : ℕ) → MayDrop controls (about q n) ch → Fits q.disk (Unlink (path (Of (lane_part ch) n))) told wrote
       → LeadsOn controls now a (Some n) q (called_queue q a read (Unlink (path (Of (lane_part ch) n))) told wrote q.role)
@@ -351,12 +366,13 @@ module _ (controls : Controls) (now : ℕ) (q : Queue) (a : List ℕ) (G : Sound
   sorted_of_info w (Sorted h) may = h
   sorted_of_info w (Finished h) may = let there = may.there in let none = h.unsorted Info refl in absurd (cc)
 
-  lane_over : (w : About) (i : Injection) (ch : Channel) → w.parts (lane_part ch) ≡ None → LaneState controls w i ch → IsLaneDelivered controls i ch
+  lane_over : (w : About) (i : Injection) (ch : Channel) → w.parts (lane_part ch) ≡ None → LaneState controls w i ch → IsLaneDone controls i ch
   lane_over w i ch none (LaneThere y there marked) = absurd (cc)
   lane_over w i ch none (LaneGone gone all) = all
 
-  no_bounce : (w : About) (i : Injection) → NotesState w i → w.parts Bounce ≡ None
-  no_bounce w i (NotYet none unnoted) = none
+  notes_over : (w : About) (i : Injection) → w.parts Bounce ≡ None → NotesState controls i (file_in (w.parts Bounce)) → NotesDone controls i
+  notes_over w i none (There f is has) = let w : ◌≡◌ {A = Option File} None (Some f) = ap file_in (sym none) ∙ is in absurd (cc)
+  notes_over w i none (Gone is settled) = settled
 
   end_phase : (n : ℕ) → MayEnd (about q n) → (h : IsPreprocessed controls (about q n)) → Phase controls (about (named q (Of Info n) None q.books) n)
   end_phase n may h =
@@ -374,7 +390,12 @@ module _ (controls : Controls) (now : ℕ) (q : Queue) (a : List ℕ) (G : Sound
         no_todo = other (Of Todo n) (λ s. cc) ∙ h.no_todo;
         no_intd = other (Of Intd n) (λ s. cc) ∙ h.no_intd;
         unsorted = later;
-        settled = record { valid = h.taken.valid; all = λ ch. lane_over (about q n) h.taken.injection ch (may.gone ch) (h.lanes ch) };
+        settled = record {
+          valid = h.taken.valid;
+          spots = h.taken.spots;
+          all = λ ch. lane_over (about q n) h.taken.injection ch (may.gone ch) (h.lanes ch);
+          notes = notes_over (about q n) h.taken.injection may.no_bounce h.notes;
+        };
       })
     where
       later : IsUnsorted (about (named q (Of Info n) None q.books) n)
@@ -384,7 +405,7 @@ module _ (controls : Controls) (now : ℕ) (q : Queue) (a : List ℕ) (G : Sound
       later Info is = find_gone q.disk.names q.disk.files (Of Info n)
       later Local is = named_other q (Of Info n) None q.books (Of Local n) (λ s. cc) ∙ may.gone channel.Local
       later Remote is = named_other q (Of Info n) None q.books (Of Remote n) (λ s. cc) ∙ may.gone channel.Remote
-      later Bounce is = named_other q (Of Info n) None q.books (Of Bounce n) (λ s. cc) ∙ no_bounce (about q n) h.taken.injection h.notes
+      later Bounce is = named_other q (Of Info n) None q.books (Of Bounce n) (λ s. cc) ∙ may.no_bounce
 
   pub ends_keep : (read n : ℕ) (told : Answer) (wrote : ℕ) → MayEnd (about q n) → Fits q.disk (Unlink (path (Of Info n))) told wrote
       → LeadsOn controls now a (Some n) q (called_queue q a read (Unlink (path (Of Info n))) told wrote q.role)
@@ -394,106 +415,129 @@ module _ (controls : Controls) (now : ℕ) (q : Queue) (a : List ℕ) (G : Sound
   ends_keep read n (answer.Refused why) wrote may fits = stays_but n (taken_apart controls now q a n (sorted_of_info (about q n) (G.fine n) may).taken)
   ends_keep read n told wrote may fits = absurd fits
 
-  -- A delivery is entered
-  module _ (n : ℕ) (s : Spot) (may : MayEnter controls (about q n) s) where
-    abbrev grown : Injection → Injection
-    grown = with_delivered s
+  -- A line is entered
+  module _ (n : ℕ) (line : Line) where
+    abbrev more : Injection → Injection
+    more = with_line line
 
-    entered_living : (i : Injection) → q.books.living n ≡ Some i → (delivered_in q.books n s).living n ≡ Some (grown i)
-    entered_living i lives = put_same q.books.living n _ ∙ ap (option_map grown) lives
-
-    entered_spots : (i : Injection) → q.books.living n ≡ Some i → HasItsSpots controls i → HasItsSpots controls (grown i)
-    entered_spots i lives spots ch place h = ⊎_elim
-        (λ e.
-        let w = may.lives in
-        let same : may.injection ≡ i = cc in
-        let at = subst (λ (z : Injection). IsSpot controls z.args s) same may.spot in
-        (at.0, e ∙ at.1))
-        (λ old. spots ch place old)
-        h
-
-    entered_lane : (i : Injection) (ch : Channel) → LaneState controls (about q n) i ch → LaneState controls (about (entered_queue q n s) n) (grown i) ch
-    entered_lane i ch (LaneThere y there marked) = LaneThere y there (marked_grown controls i s ch y.file marked)
-    entered_lane i ch (LaneGone none all) = LaneGone none (λ r on. inr (all r on))
-
-    entered_notes : (i : Injection) → NotesState (about q n) i → NotesState (about (entered_queue q n s) n) (grown i)
-    entered_notes i (NotYet none unnoted) = NotYet none unnoted
-
-    entered_phase : Phase controls (about q n) → Phase controls (about (entered_queue q n s) n)
-    entered_phase (Free h) = absurd (h.not_accepted may.injection may.lives may.accepted)
-    entered_phase (Queued h) = Queued (record {
-      taken = record {
-        injection = grown h.taken.injection;
-        lives = entered_living h.taken.injection h.taken.lives;
-        accepted = h.taken.accepted;
-        mess = h.taken.mess;
-        mess_there = h.taken.mess_there;
-        message = h.taken.message;
-        valid = h.taken.valid;
-        spots = entered_spots h.taken.injection h.taken.lives h.taken.spots;
-      };
-      todo = h.todo;
-      todo_there = h.todo_there;
-      text = h.text;
-      no_bounce = h.no_bounce;
-      unnoted = h.unnoted;
-    })
-    entered_phase (Sorted h) = Sorted (record {
-      taken = record {
-        injection = grown h.taken.injection;
-        lives = entered_living h.taken.injection h.taken.lives;
-        accepted = h.taken.accepted;
-        mess = h.taken.mess;
-        mess_there = h.taken.mess_there;
-        message = h.taken.message;
-        valid = h.taken.valid;
-        spots = entered_spots h.taken.injection h.taken.lives h.taken.spots;
-      };
-      no_todo = h.no_todo;
-      no_intd = h.no_intd;
-      info = h.info;
-      info_there = h.info_there;
-      text = h.text;
-      lanes = λ ch. entered_lane h.taken.injection ch (h.lanes ch);
-      notes = entered_notes h.taken.injection h.notes;
-    })
-    entered_phase (Finished h) = Finished (record {
-      injection = grown h.injection;
-      lives = entered_living h.injection h.lives;
-      accepted = h.accepted;
-      message = h.message;
-      no_todo = h.no_todo;
-      no_intd = h.no_intd;
-      unsorted = h.unsorted;
-      settled = record { valid = h.settled.valid; all = λ ch r on. inr (h.settled.all ch r on) };
-    })
+    pub entered_living : (i : Injection) → q.books.living n ≡ Some i → (entered_in q.books n line).living n ≡ Some (more i)
+    entered_living i lives = put_same q.books.living n _ ∙ ap (option_map more) lives
 
     -- the injections that were in the books are there, this one with its ledger grown
-    entered_still : (i : Injection) → IsInjected q.books i → (j : Injection) × IsInjected (delivered_in q.books n s) j × IsLater i j
+    pub entered_still : (i : Injection) → IsInjected q.books i → (j : Injection) × IsInjected (entered_in q.books n line) j × IsLater i j
     entered_still i h = ⊎_elim
         (λ (lives : q.books.living i.number ≡ Some i). ⊎_elim
-        (λ (c : (i.number ≡ n) × (put q.books.living n (option_map grown (q.books.living n)) i.number ≡ option_map grown (q.books.living n))).
+        (λ (c : (i.number ≡ n) × (put q.books.living n (option_map more (q.books.living n)) i.number ≡ option_map more (q.books.living n))).
         let old : q.books.living n ≡ Some i = ap q.books.living (sym c.0) ∙ lives in
-        (grown i, inl (c.1 ∙ ap (option_map grown) old), record { number_is = refl; actor_is = refl; args_are = refl; accepted_is = refl; delivered = λ t w. inr w }))
-        (λ (c : (i.number ≢ n) × (put q.books.living n (option_map grown (q.books.living n)) i.number ≡ q.books.living i.number)).
-        still_there (delivered_in q.books n s) i (inl (c.1 ∙ lives)))
-        (put_cases q.books.living n (option_map grown (q.books.living n)) i.number))
-        (λ (over : Among i q.books.over). still_there (delivered_in q.books n s) i (inr over))
+        (more i, inl (c.1 ∙ ap (option_map more) old), record { number_is = refl; actor_is = refl; args_are = refl; accepted_is = refl; grown = line_grows line i.ledger }))
+        (λ (c : (i.number ≢ n) × (put q.books.living n (option_map more (q.books.living n)) i.number ≡ q.books.living i.number)).
+        still_there (entered_in q.books n line) i (inl (c.1 ∙ lives)))
+        (put_cases q.books.living n (option_map more (q.books.living n)) i.number))
+        (λ (over : Among i q.books.over). still_there (entered_in q.books n line) i (inr over))
         h
 
-    pub entries_keep : LeadsOn controls now a (Some n) q (entered_queue q n s)
-    entries_keep =
-        let E : Elsewhere now a (Some n) q (entered_queue q n s) = record {
-          looks = λ _ _. refl;
+    -- the queue with that line in its books
+    abbrev pub lined : Queue → Queue
+    lined r = record { disk = r.disk; holder = r.holder; books = entered_in q.books n line; role = r.role }
+
+    -- a step that concerns this number alone, and enters the line
+    pub lined_leads : (r : Queue) → Elsewhere now a (Some n) q r → NamesSuit r → Phase controls (about (lined r) n) → Outside q.disk r.disk → LeavesOld q r
+        → LeadsOn controls now a (Some n) q (lined r)
+    lined_leads r E suits fine outside old =
+        let L : Elsewhere now a (Some n) q (lined r) = record {
+          looks = E.looks;
           living = λ k far. put_other q.books.living n _ k (λ same. far (ap Some (sym same)));
-          opens = λ _ _ _ _ h. h;
-          roles = λ _ _ _. refl;
-          apart = accepted_apart now q a n may.injection (is_there (look q (Of Mess n)) may.mess may.there) may.lives may.accepted;
+          opens = E.opens;
+          roles = E.roles;
+          apart = E.apart;
           accepted = λ i h _. entered_still i h;
         } in
         record {
-          sound = record { suits = G.suits; fine = phase_by n (entered_queue q n s) E (entered_phase (G.fine n)); over = G.over };
-          elsewhere = E;
-          outside = outside_same q.disk q.disk.opens;
-          old = record { files = λ _ _ _ _. refl; roles = λ _ _ _ h. h };
+          sound = record { suits = suits; fine = phase_by n (lined r) L fine; over = G.over };
+          elsewhere = L;
+          outside = outside;
+          old = record { files = old.files; roles = old.roles };
         }
+
+  module _ (n : ℕ) (line : Line) (may : MayEnter controls (about q n) line) where
+    entered_lane : (i : Injection) (ch : Channel) → LaneState controls (about q n) i ch → LaneState controls (about (entered_queue q n line) n) (with_line line i) ch
+    entered_lane i ch (LaneThere y there marked) = LaneThere y there (marked_grown controls i line ch y.file marked)
+    entered_lane i ch (LaneGone none all) = LaneGone none (lane_grown controls i line ch all)
+
+    entered_fits : (i : Injection) → q.books.living n ≡ Some i → LineFits controls (about q n) i line
+    entered_fits i lives =
+        let w = may.lives in
+        let same : may.injection ≡ i = cc in
+        subst (λ (z : Injection). LineFits controls (about q n) z line) same may.fits
+
+    entered_taken : (h : IsTaken controls (about q n)) → IsTaken controls (about (entered_queue q n line) n)
+    entered_taken h = record {
+      injection = with_line line h.injection;
+      lives = entered_living n line h.injection h.lives;
+      accepted = h.accepted;
+      mess = h.mess;
+      mess_there = h.mess_there;
+      message = h.message;
+      valid = h.valid;
+      spots = spots_on controls (about q n) h.injection line (entered_fits h.injection h.lives) h.spots;
+    }
+
+    pub entered_phase : Phase controls (about q n) → Phase controls (about (entered_queue q n line) n)
+    unfolding entered_taken
+    entered_phase (Free h) = absurd (h.not_accepted may.injection may.lives may.accepted)
+    entered_phase (Queued h) =
+        let fits = entered_fits h.taken.injection h.taken.lives in
+        Queued (record {
+          taken = entered_taken h.taken;
+          todo = h.todo;
+          todo_there = h.todo_there;
+          text = h.text;
+          no_bounce = h.no_bounce;
+          unnoted = noted_on controls (about q n) h.taken.injection line fits ∙ h.unnoted;
+          unreturned = unreturned_on controls (about q n) h.taken.injection line fits
+              (λ b (back : MayReturn (about q n) h.taken.injection.ledger b). let none = back.no_todo in let there = h.todo_there in absurd (cc)) h.unreturned;
+        })
+    entered_phase (Sorted h) =
+        let i = h.taken.injection in
+        let fits = entered_fits i h.taken.lives in
+        Sorted (record {
+          taken = entered_taken h.taken;
+          no_todo = h.no_todo;
+          no_intd = h.no_intd;
+          info = h.info;
+          info_there = h.info_there;
+          text = h.text;
+          lanes = λ ch. entered_lane i ch (h.lanes ch);
+          notes = notes_on controls (about q n) i line fits (file_in (look q (Of Bounce n))) h.notes;
+          unsettled = λ ch there. unreturned_on controls (about q n) i line fits
+              (λ b (back : MayReturn (about q n) i.ledger b). absurd (there (back.gone ch))) (h.unsettled ch there);
+        })
+    entered_phase (Finished h) =
+        let fits = entered_fits h.injection h.lives in
+        Finished (record {
+          injection = with_line line h.injection;
+          lives = entered_living n line h.injection h.lives;
+          accepted = h.accepted;
+          message = h.message;
+          no_todo = h.no_todo;
+          no_intd = h.no_intd;
+          unsorted = h.unsorted;
+          settled = record {
+            valid = h.settled.valid;
+            spots = spots_on controls (about q n) h.injection line fits h.settled.spots;
+            all = λ ch. lane_grown controls h.injection line ch (h.settled.all ch);
+            notes = done_on controls (about q n) h.injection line fits h.settled.notes;
+          };
+        })
+
+    pub entries_keep : LeadsOn controls now a (Some n) q (entered_queue q n line)
+    entries_keep =
+        let E : Elsewhere now a (Some n) q q = record {
+          looks = λ _ _. refl;
+          living = λ _ _. refl;
+          opens = λ _ _ _ _ h. h;
+          roles = λ _ _ _. refl;
+          apart = accepted_apart now q a n may.injection (is_there (look q (Of Mess n)) may.mess may.there) may.lives may.accepted;
+          accepted = λ i h _. still_there q.books i h;
+        } in
+        lined_leads n line q E G.suits (entered_phase (G.fine n)) (outside_same q.disk q.disk.opens) (record { files = λ _ _ _ _. refl; roles = λ _ _ _ h. h })

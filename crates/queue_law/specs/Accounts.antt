@@ -1,20 +1,24 @@
 -- How each recipient of an accepted message is accounted for.
-use Rattle.std.specs.Prelude.{◌≡◌, ℕ, ◌<◌, List, length, true, Some}
+use Rattle.std.specs.Prelude.{◌≡◌, ℕ, ◌<◌, ◌≤◌, List, length, Bool, true, false, not, ◌&&◌, ◌==◌, Option, Some, None, codes, slice_get}
+use Rattle.std.specs.List.{list_any}
 use Rattle.address_rules.specs.declared.controls.Controls.{Controls}
 use Rattle.address_rules.specs.Nuls.{HaveNoNul}
 use Rattle.envelope_records.specs.declared.channel.Record.{Record}
 use Rattle.envelope_records.specs.Records.{AreRecords}
 use Rattle.send_jobs.specs.declared.channels.Channel.{Channel}
-use Rattle.call_fs.specs.Disk.{Disk, Among, IsSynced}
+use Rattle.call_fs.specs.Disk.{Disk, File, Among, IsSynced}
+use Rattle.bounce_record.specs.Notes.{count}
 use Rattle.queue_inject.specs.declared.injection.Arguments.{Arguments}
 use Rattle.queue_inject.specs.Texts.{recipients_of, todo_of}
 use Rattle.queue_paths.specs.Names.{path}
 use Rattle.queue_paths.specs.Names.Name.{Of}
-use Rattle.queue_paths.specs.Names.Part.{Todo}
+use Rattle.queue_paths.specs.Names.Part.{Bounce, Todo}
 use Rattle.todo_pass.specs.Places.{HasRecord}
 use Rattle.queue_law.specs.Books.{Injection, Books, IsInjected, IsValid}
-use Rattle.queue_law.specs.Routes.{Recipient, spot_of, routed, lane_part, lane_text}
-use Rattle.queue_law.specs.Marks.{IsDelivered, IsMarked, HasItsSpots}
+use Rattle.queue_law.specs.Ledgers.{Bounced, Ledger, Spot}
+use Rattle.queue_law.specs.Routes.{Recipient, sender_of, spot_of, routed, lane_part, lane_text}
+use Rattle.queue_law.specs.Marks.{IsDone, IsMarked, HasItsSpots}
+use Rattle.queue_law.specs.Notes.{counted_as, is_spot, told_name}
 use Rattle.queue_law.specs.Numbers.{Queue, Sound}
 
 -- todo is there, with the injection's text, and all of it is on the disk
@@ -29,12 +33,52 @@ pub record IsUnmarked (controls : Controls) (d : Disk) (i : Injection) (r : Reci
   pub there : d.names (path (Of (lane_part (spot_of controls i.args r).channel) i.number)) ≡ Some file
   pub reads : HasRecord (d.files file).bytes (spot_of controls i.args r).place (routed controls i.args r)
 
+-- a report of it said that it was delivered to, or that it failed for good
+abbrev pub is_delivered : Ledger → Spot → Bool
+is_delivered l s = list_any (is_spot s) l.delivered
+
+abbrev pub is_failed : Ledger → Spot → Bool
+is_failed l s = list_any (is_spot s) l.failed
+
+-- it failed for good, and wasn't delivered to
+abbrev pub is_lost : Ledger → Spot → Bool
+is_lost l s = is_failed l s && not (is_delivered l s)
+
+-- its record reads `T`
+abbrev pub is_open_letter : Option ℕ → Bool
+is_open_letter None = false
+is_open_letter (Some letter) = letter == 84
+
+abbrev pub opens_at : (ℕ → File) → Option ℕ → ℕ → Bool
+opens_at files None place = false
+opens_at files (Some i) place = is_open_letter (slice_get (files i).bytes place)
+
+abbrev pub is_open : Disk → ℕ → Spot → Bool
+is_open d n s = opens_at d.files (d.names (path (Of (lane_part s.channel) n))) s.place
+
+-- it is to be told to the sender: it failed for good, wasn't delivered to, and isn't tried again
+abbrev pub is_to_tell : Disk → Injection → Spot → Bool
+is_to_tell d i s = is_lost i.ledger s && not (is_open d i.number s)
+
+-- The bounce file is there, and names as many of this name as there are to tell, as it is and as it was at its last sync.
+pub record IsHeldIn (controls : Controls) (d : Disk) (i : Injection) (name : List ℕ) : Type 0 where
+  pub file : ℕ
+  pub there : d.names (path (Of Bounce i.number)) ≡ Some file
+  pub present : counted_as controls (is_to_tell d i) i name ≤ count (d.files file).bytes name
+  pub synced : counted_as controls (is_to_tell d i) i name ≤ count (d.files file).kept name
+
 -- Of `mail a a@x b@y : hi` with `a@x` local, after `run a` both are Pending. After preprocessing both are Unmarked, by local/1 and
--- remote/1. Once `a@x` was reported delivered it is Delivered, whatever its record reads then, and stays so when all files are gone.
+-- remote/1. Once `a@x` was reported delivered it is Delivered, whatever its record reads then, and stays so when all files are gone. When
+-- `b@y` failed and its record reads `D`, it is Held by bounce/1, which names it once; and Returned when a bounce with those notes was
+-- accepted, also once bounce/1 is gone. If the message came from `#@[]` it is Dropped instead.
 pub data Accounted (controls : Controls) (d : Disk) (b : Books) (i : Injection) (r : Recipient i.args) : Type 0 where
   Pending : b.living i.number ≡ Some i → IsInTodo d i → Accounted controls d b i r
   Unmarked : b.living i.number ≡ Some i → IsUnmarked controls d i r → Accounted controls d b i r
   Delivered : Among (spot_of controls i.args r) i.ledger.delivered → Accounted controls d b i r
+  Held : b.living i.number ≡ Some i → Among (spot_of controls i.args r) i.ledger.failed → IsHeldIn controls d i (told_name controls r.address) → Accounted controls d b i r
+  Returned : Among (spot_of controls i.args r) i.ledger.failed → (x : Bounced) → Among x i.ledger.bounced → Among x.notes i.ledger.reads
+      → counted_as controls (is_lost i.ledger) i (told_name controls r.address) ≤ count x.notes (told_name controls r.address) → Accounted controls d b i r
+  Dropped : Among (spot_of controls i.args r) i.ledger.failed → i.ledger.dropped ≡ true → sender_of i.args ≡ codes "#@[]" → Accounted controls d b i r
 
 -- each recipient of each accepted injection is accounted for, whether its life lasts or is over
 abbrev pub AllAccounted : Type 0
@@ -45,12 +89,13 @@ AllAccounted = (controls : Controls) (q : Queue) → Sound controls q → (i : I
 abbrev pub RecipientsAreNumbered : Type 0
 RecipientsAreNumbered = (args : Arguments) (k : ℕ) → k < length (recipients_of args) → (r : Recipient args) × (length r.earlier ≡ k)
 
--- A record of a channel file, as it is read, is that of this recipient. It is done only if that one was reported delivered.
+-- A record of a channel file, as it is read, is that of this recipient. It reads `D` only if that one was reported delivered, or its note is
+-- synced.
 pub record IsRecordOf (controls : Controls) (i : Injection) (ch : Channel) (r : Recipient i.args) (it : Record) : Type 0 where
   pub on : (spot_of controls i.args r).channel ≡ ch
   pub place_is : it.place ≡ (spot_of controls i.args r).place
   pub address_is : it.address ≡ routed controls i.args r
-  pub done : it.done ≡ true → IsDelivered i.ledger ch it.place
+  pub done : it.done ≡ true → IsDone i.ledger ch it.place
 
 -- Each record is that of a recipient, and each recipient of the channel has one.
 pub record AreOfRecipients (controls : Controls) (i : Injection) (ch : Channel) (records : List Record) : Type 0 where

@@ -16,9 +16,10 @@ use Rattle.queue_paths.specs.Names.Name.{Of}
 use Rattle.queue_paths.specs.Names.Part.{Mess, Intd, Todo}
 use Rattle.queue_inject.specs.declared.injection.Arguments.{Arguments}
 use Rattle.queue_inject.specs.Texts.{message_text, intd_text}
-use Rattle.send_jobs.specs.declared.attempts.Attempt.{Attempt}
-use Rattle.send_jobs.specs.declared.channels.Channel.{Channel}
-use Rattle.queue_law.specs.Ledgers.{Spot, Ledger, no_ledger}
+use Rattle.send_jobs.specs.Bookings.{Booking}
+use Rattle.send_jobs.specs.Bookings.Booking.{Dropped, Noted, ReadNotes, Reported, Returned}
+use Rattle.queue_law.specs.Ledgers.{Ledger, Line, Spot, HasGrown, line_in, no_ledger}
+use Rattle.queue_law.specs.Ledgers.Line.{Delivers, Drops, Fails, Notes, Reads, Returns}
 
 -- a file call and what was told, as an event of a program's own past
 abbrev pub own_call : ℕ → Ready → CallData → Told → Own
@@ -73,17 +74,50 @@ held_by holder a call (Opened fd) = put holder fd.0 (Some a)
 held_by holder a (Close fd) Done = put holder fd.0 None
 held_by holder a call answer = holder
 
--- the books when a recipient of the message with this number is reported delivered
-abbrev pub with_delivered : Spot → Injection → Injection
-with_delivered s i = record i { ledger = record i.ledger { delivered = s ∷ i.ledger.delivered } }
+-- an injection with a line more in its ledger
+abbrev pub with_line : Line → Injection → Injection
+with_line line i = record i { ledger = line_in line i.ledger }
 
-abbrev pub delivered_in : Books → ℕ → Spot → Books
-delivered_in b n s = record { living = put b.living n (option_map (with_delivered s) (b.living n)); over = b.over }
+-- the books when a line is entered for the message with this number
+abbrev pub entered_in : Books → ℕ → Line → Books
+entered_in b n line = record { living = put b.living n (option_map (with_line line) (b.living n)); over = b.over }
 
--- when these attempts, each on its channel, are reported delivered, one after the other
-abbrev pub entered_all : List (Channel × Attempt) → Books → Books
-entered_all [] b = b
-entered_all (e ∷ es) b = entered_all es (delivered_in b e.1.n (record { channel = e.0; place = e.1.place }))
+-- the injector that a sender has started: its name and its arguments
+pub record Child : Type 0 where
+  pub actor : List ℕ
+  pub args : Arguments
+
+-- what was read last of the bounce file
+abbrev pub first_of : List (List ℕ) → List ℕ
+first_of [] = []
+first_of (notes ∷ earlier) = notes
+
+abbrev pub notes_read : Option Injection → List ℕ
+notes_read None = []
+notes_read (Some i) = first_of i.ledger.reads
+
+-- the line of a recipient of which a final report was taken
+abbrev pub line_said : Bool → Spot → Line
+line_said true s = Delivers s
+line_said false s = Fails s
+
+-- a bounce is that of the child, with the notes that were read last
+abbrev pub returned_in : Option Child → Books → ℕ → Books
+returned_in None b n = b
+returned_in (Some child) b n = entered_in b n (Returns (record { actor = child.actor; args = child.args; notes = notes_read (b.living n) }))
+
+-- the books after something that a sender did which has this child
+abbrev pub booked_on : Option Child → Booking → Books → Books
+booked_on child (Reported delivered c n place) b = entered_in b n (line_said delivered (record { channel = c; place = place }))
+booked_on child (Noted c n place) b = entered_in b n (Notes (record { channel = c; place = place }))
+booked_on child (ReadNotes n notes) b = entered_in b n (Reads notes)
+booked_on child (Returned n) b = returned_in child b n
+booked_on child (Dropped n) b = entered_in b n Drops
+
+-- and after these, one after the other
+abbrev pub booked_all : Option Child → List Booking → Books → Books
+booked_all child [] b = b
+booked_all child (e ∷ es) b = booked_all child es (booked_on child e b)
 
 -- the same injection later on: its ledger may have grown, and all else is as it was
 pub record IsLater (i j : Injection) : Type 0 where
@@ -91,7 +125,7 @@ pub record IsLater (i j : Injection) : Type 0 where
   pub actor_is : j.actor ≡ i.actor
   pub args_are : j.args ≡ i.args
   pub accepted_is : j.accepted ≡ i.accepted
-  pub delivered : (s : Spot) → Among s i.ledger.delivered → Among s j.ledger.delivered
+  pub grown : HasGrown i.ledger j.ledger
 
 -- an injection, whether its life lasts or is over
 abbrev pub IsInjected : Books → Injection → Type 0

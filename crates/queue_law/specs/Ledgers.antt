@@ -1,5 +1,6 @@
--- What senders did with a message, in the life of its injection. A ledger only grows, and no program that moves so far writes one.
-use Rattle.std.specs.Prelude.{ℕ, List, [], Bool, false}
+-- What senders did with a message, in the life of its injection. A ledger only grows.
+use Rattle.std.specs.Prelude.{◌≡◌, ℕ, List, [], ◌∷◌, Bool, true, false}
+use Rattle.call_fs.specs.Disk.{Among}
 use Rattle.queue_inject.specs.declared.injection.Arguments.{Arguments}
 use Rattle.send_jobs.specs.declared.channels.Channel.{Channel}
 
@@ -30,3 +31,39 @@ pub record Ledger : Type 0 where
 -- that of an injection that has just begun
 abbrev pub no_ledger : Ledger
 no_ledger = record { delivered = []; failed = []; noted = []; reads = []; bounced = []; dropped = false }
+
+-- a line that a sender enters in a ledger
+pub data Line : Type 0 where
+  -- a recipient was delivered to, or failed for good
+  Delivers : (spot : Spot) → Line
+  Fails : (spot : Spot) → Line
+  -- its note is synced in the bounce file
+  Notes : (spot : Spot) → Line
+  -- these bytes were read of the bounce file
+  Reads : (bytes : List ℕ) → Line
+  -- a bounce was accepted
+  Returns : (bounce : Bounced) → Line
+  -- the notes were dropped
+  Drops : Line
+
+abbrev pub line_in : Line → Ledger → Ledger
+line_in (Delivers s) l = record l { delivered = s ∷ l.delivered }
+line_in (Fails s) l = record l { failed = s ∷ l.failed }
+line_in (Notes s) l = record l { noted = s ∷ l.noted }
+line_in (Reads bytes) l = record l { reads = bytes ∷ l.reads }
+line_in (Returns b) l = record l { bounced = b ∷ l.bounced }
+line_in Drops l = record l { dropped = true }
+
+-- a ledger that has all the lines of another
+pub record HasGrown (l m : Ledger) : Type 0 where
+  pub delivered : (s : Spot) → Among s l.delivered → Among s m.delivered
+  pub failed : (s : Spot) → Among s l.failed → Among s m.failed
+  pub noted : (s : Spot) → Among s l.noted → Among s m.noted
+  pub reads : (bytes : List ℕ) → Among bytes l.reads → Among bytes m.reads
+  pub bounced : (b : Bounced) → Among b l.bounced → Among b m.bounced
+  pub dropped : l.dropped ≡ true → m.dropped ≡ true
+
+-- no bounce of its notes was accepted, and they weren't dropped
+pub record IsUnreturned (l : Ledger) : Type 0 where
+  pub none : l.bounced ≡ []
+  pub kept : l.dropped ≡ false

@@ -20,6 +20,8 @@ pub mod Claims
 pub mod Accounts
 -- what a sender does to the queue
 pub mod Senders
+-- what a sender does to the bounce file of a message
+pub mod Bouncing
 -- what of a number is there before its last names go
 pub mod Ready
 -- when a number rests
@@ -30,3 +32,5 @@ pub mod Cleaners
 pub mod Passes
 -- a worked message
 pub mod Worked
+-- the notes that a bounce file has
+pub mod Notes

@@ -10,7 +10,9 @@ use Rattle.queue_paths.specs.Names.Part.{Mess, Intd, Todo, Info, Local, Remote, 
 use Rattle.send_jobs.specs.declared.channels.Channel.{Channel}
 use Rattle.queue_law.specs.Books.{Injection, Books, IsValid}
 use Rattle.queue_law.specs.Routes.{info_of, lane_part}
-use Rattle.queue_law.specs.Marks.{AllMarked, HasItsSpots, IsLaneDelivered, IsSettled}
+use Rattle.queue_law.specs.Ledgers.{IsUnreturned}
+use Rattle.queue_law.specs.Marks.{AllMarked, HasItsSpots, IsLaneDone, IsSettled}
+use Rattle.queue_law.specs.Notes.{NotesState}
 
 -- a file, and its number
 pub record Entry : Type 0 where
@@ -129,18 +131,21 @@ pub record IsQueued (controls : Controls) (w : About) : Type 0 where
   pub text : IsSynced todo.file (intd_text taken.injection.args).bytes
   pub no_bounce : w.parts Bounce ≡ None
   pub unnoted : taken.injection.ledger.noted ≡ []
+  pub unreturned : IsUnreturned taken.injection.ledger
 
 -- The file of a channel after preprocessing: it is there, and each record of it reads `T`, or `D` once its recipient was reported
--- delivered; or it isn't, and each recipient of the channel was. A channel without recipients has none.
+-- delivered or its note was synced; or it isn't, and each recipient of the channel was. A channel without recipients has none.
 pub data LaneState (controls : Controls) (w : About) (i : Injection) (ch : Channel) : Type 0 where
   LaneThere : (y : Entry) → w.parts (lane_part ch) ≡ Some y → AllMarked controls i ch y.file → LaneState controls w i ch
-  LaneGone : w.parts (lane_part ch) ≡ None → IsLaneDelivered controls i ch → LaneState controls w i ch
+  LaneGone : w.parts (lane_part ch) ≡ None → IsLaneDone controls i ch → LaneState controls w i ch
 
--- The notes of failures after preprocessing: there are none. Those that a bounce file keeps come with the programs that write it.
-pub data NotesState (w : About) (i : Injection) : Type 0 where
-  NotYet : w.parts Bounce ≡ None → i.ledger.noted ≡ [] → NotesState w i
+-- the file of an entry
+abbrev pub file_in : Option Entry → Option File
+file_in None = None
+file_in (Some y) = Some y.file
 
--- It is preprocessed: todo is gone, and info and the channel files are those of its message.
+-- It is preprocessed: todo is gone, and info and the channel files are those of its message; and its bounce file has the notes of it. While a
+-- channel file is there nothing is returned.
 pub record IsPreprocessed (controls : Controls) (w : About) : Type 0 where
   pub taken : IsTaken controls w
   pub no_todo : w.parts Todo ≡ None
@@ -149,7 +154,8 @@ pub record IsPreprocessed (controls : Controls) (w : About) : Type 0 where
   pub info_there : w.parts Info ≡ Some info
   pub text : IsSynced info.file (info_of taken.injection.args)
   pub lanes : (ch : Channel) → LaneState controls w taken.injection ch
-  pub notes : NotesState w taken.injection
+  pub notes : NotesState controls taken.injection (file_in (w.parts Bounce))
+  pub unsettled : (ch : Channel) → w.parts (lane_part ch) ≢ None → IsUnreturned taken.injection.ledger
 
 -- It is finished: nothing is owed of its message, whose file may still be there, and no other is.
 pub record IsFinished (controls : Controls) (w : About) : Type 0 where
@@ -164,8 +170,10 @@ pub record IsFinished (controls : Controls) (w : About) : Type 0 where
 
 -- The phases of a number, under these control files. `mail a a@x b@y : hi`, `run a` of number 1 leads from Free to Queued: mess/1 and
 -- todo/1 are there, and intd/1. A preprocessing that makes info/1, local/1 and remote/1, and then takes intd/1 and todo/1 away, leads to
--- Sorted. There each report of a delivery goes into the ledger, and then a mark into its record; when the ledger has both, the channel
--- files go, then info/1, which leads to Finished, then mess/1. A new injection of number 1 leads to Free.
+-- Sorted. There each final report goes into the ledger, and of one that failed a note into bounce/1; when that is synced the ledger has it
+-- too, and then comes the mark of its record. When the ledger has both recipients as delivered or noted, the channel files go; then a bounce
+-- is injected, which the ledger tells, and bounce/1 goes; then info/1, which leads to Finished, then mess/1. A new injection of number 1 leads
+-- to Free.
 pub data Phase (controls : Controls) (w : About) : Type 0 where
   Free : IsFree w → Phase controls w
   Queued : IsQueued controls w → Phase controls w

@@ -1,4 +1,5 @@
--- What a sender does to the queue: it reads, marks records, takes channel files and info away, and enters what was reported delivered.
+-- What a sender does to the queue: it reads, marks records, takes channel files and info away, and enters what was reported and returned.
+-- What it does to bounce files stands in Bouncing.antt.
 use Rattle.std.specs.Prelude.{◌≡◌, ◌≢◌, ◌⊎◌, ℕ, List, [], ◌∷◌, length, true, Option, Some, None, slice_get}
 use Rattle.address_rules.specs.declared.controls.Controls.{Controls}
 use Rattle.call_fs.specs.declared.calls.CallData.{CallData}
@@ -10,15 +11,16 @@ use Rattle.call_fs.specs.declared.calls.How.{How}
 use Rattle.call_fs.specs.declared.calls.How.TheVariants.{Write}
 use Rattle.call_fs.specs.declared.modes.Mode.{Mode}
 use Rattle.call_fs.specs.Apply.{effect, Fits}
-use Rattle.call_fs.specs.Disk.{File, Open as OpenFile}
+use Rattle.call_fs.specs.Disk.{Among, File, Open as OpenFile}
 use Rattle.queue_paths.specs.Names.{Name, Part, path}
 use Rattle.queue_paths.specs.Names.Name.{Of}
-use Rattle.queue_paths.specs.Names.Part.{Mess, Todo, Info}
+use Rattle.queue_paths.specs.Names.Part.{Mess, Todo, Info, Bounce}
 use Rattle.send_jobs.specs.declared.channels.Channel.{Channel}
-use Rattle.queue_law.specs.Ledgers.{Spot}
-use Rattle.queue_law.specs.Books.{Injection, delivered_in, held_by}
+use Rattle.queue_law.specs.Ledgers.{Bounced, Ledger, Line}
+use Rattle.queue_law.specs.Ledgers.Line.{Delivers, Drops, Fails, Notes, Reads, Returns}
+use Rattle.queue_law.specs.Books.{Injection, entered_in, held_by}
 use Rattle.queue_law.specs.Routes.{Recipient, spot_of, IsSpot, lane_part}
-use Rattle.queue_law.specs.Marks.{IsDelivered}
+use Rattle.queue_law.specs.Marks.{IsDone}
 use Rattle.queue_law.specs.Numbers.{Role, Queue, Entry, look, About, about, Sound}
 use Rattle.queue_law.specs.Injectors.{IsHeld}
 use Rattle.queue_law.specs.Steps.{Elsewhere, LeavesOld, Outside}
@@ -56,39 +58,55 @@ pub record HasLane (w : About) (ch : Channel) : Type 0 where
   pub injection : Injection
   pub lives : w.living ≡ Some injection
 
--- The record at this place may be marked: its recipient was reported delivered. The descriptor is the actor's own, opened for this on
--- the channel file.
+-- The record at this place may be marked: its recipient was reported delivered, or its note is synced. The descriptor is the actor's own,
+-- opened for this on the channel file.
 pub record MayMark (q : Queue) (a : List ℕ) (n : ℕ) (ch : Channel) (fd place : ℕ) : Type 0 where
   pub lane : HasLane (about q n) ch
   pub opened : IsHeld q.disk.opens q.holder a fd (record { number = lane.file.number; mode = Mode.Opened Write })
-  pub delivered : IsDelivered lane.injection.ledger ch place
+  pub done : IsDone lane.injection.ledger ch place
 
--- The channel file may go: each of its records reads `D`, or its recipient was reported delivered.
+-- The channel file may go: each of its records reads `D`, or its recipient was reported delivered or is noted.
 pub record MayDrop (controls : Controls) (w : About) (ch : Channel) : Type 0 where
   pub lane : HasLane w ch
   pub each : (r : Recipient lane.injection.args) → (spot_of controls lane.injection.args r).channel ≡ ch
       → (slice_get lane.file.file.bytes (spot_of controls lane.injection.args r).place ≡ Some 68)
-      ⊎ IsDelivered lane.injection.ledger ch (spot_of controls lane.injection.args r).place
+      ⊎ IsDone lane.injection.ledger ch (spot_of controls lane.injection.args r).place
 
--- The info file may go: the number is preprocessed, and its channel files are gone.
+-- The info file may go: the number is preprocessed, and its channel files are gone, and so is its bounce file.
 pub record MayEnd (w : About) : Type 0 where
   pub no_todo : w.parts Todo ≡ None
   pub info : Entry
   pub there : w.parts Info ≡ Some info
   pub gone : (ch : Channel) → w.parts (lane_part ch) ≡ None
+  pub no_bounce : w.parts Bounce ≡ None
 
--- this recipient's delivery may be entered: the message is accepted, and its file is there
-pub record MayEnter (controls : Controls) (w : About) (s : Spot) : Type 0 where
+-- A bounce that carries these notes may be entered: they were read of the bounce file, once both channel files were gone.
+pub record MayReturn (w : About) (l : Ledger) (b : Bounced) : Type 0 where
+  pub no_todo : w.parts Todo ≡ None
+  pub gone : (ch : Channel) → w.parts (lane_part ch) ≡ None
+  pub read : Among b.notes l.reads
+
+-- what a line needs that comes without a change of a file
+abbrev pub LineFits : Controls → About → Injection → Line → Type 0
+LineFits controls w i (Delivers s) = IsSpot controls i.args s
+LineFits controls w i (Fails s) = IsSpot controls i.args s
+LineFits controls w i (Notes s) = ⊥
+LineFits controls w i (Reads bytes) = Unit {0}
+LineFits controls w i (Returns b) = MayReturn w i.ledger b
+LineFits controls w i Drops = ⊥
+
+-- this line may be entered: the message is accepted, and its file is there
+pub record MayEnter (controls : Controls) (w : About) (line : Line) : Type 0 where
   pub mess : Entry
   pub there : w.parts Mess ≡ Some mess
   pub injection : Injection
   pub lives : w.living ≡ Some injection
   pub accepted : injection.accepted ≡ true
-  pub spot : IsSpot controls injection.args s
+  pub fits : LineFits controls w injection line
 
--- the queue when a recipient of a number's message is reported delivered
-abbrev pub entered_queue : Queue → ℕ → Spot → Queue
-entered_queue q n s = record { disk = q.disk; holder = q.holder; books = delivered_in q.books n s; role = q.role }
+-- the queue when a line is entered for a number's message
+abbrev pub entered_queue : Queue → ℕ → Line → Queue
+entered_queue q n line = record { disk = q.disk; holder = q.holder; books = entered_in q.books n line; role = q.role }
 
 -- The laws. Each is of any answer that may come: of a fault too, and of a write that was cut off.
 
@@ -104,7 +122,7 @@ MarksKeep = (controls : Controls) (now : ℕ) (q : Queue) (a : List ℕ) (read n
     → Sound controls q → MayMark q a n ch fd.0 place → Fits q.disk (WriteAt fd place (68 ∷ [])) answer wrote
     → LeadsOn controls now a (Some n) q (called_queue q a read (WriteAt fd place (68 ∷ [])) answer wrote q.role)
 
--- and the unlink of a channel file of which all is delivered, and of the info file after both
+-- and the unlink of a channel file of which all is done, and of the info file after both and the bounce file
 abbrev pub DropsKeep : Type 0
 DropsKeep = (controls : Controls) (now : ℕ) (q : Queue) (a : List ℕ) (read n : ℕ) (ch : Channel) (answer : Answer) (wrote : ℕ)
     → Sound controls q → MayDrop controls (about q n) ch → Fits q.disk (Unlink (path (Of (lane_part ch) n))) answer wrote
@@ -115,10 +133,10 @@ EndsKeep = (controls : Controls) (now : ℕ) (q : Queue) (a : List ℕ) (read n 
     → Sound controls q → MayEnd (about q n) → Fits q.disk (Unlink (path (Of Info n))) answer wrote
     → LeadsOn controls now a (Some n) q (called_queue q a read (Unlink (path (Of Info n))) answer wrote q.role)
 
--- and what is entered when a report says that a recipient was delivered
+-- and what is entered when a report is taken that is final, when the bounce file was read, and when a bounce was accepted
 abbrev pub EntriesKeep : Type 0
-EntriesKeep = (controls : Controls) (now : ℕ) (q : Queue) (a : List ℕ) (n : ℕ) (s : Spot) → Sound controls q → MayEnter controls (about q n) s
-    → LeadsOn controls now a (Some n) q (entered_queue q n s)
+EntriesKeep = (controls : Controls) (now : ℕ) (q : Queue) (a : List ℕ) (n : ℕ) (line : Line) → Sound controls q → MayEnter controls (about q n) line
+    → LeadsOn controls now a (Some n) q (entered_queue q n line)
 
 -- What an actor holds open after a call that only reads: what it opened, and what it held and didn't close.
 pub record OpensKeep : Type 0 where

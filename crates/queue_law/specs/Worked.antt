@@ -42,6 +42,10 @@ message_a = record {
 abbrev pub ledger_a : Ledger
 ledger_a = record no_ledger { delivered = record { channel = Local; place = 0 } ∷ [] }
 
+-- its note is synced
+abbrev pub ledger_noted : Ledger
+ledger_noted = record no_ledger { failed = record { channel = Local; place = 0 } ∷ []; noted = record { channel = Local; place = 0 } ∷ [] }
+
 -- What preprocessing makes of it, and what local/1 may hold before and after the report.
 pub record WorkedMessage : Type 0 where
   pub recipients : recipients_of message_a ≡ codes "a@x" ∷ codes "b@y" ∷ []
@@ -52,4 +56,5 @@ pub record WorkedMessage : Type 0 where
   pub second : spot_after controls_x (codes "a@x" ∷ []) (codes "b@y") ≡ record { channel = Remote; place = 0 }
   pub unmarked : IsMarked (codes "Ta@x" ++ 0 ∷ []) ledger_a Local (codes "Ta@x" ++ 0 ∷ [])
   pub done : IsMarked (codes "Ta@x" ++ 0 ∷ []) ledger_a Local (codes "Da@x" ++ 0 ∷ [])
+  pub noted : IsMarked (codes "Ta@x" ++ 0 ∷ []) ledger_noted Local (codes "Da@x" ++ 0 ∷ [])
   pub too_early : ¬ (IsMarked (codes "Ta@x" ++ 0 ∷ []) no_ledger Local (codes "Da@x" ++ 0 ∷ []))

@@ -1,10 +1,12 @@
 // Laws of the queue. Each is the contract of a function that does nothing.
 ghost use Rattle.queue_law.specs.Steps.{CallsKeep, OthersKeep, ForeignersKeep, HaltsKeep};
 ghost use Rattle.queue_law.specs.Begins.{RestsBegin};
+ghost use Rattle.queue_law.specs.Bouncing.{BouncesBegin, BouncesCover, BouncesDrop, BouncesGo, BouncesGrow, ClosesEnter, NotesSync};
 ghost use Rattle.queue_law.specs.Cleaners.{CleanersKeep, RestIsKept};
 ghost use Rattle.queue_law.specs.Passes.{PassesKeep, PassesMake, PassIsLeftAlone};
 ghost use Rattle.queue_law.specs.Accounts.{AllAccounted, RecipientsAreNumbered, RecordsAreOfRecipients};
 ghost use Rattle.queue_law.specs.Claims.{SoundIsSafe};
+ghost use Rattle.queue_law.specs.Notes.{NotesAccount, NotesStay};
 ghost use Rattle.queue_law.specs.Worked.{WorkedMessage};
 ghost use Rattle.queue_law.specs.Senders.{DropsKeep, EndsKeep, EntriesKeep, MarksChangeOne, MarksKeep, OpensKeep, ReadsKeep, UnlinksChangeOne};
 
@@ -36,7 +38,9 @@ pub fn sound_is_safe()
     ensures { SoundIsSafe }
 {}
 
-/// Each recipient of each accepted injection is accounted for: it waits in todo, or its record reads `T`, or it was reported delivered.
+/// Each recipient of each accepted injection is accounted for: it waits in todo, or its record reads `T`, or it was reported delivered; or
+/// it failed for good, and is named by the bounce file, which is synced, or by the notes of a bounce that was accepted, or is dropped as those
+/// of a bounce of a bounce are.
 pub fn all_accounted()
     ensures { AllAccounted }
 {}
@@ -46,23 +50,24 @@ pub fn reads_keep()
     ensures { ReadsKeep }
 {}
 
-/// A mark of a record whose recipient was reported delivered keeps what holds of the queue, and changes its own number alone. So
-/// does one that fails, however much of it was written.
+/// A mark of a record whose recipient was reported delivered, or whose note is synced, keeps what holds of the queue, and changes its own
+/// number alone. So does one that fails, however much of it was written.
 pub fn marks_keep()
     ensures { MarksKeep }
 {}
 
-/// So does the unlink of a channel file all of whose recipients were reported delivered, or read `D`.
+/// So does the unlink of a channel file all of whose recipients were reported delivered, are noted, or read `D`.
 pub fn drops_keep()
     ensures { DropsKeep }
 {}
 
-/// So does the unlink of the info file once both channel files are gone, which finishes the number.
+/// So does the unlink of the info file once both channel files and the bounce file are gone, which finishes the number.
 pub fn ends_keep()
     ensures { EndsKeep }
 {}
 
-/// So does the entry of a recipient that was reported delivered.
+/// So does the entry of a recipient that was reported delivered or failed for good, of what was read of a bounce file, and of a bounce that
+/// was accepted.
 pub fn entries_keep()
     ensures { EntriesKeep }
 {}
@@ -127,4 +132,52 @@ pub fn recipients_are_numbered()
 /// A message of one local and one remote recipient: its files, their places, and a mark of one.
 pub fn a_worked_message()
     ensures { WorkedMessage }
+{}
+
+/// A bounce file that begins with whole lines which name each noted recipient goes on to do so: through what is put at its end, also in
+/// part, and through a machine stop. So it names each of them, as it is and as it was at its last sync.
+pub fn notes_stay()
+    ensures { NotesStay }
+{}
+
+/// A bounce file may be made while nothing is noted, and may go once a bounce with all of its notes was accepted, or when they are dropped,
+/// as those of a bounce of a bounce are. While it is there, and after that, each recipient that is noted is accounted for: by the bounce
+/// file, as it is and as it was at its last sync, by the notes of the bounce, or as dropped.
+pub fn notes_account()
+    ensures { NotesAccount }
+{}
+
+/// A bounce file may be created while a channel file is there. It is then empty, and open.
+pub fn bounces_begin()
+    ensures { BouncesBegin }
+{}
+
+/// What is put at the end of a bounce file, whole or in part, keeps what holds of the queue, and changes that file alone.
+pub fn bounces_grow()
+    ensures { BouncesGrow }
+{}
+
+/// A sync of the bounce file keeps it too; after it the recipient is noted whose note stands at its end.
+pub fn notes_sync()
+    ensures { NotesSync }
+{}
+
+/// The bounce file may be unlinked once a bounce with what it holds was accepted.
+pub fn bounces_go()
+    ensures { BouncesGo }
+{}
+
+/// So it may if the message is a bounce of a bounce and its channel files are gone, which the ledger then tells.
+pub fn bounces_drop()
+    ensures { BouncesDrop }
+{}
+
+/// A bounce file names each recipient that is noted.
+pub fn bounces_cover()
+    ensures { BouncesCover }
+{}
+
+/// A close may enter a line in the ledger of a message, as what was read of its bounce file.
+pub fn closes_enter()
+    ensures { ClosesEnter }
 {}

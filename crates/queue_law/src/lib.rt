@@ -7,8 +7,10 @@
 mod laws;
 
 pub use laws::{
-    a_worked_message, all_accounted, calls_keep, cleaners_keep, drops_keep, ends_keep,
-    entries_keep, foreigners_keep, halts_keep, marks_change_one, marks_keep, opens_keep,
-    others_keep, pass_is_left_alone, passes_keep, passes_make, reads_keep, recipients_are_numbered,
-    records_are_of_recipients, rest_is_kept, rests_begin, sound_is_safe, unlinks_change_one,
+    a_worked_message, all_accounted, bounces_begin, bounces_cover, bounces_drop, bounces_go,
+    bounces_grow, calls_keep, cleaners_keep, closes_enter, drops_keep, ends_keep, entries_keep,
+    foreigners_keep, halts_keep, marks_change_one, marks_keep, notes_account, notes_stay,
+    notes_sync, opens_keep, others_keep, pass_is_left_alone, passes_keep, passes_make, reads_keep,
+    recipients_are_numbered, records_are_of_recipients, rest_is_kept, rests_begin, sound_is_safe,
+    unlinks_change_one,
 };

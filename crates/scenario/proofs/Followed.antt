@@ -24,7 +24,7 @@ use Rattle.call_fs.specs.Past.{IsRunBy}
 use Rattle.call_fs.specs.Program.{IsTaken, MayCome}
 use Rattle.mail_bytes.specs.Moments.{IsMoment}
 use Rattle.queue_inject.specs.declared.injection.Arguments.{Arguments}
-use Rattle.queue_law.specs.Books.{Books}
+use Rattle.queue_law.specs.Books.{Books, Child as Bouncer}
 use Rattle.actor_names.specs.MailNames.{members}
 use Rattle.send_core.specs.Stands.{Machine, Stands}
 use Rattle.send_core.specs.Table.{Next}
@@ -33,7 +33,7 @@ use Rattle.world_events.specs.declared.event.Event.TheVariants as kept
 use Rattle.world_events.specs.declared.event.Program.{Program}
 use Rattle.world_events.specs.declared.event.Program.TheVariants.{Injector, Cleaner, Sender, LocalSpawner, RemoteSpawner}
 use Rattle.mail_world.specs.ByKind.{IsMail}
-use Rattle.mail_world.specs.History.{Event, Actor, Life, State, Allowed, ComesOf, IsSender, IsStatusOf, Legal, MayDo, MayRun, TenantEnds, acted, after, begins, books_after, finished, happens, newborn, next_of, stopped}
+use Rattle.mail_world.specs.History.{Event, Actor, Life, State, Allowed, ComesOf, IsSender, IsStatusOf, Legal, MayDo, MayRun, TenantEnds, acted, after, begins, books_after, bouncer_of, finished, happens, newborn, next_of, stopped}
 use Rattle.mail_world.specs.History.Event.{Start, Act, Child, Generation, Report, End, Stop, Moment, Halt}
 use Rattle.mail_world.specs.History.Life.{Alive, Over, Stopped}
 use Rattle.mail_world.proofs.Opens.{fits_answer}
@@ -375,11 +375,11 @@ generation_told old new s k e start m is told fates sender stands h =
 
 -- An event of the sender
 
-by_start : (b : Books) (a : List ℕ) (start : ℕ) (past : List Own) (read : ℕ) (ready : Ready) (due : NeedData) (came : GotData)
-    → books_after b a (Sender 0) past read ready due came ≡ books_after b a (Sender start) past read ready due came
-by_start b a start past read ready (needs.File c) (got.Answered told) = refl
-by_start b a start past read ready (needs.Take p) came = refl
-by_start b a start past read ready due came = refl
+by_start : (child : Option Bouncer) (b : Books) (a : List ℕ) (start : ℕ) (past : List Own) (read : ℕ) (ready : Ready) (due : NeedData) (came : GotData)
+    → books_after child b a (Sender 0) past read ready due came ≡ books_after child b a (Sender start) past read ready due came
+by_start child b a start past read ready (needs.File c) (got.Answered told) = refl
+by_start child b a start past read ready (needs.Take p) came = refl
+by_start child b a start past read ready due came = refl
 
 sender_at : (o : Option Actor) (m : Machine) → IsHeard (Some m) o → (x : Actor) × (o ≡ Some x) × (start : ℕ) × (x.program ≡ Sender start) × Stands m None x.past × IsRunBy (Next None) x.past
 sender_at None m h = absurd h
@@ -425,14 +425,14 @@ some_sender f s own wrote does is h =
     absurd (cc)
 
 pub follows_sender : (new : Following) (s : State) (own : Own) (wrote : ℕ) (old m : Machine) → (next : IsNext old s own wrote) → new.sender ≡ Some m → Stands m None (own ∷ next.actor.past)
-    → AreFates new.fates (heard_by next.actor.past own s.books) → Follows new (acted s (codes "sender") own wrote (s.actors (codes "sender")))
+    → AreFates new.fates (heard_by (bouncer_of s (codes "sender")) next.actor.past own s.books) → Follows new (acted s (codes "sender") own wrote (s.actors (codes "sender")))
 follows_sender new s own wrote old m next is stands fates =
     let x = next.actor in
     let y : Actor = record { program = x.program; past = own ∷ x.past; life = x.life } in
     rw next.is (record {
       fates = subst (AreFates new.fates)
-          (by_start s.books (codes "sender") next.start x.past own.read own.ready own.due own.came
-          ∙ ap (λ (p : Program). books_after s.books (codes "sender") p x.past own.read own.ready own.due own.came) (sym next.program))
+          (by_start (bouncer_of s (codes "sender")) s.books (codes "sender") next.start x.past own.read own.ready own.due own.came
+          ∙ ap (λ (p : Program). books_after (bouncer_of s (codes "sender")) s.books (codes "sender") p x.past own.read own.ready own.due own.came) (sym next.program))
           fates;
       heard = subst (λ (m : Option Machine). IsHeard m (put_at s.actors (codes "sender") (Some y) (codes "sender"))) (sym is)
           (subst (IsHeard (Some m)) (sym (put_at_same s.actors (codes "sender") (Some y)))
@@ -448,23 +448,23 @@ heard_apart m s a own wrote (Some x) apart h =
     subst (IsHeard m) (sym (put_at_other s.actors a (Some y) (codes "sender") (λ e. apart (sym e)))) h
 
 -- one that sends nothing and links nothing
-quiet_books : (b : Books) (a : List ℕ) (program : Program) (past : List Own) (read : ℕ) (ready : Ready) (due : NeedData) (came : GotData) → (MayRun program → ⊥) → (IsSender program → ⊥)
-    → books_after b a program past read ready due came ≡ b
-quiet_books b a (Injector args) past read ready due came runs sends = absurd (runs tt)
-quiet_books b a (Sender start) past read ready due came runs sends = absurd (sends tt)
-quiet_books b a (Cleaner start) past read ready (needs.File c) (got.Answered told) runs sends = refl
-quiet_books b a (Cleaner start) past read ready due came runs sends = refl
-quiet_books b a (LocalSpawner start) past read ready (needs.File c) (got.Answered told) runs sends = refl
-quiet_books b a (LocalSpawner start) past read ready due came runs sends = refl
-quiet_books b a (RemoteSpawner start) past read ready (needs.File c) (got.Answered told) runs sends = refl
-quiet_books b a (RemoteSpawner start) past read ready due came runs sends = refl
+quiet_books : (child : Option Bouncer) (b : Books) (a : List ℕ) (program : Program) (past : List Own) (read : ℕ) (ready : Ready) (due : NeedData) (came : GotData) → (MayRun program → ⊥) → (IsSender program → ⊥)
+    → books_after child b a program past read ready due came ≡ b
+quiet_books child b a (Injector args) past read ready due came runs sends = absurd (runs tt)
+quiet_books child b a (Sender start) past read ready due came runs sends = absurd (sends tt)
+quiet_books child b a (Cleaner start) past read ready (needs.File c) (got.Answered told) runs sends = refl
+quiet_books child b a (Cleaner start) past read ready due came runs sends = refl
+quiet_books child b a (LocalSpawner start) past read ready (needs.File c) (got.Answered told) runs sends = refl
+quiet_books child b a (LocalSpawner start) past read ready due came runs sends = refl
+quiet_books child b a (RemoteSpawner start) past read ready (needs.File c) (got.Answered told) runs sends = refl
+quiet_books child b a (RemoteSpawner start) past read ready due came runs sends = refl
 
 pub follows_member : (f : Following) (s : State) (a : List ℕ) (own : Own) (wrote : ℕ) → AreNamed s → a ≢ codes "sender" → Contains members a → Follows f s → Follows f (acted s a own wrote (s.actors a))
 follows_member f s a own wrote named apart member h = by (s.actors a) refl where
   by : (o : Option Actor) → s.actors a ≡ o → Follows f (acted s a own wrote o)
   by None is = h
   by (Some x) is = record {
-    fates = subst (AreFates f.fates) (sym (quiet_books s.books a x.program x.past own.read own.ready own.due own.came (named.member a x is member) (λ sends. apart (named.sender a x is sends)))) h.fates;
+    fates = subst (AreFates f.fates) (sym (quiet_books (bouncer_of s a) s.books a x.program x.past own.read own.ready own.due own.came (named.member a x is member) (λ sends. apart (named.sender a x is sends)))) h.fates;
     heard = heard_apart f.sender s a own wrote (Some x) apart h.heard;
   }
 
@@ -479,14 +479,14 @@ mail_is (LocalSpawner start) mail = absurd mail
 mail_is (RemoteSpawner start) mail = absurd mail
 
 pub follows_mail : (old new : Following) (s : State) (a : List ℕ) (own : Own) (wrote : ℕ) → AreNamed s → ¬ (Contains members a) → new.sender ≡ old.sender
-    → ((books : Books) (args : Arguments) (past : List Own) → AreFates old.fates books → AreFates new.fates (books_after books a (Injector args) past own.read own.ready own.due own.came))
+    → ((child : Option Bouncer) (books : Books) (args : Arguments) (past : List Own) → AreFates old.fates books → AreFates new.fates (books_after child books a (Injector args) past own.read own.ready own.due own.came))
     → MayDo s a own wrote → Follows old s → Follows new (acted s a own wrote (s.actors a))
 follows_mail old new s a own wrote named mail sender link does h =
     let x = does.actor in
     let is = does.reads.is in
     let it = mail_is x.program (named.mail a x is mail) in
     rw is (record {
-      fates = subst (λ (p : Program). AreFates new.fates (books_after s.books a p x.past own.read own.ready own.due own.came)) (sym it.1) (link s.books it.0 x.past h.fates);
+      fates = subst (λ (p : Program). AreFates new.fates (books_after (bouncer_of s a) s.books a p x.past own.read own.ready own.due own.came)) (sym it.1) (link (bouncer_of s a) s.books it.0 x.past h.fates);
       heard = subst (λ (m : Option Machine). IsHeard m ((acted s a own wrote (Some x)).actors (codes "sender"))) (sym sender)
           (heard_apart old.sender s a own wrote (Some x) (λ e. mail (subst (Contains members) (sym e) is_member_sender)) h.heard);
     })

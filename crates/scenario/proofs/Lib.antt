@@ -1,5 +1,3 @@
--- what is printed
-pub mod Printed
 -- the directories of each script's disk
 pub mod Dirs
 -- directories that are made if they are missing, and entries

@@ -21,8 +21,9 @@ use Rattle.call_fs.specs.declared.program.Ready.{Ready}
 use Rattle.call_fs.specs.Maps.{put}
 use Rattle.call_fs.proofs.Maps.{put_cases}
 use Rattle.queue_inject.specs.declared.injection.Arguments.{Arguments}
-use Rattle.queue_law.specs.Books.{Books, Injection, accept, begun, booked, delivered_in, linked, with_delivered}
-use Rattle.queue_law.specs.Ledgers.{Spot}
+use Rattle.queue_law.specs.Books.{Books, Child as Bouncer, Injection, accept, begun, booked, entered_in, linked, with_line}
+use Rattle.queue_law.specs.Ledgers.{Ledger, Line, Spot, line_in}
+use Rattle.queue_law.specs.Ledgers.Line.{Delivers}
 use Rattle.queue_paths.specs.Names.{Name, is_number, parse, path, used, used_name}
 use Rattle.queue_paths.specs.Names.Name.{Of, Pid}
 use Rattle.queue_paths.specs.Names.Part.{Mess, Intd, Todo, Info, Local, Remote, Bounce}
@@ -189,51 +190,51 @@ numbers old new b a args first name n told begins h =
 
 -- An event of an injector
 
-module _ (P : Books → Type 0) (b : Books) (a : List ℕ) (args : Arguments) (past : List Own) (read : ℕ) (ready : Ready) where
+module _ (P : Books → Type 0) (child : Option Bouncer) (b : Books) (a : List ℕ) (args : Arguments) (past : List Own) (read : ℕ) (ready : Ready) where
   by_call : (c : CallData) (reply : Answer) → (number_by (needs.File c) (got.Answered (record { answer = reply; bytes = [] })) ≡ None → P b)
       → ((old new : List ℕ) → number_by (needs.File c) (got.Answered (record { answer = reply; bytes = [] })) ≡ mess_number (used_name new) → P (linked b a args old (parse new))) → P (booked b a args c reply)
   by_call (call.Link old new) answer.Done none some = some old new refl
   by_call c reply none some = none refl
 
   by_came : (c : CallData) (came : GotData) → (number_by (needs.File c) came ≡ None → P b)
-      → ((old new : List ℕ) → number_by (needs.File c) came ≡ mess_number (used_name new) → P (linked b a args old (parse new))) → P (books_after b a (Injector args) past read ready (needs.File c) came)
+      → ((old new : List ℕ) → number_by (needs.File c) came ≡ mess_number (used_name new) → P (linked b a args old (parse new))) → P (books_after child b a (Injector args) past read ready (needs.File c) came)
   by_came c (got.Answered told) none some = by_call c told.answer none some
   by_came c came none some = none refl
 
   by_due : (due : NeedData) (came : GotData) → (number_by due came ≡ None → P b)
-      → ((old new : List ℕ) → number_by due came ≡ mess_number (used_name new) → P (linked b a args old (parse new))) → P (books_after b a (Injector args) past read ready due came)
+      → ((old new : List ℕ) → number_by due came ≡ mess_number (used_name new) → P (linked b a args old (parse new))) → P (books_after child b a (Injector args) past read ready due came)
   by_due (needs.File c) came none some = by_came c came none some
   by_due due came none some = none refl
 
-pub unlinked : (f : Fates) (b : Books) (a : List ℕ) (args : Arguments) (past : List Own) (own : Own) → number_by own.due own.came ≡ None → AreFates f b
-    → AreFates f (books_after b a (Injector args) past own.read own.ready own.due own.came)
-unlinked f b a args past own none h =
-    by_due (AreFates f) b a args past own.read own.ready own.due own.came (λ e. h) (λ old new e. unnumbered f b a args old (parse new) (sym e ∙ none) h)
+pub unlinked : (f : Fates) (child : Option Bouncer) (b : Books) (a : List ℕ) (args : Arguments) (past : List Own) (own : Own) → number_by own.due own.came ≡ None → AreFates f b
+    → AreFates f (books_after child b a (Injector args) past own.read own.ready own.due own.came)
+unlinked f child b a args past own none h =
+    by_due (AreFates f) child b a args past own.read own.ready own.due own.came (λ e. h) (λ old new e. unnumbered f b a args old (parse new) (sym e ∙ none) h)
 
-pub linked_one : (old new : Fates) (b : Books) (a : List ℕ) (args : Arguments) (past : List Own) (own : Own) (n : ℕ) → number_by own.due own.came ≡ Some n → Begins old new a n → AreFates old b
-    → AreFates new (books_after b a (Injector args) past own.read own.ready own.due own.came)
-linked_one old new b a args past own n some begins h =
-    by_due (AreFates new) b a args past own.read own.ready own.due own.came
+pub linked_one : (old new : Fates) (child : Option Bouncer) (b : Books) (a : List ℕ) (args : Arguments) (past : List Own) (own : Own) (n : ℕ) → number_by own.due own.came ≡ Some n → Begins old new a n → AreFates old b
+    → AreFates new (books_after child b a (Injector args) past own.read own.ready own.due own.came)
+linked_one old new child b a args past own n some begins h =
+    by_due (AreFates new) child b a args past own.read own.ready own.due own.came
     (λ e. absurd (let both : ◌≡◌ {A = Option ℕ} None (Some n) = sym e ∙ some in cc))
     (λ first name e. numbers old new b a args first (parse name) n (sym e ∙ some) begins h)
 
 -- A recipient is reported delivered
 
 -- this one is entered in the life of this number, if there is one
-abbrev pub entered_in : Tenure → KeptSpot → Tenure → Type 0
-entered_in old s new = (new.number ≡ old.number) × (new.mail ≡ old.mail) × (new.delivered.items ≡ old.delivered.items ++ s ∷ [])
+abbrev pub AddsSpot : Tenure → KeptSpot → Tenure → Type 0
+AddsSpot old s new = (new.number ≡ old.number) × (new.mail ≡ old.mail) × (new.delivered.items ≡ old.delivered.items ++ s ∷ [])
 
 abbrev pub EntersIf : Option Tenure → KeptSpot → Option Tenure → Type 0
 EntersIf None s new = new ≡ None
 EntersIf (Some old) s None = ⊥
-EntersIf (Some old) s (Some new) = entered_in old s new
+EntersIf (Some old) s (Some new) = AddsSpot old s new
 
 pub record Enters (old new : Fates) (n : ℕ) (s : KeptSpot) : Type 0 where
   pub here : EntersIf (get nat_cmp old.living n) s (get nat_cmp new.living n)
   pub others : (k : ℕ) → k ≢ n → get nat_cmp new.living k ≡ get nat_cmp old.living k
   pub over : new.over.items ≡ old.over.items
 
-entered_lives : (s : KeptSpot) (t u : Option Tenure) (o : Option Injection) → EntersIf t s u → IsTenureIf t o → IsTenureIf u (option_map (with_delivered (spot_of s)) o)
+entered_lives : (s : KeptSpot) (t u : Option Tenure) (o : Option Injection) → EntersIf t s u → IsTenureIf t o → IsTenureIf u (option_map (with_line (Delivers (spot_of s))) o)
 entered_lives s None u None e h = subst (λ (u : Option Tenure). IsTenureIf u None) (sym e) h
 entered_lives s None u (Some q) e h = absurd h
 entered_lives s (Some t) None o e h = absurd e
@@ -244,20 +245,34 @@ entered_lives s (Some t) (Some u) (Some q) e h = record {
   delivered = ap (λ (l : List KeptSpot). map spot_of (reverse l)) e.2 ∙ ap (map spot_of) (reverse-append t.delivered.items (s ∷ [])) ∙ ap (λ (l : List Spot). spot_of s ∷ l) h.delivered;
 }
 
-delivered_number : (s : Spot) (n : ℕ) (o : Option Injection) → ((q : Injection) → o ≡ Some q → q.number ≡ n) → (q : Injection) → option_map (with_delivered s) o ≡ Some q → q.number ≡ n
-delivered_number s n None here q is = absurd (cc)
-delivered_number s n (Some p) here q is = ap (λ (q : Injection). q.number) (sym (some_is (with_delivered s p) q is)) ∙ here p refl
+lined_number : (line : Line) (n : ℕ) (o : Option Injection) → ((q : Injection) → o ≡ Some q → q.number ≡ n) → (q : Injection) → option_map (with_line line) o ≡ Some q → q.number ≡ n
+lined_number line n None here q is = absurd (cc)
+lined_number line n (Some p) here q is = ap (λ (q : Injection). q.number) (sym (some_is (with_line line p) q is)) ∙ here p refl
 
-pub enters_one : (old new : Fates) (b : Books) (n : ℕ) (s : KeptSpot) → Enters old new n s → AreFates old b → AreFates new (delivered_in b n (spot_of s))
+pub enters_one : (old new : Fates) (b : Books) (n : ℕ) (s : KeptSpot) → Enters old new n s → AreFates old b → AreFates new (entered_in b n (Delivers (spot_of s)))
 enters_one old new b n s enters h = record {
   living = λ k is. ⊎_elim
       (λ e. subst (IsTenureIf (get nat_cmp new.living k)) (sym e.1)
-      (subst (λ (k : ℕ). IsTenureIf (get nat_cmp new.living k) (option_map (with_delivered (spot_of s)) (b.living n))) (sym e.0)
+      (subst (λ (k : ℕ). IsTenureIf (get nat_cmp new.living k) (option_map (with_line (Delivers (spot_of s))) (b.living n))) (sym e.0)
       (entered_lives s (get nat_cmp old.living n) (get nat_cmp new.living n) (b.living n) enters.here (h.living n (ap is_number (sym e.0) ∙ is)))))
       (λ e. subst (IsTenureIf (get nat_cmp new.living k)) (sym e.1) (subst (λ (t : Option Tenure). IsTenureIf t (b.living k)) (sym (enters.others k e.0)) (h.living k is)))
-      (put_cases b.living n (option_map (with_delivered (spot_of s)) (b.living n)) k);
+      (put_cases b.living n (option_map (with_line (Delivers (spot_of s))) (b.living n)) k);
   over = subst (λ (l : List Tenure). AllZip IsTenure (reverse l) (numbered b.over)) (sym enters.over) h.over;
-  placed = placed_put b.living n (option_map (with_delivered (spot_of s)) (b.living n)) (delivered_number (spot_of s) n (b.living n) (h.placed n)) h.placed;
+  placed = placed_put b.living n (option_map (with_line (Delivers (spot_of s))) (b.living n)) (lined_number (Delivers (spot_of s)) n (b.living n) (h.placed n)) h.placed;
+}
+
+-- a line that tells of no delivery
+lined : (line : Line) → ((l : Ledger) → (line_in line l).delivered ≡ l.delivered) → (t : Option Tenure) (o : Option Injection) → IsTenureIf t o → IsTenureIf t (option_map (with_line line) o)
+lined line same None None h = h
+lined line same None (Some q) h = absurd h
+lined line same (Some t) None h = absurd h
+lined line same (Some t) (Some q) h = record { number = h.number; mail = h.mail; delivered = h.delivered ∙ sym (same q.ledger) }
+
+pub line_apart : (f : Fates) (b : Books) (n : ℕ) (line : Line) → ((l : Ledger) → (line_in line l).delivered ≡ l.delivered) → AreFates f b → AreFates f (entered_in b n line)
+line_apart f b n line same h = record {
+  living = lives_put (get nat_cmp f.living) b.living n (option_map (with_line line) (b.living n)) (λ is. lined line same (get nat_cmp f.living n) (b.living n) (h.living n is)) h.living;
+  over = h.over;
+  placed = placed_put b.living n (option_map (with_line line) (b.living n)) (lined_number line n (b.living n) (h.placed n)) h.placed;
 }
 
 -- Maps
@@ -265,7 +280,7 @@ enters_one old new b n s enters h = record {
 apart_at : (n k : ℕ) → k ≢ n → is_at (nat_cmp n) k ≡ false
 apart_at n k ne = grind (arith, nat_tests)
 
-pub enters_at : (old new : Fates) (n : ℕ) (s : KeptSpot) (t u : Tenure) → get nat_cmp old.living n ≡ Some t → UpdatesBy nat_cmp (nat_cmp n) old.living new.living (Some u) → entered_in t s u → new.over.items ≡ old.over.items → Enters old new n s
+pub enters_at : (old new : Fates) (n : ℕ) (s : KeptSpot) (t u : Tenure) → get nat_cmp old.living n ≡ Some t → UpdatesBy nat_cmp (nat_cmp n) old.living new.living (Some u) → AddsSpot t s u → new.over.items ≡ old.over.items → Enters old new n s
 enters_at old new n s t u was now entered over = record { here = rw (was, now.1) entered; others = λ k ne. now.2 k (apart_at n k ne); over = over }
 
 pub enters_nowhere : (old new : Fates) (n : ℕ) (s : KeptSpot) → get nat_cmp old.living n ≡ None → ((k : ℕ) → get nat_cmp new.living k ≡ get nat_cmp old.living k) → new.over.items ≡ old.over.items → Enters old new n s

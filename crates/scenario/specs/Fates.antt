@@ -1,5 +1,5 @@
 -- The lives of messages, as `show` reads them off the events of a world, stand for the books of the history.
-use Rattle.std.specs.Prelude.{◌≡◌, ℕ, List, [], ◌∷◌, map, reverse, true, Option, Some, None, Contains, codes}
+use Rattle.std.specs.Prelude.{◌≡◌, ℕ, List, [], ◌∷◌, map, reverse, true, Option, Some, None, Contains, codes, is_none}
 use Rattle.std.specs.List.{AllZip, filter}
 use Rattle.std.specs.Ordering.{nat_cmp}
 use Rattle.std.specs.BTreeMap.{get}
@@ -20,7 +20,7 @@ use Rattle.send_jobs.specs.declared.channels.Channel.{Channel}
 use Rattle.mail_world.specs.ByKind.{IsMail}
 use Rattle.mail_world.specs.History.{Event, Actor, State, IsSender, MayRun, books_after}
 use Rattle.mail_world.specs.History.Event.{Start}
-use Rattle.queue_law.specs.Books.{Books, Injection, delivered_in}
+use Rattle.queue_law.specs.Books.{Books, Child as Bouncer, Injection, entered_in, line_said}
 use Rattle.queue_law.specs.Ledgers.{Spot}
 use Rattle.scenario.specs.declared.fates.Fates.{Fates}
 use Rattle.scenario.specs.declared.fates.Following.{Following}
@@ -79,10 +79,14 @@ pub record AreNamed (s : State) : Type 0 where
   pub mail : (a : List ℕ) (x : Actor) → s.actors a ≡ Some x → ¬ (Contains members a) → IsMail x.program
   pub sender : (a : List ℕ) (x : Actor) → s.actors a ≡ Some x → IsSender x.program → a ≡ codes "sender"
 
--- the books when the recipients of these marks of a channel are reported delivered, one after the other
+-- The books when the recipient of a mark of a channel is reported: it was delivered to if nothing is to be noted of it, and failed for good
+-- else. And when those of these marks are, one after the other.
+abbrev pub entered_by : Channel → Mark → Books → Books
+entered_by c m b = entered_in b m.attempt.n (line_said (is_none m.note) (record { channel = c; place = m.attempt.place }))
+
 abbrev pub entered_of : Channel → List Mark → Books → Books
 entered_of c [] b = b
-entered_of c (m ∷ marks) b = entered_of c marks (delivered_in b m.attempt.n (record { channel = c; place = m.attempt.place }))
+entered_of c (m ∷ marks) b = entered_of c marks (entered_by c m b)
 
 -- an event of a sender is due by its past, which is a run
 pub record HasDue (past : List Own) (own : Own) : Type 0 where
@@ -90,9 +94,9 @@ pub record HasDue (past : List Own) (own : Own) : Type 0 where
   pub moment : IsMoment own.read
   pub due : Next None past own.read own.ready ≡ own.due
 
--- the books after an event of a sender
-abbrev pub heard_by : List Own → Own → Books → Books
-heard_by past own b = books_after b (codes "sender") (kinds.Sender 0) past own.read own.ready own.due own.came
+-- the books after an event of a sender which has this child
+abbrev pub heard_by : Option Bouncer → List Own → Own → Books → Books
+heard_by child past own b = books_after child b (codes "sender") (kinds.Sender 0) past own.read own.ready own.due own.came
 
 -- what the injector was started with that an event started
 abbrev pub arguments_in : Kept → Option Arguments

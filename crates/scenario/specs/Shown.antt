@@ -1,18 +1,13 @@
 -- What `show` prints: how many names `pid/` has, the state of each number that isn't in S1, and how each mail fares, by the disk, the
 -- control files and the books, in which the takings of senders enter who was delivered to.
-use Rattle.std.specs.Prelude.{◌≡◌, ℕ, zero, suc, ◌+◌, List, [], ◌∷◌, ◌++◌, length, map, take, drop, Bool, true, false, ◌&&◌, ◌==◌, bytes_eq, Option, Some, None, codes, flat_map, if◌then◌else◌}
+use Rattle.std.specs.Prelude.{◌≡◌, ℕ, List, [], ◌∷◌, ◌++◌, length, map, Bool, true, false, ◌&&◌, ◌==◌, bytes_eq, Option, Some, None, codes, flat_map, if◌then◌else◌}
 use Rattle.std.specs.List.{list_any}
-use Rattle.mail_bytes.specs.Decimal.{digits}
 use Rattle.address_rules.specs.declared.controls.Controls.{Controls}
 use Rattle.call_fs.specs.Disk.{Disk}
-use Rattle.mem_fs.specs.MemDisk.{bytes_at}
 use Rattle.queue_inject.specs.declared.injection.Arguments.{Arguments}
 use Rattle.queue_inject.specs.Texts.{recipients_of}
 use Rattle.queue_law.specs.Books.{Books, Injection}
 use Rattle.queue_law.specs.Ledgers.{Spot}
-use Rattle.queue_law.specs.Routes.{lane_part}
-use Rattle.queue_paths.specs.Names.{path}
-use Rattle.queue_paths.specs.Names.Name.{Of}
 use Rattle.queue_paths.specs.Names.Part.{Todo}
 use Rattle.queue_states.specs.States.{state_of, is_there}
 pub use Rattle.queue_states.specs.Listing.{AreNamesIn}
@@ -22,12 +17,12 @@ use Rattle.disk_numbers.specs.declared.routes.Routed.{Routed}
 use Rattle.disk_numbers.specs.Controls.{controls_on}
 use Rattle.disk_numbers.specs.Routes.{routes_in}
 pub use Rattle.disk_numbers.specs.Numbers.{AreNumbersIn}
+pub use Rattle.disk_numbers.specs.Records.{is_noted, is_unmarked}
 pub use Rattle.queue_states.specs.Lines.{line_of, count_line, state_line}
 use Rattle.mail_world.specs.History.{Event, after}
 use Rattle.mail_world.specs.Books.{entry_in, mails_of}
 use Rattle.world_events.specs.declared.books.Entry.{Entry}
-use Rattle.world_events.specs.declared.books.Life.{Life}
-use Rattle.world_events.specs.declared.books.Life.TheVariants.{Alive, Ended, Stopped}
+pub use Rattle.trace_lines.specs.Mails.{alike_lines, life_word, recipient_lines}
 
 -- `pid COUNT`
 abbrev pub pid_line : List (List ℕ) → List ℕ
@@ -36,12 +31,6 @@ pid_line names = count_line (length names)
 -- `N Sk`, or `N other`
 abbrev pub number_line : Disk → ℕ → List ℕ
 number_line d n = state_line n (state_of d n)
-
--- an exit status, or whether it lives or was stopped
-abbrev pub life_word : Life → List ℕ
-life_word Alive = codes "alive"
-life_word (Ended status) = digits status
-life_word Stopped = codes "stopped"
 
 -- what a recipient's line goes by: the disk; what the control files say, unless one is bad; and the books
 pub record View : Type 0 where
@@ -90,33 +79,18 @@ abbrev pub is_queued : Disk → Option ℕ → Bool
 is_queued d None = false
 is_queued d (Some n) = is_there d Todo n
 
--- these bytes stand there in the file
-abbrev pub stands_in : Option (List ℕ) → ℕ → List ℕ → Bool
-stands_in None place text = false
-stands_in (Some bytes) place text = bytes_eq (take (length text) (drop place bytes)) text
-
--- the file of its channel has its record at its place, and that reads `T`
-abbrev pub is_unmarked : Disk → Option ℕ → Routed → Bool
-is_unmarked d None r = false
-is_unmarked d (Some n) r = stands_in (bytes_at d (path (Of (lane_part r.channel) n))) r.place r.text
-
 abbrev pub spot_at : Routed → Spot
 spot_at r = record { channel = r.channel; place = r.place }
 
+-- What became of a recipient of a mail that isn't in todo, and whose record doesn't read `T`. One of whom a spawner reported `D` is
+-- pending while its note is put into the bounce file, and noted once its record is marked, until that file is gone.
+abbrev pub ending_of : View → List ℕ → Option ℕ → Routed → List ℕ
+ending_of v mail number r =
+    if is_delivered v.books mail number (spot_at r) then codes "delivered" else (if is_noted v.disk (lasting v.books mail number) r.name then codes "noted" else codes "dropped")
+
 -- what became of a recipient of a mail that isn't in todo
 abbrev pub word_of : View → List ℕ → Option ℕ → Routed → List ℕ
-word_of v mail number r =
-    if is_unmarked v.disk (lasting v.books mail number) r then codes "pending" else (if is_delivered v.books mail number (spot_at r) then codes "delivered" else codes "dropped")
-
--- `NAME.k WORD` for so many recipients, counted from k
-abbrev pub alike_lines : List ℕ → List ℕ → ℕ → ℕ → List ℕ
-alike_lines name word k zero = []
-alike_lines name word k (suc more) = line_of (name ++ 46 ∷ digits k) word ++ alike_lines name word (k + 1) more
-
--- `NAME.k WORD` for each word, counted from k
-abbrev pub recipient_lines : List ℕ → ℕ → List (List ℕ) → List ℕ
-recipient_lines name k [] = []
-recipient_lines name k (word ∷ words) = line_of (name ++ 46 ∷ digits k) word ++ recipient_lines name (k + 1) words
+word_of v mail number r = if is_unmarked v.disk (lasting v.books mail number) r then codes "pending" else ending_of v mail number r
 
 -- the lines of the recipients of a mail that isn't in todo; with a bad control file nothing was ever preprocessed
 abbrev pub sorted_lines : View → Entry → Option Controls → List (List ℕ) → List ℕ

@@ -1,5 +1,5 @@
 // What the events of a world say of the recipients of its mails.
-ghost use Rattle.std.specs.Prelude.{◌≡◌, ◌∷◌, [], ℕ, List, IfOk, OnOk, Some, None, true, bytes_eq, codes, drop, map};
+ghost use Rattle.std.specs.Prelude.{◌≡◌, ◌∷◌, [], ℕ, List, IfOk, OnOk, Option, Some, None, true, bytes_eq, codes, drop, map};
 ghost use Rattle.std.specs.List.{list_any};
 ghost use Rattle.call_fs.specs.Disk.{Disk};
 ghost use Rattle.call_fs.specs.Program.{came_of};
@@ -8,7 +8,7 @@ ghost use Rattle.call_fs.specs.declared.past.Own.{Own};
 ghost use Rattle.mail_bytes.specs.Moments.{IsMoment};
 ghost use Rattle.send_core.specs.Stands.{Stands};
 ghost use Rattle.send_core.specs.Table.{port_of};
-ghost use Rattle.queue_law.specs.Books.{Books};
+ghost use Rattle.queue_law.specs.Books.{Books, Child as Bouncer};
 ghost use Rattle.queue_paths.specs.Names.{is_number};
 ghost use Rattle.queue_inject.specs.declared.injection.Arguments.{Arguments};
 ghost use Rattle.world_events.specs.declared.event.Program.TheVariants.{Injector};
@@ -110,8 +110,8 @@ impl Fates {
 
     /// Takes an event of the injector of this mail into account: if it linked the name of its message, that one's life begins.
     fn link(&mut self, alloc: Global, actor: &ActorName, own: &Own) -> Result<(), Memory>
-        ensures { OnOk result ((books : Books) (args : Arguments) (past : List Own) → AreFates self.old books
-            → AreFates self.new (books_after books actor.now (Injector args) past own.now.read own.now.ready own.now.due own.now.came)) }
+        ensures { OnOk result ((child : Option Bouncer) (books : Books) (args : Arguments) (past : List Own) → AreFates self.old books
+            → AreFates self.new (books_after child books actor.now (Injector args) past own.now.read own.now.ready own.now.due own.now.came)) }
     {
         let Some(number) = number_by(own) else {
             return Ok(());
@@ -131,8 +131,8 @@ impl Fates {
     fn hear_from(&mut self, alloc: Global, sender: &mut Sender, own: &Own) -> Result<(), Memory>
         ensures stands { OnOk result ((past : List Own) → HasDue past own.now → Stands sender.old None past
             → Stands sender.new None (own.now ∷ past)) }
-        ensures books { OnOk result ((past : List Own) (books : Books) → HasDue past own.now → Stands sender.old None past → AreFates self.old books
-            → AreFates self.new (heard_by past own.now books)) }
+        ensures books { OnOk result ((child : Option Bouncer) (past : List Own) (books : Books) → HasDue past own.now → Stands sender.old None past
+            → AreFates self.old books → AreFates self.new (heard_by child past own.now books)) }
     {
         match &own.due {
             NeedData::Take(Port::Lspawn) => self.take_from(alloc, sender, own, Channel::Local),
@@ -151,15 +151,15 @@ impl Fates {
     ) -> Result<(), Memory>
         ensures stands { OnOk result ((past : List Own) → HasDue past own.now → Stands sender.old None past
             → Stands sender.new None (own.now ∷ past)) }
-        ensures books { OnOk result ((past : List Own) (books : Books) → own.now.due ≡ Take (port_of channel) → HasDue past own.now
-            → Stands sender.old None past → AreFates self.old books → AreFates self.new (heard_by past own.now books)) }
+        ensures books { OnOk result ((child : Option Bouncer) (past : List Own) (books : Books) → own.now.due ≡ Take (port_of channel) → HasDue past own.now
+            → Stands sender.old None past → AreFates self.old books → AreFates self.new (heard_by child past own.now books)) }
     {
         let before = sender.marks(channel).len();
         go_on(alloc, sender, own)?;
         self.enter(channel, sender.marks(channel), before)
     }
 
-    /// Enters the recipients of the marks of a channel after so many.
+    /// Enters the recipients of the marks of a channel after so many: of those that were delivered to.
     fn enter(&mut self, channel: Channel, marks: &Marks, before: usize) -> Result<(), Memory>
         ensures { OnOk result ((books : Books) → AreFates self.old books
             → AreFates self.new (entered_of channel (drop before marks.now) books)) }
@@ -172,11 +172,14 @@ impl Fates {
         Ok(())
     }
 
-    /// Enters the recipient of a mark.
+    /// Enters the recipient of a mark, if nothing is to be noted of it: so it was delivered to.
     fn enter_mark(&mut self, channel: Channel, mark: &Mark) -> Result<(), Memory>
         ensures { OnOk result ((books : Books) → AreFates self.old books
             → AreFates self.new (entered_of channel (mark.now ∷ []) books)) }
     {
+        if mark.note.is_some() {
+            return Ok(());
+        }
         if let Some(tenure) = self.living.get_mut(&mark.attempt.n) {
             tenure.delivered.push(Spot {
                 channel,

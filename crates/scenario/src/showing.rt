@@ -27,7 +27,8 @@ use trace_lines::put_escaped;
 
 /// Puts at the end of a text how many names `pid/` has, the state of each number that isn't in S1, and how each mail
 /// fares. A recipient of an accepted mail is pending while todo holds the mail or its own record reads `T`, in the life of that mail;
-/// else it was delivered, if a report said so, or it was dropped.
+/// else it was delivered, if a report said so; or it is noted, if the bounce file names it, in the life of that mail; or it was
+/// dropped.
 pub fn show(alloc: Global, world: &World<CrashDisk>, text: &mut Vec<u8>) -> Result<(), Memory>
     ensures { OnOk result ((own : List ℕ) × (text.new.items ≡ text.old.items ++ own)
         × ((d : Disk) (plan : Plan) (h : List Happening) → IsPlaying d world.now plan h → IsShown d h own)) }

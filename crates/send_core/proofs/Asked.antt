@@ -1,11 +1,11 @@
 -- Requests with senders that were said of their messages; and which rows say what was read.
 use Rattle.std.proofs.Common.{◌≡◌, ℕ, List, [], ◌∷◌, length, drop, Bool, true, false, if◌then◌else◌, Option, Some, None, refl, sym, ap, ◌∙◌, subst}
-use Rattle.std.specs.Prelude.{◌==◌, is_some, nat_lt}
+use Rattle.std.specs.Prelude.{◌&&◌, is_some, nat_lt}
 use Rattle.envelope_records.specs.declared.channel.Record.{Record}
 use Rattle.send_core.specs.declared.desk.Desk.{Desk}
 use Rattle.send_core.specs.declared.row.Row.{Row}
 use Rattle.send_core.specs.declared.row.Row.TheVariants as at
-use Rattle.send_core.specs.Desk.{deferred, due_again, has_begun, heard, is_dying, never, ready, request_sent, retried_if, retry_of, settle, told, told_all, told_by, waits, with_reader, with_requests}
+use Rattle.send_core.specs.Desk.{deferred, due_again, failure_in, has_begun, heard, is_dying, is_final, never, ready, request_sent, retried_if, retry_of, settle, told, told_all, told_by, waits, with_reader, with_requests}
 use Rattle.send_jobs.specs.declared.attempts.Attempt.{Attempt}
 use Rattle.send_jobs.specs.declared.channels.Channel.{Channel}
 use Rattle.send_jobs.specs.declared.channels.Channel.TheVariants.{Local, Remote}
@@ -17,7 +17,7 @@ use Rattle.send_jobs.specs.Sending.{at_lane, lane, next_delivery, sent_as, sent_
 use Rattle.send_jobs.specs.Slots.{attempt_in, lowest}
 use Rattle.send_known.specs.declared.known.Known.{Known}
 use Rattle.send_known.specs.Known.{is_known, sender_of}
-use Rattle.send_steps.specs.declared.reading.Reading.TheVariants.{Closing, Going}
+use Rattle.send_steps.specs.declared.reading.Reading.TheVariants.{Closing, Going, Opening, Shutting}
 use Rattle.send_steps.specs.declared.rows.StartRow.{StartRow}
 use Rattle.send_steps.specs.declared.rows.StartRow.TheVariants as start
 use Rattle.send_steps.specs.Files.{sender_in}
@@ -27,8 +27,33 @@ use Rattle.spawn_protocol.specs.Report.{counted, read_on}
 use Rattle.todo_pass.specs.declared.row.Row.{Row as PassRow}
 use Rattle.todo_pass.specs.declared.row.Row.TheVariants as todo
 use Rattle.todo_pass.specs.Table.{Pass}
-use Rattle.send_core.specs.Senders.{Letter}
+use Rattle.address_rules.specs.declared.control_file.ControlFile.{ControlFile}
+use Rattle.call_fs.specs.declared.past.GotData.{GotData}
+use Rattle.call_fs.specs.declared.past.NeedData.{NeedData}
+use Rattle.send_steps.specs.declared.book.Book.{Book}
+use Rattle.send_steps.specs.declared.reading.Reading.{Reading}
+use Rattle.send_steps.specs.declared.rows.FinishRow.{FinishRow}
+use Rattle.send_steps.specs.declared.rows.FinishRow.TheVariants as finish
+use Rattle.send_steps.specs.declared.rows.SweepRow.{SweepRow}
+use Rattle.send_steps.specs.declared.rows.SweepRow.TheVariants as sweep
+use Rattle.send_steps.specs.Steps.{remove_text}
+use Rattle.todo_pass.specs.declared.part.Target.TheVariants as target
+use Rattle.todo_pass.specs.Table.{command_text}
+use Rattle.send_core.specs.Births.{Births, births_by}
+use Rattle.send_core.specs.Papers.{Paper, Papers, papers_by}
+use Rattle.send_core.specs.Papers.Papers.{Reads, Told}
+use Rattle.send_core.specs.Senders.{Letter, letter_by}
 use Rattle.send_core.proofs.Known.{Sound, each_more, sender_said, sound_moved_local, sound_moved_remote}
+
+-- What a past tells besides what it says of the channels: the info or todo file that is being read, when messages were born, and what
+-- the control files say.
+pub record Facts : Type 0 where
+  pub letter : Option Letter
+  pub births : Births
+  pub papers : Papers
+
+abbrev pub facts_by : ℕ → Facts → NeedData → GotData → Facts
+facts_by now t due got = record { letter = letter_by t.letter due got; births = births_by t.births now due got; papers = papers_by t.papers due got }
 
 module _ (S : ℕ → List ℕ → Type 0) where
   abbrev pub IsAsked : Attempt → List ℕ → Type 0
@@ -60,47 +85,86 @@ module _ (S : ℕ → List ℕ → Type 0) where
   asked_records n sender dying [] s = tt
   asked_records n sender dying (r ∷ rs) s = one_asked n sender dying r.done r.place r.address rs s (asked_records n sender dying rs s)
 
-  -- What is so at each row
+-- What is so at each row
 
+module _ (S : ℕ → List ℕ → Type 0) (t : Facts) where
   abbrev pub Base : Desk → Type 0
-  Base d = Sound S d.book.messages × Asked d.local.requests d.slots.local.left × Asked d.remote.requests d.slots.remote.left
+  Base d = Sound S t.births.of d.book.messages × Asked S d.local.requests d.slots.local.left × Asked S d.remote.requests d.slots.remote.left × (t.papers ≡ Told d.book.controls)
 
-  abbrev pub StartSays : Option Letter → StartRow → List ℕ → Type 0
-  StartSays l (start.ReadInfo split n (Going fd)) read = l ≡ Some (record { todo = false; n = n; fd = fd; bytes = read; over = false })
-  StartSays l (start.ReadInfo split n (Closing fd)) read = l ≡ Some (record { todo = false; n = n; fd = fd; bytes = read; over = true })
-  StartSays l (start.StatInfo split n) read = S n (sender_in read)
-  StartSays l (start.StatLocal split n birth) read = S n (sender_in read)
-  StartSays l (start.StatRemote split n birth local) read = S n (sender_in read)
-  StartSays l row read = Unit {0}
+  -- the birth of this message was told last
+  abbrev pub IsLast : ℕ → ℕ → Type 0
+  IsLast n moment = t.births.last ≡ Some (record { n = n; moment = moment })
 
-  abbrev pub PassSays : Option Letter → PassRow → Pass → Type 0
-  PassSays l (todo.Clear t) p = p.todo ≡ []
-  PassSays l todo.StatMess p = p.todo ≡ []
-  PassSays l todo.OpenTodo p = p.todo ≡ []
-  PassSays l (todo.ReadTodo fd) p = l ≡ Some (record { todo = true; n = p.n; fd = fd; bytes = p.todo; over = false })
-  PassSays l (todo.CloseTodo fd) p = l ≡ Some (record { todo = true; n = p.n; fd = fd; bytes = p.todo; over = true })
-  PassSays l (todo.Shut fd why) p = Unit {0}
-  PassSays l (todo.Left why) p = Unit {0}
-  PassSays l todo.Lost p = Unit {0}
-  PassSays l row p = S p.n p.sorted.sender
+  abbrev pub StartSays : StartRow → List ℕ → Type 0
+  StartSays (start.ReadInfo split n (Going fd)) read = t.letter ≡ Some (record { todo = false; n = n; fd = fd; bytes = read; over = false })
+  StartSays (start.ReadInfo split n (Closing fd)) read = t.letter ≡ Some (record { todo = false; n = n; fd = fd; bytes = read; over = true })
+  StartSays (start.StatInfo split n) read = S n (sender_in read)
+  StartSays (start.StatLocal split n birth) read = S n (sender_in read) × IsLast n birth
+  StartSays (start.StatRemote split n birth local) read = S n (sender_in read) × IsLast n birth
+  StartSays row read = Unit {0}
 
-  abbrev pub RowSays : Option Letter → Row → List ℕ → Pass → List Known → Type 0
-  RowSays l (at.Start row) read p ks = StartSays l row read
-  RowSays l (at.ReadFile c n begun reading) read p ks = is_known n ks ≡ true
-  RowSays l at.InTodo read p ks = PassSays l p.row p
-  RowSays l row read p ks = Unit {0}
+  abbrev pub PassSays : PassRow → Pass → Type 0
+  PassSays (todo.Clear part) p = p.todo ≡ []
+  PassSays todo.StatMess p = p.todo ≡ []
+  PassSays todo.OpenTodo p = p.todo ≡ []
+  PassSays (todo.ReadTodo fd) p = t.letter ≡ Some (record { todo = true; n = p.n; fd = fd; bytes = p.todo; over = false })
+  PassSays (todo.CloseTodo fd) p = t.letter ≡ Some (record { todo = true; n = p.n; fd = fd; bytes = p.todo; over = true })
+  PassSays (todo.Create target.Info) p = S p.n p.sorted.sender
+  PassSays (todo.Create target.Local) p = S p.n p.sorted.sender × IsLast p.n p.birth
+  PassSays (todo.Create target.Remote) p = S p.n p.sorted.sender × IsLast p.n p.birth
+  PassSays (todo.Append target.Info fd done) p = S p.n p.sorted.sender × (t.births.made ≡ Some (record { n = p.n; fd = fd }))
+  PassSays (todo.Append target.Local fd done) p = S p.n p.sorted.sender × IsLast p.n p.birth × (t.births.made ≡ None)
+  PassSays (todo.Append target.Remote fd done) p = S p.n p.sorted.sender × IsLast p.n p.birth × (t.births.made ≡ None)
+  PassSays (todo.Sync part fd) p = S p.n p.sorted.sender × IsLast p.n p.birth
+  PassSays (todo.Close part fd) p = S p.n p.sorted.sender × IsLast p.n p.birth
+  PassSays todo.Give p = S p.n p.sorted.sender × IsLast p.n p.birth
+  PassSays todo.Answer p = S p.n p.sorted.sender × IsLast p.n p.birth × (t.births.command ≡ command_text p.n)
+  PassSays todo.Done p = Unit {0}
+  PassSays (todo.Shut fd why) p = Unit {0}
+  PassSays (todo.Left why) p = Unit {0}
+  PassSays todo.Lost p = Unit {0}
 
-  abbrev pub SaysAt : Option Letter → Row → Desk → Type 0
-  SaysAt l row d = RowSays l row d.book.read d.pass d.book.messages.known
+  -- the cleaner was given the command to remove the message
+  abbrev pub FinishSays : FinishRow → ℕ → Type 0
+  FinishSays finish.Take n = t.births.command ≡ remove_text n
+  FinishSays row n = Unit {0}
 
-  abbrev pub Knows : Option Letter → Desk → Type 0
-  Knows l d = Base d × SaysAt l d.row d
+  abbrev pub SweepSays : SweepRow → Type 0
+  SweepSays (sweep.Take split n) = t.births.command ≡ remove_text n
+  SweepSays row = Unit {0}
+
+  abbrev pub RowSays : Row → List ℕ → Pass → List Known → Type 0
+  RowSays (at.Start row) read p ks = StartSays row read
+  RowSays (at.ReadFile c n begun reading) read p ks = is_known n ks ≡ true
+  RowSays at.InTodo read p ks = PassSays p.row p
+  RowSays (at.Finish row n) read p ks = FinishSays row n
+  RowSays (at.Sweep row) read p ks = SweepSays row
+  RowSays row read p ks = Unit {0}
+
+  abbrev pub SaysAt : Row → Desk → Type 0
+  SaysAt row d = RowSays row d.book.read d.pass d.book.messages.known
+
+  -- while the control files are read: those that were filed, and the one that is being read
+  abbrev pub ControlSays : ControlFile → Reading → Book → Type 0
+  ControlSays file Opening b = (held : Option Paper) × (t.papers ≡ Reads b.files held)
+  ControlSays file (Going fd) b = t.papers ≡ Reads b.files (Some (record { file = file; fd = fd; bytes = b.read; over = false }))
+  ControlSays file (Closing fd) b = t.papers ≡ Reads b.files (Some (record { file = file; fd = fd; bytes = b.read; over = true }))
+  ControlSays file (Shutting fd) b = Unit {0}
+
+  abbrev pub KnowsAt : Row → Desk → Type 0
+  KnowsAt (at.Start (start.Control file reading)) d =
+      Sound S t.births.of d.book.messages × Asked S d.local.requests d.slots.local.left × Asked S d.remote.requests d.slots.remote.left × ControlSays file reading d.book
+  KnowsAt (at.Ended status) d = Unit {0}
+  KnowsAt row d = Base d × SaysAt row d
+
+  abbrev pub Knows : Desk → Type 0
+  Knows d = KnowsAt d.row d
 
   -- Jobs that are over, and takings
 
   pub base_due : (c : Channel) (n due : ℕ) (d : Desk) → Base d → Base (due_again c n due d)
-  base_due Local n due d h = (sound_moved_local S (due, n) d.book.messages h.0, h.1, h.2)
-  base_due Remote n due d h = (sound_moved_remote S (due, n) d.book.messages h.0, h.1, h.2)
+  base_due Local n due d h = (sound_moved_local S t.births.of (due, n) d.book.messages h.0, h.1, h.2, h.3)
+  base_due Remote n due d h = (sound_moved_remote S t.births.of (due, n) d.book.messages h.0, h.1, h.2, h.3)
 
   base_retried : (o : Option Job) (c : Channel) (n : ℕ) (d : Desk) → Base d → Base (retried_if o c n d)
   base_retried None c n d h = h
@@ -118,15 +182,16 @@ module _ (S : ℕ → List ℕ → Type 0) where
   base_if true x y p q = p
   base_if false x y p q = q
 
-  base_settle : (k : Bool) (c : Channel) (a : Attempt) (d : Desk) → Base d → Base (settle k c a d)
-  base_settle true Local a d h = base_if (nat_lt (length d.slots.local.marks) 120) (waits Local a d) (deferred Local a.n d) h (base_deferred Local a.n d h)
-  base_settle true Remote a d h = base_if (nat_lt (length d.slots.remote.marks) 120) (waits Remote a d) (deferred Remote a.n d) h (base_deferred Remote a.n d h)
-  base_settle false c a d h = base_deferred c a.n d h
+  base_settle : (r : Report) (c : Channel) (a : Attempt) (d : Desk) → Base d → Base (settle r c a d)
+  base_settle r Local a d h =
+      base_if (is_final (counted r.letter) a.dying && nat_lt (length d.slots.local.marks) 120) (waits Local a (failure_in r) d) (deferred Local a.n d) h (base_deferred Local a.n d h)
+  base_settle r Remote a d h =
+      base_if (is_final (counted r.letter) a.dying && nat_lt (length d.slots.remote.marks) 120) (waits Remote a (failure_in r) d) (deferred Remote a.n d) h (base_deferred Remote a.n d h)
 
   base_told_by : (o : Option Attempt) (c : Channel) (r : Report) (d : Desk) → Base d → Base (told_by o c r d)
   base_told_by None c r d h = h
-  base_told_by (Some a) Local r d h = base_settle (counted r.letter == 75) Local a (record d { slots = at_lane Local (reported r.slot) d.slots }) h
-  base_told_by (Some a) Remote r d h = base_settle (counted r.letter == 75) Remote a (record d { slots = at_lane Remote (reported r.slot) d.slots }) h
+  base_told_by (Some a) Local r d h = base_settle r Local a (record d { slots = at_lane Local (reported r.slot) d.slots }) h
+  base_told_by (Some a) Remote r d h = base_settle r Remote a (record d { slots = at_lane Remote (reported r.slot) d.slots }) h
 
   base_told : (c : Channel) (rs : List Report) (d : Desk) → Base d → Base (told_all c rs d)
   base_told c [] d h = h
@@ -140,14 +205,16 @@ module _ (S : ℕ → List ℕ → Type 0) where
 
   pub base_begun : (c : Channel) (n begun : ℕ) (records : List Record) (d : Desk) → is_known n d.book.messages.known ≡ true → Base d → Base (has_begun c n begun records d)
   base_begun Local n begun records d is h = (
-    sound_moved_local S (never, n) d.book.messages h.0,
-    asked_records n (sender_of n d.book.messages.known) (is_dying n begun d) records (sender_said S n d.book.messages.known is h.0.0),
+    sound_moved_local S t.births.of (never, n) d.book.messages h.0,
+    asked_records S n (sender_of n d.book.messages.known) (is_dying n begun d) records (sender_said S n d.book.messages.known is h.0.0),
     h.2,
+    h.3,
   )
   base_begun Remote n begun records d is h = (
-    sound_moved_remote S (never, n) d.book.messages h.0,
+    sound_moved_remote S t.births.of (never, n) d.book.messages h.0,
     h.1,
-    asked_records n (sender_of n d.book.messages.known) (is_dying n begun d) records (sender_said S n d.book.messages.known is h.0.0),
+    asked_records S n (sender_of n d.book.messages.known) (is_dying n begun d) records (sender_said S n d.book.messages.known is h.0.0),
+    h.3,
   )
 
   left_sent : (slot : ℕ) (a : Attempt) (delivery : ℕ) (lane : Lane) → lowest lane.slots ≡ Some slot → next lane ≡ Some a → (sent delivery lane).left ≡ drop 1 lane.left
@@ -158,18 +225,24 @@ module _ (S : ℕ → List ℕ → Type 0) where
   base_sent Local slot a d low first h = subst
       (λ (b : Bool). Base (if b then with_requests Local (drop 1 d.local.requests) (record d { slots = sent_on Local d.slots }) else d)) (sym (ap (λ (o : Option Attempt). is_some o) first))
       (subst (λ (o : Option ℕ). Base (with_requests Local (drop 1 d.local.requests) (record d { slots = sent_as o Local (next_delivery d.slots) d.slots }))) (sym low)
-      (h.0, subst (λ (left : List Attempt). Asked (drop 1 d.local.requests) left) (sym (left_sent slot a (next_delivery d.slots) d.slots.local low first)) (asked_drop d.local.requests d.slots.local.left h.1), h.2))
+      (h.0, subst (λ (left : List Attempt). Asked S (drop 1 d.local.requests) left) (sym (left_sent slot a (next_delivery d.slots) d.slots.local low first)) (asked_drop S d.local.requests d.slots.local.left h.1), h.2, h.3))
   base_sent Remote slot a d low first h = subst
       (λ (b : Bool). Base (if b then with_requests Remote (drop 1 d.remote.requests) (record d { slots = sent_on Remote d.slots }) else d)) (sym (ap (λ (o : Option Attempt). is_some o) first))
       (subst (λ (o : Option ℕ). Base (with_requests Remote (drop 1 d.remote.requests) (record d { slots = sent_as o Remote (next_delivery d.slots) d.slots }))) (sym low)
-      (h.0, h.1, subst (λ (left : List Attempt). Asked (drop 1 d.remote.requests) left) (sym (left_sent slot a (next_delivery d.slots) d.slots.remote low first)) (asked_drop d.remote.requests d.slots.remote.left h.2)))
+      (h.0, h.1, subst (λ (left : List Attempt). Asked S (drop 1 d.remote.requests) left) (sym (left_sent slot a (next_delivery d.slots) d.slots.remote low first)) (asked_drop S d.remote.requests d.slots.remote.left h.2), h.3))
 
   pub base_ready : (d : Desk) → Base d → Base (ready d)
   base_ready d h = (
     h.0,
-    asked_addressed (lowest d.slots.local.slots) d.local.requests d.slots.local.left h.1,
-    asked_addressed (lowest d.slots.remote.slots) d.remote.requests d.slots.remote.left h.2,
+    asked_addressed S (lowest d.slots.local.slots) d.local.requests d.slots.local.left h.1,
+    asked_addressed S (lowest d.slots.remote.slots) d.remote.requests d.slots.remote.left h.2,
+    h.3,
   )
+
+  -- with what is told later, if that tells the same births and the same control files
+  pub base_still : (u : Facts) (d : Desk) → u.births.of ≡ t.births.of → u.papers ≡ t.papers → Base d
+      → Sound S u.births.of d.book.messages × Asked S d.local.requests d.slots.local.left × Asked S d.remote.requests d.slots.remote.left × (u.papers ≡ Told d.book.controls)
+  base_still u d same papers h = (subst (λ (of : ℕ → ℕ). Sound S of d.book.messages) (sym same) h.0, h.1, h.2, papers ∙ h.3)
 
 -- what was said of a message before was said of it later
 
@@ -179,9 +252,10 @@ asked_more S T f (text ∷ texts) (a ∷ left) h = ((h.0.0, h.0.1, f a.n h.0.1 h
 asked_more S T f [] (a ∷ left) h = absurd h
 asked_more S T f (text ∷ texts) [] h = absurd h
 
-pub base_more : (S T : ℕ → List ℕ → Type 0) → ((n : ℕ) (sender : List ℕ) → S n sender → T n sender) → (d : Desk) → Base S d → Base T d
-base_more S T f d h = (
-  (each_more S T f d.book.messages.known h.0.0, h.0.1, h.0.2),
+pub base_more : (S T : ℕ → List ℕ → Type 0) → ((n : ℕ) (sender : List ℕ) → S n sender → T n sender) → (t : Facts) (d : Desk) → Base S t d → Base T t d
+base_more S T f t d h = (
+  (each_more S T f d.book.messages.known h.0.0, h.0.1, h.0.2, h.0.3),
   asked_more S T f d.local.requests d.slots.local.left h.1,
   asked_more S T f d.remote.requests d.slots.remote.left h.2,
+  h.3,
 )

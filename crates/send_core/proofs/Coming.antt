@@ -1,5 +1,5 @@
 -- What may come of a need that is a file call, and names that are no channel file's.
-use Rattle.std.proofs.Common.{◌≡◌, Option, Some, None, refl, ap, ◌∙◌}
+use Rattle.std.proofs.Common.{◌≡◌, ℕ, Bool, Option, Some, None, refl, ap, ◌∙◌}
 use Rattle.call_fs.specs.declared.calls.Answer.{Answer}
 use Rattle.call_fs.specs.declared.calls.Answer.TheVariants as answer
 use Rattle.call_fs.specs.declared.calls.Fd.{Fd}
@@ -33,12 +33,12 @@ by_file needs.Wait is P got may f = absurd is
 by_file (needs.Ended status) is P got may f = absurd is
 
 -- a name that is no channel file's
-pub not_channel : (x : Name) → ((fd : Fd) → source_of (Some x) fd ≡ None) → (told : Answer) → opened_as (parse (path x)) told ≡ None
-not_channel x other (answer.Opened fd) = ap (λ (o : Option Name). source_of o fd) (parse-path x) ∙ other fd
-not_channel x other (answer.Created fd n) = refl
-not_channel x other (answer.Count count) = refl
-not_channel x other answer.Done = refl
-not_channel x other (answer.Stat stat) = refl
-not_channel x other (answer.Name name) = refl
-not_channel x other answer.NoName = refl
-not_channel x other (answer.Refused why) = refl
+pub not_channel : (late : ℕ → Bool) (x : Name) → ((fd : Fd) → source_of late (Some x) fd ≡ None) → (told : Answer) → opened_as late (parse (path x)) told ≡ None
+not_channel late x other (answer.Opened fd) = ap (λ (o : Option Name). source_of late o fd) (parse-path x) ∙ other fd
+not_channel late x other (answer.Created fd n) = refl
+not_channel late x other (answer.Count count) = refl
+not_channel late x other answer.Done = refl
+not_channel late x other (answer.Stat stat) = refl
+not_channel late x other (answer.Name name) = refl
+not_channel late x other answer.NoName = refl
+not_channel late x other (answer.Refused why) = refl

@@ -4,6 +4,7 @@ use Rattle.std.specs.Prelude.{min}
 use Rattle.std.specs.Option.{option_map}
 use Rattle.address_rules.specs.declared.control_file.ControlFile.{ControlFile}
 use Rattle.address_rules.specs.Files.{Fault, first_fault, place}
+use Rattle.bounce_record.specs.Writing.{Writing}
 use Rattle.call_fs.specs.declared.calls.Answer.{Answer}
 use Rattle.call_fs.specs.declared.calls.Answer.TheVariants as answer
 use Rattle.call_fs.specs.declared.calls.CallData.TheVariants as call
@@ -18,13 +19,14 @@ use Rattle.queue_paths.specs.Names.{Name, parse, path}
 use Rattle.queue_paths.specs.Names.Name.{Of}
 use Rattle.queue_paths.specs.Names.Part.{Info as InfoFile}
 use Rattle.send_core.specs.declared.desk.Desk.{Desk}
+use Rattle.send_core.specs.declared.row.MarkRow.{MarkRow}
 use Rattle.send_core.specs.declared.row.Marked.{Marked}
 use Rattle.send_core.specs.declared.row.Row.{Row}
 use Rattle.send_core.specs.declared.row.Row.TheVariants as at
 use Rattle.send_core.specs.Start.{start_at}
 use Rattle.send_core.specs.Table.{act, due_at}
 use Rattle.send_jobs.specs.declared.attempts.Attempt.{Attempt}
-use Rattle.send_jobs.specs.declared.channels.Channel.{Channel}
+use Rattle.send_jobs.specs.declared.attempts.Mark.{Mark}
 use Rattle.send_jobs.specs.declared.channels.Channel.TheVariants.{Local, Remote}
 use Rattle.send_jobs.specs.declared.lane.Lane.{Lane}
 use Rattle.send_jobs.specs.declared.slots.Slots.{Slots}
@@ -47,10 +49,10 @@ use Rattle.send_steps.specs.Start.{act_start, by_way, control_read, file_after, 
 use Rattle.send_steps.specs.Steps.{control_text}
 use Rattle.spawn_protocol.specs.Report.{read_on as read_reports}
 use Rattle.spawn_protocol.specs.Report.Reader.{AtBegin}
-use Rattle.send_core.specs.Past.{Account, Source, Task, account_by, took as took_in, read_more as read_source, closed as file_closed, closed_if, ends, happening, opened_as, reading_by, whole_of}
+use Rattle.send_core.specs.Past.{Account, Owed, Work, account_by, took as took_in, happening, opened_as, source_of, work_by}
 use Rattle.send_core.proofs.Lists.{free_of}
 use Rattle.send_core.proofs.Lanes.{Holds, empty_holds, length_free, other_limit}
-use Rattle.send_core.specs.Agrees.{task_at, task_of}
+use Rattle.send_core.specs.Agrees.{owed_at, task_of}
 use Rattle.send_core.proofs.Fits.{Fits, so_far}
 use Rattle.send_core.proofs.Coming.{by_file, not_channel}
 use Rattle.send_core.proofs.Changes.{DeskFits, Heard}
@@ -115,9 +117,9 @@ late_remote way.NoMemory split n birth local b = tt
 
 -- What fits at a row of the start
 
-module _ (P : Fd → Marked → Type 0) (f : Option Source) (al ar : Account) (s : Slots) (l r : Link) (read : List ℕ) where
+module _ (P : MarkRow → Option Mark → Marked → Writing → Type 0) (f : Option Work) (al ar : Account) (s : Slots) (l r : Link) (b : Book) (w : Writing) where
   abbrev To : StartRow → Type 0
-  To row = Fit P f al ar s l r read (start_at row)
+  To row = Fit P f al ar s l r b w (start_at row)
 
   late_fits : (row : StartRow) → IsLate row → Rests P f al ar s l r → To row
   late_fits (start.Control file reading) late h = absurd late
@@ -132,58 +134,28 @@ module _ (P : Fd → Marked → Type 0) (f : Option Source) (al ar : Account) (s
   late_fits start.Over late h = h
   late_fits (start.Ended status) late h = tt
 
-  failed_to : (w : Way) → To (start_failed w)
+  failed_to : (x : Way) → To (start_failed x)
   failed_to way.Fine = tt
   failed_to way.Over = tt
   failed_to way.Absent = tt
   failed_to way.Broken = tt
   failed_to way.NoMemory = tt
 
-  judged_to : (o : Option Fault) (b : Book) → Early P f al ar s l r → al.heard ≡ None → f ≡ None → To (judged_by o b).row
-  judged_to None b h e g = (h, e, g)
-  judged_to (Some fault) b h e g = tt
+  judged_to : (o : Option Fault) (x : Book) → Early P f al ar s l r → al.heard ≡ None → f ≡ None → To (judged_by o x).row
+  judged_to None x h e g = (h, e, g)
+  judged_to (Some fault) x h e g = tt
 
-  next_to : (o : Option ControlFile) (b : Book) → Early P f al ar s l r → al.heard ≡ None → f ≡ None → To (next_file o b).row
-  next_to None b h e g = judged_to (first_fault b.files) b h e g
-  next_to (Some file) b h e g = (h, e)
+  next_to : (o : Option ControlFile) (x : Book) → Early P f al ar s l r → al.heard ≡ None → f ≡ None → To (next_file o x).row
+  next_to None x h e g = judged_to (first_fault x.files) x h e g
+  next_to (Some file) x h e g = (h, e, g)
 
-  filed_to : (content : Option (List ℕ)) (file : ControlFile) (b : Book) → Early P f al ar s l r → al.heard ≡ None → f ≡ None → To (filed content file b).row
-  filed_to content file b h e g = next_to (file_after file) (record b { files = set b.files (place file) content }) h e g
+  filed_to : (content : Option (List ℕ)) (file : ControlFile) (x : Book) → Early P f al ar s l r → al.heard ≡ None → f ≡ None → To (filed content file x).row
+  filed_to content file x h e g = next_to (file_after file) (record x { files = set x.files (place file) content }) h e g
 
-  more_to : (last : Bool) (fd : Fd) (file : ControlFile) (reading : Reading) (said : Said) (b : Book) → Early P f al ar s l r → al.heard ≡ None
-      → To (control_read (if last then Goes (Closing fd) else Goes (Going fd)) file reading said b).row
-  more_to true fd file reading said b h e = (h, e)
-  more_to false fd file reading said b h e = (h, e)
-
--- A close after a control file says nothing of a channel without records
-
-whole_early : (c other : Channel) (o : Source) (a : Account) (lane : Lane) (link : Link) → lane.left ≡ [] → Fits false a lane link → Fits false (account_by (whole_of c other o) a) lane link
-whole_early Local Local o a lane link none h = (h.0, inl none, h.2, h.3, h.4, h.5)
-whole_early Remote Remote o a lane link none h = (h.0, inl none, h.2, h.3, h.4, h.5)
-whole_early Local Remote o a lane link none h = h
-whole_early Remote Local o a lane link none h = h
-
-whole_heard : (c other : Channel) (o : Source) (a : Account) → (account_by (whole_of c other o) a).heard ≡ a.heard
-whole_heard Local Local o a = refl
-whole_heard Remote Remote o a = refl
-whole_heard Local Remote o a = refl
-whole_heard Remote Local o a = refl
-
-ended_early : (b : Bool) (c : Channel) (o : Source) (a : Account) (lane : Lane) (link : Link) → lane.left ≡ [] → Fits false a lane link → Fits false (account_by (closed_if b o c) a) lane link
-ended_early true c o a lane link none h = whole_early o.channel c o a lane link none h
-ended_early false c o a lane link none h = h
-
-ended_heard : (b : Bool) (c : Channel) (o : Source) (a : Account) → (account_by (closed_if b o c) a).heard ≡ a.heard
-ended_heard true c o a = whole_heard o.channel c o a
-ended_heard false c o a = refl
-
-closed_early : (o : Option Source) (fd : Fd) (c : Channel) (a : Account) (lane : Lane) (link : Link) → lane.left ≡ [] → Fits false a lane link → Fits false (account_by (file_closed o fd c) a) lane link
-closed_early None fd c a lane link none h = h
-closed_early (Some o) fd c a lane link none h = ended_early (ends o fd) c o a lane link none h
-
-closed_heard : (o : Option Source) (fd : Fd) (c : Channel) (a : Account) → (account_by (file_closed o fd c) a).heard ≡ a.heard
-closed_heard None fd c a = refl
-closed_heard (Some o) fd c a = ended_heard (ends o fd) c o a
+  more_to : (last : Bool) (fd : Fd) (file : ControlFile) (reading : Reading) (said : Said) (x : Book) → Early P f al ar s l r → al.heard ≡ None → f ≡ None
+      → To (control_read (if last then Goes (Closing fd) else Goes (Going fd)) file reading said x).row
+  more_to true fd file reading said x h e g = (h, e, g)
+  more_to false fd file reading said x h e g = (h, e, g)
 
 -- The slots that a spawner's byte makes
 
@@ -197,7 +169,7 @@ fits_limit : (a : Account) (lane : Lane) (k : ℕ) → lane ≡ empty 0 → Hold
 fits_limit a lane k e h = other_limit a.limit k a.to_mark lane.slots lane.left (subst (λ (x : Lane). length x.slots ≤ k) (sym e) (no_slots k)) h
 
 bare_early : (a : Account) (lane : Lane) (link : Link) → lane ≡ empty 0 → Fits false a lane link → a.to_mark ≡ []
-bare_early a lane link e h = sym h.4 ∙ ap (λ (x : Lane). map task_at x.marks) e
+bare_early a lane link e h = sym h.4 ∙ ap (λ (x : Lane). map owed_at x.marks) e
 
 empty_fits : (a : Account) (lane : Lane) (link : Link) (count : ℕ) → lane ≡ empty 0 → count ≤ a.limit → Fits false a lane link → Fits false a (empty count) link
 empty_fits a lane link count e le h =
@@ -207,61 +179,58 @@ empty_fits a lane link count e le h =
       was.2,
       was.3,
       was.4,
-      subst (λ (t : List Task). Holds a.limit t (replicate (min count 120) None) []) was.4 (empty_holds a.limit count le),
+      subst (λ (t : List Owed). Holds a.limit t (replicate (min count 120) None) []) was.4 (empty_holds a.limit count le),
     )
 
 -- The steps
 
-abbrev pub StepOf : (Fd → Marked → Type 0) → ℕ → Desk → Option Source → Account → Account → Row → GotData → Type 0
-StepOf P now d f al ar row got =
-    IsFit P (reading_by f (due_at row d) got) (account_by (happening (due_at row d) got f Local) al) (account_by (happening (due_at row d) got f Remote) ar) (act row now got d)
+-- a control file has no name of the queue
+no_name : (file : ControlFile) → parse (control_text file) ≡ None
+unfolding parse path
+no_name file = refl
 
-module _ (P : Fd → Marked → Type 0) (now : ℕ) (d : Desk) (al ar : Account) where
-  early_closed : (f : Option Source) (fd : Fd) → Early P f al ar d.slots d.local d.remote
-      → Early P None (account_by (file_closed f fd Local) al) (account_by (file_closed f fd Remote) ar) d.slots d.local d.remote
-  early_closed f fd h = (
-    h.0,
-    closed_early f fd Local al d.slots.local d.local (ap (λ (s : Slots). s.local.left) h.0) h.1,
-    closed_early f fd Remote ar d.slots.remote d.remote (ap (λ (s : Slots). s.remote.left) h.0) h.2,
-    closed_heard f fd Remote ar ∙ h.3,
-  )
+abbrev pub StepOf : (MarkRow → Option Mark → Marked → Writing → Type 0) → (ℕ → Bool) → ℕ → Desk → Option Work → Account → Account → Row → GotData → Type 0
+StepOf P late now d f al ar row got =
+    IsFit P (work_by late f (due_at row d) got) (account_by (happening (due_at row d) got f al.to_mark Local) al) (account_by (happening (due_at row d) got f al.to_mark Remote) ar) (act row now got d)
 
-  control_opens : (f : Option Source) (file : ControlFile) (name : Option Name) (told : Answer) (bytes : List ℕ) → IsAnswerTo (call.Open (control_text file) how.Read) told
-      → Early P f al ar d.slots d.local d.remote → al.heard ≡ None
-      → To P (opened_as name told) al ar d.slots d.local d.remote (act_start (start.Control file Opening) (answered told bytes) d.book).read (act_start (start.Control file Opening) (answered told bytes) d.book).row
-  control_opens f file name (answer.Opened fd) bytes fit h e = (h, e)
-  control_opens f file name (answer.Refused why.NotThere) bytes fit h e = filed_to P None al ar d.slots d.local d.remote (filed None file d.book).read None file d.book h e refl
-  control_opens f file name (answer.Refused why.Fault) bytes fit h e = tt
-  control_opens f file name (answer.Refused why.Memory) bytes fit h e = tt
-  control_opens f file name told bytes fit h e = absurd fit
+module _ (P : MarkRow → Option Mark → Marked → Writing → Type 0) (late : ℕ → Bool) (now : ℕ) (d : Desk) (al ar : Account) where
+  abbrev ToStart : Option Work → StartRow → Said → Type 0
+  ToStart f row s = let b : Book = act_start row s d.book in To P f al ar d.slots d.local d.remote b d.note b.row
 
-  control_reads : (f : Option Source) (file : ControlFile) (fd : Fd) (told : Answer) (bytes : List ℕ) → IsAnswerTo (call.ReadAt fd (length d.book.read) 8192) told
-      → Early P f al ar d.slots d.local d.remote → al.heard ≡ None
-      → To P (read_source f fd (length d.book.read) 8192 (record { answer = told; bytes = bytes })) al ar d.slots d.local d.remote (act_start (start.Control file (Going fd)) (answered told bytes) d.book).read (act_start (start.Control file (Going fd)) (answered told bytes) d.book).row
-  control_reads f file fd (answer.Count count) bytes fit h e =
-      more_to P (read_source f fd (length d.book.read) 8192 (record { answer = answer.Count count; bytes = bytes })) al ar d.slots d.local d.remote (act_start (start.Control file (Going fd)) (answered (answer.Count count) bytes) d.book).read (nat_lt (length bytes) 8192) fd file (Going fd) (answered (answer.Count count) bytes) d.book h e
-  control_reads f file fd (answer.Refused why.Fault) bytes fit h e = tt
-  control_reads f file fd told bytes fit h e = absurd fit
+  control_opens : (file : ControlFile) (told : Answer) (bytes : List ℕ) → IsAnswerTo (call.Open (control_text file) how.Read) told → Early P None al ar d.slots d.local d.remote → al.heard ≡ None
+      → ToStart (opened_as late (parse (control_text file)) told) (start.Control file Opening) (answered told bytes)
+  control_opens file (answer.Opened fd) bytes fit h e = (h, e, ap (λ (o : Option Name). source_of late o fd) (no_name file))
+  control_opens file (answer.Refused why.NotThere) bytes fit h e = filed_to P None al ar d.slots d.local d.remote (filed None file d.book) d.note None file d.book h e refl
+  control_opens file (answer.Refused why.Fault) bytes fit h e = tt
+  control_opens file (answer.Refused why.Memory) bytes fit h e = tt
+  control_opens file told bytes fit h e = absurd fit
+
+  control_reads : (file : ControlFile) (fd : Fd) (told : Answer) (bytes : List ℕ) → IsAnswerTo (call.ReadAt fd (length d.book.read) 8192) told
+      → Early P None al ar d.slots d.local d.remote → al.heard ≡ None → ToStart None (start.Control file (Going fd)) (answered told bytes)
+  control_reads file fd (answer.Count count) bytes fit h e =
+      more_to P None al ar d.slots d.local d.remote (act_start (start.Control file (Going fd)) (answered (answer.Count count) bytes) d.book) d.note (nat_lt (length bytes) 8192) fd file (Going fd) (answered (answer.Count count) bytes) d.book h e refl
+  control_reads file fd (answer.Refused why.Fault) bytes fit h e = tt
+  control_reads file fd told bytes fit h e = absurd fit
 
   -- a control file
-  control_step : (f : Option Source) (file : ControlFile) (reading : Reading) (got : GotData) → Early P f al ar d.slots d.local d.remote → al.heard ≡ None
-      → MayCome (due_at (at.Start (start.Control file reading)) d) got → StepOf P now d f al ar (at.Start (start.Control file reading)) got
-  control_step f file Opening got h e may =
-      by_file (due_at (at.Start (start.Control file Opening)) d) tt (StepOf P now d f al ar (at.Start (start.Control file Opening))) got may
-      (λ told fit. control_opens f file (parse (control_text file)) told.answer told.bytes fit h e)
-  control_step f file (Going fd) got h e may =
-      by_file (due_at (at.Start (start.Control file (Going fd))) d) tt (StepOf P now d f al ar (at.Start (start.Control file (Going fd)))) got may
-      (λ told fit. control_reads f file fd told.answer told.bytes fit h e)
-  control_step f file (Closing fd) got h e may =
-      by_file (due_at (at.Start (start.Control file (Closing fd))) d) tt (StepOf P now d f al ar (at.Start (start.Control file (Closing fd)))) got may
-      (λ told fit. filed_to P None (account_by (file_closed f fd Local) al) (account_by (file_closed f fd Remote) ar) d.slots d.local d.remote (filed (Some d.book.read) file d.book).read (Some d.book.read) file d.book (early_closed f fd h) (closed_heard f fd Local al ∙ e) refl)
-  control_step f file (Shutting fd) got h e may =
-      by_file (due_at (at.Start (start.Control file (Shutting fd))) d) tt (StepOf P now d f al ar (at.Start (start.Control file (Shutting fd)))) got may
-      (λ told fit. failed_to P None (account_by (file_closed f fd Local) al) (account_by (file_closed f fd Remote) ar) d.slots d.local d.remote d.book.read (answered told.answer told.bytes).way)
+  control_step : (file : ControlFile) (reading : Reading) (got : GotData) → Early P None al ar d.slots d.local d.remote → al.heard ≡ None
+      → MayCome (due_at (at.Start (start.Control file reading)) d) got → StepOf P late now d None al ar (at.Start (start.Control file reading)) got
+  control_step file Opening got h e may =
+      by_file (due_at (at.Start (start.Control file Opening)) d) tt (StepOf P late now d None al ar (at.Start (start.Control file Opening))) got may
+      (λ told fit. control_opens file told.answer told.bytes fit h e)
+  control_step file (Going fd) got h e may =
+      by_file (due_at (at.Start (start.Control file (Going fd))) d) tt (StepOf P late now d None al ar (at.Start (start.Control file (Going fd)))) got may
+      (λ told fit. control_reads file fd told.answer told.bytes fit h e)
+  control_step file (Closing fd) got h e may =
+      by_file (due_at (at.Start (start.Control file (Closing fd))) d) tt (StepOf P late now d None al ar (at.Start (start.Control file (Closing fd)))) got may
+      (λ told fit. filed_to P None al ar d.slots d.local d.remote (filed (Some d.book.read) file d.book) d.note (Some d.book.read) file d.book h e refl)
+  control_step file (Shutting fd) got h e may =
+      by_file (due_at (at.Start (start.Control file (Shutting fd))) d) tt (StepOf P late now d None al ar (at.Start (start.Control file (Shutting fd)))) got may
+      (λ told fit. failed_to P None al ar d.slots d.local d.remote (act_start (start.Control file (Shutting fd)) (answered told.answer told.bytes) d.book) d.note (answered told.answer told.bytes).way)
 
   -- a spawner's first byte
-  greet_local : (f : Option Source) (got : GotData) → Early P f al ar d.slots d.local d.remote → al.heard ≡ None → f ≡ None
-      → MayCome (due_at (at.Start start.GreetLocal) d) got → StepOf P now d f al ar (at.Start start.GreetLocal) got
+  greet_local : (f : Option Work) (got : GotData) → Early P f al ar d.slots d.local d.remote → al.heard ≡ None → f ≡ None
+      → MayCome (due_at (at.Start start.GreetLocal) d) got → StepOf P late now d f al ar (at.Start start.GreetLocal) got
   greet_local f (came.Took []) h e g may = tt
   greet_local f (came.Took (byte ∷ rest)) h e g may = subst
       (λ (o : Option (List ℕ)). IsFit P f (took_in o (byte ∷ rest) al) ar (act (at.Start start.GreetLocal) now (came.Took (byte ∷ rest)) d))
@@ -285,8 +254,8 @@ module _ (P : Fd → Marked → Type 0) (now : ℕ) (d : Desk) (al ar : Account)
   greet_local f (came.Started pid) h e g may = absurd may
   greet_local f came.Memory h e g may = absurd may
 
-  greet_remote : (f : Option Source) (limit : ℕ) (got : GotData) → Early P f al ar d.slots d.local d.remote → Heard al.heard → f ≡ None → limit ≤ al.limit
-      → MayCome (due_at (at.Start (start.GreetRemote limit)) d) got → StepOf P now d f al ar (at.Start (start.GreetRemote limit)) got
+  greet_remote : (f : Option Work) (limit : ℕ) (got : GotData) → Early P f al ar d.slots d.local d.remote → Heard al.heard → f ≡ None → limit ≤ al.limit
+      → MayCome (due_at (at.Start (start.GreetRemote limit)) d) got → StepOf P late now d f al ar (at.Start (start.GreetRemote limit)) got
   greet_remote f limit (came.Took []) h e g le may = tt
   greet_remote f limit (came.Took (byte ∷ rest)) h e g le may =
       let none : d.slots.remote ≡ empty 0 = ap (λ (s : Slots). s.remote) h.0 in
@@ -315,45 +284,46 @@ module _ (P : Fd → Marked → Type 0) (now : ℕ) (d : Desk) (al ar : Account)
   greet_remote f limit came.Memory h e g le may = absurd may
 
   -- the scan
-  scan_step : (row : StartRow) (got : GotData) → IsLate row → DeskFits al ar d → IsBare al ar → MayCome (due_at (at.Start row) d) got → StepOf P now d None al ar (at.Start row) got
-  scan_step (start.Scan split) got late h b may =
-      by_file (due_at (at.Start (start.Scan split)) d) tt (StepOf P now d None al ar (at.Start (start.Scan split))) got may
-      (λ told fit. late_fits P None al ar d.slots d.local d.remote (act_start (start.Scan split) (answered told.answer told.bytes) d.book).read (act_start (start.Scan split) (answered told.answer told.bytes) d.book).row (late_scanned (answered told.answer told.bytes).way (answered told.answer told.bytes).bytes split d.book) (h, refl, b))
-  scan_step (start.StatTodo split n) got late h b may =
-      by_file (due_at (at.Start (start.StatTodo split n)) d) tt (StepOf P now d None al ar (at.Start (start.StatTodo split n))) got may
-      (λ told fit. late_fits P None al ar d.slots d.local d.remote (act_start (start.StatTodo split n) (answered told.answer told.bytes) d.book).read (act_start (start.StatTodo split n) (answered told.answer told.bytes) d.book).row (late_way (answered told.answer told.bytes).way (start.Scan split) (start.ReadInfo split n Opening) tt tt) (h, refl, b))
-  scan_step (start.StatInfo split n) got late h b may =
-      by_file (due_at (at.Start (start.StatInfo split n)) d) tt (StepOf P now d None al ar (at.Start (start.StatInfo split n))) got may
-      (λ told fit. late_fits P None al ar d.slots d.local d.remote (act_start (start.StatInfo split n) (answered told.answer told.bytes) d.book).read (act_start (start.StatInfo split n) (answered told.answer told.bytes) d.book).row (late_way (answered told.answer told.bytes).way (start.StatLocal split n (answered told.answer told.bytes).stat.moment) (start.Scan split) tt tt) (h, refl, b))
-  scan_step (start.StatLocal split n birth) got late h b may =
-      by_file (due_at (at.Start (start.StatLocal split n birth)) d) tt (StepOf P now d None al ar (at.Start (start.StatLocal split n birth))) got may
-      (λ told fit. late_fits P None al ar d.slots d.local d.remote (act_start (start.StatLocal split n birth) (answered told.answer told.bytes) d.book).read (act_start (start.StatLocal split n birth) (answered told.answer told.bytes) d.book).row (late_way (answered told.answer told.bytes).way (start.StatRemote split n birth true) (start.StatRemote split n birth false) tt tt) (h, refl, b))
-  scan_step (start.StatRemote split n birth local) got late h b may =
-      by_file (due_at (at.Start (start.StatRemote split n birth local)) d) tt (StepOf P now d None al ar (at.Start (start.StatRemote split n birth local))) got may
-      (λ told fit. late_fits P None al ar d.slots d.local d.remote (act_start (start.StatRemote split n birth local) (answered told.answer told.bytes) d.book).read (act_start (start.StatRemote split n birth local) (answered told.answer told.bytes) d.book).row (late_remote (answered told.answer told.bytes).way split n birth local d.book) (h, refl, b))
-  scan_step (start.ReadInfo split n Opening) got late h b may =
-      by_file (due_at (at.Start (start.ReadInfo split n Opening)) d) tt (StepOf P now d None al ar (at.Start (start.ReadInfo split n Opening))) got may
-      (λ told fit. late_fits P (opened_as (parse (path (Of InfoFile n))) told.answer) al ar d.slots d.local d.remote (act_start (start.ReadInfo split n Opening) (answered told.answer told.bytes) d.book).read (act_start (start.ReadInfo split n Opening) (answered told.answer told.bytes) d.book).row (late_info (opened (answered told.answer told.bytes).way (answered told.answer told.bytes).fd) split n Opening (answered told.answer told.bytes) d.book) (h, not_channel (Of InfoFile n) (λ fd. refl) told.answer, b))
-  scan_step (start.ReadInfo split n (Going fd)) got late h b may =
-      by_file (due_at (at.Start (start.ReadInfo split n (Going fd))) d) tt (StepOf P now d None al ar (at.Start (start.ReadInfo split n (Going fd)))) got may
-      (λ told fit. late_fits P None al ar d.slots d.local d.remote (act_start (start.ReadInfo split n (Going fd)) (answered told.answer told.bytes) d.book).read (act_start (start.ReadInfo split n (Going fd)) (answered told.answer told.bytes) d.book).row (late_info (read_more (answered told.answer told.bytes).way fd (answered told.answer told.bytes).bytes) split n (Going fd) (answered told.answer told.bytes) d.book) (h, refl, b))
-  scan_step (start.ReadInfo split n (Closing fd)) got late h b may =
-      by_file (due_at (at.Start (start.ReadInfo split n (Closing fd))) d) tt (StepOf P now d None al ar (at.Start (start.ReadInfo split n (Closing fd)))) got may
-      (λ told fit. late_fits P None al ar d.slots d.local d.remote (act_start (start.ReadInfo split n (Closing fd)) (answered told.answer told.bytes) d.book).read (act_start (start.ReadInfo split n (Closing fd)) (answered told.answer told.bytes) d.book).row (late_info (Whole) split n (Closing fd) (answered told.answer told.bytes) d.book) (h, refl, b))
-  scan_step (start.ReadInfo split n (Shutting fd)) got late h b may =
-      by_file (due_at (at.Start (start.ReadInfo split n (Shutting fd))) d) tt (StepOf P now d None al ar (at.Start (start.ReadInfo split n (Shutting fd)))) got may
-      (λ told fit. late_fits P None al ar d.slots d.local d.remote (act_start (start.ReadInfo split n (Shutting fd)) (answered told.answer told.bytes) d.book).read (act_start (start.ReadInfo split n (Shutting fd)) (answered told.answer told.bytes) d.book).row (late_info (Failed) split n (Shutting fd) (answered told.answer told.bytes) d.book) (h, refl, b))
-  scan_step start.Over got late h b may = absurd may
-  scan_step (start.Ended status) got late h b may = absurd may
-  scan_step (start.Control file reading) got late h b may = absurd late
-  scan_step start.GreetLocal got late h b may = absurd late
-  scan_step (start.GreetRemote limit) got late h b may = absurd late
+  scan_step : (row : StartRow) (got : GotData) → IsLate row → DeskFits al ar d → IsBare al ar → MayCome (due_at (at.Start row) d) got → StepOf P late now d None al ar (at.Start row) got
+  scan_step (start.Scan split) got is h b may =
+      by_file (due_at (at.Start (start.Scan split)) d) tt (StepOf P late now d None al ar (at.Start (start.Scan split))) got may
+      (λ told fit. late_fits P None al ar d.slots d.local d.remote (act_start (start.Scan split) (answered told.answer told.bytes) d.book) d.note (act_start (start.Scan split) (answered told.answer told.bytes) d.book).row (late_scanned (answered told.answer told.bytes).way (answered told.answer told.bytes).bytes split d.book) (h, refl, b))
+  scan_step (start.StatTodo split n) got is h b may =
+      by_file (due_at (at.Start (start.StatTodo split n)) d) tt (StepOf P late now d None al ar (at.Start (start.StatTodo split n))) got may
+      (λ told fit. late_fits P None al ar d.slots d.local d.remote (act_start (start.StatTodo split n) (answered told.answer told.bytes) d.book) d.note (act_start (start.StatTodo split n) (answered told.answer told.bytes) d.book).row (late_way (answered told.answer told.bytes).way (start.Scan split) (start.ReadInfo split n Opening) tt tt) (h, refl, b))
+  scan_step (start.StatInfo split n) got is h b may =
+      by_file (due_at (at.Start (start.StatInfo split n)) d) tt (StepOf P late now d None al ar (at.Start (start.StatInfo split n))) got may
+      (λ told fit. late_fits P None al ar d.slots d.local d.remote (act_start (start.StatInfo split n) (answered told.answer told.bytes) d.book) d.note (act_start (start.StatInfo split n) (answered told.answer told.bytes) d.book).row (late_way (answered told.answer told.bytes).way (start.StatLocal split n (answered told.answer told.bytes).stat.moment) (start.Scan split) tt tt) (h, refl, b))
+  scan_step (start.StatLocal split n birth) got is h b may =
+      by_file (due_at (at.Start (start.StatLocal split n birth)) d) tt (StepOf P late now d None al ar (at.Start (start.StatLocal split n birth))) got may
+      (λ told fit. late_fits P None al ar d.slots d.local d.remote (act_start (start.StatLocal split n birth) (answered told.answer told.bytes) d.book) d.note (act_start (start.StatLocal split n birth) (answered told.answer told.bytes) d.book).row (late_way (answered told.answer told.bytes).way (start.StatRemote split n birth true) (start.StatRemote split n birth false) tt tt) (h, refl, b))
+  scan_step (start.StatRemote split n birth local) got is h b may =
+      by_file (due_at (at.Start (start.StatRemote split n birth local)) d) tt (StepOf P late now d None al ar (at.Start (start.StatRemote split n birth local))) got may
+      (λ told fit. late_fits P None al ar d.slots d.local d.remote (act_start (start.StatRemote split n birth local) (answered told.answer told.bytes) d.book) d.note (act_start (start.StatRemote split n birth local) (answered told.answer told.bytes) d.book).row (late_remote (answered told.answer told.bytes).way split n birth local d.book) (h, refl, b))
+  scan_step (start.ReadInfo split n Opening) got is h b may =
+      by_file (due_at (at.Start (start.ReadInfo split n Opening)) d) tt (StepOf P late now d None al ar (at.Start (start.ReadInfo split n Opening))) got may
+      (λ told fit. late_fits P (opened_as late (parse (path (Of InfoFile n))) told.answer) al ar d.slots d.local d.remote (act_start (start.ReadInfo split n Opening) (answered told.answer told.bytes) d.book) d.note (act_start (start.ReadInfo split n Opening) (answered told.answer told.bytes) d.book).row (late_info (opened (answered told.answer told.bytes).way (answered told.answer told.bytes).fd) split n Opening (answered told.answer told.bytes) d.book) (h, not_channel late (Of InfoFile n) (λ fd. refl) told.answer, b))
+  scan_step (start.ReadInfo split n (Going fd)) got is h b may =
+      by_file (due_at (at.Start (start.ReadInfo split n (Going fd))) d) tt (StepOf P late now d None al ar (at.Start (start.ReadInfo split n (Going fd)))) got may
+      (λ told fit. late_fits P None al ar d.slots d.local d.remote (act_start (start.ReadInfo split n (Going fd)) (answered told.answer told.bytes) d.book) d.note (act_start (start.ReadInfo split n (Going fd)) (answered told.answer told.bytes) d.book).row (late_info (read_more (answered told.answer told.bytes).way fd (answered told.answer told.bytes).bytes) split n (Going fd) (answered told.answer told.bytes) d.book) (h, refl, b))
+  scan_step (start.ReadInfo split n (Closing fd)) got is h b may =
+      by_file (due_at (at.Start (start.ReadInfo split n (Closing fd))) d) tt (StepOf P late now d None al ar (at.Start (start.ReadInfo split n (Closing fd)))) got may
+      (λ told fit. late_fits P None al ar d.slots d.local d.remote (act_start (start.ReadInfo split n (Closing fd)) (answered told.answer told.bytes) d.book) d.note (act_start (start.ReadInfo split n (Closing fd)) (answered told.answer told.bytes) d.book).row (late_info (Whole) split n (Closing fd) (answered told.answer told.bytes) d.book) (h, refl, b))
+  scan_step (start.ReadInfo split n (Shutting fd)) got is h b may =
+      by_file (due_at (at.Start (start.ReadInfo split n (Shutting fd))) d) tt (StepOf P late now d None al ar (at.Start (start.ReadInfo split n (Shutting fd)))) got may
+      (λ told fit. late_fits P None al ar d.slots d.local d.remote (act_start (start.ReadInfo split n (Shutting fd)) (answered told.answer told.bytes) d.book) d.note (act_start (start.ReadInfo split n (Shutting fd)) (answered told.answer told.bytes) d.book).row (late_info (Failed) split n (Shutting fd) (answered told.answer told.bytes) d.book) (h, refl, b))
+  scan_step start.Over got is h b may = absurd may
+  scan_step (start.Ended status) got is h b may = absurd may
+  scan_step (start.Control file reading) got is h b may = absurd is
+  scan_step start.GreetLocal got is h b may = absurd is
+  scan_step (start.GreetRemote limit) got is h b may = absurd is
 
-  rests_step : (f : Option Source) (row : StartRow) (got : GotData) → IsLate row → Rests P f al ar d.slots d.local d.remote → MayCome (due_at (at.Start row) d) got → StepOf P now d f al ar (at.Start row) got
-  rests_step f row got late h may = subst (λ (o : Option Source). StepOf P now d o al ar (at.Start row) got) (sym h.1) (scan_step row got late h.0 h.2 may)
+  rests_step : (f : Option Work) (row : StartRow) (got : GotData) → IsLate row → Rests P f al ar d.slots d.local d.remote → MayCome (due_at (at.Start row) d) got → StepOf P late now d f al ar (at.Start row) got
+  rests_step f row got is h may = subst (λ (o : Option Work). StepOf P late now d o al ar (at.Start row) got) (sym h.1) (scan_step row got is h.0 h.2 may)
 
-  pub start_step : (f : Option Source) (row : StartRow) (got : GotData) → InStart P f al ar row d.slots d.local d.remote → MayCome (due_at (at.Start row) d) got → StepOf P now d f al ar (at.Start row) got
-  start_step f (start.Control file reading) got h may = control_step f file reading got h.0 h.1 may
+  pub start_step : (f : Option Work) (row : StartRow) (got : GotData) → InStart P f al ar row d.slots d.local d.remote → MayCome (due_at (at.Start row) d) got → StepOf P late now d f al ar (at.Start row) got
+  start_step f (start.Control file reading) got h may =
+      subst (λ (o : Option Work). StepOf P late now d o al ar (at.Start (start.Control file reading)) got) (sym h.2) (control_step file reading got (h.0.0, h.0.1, h.0.2, h.0.3) h.1 may)
   start_step f start.GreetLocal got h may = greet_local f got h.0 h.1 h.2 may
   start_step f (start.GreetRemote limit) got h may = greet_remote f limit got h.0 h.1 h.2 h.3 may
   start_step f (start.Scan split) got h may = rests_step f (start.Scan split) got tt h may

@@ -11,7 +11,7 @@ use Rattle.send_steps.specs.declared.link.Link.{Link}
 use Rattle.send_steps.specs.Requests.{addressed, request_of, requests_of, to_slot}
 use Rattle.spawn_protocol.specs.Report.{read_on}
 use Rattle.spawn_protocol.specs.Report.Reader.{AtBegin}
-use Rattle.send_core.specs.Agrees.{task_at, task_of, unopened}
+use Rattle.send_core.specs.Agrees.{owed_at, task_of, unopened}
 use Rattle.send_core.specs.Past.{Account, Task, tasks_by}
 use Rattle.send_core.proofs.Lanes.{Holds}
 
@@ -34,7 +34,7 @@ Fits at_work a lane link =
     × ((lane.left ≡ []) ⊎ (map task_of lane.left ≡ a.to_give))
     × AreFor link.requests lane.left
     × (link.reader ≡ (read_on AtBegin (so_far a.heard)).1)
-    × (map task_at (unopened at_work lane.marks) ≡ a.to_mark)
+    × (map owed_at (unopened at_work lane.marks) ≡ a.to_mark)
     × Holds a.limit a.to_mark lane.slots lane.left
 
 -- Requests
@@ -60,11 +60,11 @@ pub for_records : (n : ℕ) (sender : List ℕ) (dying : Bool) (rs : List Record
 for_records n sender dying [] = tt
 for_records n sender dying (r ∷ rs) = one_for n sender dying r.done r.place r.address rs (for_records n sender dying rs)
 
-one_task : (n : ℕ) (dying done : Bool) (place : ℕ) (address : List ℕ) (rs : List Record) → map task_of (attempts_of n dying rs) ≡ tasks_by n (Some rs)
-    → map task_of (attempts_of n dying (record { done = done; place = place; address = address } ∷ rs)) ≡ tasks_by n (Some (record { done = done; place = place; address = address } ∷ rs))
+one_task : (n : ℕ) (dying done : Bool) (place : ℕ) (address : List ℕ) (rs : List Record) → map task_of (attempts_of n dying rs) ≡ tasks_by n dying (Some rs)
+    → map task_of (attempts_of n dying (record { done = done; place = place; address = address } ∷ rs)) ≡ tasks_by n dying (Some (record { done = done; place = place; address = address } ∷ rs))
 one_task n dying true place address rs h = h
-one_task n dying false place address rs h = ap (λ (t : List Task). let it : Task = record { n = n; place = place; address = address } in it ∷ t) h
+one_task n dying false place address rs h = ap (λ (t : List Task). let it : Task = record { n = n; place = place; address = address; dying = dying } in it ∷ t) h
 
-pub tasks_are : (n : ℕ) (dying : Bool) (rs : List Record) → map task_of (attempts_of n dying rs) ≡ tasks_by n (Some rs)
+pub tasks_are : (n : ℕ) (dying : Bool) (rs : List Record) → map task_of (attempts_of n dying rs) ≡ tasks_by n dying (Some rs)
 tasks_are n dying [] = refl
 tasks_are n dying (r ∷ rs) = one_task n dying r.done r.place r.address rs (tasks_are n dying rs)

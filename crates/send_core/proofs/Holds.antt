@@ -1,9 +1,17 @@
 -- The calls of a sender use what it holds open.
-use Rattle.std.proofs.Common.{◌≡◌, ℕ, ◌+◌, ◌-◌, List, [], ◌∷◌, length, drop, set, codes, lit≤, Bool, true, false, if◌then◌else◌, nat_lt, Option, Some, None, refl, sym, subst}
+use Rattle.std.proofs.Common.{◌≡◌, ℕ, ◌-◌, List, [], ◌∷◌, length, drop, codes, lit≤, Bool, true, false, if◌then◌else◌, nat_lt, Option, Some, None, refl, sym, subst}
 use Rattle.std.specs.Prelude.{◌||◌, is_some, slice_get}
-use Rattle.std.specs.Option.{IsSome, IsSomeAnd}
+use Rattle.std.specs.Option.{IsSomeAnd}
 use Rattle.address_rules.specs.declared.control_file.ControlFile.{ControlFile}
-use Rattle.address_rules.specs.Files.{Fault, place, first_fault}
+use Rattle.address_rules.specs.Files.{place}
+use Rattle.bounce_record.specs.declared.note_row.NoteRow.{NoteRow}
+use Rattle.bounce_record.specs.declared.note_row.NoteRow.TheVariants as written
+use Rattle.bounce_record.specs.declared.return_row.ReturnRow.{ReturnRow}
+use Rattle.bounce_record.specs.declared.return_row.ReturnRow.TheVariants as back
+use Rattle.bounce_record.specs.Returning.{Returning, return_begun}
+use Rattle.bounce_record.specs.Writing.{Writing, parted_note, written_on}
+use Rattle.bounce_record.proofs.HoldsNote.{HoldsNote, step as note_step, uses_row as uses_note}
+use Rattle.bounce_record.proofs.HoldsReturn.{HoldsReturn, step as return_step, uses_row as uses_return}
 use Rattle.call_fs.specs.declared.calls.Answer.{Answer}
 use Rattle.call_fs.specs.declared.calls.Answer.TheVariants as answer
 use Rattle.call_fs.specs.declared.calls.CallData.TheVariants as call
@@ -16,7 +24,6 @@ use Rattle.call_fs.specs.declared.program.Ready.{Ready}
 use Rattle.call_fs.specs.Columns.{IsAnswerTo}
 use Rattle.call_fs.specs.Disk.{IsForWrite}
 use Rattle.call_fs.specs.declared.modes.Mode.{Mode}
-use Rattle.call_fs.specs.Maps.{put}
 use Rattle.call_fs.specs.Past.{IsRunBy, held, held_by, held_after, UsesHeld}
 use Rattle.call_fs.specs.Program.{MayCome}
 use Rattle.call_fs.proofs.Maps.{put_same}
@@ -25,8 +32,9 @@ use Rattle.mail_bytes.specs.Decimal.{digits}
 use Rattle.queue_paths.specs.declared.names.Name.TheVariants as name
 use Rattle.queue_paths.specs.Names.{name_of, path}
 use Rattle.queue_paths.specs.Names.Name.{Of}
-use Rattle.queue_paths.specs.Names.Part.{Todo as TodoFile, Info as InfoFile, Local as LocalFile, Remote as RemoteFile, Bounce as BounceFile}
+use Rattle.queue_paths.specs.Names.Part.{Todo as TodoFile, Info as InfoFile, Local as LocalFile, Remote as RemoteFile}
 use Rattle.retry_schedule.specs.Due.{first_due}
+use Rattle.send_jobs.specs.declared.attempts.Failure.{Failure}
 use Rattle.send_jobs.specs.declared.attempts.Mark.{Mark}
 use Rattle.send_jobs.specs.declared.channels.Channel.{Channel}
 use Rattle.send_jobs.specs.declared.channels.Channel.TheVariants.{Local, Remote}
@@ -34,6 +42,7 @@ use Rattle.send_jobs.specs.declared.jobs.Job.{Job}
 use Rattle.send_jobs.specs.Lanes.{next, job_over, left_unmarked, mark_settled}
 use Rattle.send_jobs.specs.Sending.{lane, at_lane, sent_on}
 use Rattle.send_jobs.specs.Slots.{lowest}
+use Rattle.send_known.specs.Known.{sender_of}
 use Rattle.send_known.specs.Messages.{learned}
 use Rattle.send_steps.specs.declared.dir.Dir.TheVariants as dir
 use Rattle.send_steps.specs.declared.reading.Progress.{Progress}
@@ -44,7 +53,7 @@ use Rattle.send_steps.specs.declared.reply.Way.{Way}
 use Rattle.send_steps.specs.declared.reply.Way.TheVariants as way
 use Rattle.send_steps.specs.declared.step.Step.{Step}
 use Rattle.send_steps.specs.declared.step.Step.TheVariants as step_at
-use Rattle.send_steps.specs.Files.{is_info, message_number, records_of}
+use Rattle.send_steps.specs.Files.{message_number, records_of}
 use Rattle.send_steps.specs.Readings.{opened, read_more, reading_step}
 use Rattle.send_steps.specs.Replies.{Said, said, answered}
 use Rattle.send_steps.specs.Steps.{control_text, dir_text, due_by}
@@ -54,7 +63,6 @@ use Rattle.todo_pass.specs.Table.{Pass, answer_row, due_of_pass, moved as pass_m
 use Rattle.todo_pass.proofs.Coming.{by_fit}
 use Rattle.todo_pass.proofs.Holds.{HoldsRow, some_held, step as pass_step, uses_row}
 use Rattle.send_core.specs.declared.desk.Desk.{Desk}
-use Rattle.send_steps.specs.declared.book.Book.{Book}
 use Rattle.send_steps.specs.declared.rows.FinishRow.{FinishRow}
 use Rattle.send_steps.specs.declared.rows.FinishRow.TheVariants as finish
 use Rattle.send_core.specs.declared.row.MarkRow.{MarkRow}
@@ -74,48 +82,11 @@ use Rattle.send_core.specs.Desk.{goes, stands_at, link, with_requests, due_on, l
 use Rattle.send_steps.specs.Finish.{finish_to}
 use Rattle.send_steps.specs.Rows.{is_again}
 use Rattle.send_steps.specs.Sweep.{sweep_to}
-use Rattle.send_steps.specs.Start.{act_start, by_way, control_read, file_after, filed, info_row, scan_row, greeted_local, greeted_remote, info_read, judged_by, next_file, remote_stated, scanned, start_failed}
-use Rattle.send_core.specs.Start.{start_at}
-use Rattle.send_core.specs.Turn.{is_done, known_of, lost, put_later, is_fine, file_read, mark_opened, mark_over, pass_opened, requested, todo_found, todo_named, todo_none, todo_on, todo_over, todo_went, took, unlinked}
-use Rattle.send_core.specs.Finish.{busied, finish_at, forgot, looked_up, put_off_to, sweep_at, sweep_begun}
-use Rattle.send_core.specs.Table.{Next, act, arrive, busy, file_of, search_words, beginning, desk_after, due_at, finishing_by, from_point, from_local, from_remote, from_reports, from_take, from_begin, from_sweep, going_on, holds, link_of, marking_by, or_else, passing, row_now, sweeping, taking, marking, finishing}
-
--- what the reading of a file holds open
-abbrev HoldsReading : (ℕ → Option Mode) → Reading → Type 0
-HoldsReading h Opening = Unit {0}
-HoldsReading h (Going fd) = h fd.0 ≡ Some (Mode.Opened how.Read)
-HoldsReading h (Closing fd) = IsSome (h fd.0)
-HoldsReading h (Shutting fd) = IsSome (h fd.0)
-
-abbrev HoldsProgress : (ℕ → Option Mode) → Progress → Type 0
-HoldsProgress h (Goes reading) = HoldsReading h reading
-HoldsProgress h other = Unit {0}
-
-abbrev HoldsStart : (ℕ → Option Mode) → StartRow → Type 0
-HoldsStart h (start.Control f reading) = HoldsReading h reading
-HoldsStart h (start.ReadInfo split n reading) = HoldsReading h reading
-HoldsStart h row = Unit {0}
-
-abbrev HoldsMark : (ℕ → Option Mode) → MarkRow → Type 0
-HoldsMark h mark.Open = Unit {0}
-HoldsMark h (mark.Write fd) = h fd.0 ≡ Some (Mode.Opened how.Write)
-HoldsMark h (mark.Close fd written) = IsSome (h fd.0)
-
-abbrev HoldsFinish : (ℕ → Option Mode) → FinishRow → Type 0
-HoldsFinish h (finish.CloseBounce fd) = IsSome (h fd.0)
-HoldsFinish h row = Unit {0}
-
--- what a row holds open; at a row of the todo pass, what that holds open
-abbrev HoldsAt : (ℕ → Option Mode) → Row → PassRow → Type 0
-HoldsAt h (at.Start row) pass = HoldsStart h row
-HoldsAt h (at.Mark row m) pass = HoldsMark h row
-HoldsAt h (at.ReadFile c n begun reading) pass = HoldsReading h reading
-HoldsAt h at.InTodo pass = HoldsRow h pass
-HoldsAt h (at.Finish row n) pass = HoldsFinish h row
-HoldsAt h row pass = Unit {0}
-
-abbrev Holds : (ℕ → Option Mode) → Desk → Type 0
-Holds h d = HoldsAt h d.row d.pass.row
+use Rattle.send_steps.specs.Start.{act_start}
+use Rattle.send_core.specs.Turn.{begin_note, is_done, known_of, lost, note_of, noted_at, put_later, is_fine, file_read, mark_opened, mark_over, told_report, pass_opened, requested, todo_found, todo_named, todo_none, todo_on, todo_over, todo_went, took, unlinked}
+use Rattle.send_core.specs.Finish.{bounce_on, finish_at, forgot, returned_to, looked_up, put_off_to, sweep_at, sweep_begun}
+use Rattle.send_core.specs.Table.{Next, act, arrive, busy, file_of, search_words, begin_by, beginning, desk_after, due_at, finishing_by, from_point, from_local, from_remote, from_reports, from_take, from_begin, from_sweep, going_on, holds, link_of, marking_by, or_else, passing, row_now, sweeping, taking, marking, finishing}
+use Rattle.send_core.proofs.HoldsRows.{HoldsReading, HoldsProgress, HoldsStart, Parts, parts, HoldsMark, HoldsFinish, HoldsAt, Holds, failed_holds, filed_holds, control_holds, info_holds, greeted_holds, greeted_too, scanned_holds, by_way_holds, remote_holds, start_holds}
 
 -- Where a row leads that holds nothing open
 
@@ -138,118 +109,18 @@ module _ (h : ℕ → Option Mode) where
   todo_holds : (now : ℕ) (d : Desk) → Holds h (past_todo now d)
   todo_holds now d = either (is_some (next_idle now d) || sweep_due now d.swept) (stands_at d point.Finish) (turn_over d) tt (over_holds d)
 
-  -- the start
-
-  failed_holds : (w : Way) → HoldsStart h (start_failed w)
-  failed_holds way.Fine = tt
-  failed_holds way.Over = tt
-  failed_holds way.Absent = tt
-  failed_holds way.Broken = tt
-  failed_holds way.NoMemory = tt
-
-  judged_holds : (o : Option Fault) (b : Book) → HoldsStart h (judged_by o b).row
-  judged_holds None b = tt
-  judged_holds (Some fault) b = tt
-
-  next_file_holds : (o : Option ControlFile) (b : Book) → HoldsStart h (next_file o b).row
-  next_file_holds None b = judged_holds (first_fault b.files) b
-  next_file_holds (Some f) b = tt
-
-  filed_holds : (content : Option (List ℕ)) (f : ControlFile) (b : Book) → HoldsStart h (filed content f b).row
-  filed_holds content f b = next_file_holds (file_after f) (record b { files = set b.files (place f) content })
-
-  control_holds : (p : Progress) (f : ControlFile) (reading : Reading) (s : Said) (b : Book) → HoldsProgress h p → HoldsStart h (control_read p f reading s b).row
-  control_holds (Goes Opening) f reading s b own = own
-  control_holds (Goes (Going fd)) f reading s b own = own
-  control_holds (Goes (Closing fd)) f reading s b own = own
-  control_holds (Goes (Shutting fd)) f reading s b own = failed_holds s.way
-  control_holds Whole f reading s b own = filed_holds (Some b.read) f b
-  control_holds Missing f reading s b own = filed_holds None f b
-  control_holds Failed f reading s b own = failed_holds s.way
-
-  info_row_holds : (b : Bool) (split n : ℕ) → HoldsStart h (info_row b split n)
-  info_row_holds true split n = tt
-  info_row_holds false split n = tt
-
-  info_holds : (p : Progress) (split n : ℕ) (reading : Reading) (s : Said) (b : Book) → HoldsProgress h p → HoldsStart h (info_read p split n reading s b).row
-  info_holds (Goes Opening) split n reading s b own = own
-  info_holds (Goes (Going fd)) split n reading s b own = own
-  info_holds (Goes (Closing fd)) split n reading s b own = own
-  info_holds (Goes (Shutting fd)) split n reading s b own = failed_holds s.way
-  info_holds Whole split n reading s b own = info_row_holds (is_info b.read) split n
-  info_holds Missing split n reading s b own = tt
-  info_holds Failed split n reading s b own = failed_holds s.way
-
-  greeted_holds : (w : Way) (bytes : List ℕ) (b : Book) → HoldsStart h (greeted_local w bytes b).row
-  greeted_holds way.Fine [] b = tt
-  greeted_holds way.Fine (byte ∷ rest) b = tt
-  greeted_holds way.Over bytes b = tt
-  greeted_holds way.Absent bytes b = tt
-  greeted_holds way.Broken bytes b = tt
-  greeted_holds way.NoMemory bytes b = tt
-
-  greeted_too : (w : Way) (bytes : List ℕ) (b : Book) → HoldsStart h (greeted_remote w bytes b).row
-  greeted_too way.Fine [] b = tt
-  greeted_too way.Fine (byte ∷ rest) b = tt
-  greeted_too way.Over bytes b = tt
-  greeted_too way.Absent bytes b = tt
-  greeted_too way.Broken bytes b = tt
-  greeted_too way.NoMemory bytes b = tt
-
-  either_start : (b : Bool) (x y : StartRow) → HoldsStart h x → HoldsStart h y → HoldsStart h (if b then x else y)
-  either_start true x y p q = p
-  either_start false x y p q = q
-
-  scan_row_holds : (o : Option ℕ) (split : ℕ) → HoldsStart h (scan_row o split)
-  scan_row_holds None split = tt
-  scan_row_holds (Some n) split = tt
-
-  scanned_holds : (w : Way) (text : List ℕ) (split : ℕ) (b : Book) → HoldsStart h (scanned w text split b).row
-  scanned_holds way.Fine text split b = scan_row_holds (message_number text) split
-  scanned_holds way.Over text split b = either_start (nat_lt split 22) (start.Scan (split + 1)) start.Over tt tt
-  scanned_holds way.Absent text split b = tt
-  scanned_holds way.Broken text split b = tt
-  scanned_holds way.NoMemory text split b = tt
-
-  by_way_holds : (w : Way) (there missing : StartRow) → HoldsStart h there → HoldsStart h missing → HoldsStart h (by_way w there missing)
-  by_way_holds way.Fine there missing p q = p
-  by_way_holds way.Over there missing p q = tt
-  by_way_holds way.Absent there missing p q = q
-  by_way_holds way.Broken there missing p q = tt
-  by_way_holds way.NoMemory there missing p q = tt
-
-  remote_holds : (w : Way) (split n birth : ℕ) (local : Bool) (b : Book) → HoldsStart h (remote_stated w split n birth local b).row
-  remote_holds way.Fine split n birth local b = tt
-  remote_holds way.Over split n birth local b = tt
-  remote_holds way.Absent split n birth local b = tt
-  remote_holds way.Broken split n birth local b = tt
-  remote_holds way.NoMemory split n birth local b = tt
-
-  start_holds : (row : StartRow) (pass : PassRow) → HoldsStart h row → HoldsAt h (start_at row) pass
-  start_holds (start.Control f reading) pass own = own
-  start_holds start.GreetLocal pass own = tt
-  start_holds (start.GreetRemote limit) pass own = tt
-  start_holds (start.Scan split) pass own = tt
-  start_holds (start.StatTodo split n) pass own = tt
-  start_holds (start.ReadInfo split n reading) pass own = own
-  start_holds (start.StatInfo split n) pass own = tt
-  start_holds (start.StatLocal split n birth) pass own = tt
-  start_holds (start.StatRemote split n birth local) pass own = tt
-  start_holds start.Over pass own = tt
-  start_holds (start.Ended status) pass own = tt
-
   -- a turn
 
-  lost_holds : (c : Channel) (pass : PassRow) → HoldsAt h (lost c) pass
+  lost_holds : (c : Channel) (pass : Parts) → HoldsAt h (lost c) pass
   lost_holds Local pass = tt
   lost_holds Remote pass = tt
 
   took_holds : (w : Way) (bytes : List ℕ) (c : Channel) (d : Desk) → Holds h (busy (took w bytes c d))
   took_holds way.Fine bytes c d = tt
-  took_holds way.Over bytes c d = lost_holds c d.pass.row
-  took_holds way.Absent bytes c d = lost_holds c d.pass.row
-  took_holds way.Broken bytes c d = lost_holds c d.pass.row
-  took_holds way.NoMemory bytes c d = lost_holds c d.pass.row
+  took_holds way.Over bytes c d = lost_holds c (parts d)
+  took_holds way.Absent bytes c d = lost_holds c (parts d)
+  took_holds way.Broken bytes c d = lost_holds c (parts d)
+  took_holds way.NoMemory bytes c d = lost_holds c (parts d)
 
   closed_holds : (o : Option Job) (c : Channel) (n : ℕ) (p : Point) (d : Desk) → Holds h (closed_by o c n p d)
   closed_holds None c n p d = tt
@@ -302,10 +173,10 @@ module _ (h : ℕ → Option Mode) where
 
   requested_holds : (w : Way) (c : Channel) (d : Desk) → Holds h (busy (requested w c d))
   requested_holds way.Fine c d = sent_holds c d
-  requested_holds way.Over c d = lost_holds c d.pass.row
-  requested_holds way.Absent c d = lost_holds c d.pass.row
-  requested_holds way.Broken c d = lost_holds c d.pass.row
-  requested_holds way.NoMemory c d = lost_holds c d.pass.row
+  requested_holds way.Over c d = lost_holds c (parts d)
+  requested_holds way.Absent c d = lost_holds c (parts d)
+  requested_holds way.Broken c d = lost_holds c (parts d)
+  requested_holds way.NoMemory c d = lost_holds c (parts d)
 
   found_holds : (o : Option ℕ) (text : List ℕ) (search : Search) (d : Desk) → Holds h (todo_found o text search d)
   found_holds None text search d = tt
@@ -364,9 +235,9 @@ module _ (h : ℕ → Option Mode) where
 
   -- finish and sweep
 
-  finished_holds : (row : FinishRow) (n now : ℕ) (d : Desk) → HoldsFinish h row → Holds h (finish_at row n now d)
+  finished_holds : (row : FinishRow) (n now : ℕ) (d : Desk) → HoldsFinish h row d.bounce.row → Holds h (finish_at row n now d)
   finished_holds finish.OpenBounce n now d own = tt
-  finished_holds (finish.CloseBounce fd) n now d own = own
+  finished_holds finish.Return n now d own = own
   finished_holds finish.UnlinkInfo n now d own = tt
   finished_holds finish.Give n now d own = tt
   finished_holds finish.Take n now d own = tt
@@ -374,26 +245,42 @@ module _ (h : ℕ → Option Mode) where
   finished_holds finish.Over n now d own = finish_holds now (forgot n d)
   finished_holds finish.Lost n now d own = tt
 
-  info_gone_holds : (w : Way) (fd : Fd) → HoldsFinish h (finish_to finish.UnlinkInfo w fd)
-  info_gone_holds way.Fine fd = tt
-  info_gone_holds way.Over fd = tt
-  info_gone_holds way.Absent fd = tt
-  info_gone_holds way.Broken fd = tt
-  info_gone_holds way.NoMemory fd = tt
+  returned_holds : (row : ReturnRow) → HoldsReturn h row → HoldsFinish h (returned_to row) row
+  returned_holds back.Over own = tt
+  returned_holds back.Failed own = tt
+  returned_holds back.Open own = own
+  returned_holds (back.ReadNotes fd) own = own
+  returned_holds (back.CloseNotes fd) own = own
+  returned_holds back.OpenMessage own = own
+  returned_holds (back.ReadMessage fd) own = own
+  returned_holds (back.CloseMessage fd) own = own
+  returned_holds (back.Shut fd) own = own
+  returned_holds back.Start own = own
+  returned_holds (back.Give pid) own = own
+  returned_holds (back.Await pid) own = own
+  returned_holds back.Unlink own = own
+  returned_holds back.Discard own = own
 
-  given_holds : (w : Way) (fd : Fd) → HoldsFinish h (finish_to finish.Give w fd)
-  given_holds way.Fine fd = tt
-  given_holds way.Over fd = tt
-  given_holds way.Absent fd = tt
-  given_holds way.Broken fd = tt
-  given_holds way.NoMemory fd = tt
+  info_gone_holds : (w : Way) (bounce : ReturnRow) → HoldsFinish h (finish_to finish.UnlinkInfo w) bounce
+  info_gone_holds way.Fine bounce = tt
+  info_gone_holds way.Over bounce = tt
+  info_gone_holds way.Absent bounce = tt
+  info_gone_holds way.Broken bounce = tt
+  info_gone_holds way.NoMemory bounce = tt
 
-  removed_holds : (w : Way) (fd : Fd) → HoldsFinish h (finish_to finish.Take w fd)
-  removed_holds way.Fine fd = tt
-  removed_holds way.Over fd = tt
-  removed_holds way.Absent fd = tt
-  removed_holds way.Broken fd = tt
-  removed_holds way.NoMemory fd = tt
+  given_holds : (w : Way) (bounce : ReturnRow) → HoldsFinish h (finish_to finish.Give w) bounce
+  given_holds way.Fine bounce = tt
+  given_holds way.Over bounce = tt
+  given_holds way.Absent bounce = tt
+  given_holds way.Broken bounce = tt
+  given_holds way.NoMemory bounce = tt
+
+  removed_holds : (w : Way) (bounce : ReturnRow) → HoldsFinish h (finish_to finish.Take w) bounce
+  removed_holds way.Fine bounce = tt
+  removed_holds way.Over bounce = tt
+  removed_holds way.Absent bounce = tt
+  removed_holds way.Broken bounce = tt
+  removed_holds way.NoMemory bounce = tt
 
   swept_holds : (row : SweepRow) (d : Desk) → Holds h (sweep_at row d)
   swept_holds sweep.Over d = over_holds d
@@ -515,7 +402,7 @@ module _ (h : ℕ → Option Mode) (now : ℕ) (d : Desk) where
 
   start_step_holds : (row : StartRow) (got : GotData) → HoldsStart h row → MayCome (due_at (at.Start row) d) got → StepOf h (at.Start row) now d got
   start_step_holds row got own may =
-      start_holds (held_by h (due_at (at.Start row) d) got) (act_start row (said got) d.book).row d.pass.row (start_to_holds row got own may)
+      start_holds (held_by h (due_at (at.Start row) d) got) (act_start row (said got) d.book).row (parts d) (start_to_holds row got own may)
 
   mark_opens : (m : Marked) (told : Answer) (bytes : List ℕ) → IsAnswerTo (call.Open (file_path m.channel m.n) how.Write) told
       → Holds (held_after h (call.Open (file_path m.channel m.n) how.Write) told) (mark_opened (answered told bytes).way m (answered told bytes).fd d)
@@ -526,48 +413,72 @@ module _ (h : ℕ → Option Mode) (now : ℕ) (d : Desk) where
   mark_opens m told bytes fit = absurd fit
 
   mark_writes : (m : Marked) (fd : Fd) (told : Answer) (bytes : List ℕ) → h fd.0 ≡ Some (Mode.Opened how.Write) → IsAnswerTo (call.WriteAt fd m.place (codes "D")) told
-      → HoldsMark (held_after h (call.WriteAt fd m.place (codes "D")) told) (mark.Close fd (is_fine (answered told bytes).way))
+      → HoldsMark (held_after h (call.WriteAt fd m.place (codes "D")) told) (mark.Close fd (is_fine (answered told bytes).way)) d.note.row
   mark_writes m fd answer.Done bytes own fit = some_held (h fd.0) (Mode.Opened how.Write) own
   mark_writes m fd (answer.Refused why.Fault) bytes own fit = some_held (h fd.0) (Mode.Opened how.Write) own
   mark_writes m fd (answer.Refused why.Memory) bytes own fit = some_held (h fd.0) (Mode.Opened how.Write) own
   mark_writes m fd told bytes own fit = absurd fit
 
-  mark_step_holds : (row : MarkRow) (m : Marked) (got : GotData) → HoldsMark h row → MayCome (due_at (at.Mark row m) d) got → StepOf h (at.Mark row m) now d got
+  -- a step of a note
+  noted_holds : (k : ℕ → Option Mode) (row : NoteRow) (n : ℕ) (text : List ℕ) (m : Marked) (e : Desk) → HoldsNote k row
+      → Holds k (noted_at row m (record e { note = record { n = n; row = row; text = text } }))
+  noted_holds k written.Written n text m e own = tt
+  noted_holds k written.Failed n text m e own = mark_holds k false m (record e { note = record { n = n; row = written.Failed; text = text } })
+  noted_holds k written.Open n text m e own = own
+  noted_holds k written.Create n text m e own = own
+  noted_holds k (written.Stat fd) n text m e own = own
+  noted_holds k (written.Read fd place len) n text m e own = own
+  noted_holds k (written.Append fd done) n text m e own = own
+  noted_holds k (written.Sync fd) n text m e own = own
+  noted_holds k (written.Close fd) n text m e own = own
+  noted_holds k (written.Shut fd) n text m e own = own
+
+  note_begins : (m : Marked) (o : Option Mark) (got : GotData) → MayCome (due_at (at.Mark mark.Note m) d) got
+      → HoldsNote (held_by h (due_at (at.Mark mark.Note m) d) got) (written_on (note_of o m.n d.book.controls) got).row
+  note_begins m None got may = note_step m.n (parted_note d.book.controls [] []) h written.Open got tt may
+  note_begins m (Some k) got may = note_step m.n (parted_note d.book.controls k.attempt.address (told_report k.note)) h written.Open got tt may
+
+  mark_step_holds : (row : MarkRow) (m : Marked) (got : GotData) → HoldsMark h row d.note.row → MayCome (due_at (at.Mark row m) d) got → StepOf h (at.Mark row m) now d got
+  mark_step_holds mark.Note m got own may =
+      let o : Option Mark = slice_get (lane m.channel d.slots).marks 0 in
+      let w : Writing = written_on (note_of o m.n d.book.controls) got in
+      noted_holds (held_by h (due_at (at.Mark mark.Note m) d) got) w.row w.n w.text m (begin_note m d) (note_begins m o got may)
+  mark_step_holds mark.Noting m got own may =
+      let w : Writing = written_on d.note got in
+      noted_holds (held_by h (due_at (at.Mark mark.Noting m) d) got) w.row w.n w.text m d (note_step d.note.n d.note.text h d.note.row got own may)
   mark_step_holds mark.Open m got own may =
       by_fit (call.Open (file_path m.channel m.n) how.Write) (StepOf h (at.Mark mark.Open m) now d) got may (λ told fit. mark_opens m told.answer told.bytes fit)
   mark_step_holds (mark.Write fd) m got own may =
       by_fit (call.WriteAt fd m.place (codes "D")) (StepOf h (at.Mark (mark.Write fd) m) now d) got may (λ told fit. mark_writes m fd told.answer told.bytes own fit)
-  mark_step_holds (mark.Close fd written) m got own may =
-      by_fit (call.Close fd) (StepOf h (at.Mark (mark.Close fd written) m) now d) got may (λ told fit. mark_holds (held_after h (call.Close fd) told.answer) written m d)
-
-  bounce_opens : (n : ℕ) (told : Answer) (bytes : List ℕ) → IsAnswerTo (call.Open (path (Of BounceFile n)) how.Read) told
-      → HoldsFinish (held_after h (call.Open (path (Of BounceFile n)) how.Read) told) (finish_to finish.OpenBounce (answered told bytes).way (answered told bytes).fd)
-  bounce_opens n (answer.Opened fd) bytes fit = some_held (put h fd.0 (Some (Mode.Opened how.Read)) fd.0) (Mode.Opened how.Read) (put_same h fd.0 (Some (Mode.Opened how.Read)))
-  bounce_opens n (answer.Refused why.NotThere) bytes fit = tt
-  bounce_opens n (answer.Refused why.Fault) bytes fit = tt
-  bounce_opens n (answer.Refused why.Memory) bytes fit = tt
-  bounce_opens n told bytes fit = absurd fit
+  mark_step_holds (mark.Close fd done) m got own may =
+      by_fit (call.Close fd) (StepOf h (at.Mark (mark.Close fd done) m) now d) got may (λ told fit. mark_holds (held_after h (call.Close fd) told.answer) done m d)
 
   -- a step of a finish
-  abbrev FinishOf : FinishRow → ℕ → GotData → Type 0
-  FinishOf row n got = HoldsFinish (held_by h (due_at (at.Finish row n) d) got) (finish_to row (said got).way (said got).fd)
+  finish_step_holds : (row : FinishRow) (n : ℕ) (got : GotData) → HoldsFinish h row d.bounce.row → MayCome (due_at (at.Finish row n) d) got → StepOf h (at.Finish row n) now d got
+  finish_step_holds finish.OpenBounce n got own may =
+      let k : ℕ → Option Mode = held_by h (due_at (at.Finish finish.OpenBounce n) d) got in
+      let r : Returning = bounce_on n now got (return_begun n) d.book in
+      finished_holds k (returned_to r.row) n now (record d { bounce = r; busy = true })
+      (returned_holds k r.row (return_step d.book.controls (sender_of n d.book.messages.known) (return_begun n) now h back.Open got tt may))
+  finish_step_holds finish.Return n got own may =
+      let k : ℕ → Option Mode = held_by h (due_at (at.Finish finish.Return n) d) got in
+      let r : Returning = bounce_on n now got d.bounce d.book in
+      finished_holds k (returned_to r.row) n now (record d { bounce = r })
+      (returned_holds k r.row (return_step d.book.controls (sender_of n d.book.messages.known) d.bounce now h d.bounce.row got own may))
+  finish_step_holds finish.UnlinkInfo n got own may =
+      let k : ℕ → Option Mode = held_by h (due_at (at.Finish finish.UnlinkInfo n) d) got in
+      finished_holds k (finish_to finish.UnlinkInfo (said got).way) n now d (info_gone_holds k (said got).way d.bounce.row)
+  finish_step_holds finish.Give n got own may =
+      let k : ℕ → Option Mode = held_by h (due_at (at.Finish finish.Give n) d) got in
+      finished_holds k (finish_to finish.Give (said got).way) n now d (given_holds k (said got).way d.bounce.row)
+  finish_step_holds finish.Take n got own may =
+      let k : ℕ → Option Mode = held_by h (due_at (at.Finish finish.Take n) d) got in
+      finished_holds k (finish_to finish.Take (said got).way) n now d (removed_holds k (said got).way d.bounce.row)
+  finish_step_holds finish.Later n got own may = absurd may
+  finish_step_holds finish.Over n got own may = absurd may
+  finish_step_holds finish.Lost n got own may = absurd may
 
-  finish_to_holds : (row : FinishRow) (n : ℕ) (got : GotData) → HoldsFinish h row → MayCome (due_at (at.Finish row n) d) got → FinishOf row n got
-  finish_to_holds finish.OpenBounce n got own may =
-      by_fit (call.Open (path (Of BounceFile n)) how.Read) (FinishOf finish.OpenBounce n) got may (λ told fit. bounce_opens n told.answer told.bytes fit)
-  finish_to_holds (finish.CloseBounce fd) n got own may = tt
-  finish_to_holds finish.UnlinkInfo n got own may = info_gone_holds (held_by h (due_at (at.Finish finish.UnlinkInfo n) d) got) (said got).way (said got).fd
-  finish_to_holds finish.Give n got own may = given_holds (held_by h (due_at (at.Finish finish.Give n) d) got) (said got).way (said got).fd
-  finish_to_holds finish.Take n got own may = removed_holds (held_by h (due_at (at.Finish finish.Take n) d) got) (said got).way (said got).fd
-  finish_to_holds finish.Later n got own may = absurd may
-  finish_to_holds finish.Over n got own may = absurd may
-  finish_to_holds finish.Lost n got own may = absurd may
-
-  finish_step_holds : (row : FinishRow) (n : ℕ) (got : GotData) → HoldsFinish h row → MayCome (due_at (at.Finish row n) d) got → StepOf h (at.Finish row n) now d got
-  finish_step_holds row n got own may =
-      finished_holds (held_by h (due_at (at.Finish row n) d) got) (finish_to row (said got).way (said got).fd) n now (busied row d) (finish_to_holds row n got own may)
-
-  step : (row : Row) (got : GotData) → HoldsAt h row d.pass.row → MayCome (due_at row d) got → StepOf h row now d got
+  step : (row : Row) (got : GotData) → HoldsAt h row (parts d) → MayCome (due_at row d) got → StepOf h row now d got
   step (at.Start row) got own may = start_step_holds row got own may
   step (at.Turn p) got own may = absurd may
   step (at.TakeLink c) got own may = took_holds h (said got).way (said got).bytes c d
@@ -589,7 +500,7 @@ module _ (h : ℕ → Option Mode) (now : ℕ) (d : Desk) where
 
 -- Between two steps nothing is held open but what the row holds
 
-module _ (h : ℕ → Option Mode) (pass : PassRow) where
+module _ (h : ℕ → Option Mode) (pass : Parts) where
   abbrev HoldsIf : Option Row → Type 0
   HoldsIf None = Unit {0}
   HoldsIf (Some row) = HoldsAt h row pass
@@ -606,7 +517,10 @@ module _ (h : ℕ → Option Mode) (pass : PassRow) where
 
   marking_holds : (c : Channel) (o : Option Mark) → HoldsIf (marking_by c o)
   marking_holds c None = tt
-  marking_holds c (Some m) = tt
+  marking_holds c (Some m) = by_note m.note where
+    by_note : (o : Option Failure) → HoldsMark h (begin_by o) pass.1
+    by_note None = tt
+    by_note (Some failure) = tt
 
   going_holds : (c : Channel) (o : Option ℕ) → HoldsIf (going_on c o)
   going_holds c None = tt
@@ -681,7 +595,7 @@ keeps turns [] run = tt
 keeps turns (event ∷ before) run =
     let d : Desk = desk_after turns before in
     let row : Row = row_now d event.read event.ready in
-    let own = arrives (held before) d.pass.row d.row d event.read event.ready (keeps turns before run.0) in
+    let own = arrives (held before) (parts d) d.row d event.read event.ready (keeps turns before run.0) in
     let may = subst (λ x. MayCome x event.came) (sym run.1.0) run.1.1 in
     subst (λ x. Holds (held_by (held before) x event.came) (act row event.read event.came d)) run.1.0
     (step (held before) event.read d row event.came own may)
@@ -708,14 +622,16 @@ uses_start h d (start.StatRemote split n birth local) own = tt
 uses_start h d start.Over own = tt
 uses_start h d (start.Ended status) own = tt
 
-uses_mark : (h : ℕ → Option Mode) (d : Desk) (row : MarkRow) (m : Marked) → HoldsMark h row → UsesHeld h (due_at (at.Mark row m) d)
+uses_mark : (h : ℕ → Option Mode) (d : Desk) (row : MarkRow) (m : Marked) → HoldsMark h row d.note.row → UsesHeld h (due_at (at.Mark row m) d)
+uses_mark h d mark.Note m own = tt
+uses_mark h d mark.Noting m own = uses_note h d.note d.note.row own
 uses_mark h d mark.Open m own = tt
 uses_mark h d (mark.Write fd) m own = subst (λ o. IsSomeAnd o IsForWrite) (sym own) refl
-uses_mark h d (mark.Close fd written) m own = own
+uses_mark h d (mark.Close fd done) m own = own
 
-uses_finish : (h : ℕ → Option Mode) (d : Desk) (row : FinishRow) (n : ℕ) → HoldsFinish h row → UsesHeld h (due_at (at.Finish row n) d)
+uses_finish : (h : ℕ → Option Mode) (d : Desk) (row : FinishRow) (n : ℕ) → HoldsFinish h row d.bounce.row → UsesHeld h (due_at (at.Finish row n) d)
 uses_finish h d finish.OpenBounce n own = tt
-uses_finish h d (finish.CloseBounce fd) n own = own
+uses_finish h d finish.Return n own = uses_return h d.bounce d.bounce.row own
 uses_finish h d finish.UnlinkInfo n own = tt
 uses_finish h d finish.Give n own = tt
 uses_finish h d finish.Take n own = tt
@@ -734,7 +650,7 @@ uses_sweep h d (sweep.Take split n) = tt
 uses_sweep h d sweep.Over = tt
 uses_sweep h d sweep.Lost = tt
 
-uses_at : (h : ℕ → Option Mode) (d : Desk) (row : Row) → HoldsAt h row d.pass.row → UsesHeld h (due_at row d)
+uses_at : (h : ℕ → Option Mode) (d : Desk) (row : Row) → HoldsAt h row (parts d) → UsesHeld h (due_at row d)
 uses_at h d (at.Start row) own = uses_start h d row own
 uses_at h d (at.Turn p) own = tt
 uses_at h d (at.TakeLink c) own = tt
@@ -751,4 +667,4 @@ uses_at h d (at.Ended status) own = tt
 pub uses : (turns : Option ℕ) (past : List Own) (now : ℕ) (ready : Ready) → IsRunBy (Next turns) past → UsesHeld (held past) (Next turns past now ready)
 uses turns past now ready run =
     let d : Desk = desk_after turns past in
-    uses_at (held past) d (row_now d now ready) (arrives (held past) d.pass.row d.row d now ready (keeps turns past run))
+    uses_at (held past) d (row_now d now ready) (arrives (held past) (parts d) d.row d now ready (keeps turns past run))

@@ -1,8 +1,8 @@
 -- What is known of messages: each with a sender that was said of it, and each that is due is known.
 use Rattle.std.proofs.Common.{◌≡◌, ◌⊎◌, ℕ, zero, suc, ◌<◌, List, [], ◌∷◌, ◌++◌, length, get_or, set, take, drop, insert, filter, position, cond, eqb, Bool, true, false, not, Option, Some, None, refl, sym, ap, ◌∙◌, subst, inl, inr, ⊎_elim, arith, append-nil, take-append-drop, eqb-true, eq-eqb}
-use Rattle.std.specs.Prelude.{◌+◌, ◌||◌, ◌==◌, if◌then◌else◌, nat_le, nat_lt, slice_get}
-use Rattle.std.specs.List.{list_any, position_or_len}
-use Rattle.std.proofs.lemmas.Bool.{lt-ltb, or_cases, or_left, or_right}
+use Rattle.std.specs.Prelude.{◌||◌, ◌==◌, if◌then◌else◌, nat_le, slice_get}
+use Rattle.std.specs.List.{list_any}
+use Rattle.std.proofs.lemmas.Bool.{or_cases, or_left, or_right}
 use Rattle.std.proofs.lemmas.List.Folds.{list_any-append, list_any_at}
 use Rattle.std.proofs.lemmas.List.Quantifiers.{position-Some}
 use Rattle.std.proofs.lemmas.Option.{slice_get-get_or}
@@ -11,6 +11,9 @@ use Rattle.send_known.specs.declared.known.Known.{Known}
 use Rattle.send_known.specs.declared.messages.Messages.{Messages}
 use Rattle.send_known.specs.Known as known
 use Rattle.send_known.specs.Messages as messages
+use Rattle.call_fs.specs.Maps.{put as put_at}
+use Rattle.send_core.proofs.Born.{Born, born_forgotten, born_learned, born_local, born_put_off, born_remote}
+use Rattle.send_core.proofs.Lists.{none_passes}
 
 -- Whether an element of a list passes
 
@@ -37,19 +40,6 @@ any_filtered p t (x ∷ xs) h = by (t x) h (any_filtered p t xs) where
   by false e f = or_right (p x) (list_any p xs) (f e)
 
 -- Known messages
-
-before_end : {X : Type 0} (p : X → Bool) (xs : List X) → list_any p xs ≡ true → position_or_len p xs < length xs
-before_end p [] e = absurd (cc)
-before_end p (x ∷ xs) e = by (p x) e (before_end p xs) where
-  by : (b : Bool) → (b || list_any p xs) ≡ true → (list_any p xs ≡ true → position_or_len p xs < length xs) → cond (not b) (1 + position_or_len p xs) 0 < length (x ∷ xs)
-  by true e f = omega arith
-  by false e f = let lt = f e in omega arith
-
-none_passes : {X : Type 0} (p : X → Bool) (xs : List X) → position p xs ≡ None → list_any p xs ≡ true → ⊥
-none_passes p xs e is =
-    let inside : nat_lt (position_or_len p xs) (length xs) ≡ true = lt-ltb (position_or_len p xs) (length xs) (before_end p xs is) in
-    let some : position p xs ≡ Some (position_or_len p xs) = ap (λ (b : Bool). cond b (Some (position_or_len p xs)) None) inside in
-    absurd (cc (sym some ∙ e))
 
 place_is : {X : Type 0} (p : X → Bool) (xs : List X) (i : ℕ) (d : X) → position p xs ≡ Some i → (i < length xs) × (p (get_or xs i d) ≡ true)
 place_is p xs i d e = let w = position-Some p xs i d e in (w.0, w.1)
@@ -137,8 +127,9 @@ module _ (S : ℕ → List ℕ → Type 0) where
   Each [] = Unit {0}
   Each (k ∷ ks) = S k.n k.sender × Each ks
 
-  abbrev pub Sound : Messages → Type 0
-  Sound m = Each m.known × Owed m.local m.known × Owed m.remote m.known
+  -- by the births that are told
+  abbrev pub Sound : (ℕ → ℕ) → Messages → Type 0
+  Sound of m = Each m.known × Owed m.local m.known × Owed m.remote m.known × Born of m.known
 
   each_join : (xs ys : List Known) → Each xs → Each ys → Each (xs ++ ys)
   each_join [] ys p q = q
@@ -184,24 +175,26 @@ module _ (S : ℕ → List ℕ → Type 0) where
   owed_put_if true e k es ks is h = λ m d. known_learned m k ks (⊎_elim (λ it. inl (it ∙ is)) (λ old. inr (h m old)) (due_put m e es d))
   owed_put_if false e k es ks is h = λ m d. known_learned m k ks (inr (h m (due_left m e.1 es d).0))
 
-  pub sound_learned : (k : Known) (due : ℕ) (m : Messages) → S k.n k.sender → Sound m → Sound (messages.learned k due m)
-  sound_learned k due m s h = (
+  pub sound_learned : (of : ℕ → ℕ) (k : Known) (due : ℕ) (m : Messages) → S k.n k.sender → Sound of m → Sound (put_at of k.n k.birth) (messages.learned k due m)
+  sound_learned of k due m s h = (
     each_learned_at k m.known (position (known.is_from k.n) m.known) s h.0,
     owed_put_if k.local (due, k.n) k m.local m.known refl h.1,
     owed_put_if k.remote (due, k.n) k m.remote m.known refl h.2,
+    born_learned of k m.known h.3,
   )
 
-  pub sound_moved_local : (e : ℕ × ℕ) (m : Messages) → Sound m → Sound (record m { local = moved e m.local })
-  sound_moved_local e m h = (h.0, (λ n d. h.1 n (due_moved n e m.local d)), h.2)
+  pub sound_moved_local : (of : ℕ → ℕ) (e : ℕ × ℕ) (m : Messages) → Sound of m → Sound of (record m { local = moved e m.local })
+  sound_moved_local of e m h = (h.0, (λ n d. h.1 n (due_moved n e m.local d)), h.2, h.3)
 
-  pub sound_moved_remote : (e : ℕ × ℕ) (m : Messages) → Sound m → Sound (record m { remote = moved e m.remote })
-  sound_moved_remote e m h = (h.0, h.1, (λ n d. h.2 n (due_moved n e m.remote d)))
+  pub sound_moved_remote : (of : ℕ → ℕ) (e : ℕ × ℕ) (m : Messages) → Sound of m → Sound of (record m { remote = moved e m.remote })
+  sound_moved_remote of e m h = (h.0, h.1, (λ n d. h.2 n (due_moved n e m.remote d)), h.3)
 
-  pub sound_forgotten : (n : ℕ) (m : Messages) → Sound m → Sound (messages.forgotten n m)
-  sound_forgotten n m h = (
+  pub sound_forgotten : (of : ℕ → ℕ) (n : ℕ) (m : Messages) → Sound of m → Sound of (messages.forgotten n m)
+  sound_forgotten of n m h = (
     each_filter (λ (k : Known). not (known.is_of n k)) m.known h.0,
     (λ i d. let w = due_left i n m.local d in known_after i n m.known w.1 (h.1 i w.0)),
     (λ i d. let w = due_left i n m.remote d in known_after i n m.known w.1 (h.2 i w.0)),
+    born_forgotten of n m.known h.3,
   )
 
   each_local_gone : (o : Option ℕ) (n : ℕ) (ks : List Known) → position (known.is_of n) ks ≡ o → Each ks → Each (known.local_gone_at o ks)
@@ -228,28 +221,31 @@ module _ (S : ℕ → List ℕ → Type 0) where
   still_put_off None m moment ks = refl
   still_put_off (Some i) m moment ks = any_set (known.is_of m) ks i (record (get_or ks i known.nobody) { finish_at = moment }) known.nobody refl
 
-  pub sound_local_gone : (n : ℕ) (m : Messages) → Sound m → Sound (messages.local_gone n m)
-  sound_local_gone n m h =
+  pub sound_local_gone : (of : ℕ → ℕ) (n : ℕ) (m : Messages) → Sound of m → Sound of (messages.local_gone n m)
+  sound_local_gone of n m h =
       let o : Option ℕ = position (known.is_of n) m.known in (
         each_local_gone o n m.known refl h.0,
         (λ i d. still_local o i m.known ∙ h.1 i (due_left i n m.local d).0),
         (λ i d. still_local o i m.known ∙ h.2 i d),
+        born_local of n m.known h.3,
       )
 
-  pub sound_remote_gone : (n : ℕ) (m : Messages) → Sound m → Sound (messages.remote_gone n m)
-  sound_remote_gone n m h =
+  pub sound_remote_gone : (of : ℕ → ℕ) (n : ℕ) (m : Messages) → Sound of m → Sound of (messages.remote_gone n m)
+  sound_remote_gone of n m h =
       let o : Option ℕ = position (known.is_of n) m.known in (
         each_remote_gone o n m.known refl h.0,
         (λ i d. still_remote o i m.known ∙ h.1 i d),
         (λ i d. still_remote o i m.known ∙ h.2 i (due_left i n m.remote d).0),
+        born_remote of n m.known h.3,
       )
 
-  pub sound_put_off : (n moment : ℕ) (m : Messages) → Sound m → Sound (record m { known = known.put_off n moment m.known })
-  sound_put_off n moment m h =
+  pub sound_put_off : (of : ℕ → ℕ) (n moment : ℕ) (m : Messages) → Sound of m → Sound of (record m { known = known.put_off n moment m.known })
+  sound_put_off of n moment m h =
       let o : Option ℕ = position (known.is_of n) m.known in (
         each_put_off o n moment m.known refl h.0,
         (λ i d. still_put_off o i moment m.known ∙ h.1 i d),
         (λ i d. still_put_off o i moment m.known ∙ h.2 i d),
+        born_put_off of n moment m.known h.3,
       )
 
   -- a known message's sender was said of it

@@ -12,7 +12,7 @@ use Rattle.send_jobs.specs.Passes.{attempts_of}
 use Rattle.send_jobs.specs.Slots.{attempt_in, is_on}
 use Rattle.send_steps.specs.Files.{Within, and_then, records_from, records_of}
 use Rattle.send_steps.specs.Files.Within.{Before, In}
-use Rattle.send_core.specs.Past.{Task}
+use Rattle.send_core.specs.Past.{Owed}
 use Rattle.send_core.proofs.Lists.{free_of}
 
 pub some_is : {A : Type 0} (x y : A) → ◌≡◌ {A = Option A} (Some x) (Some y) → x ≡ y
@@ -137,7 +137,7 @@ length_free (suc count) = ap suc (length_free count)
 
 -- What holds: no more slots than the spawner runs deliveries; room for the marks of all that is in flight; and nothing that is in
 -- flight is to be given.
-pub record Holds (limit : ℕ) (to_mark : List Task) (slots : List (Option Attempt)) (left : List Attempt) : Type 0 where
+pub record Holds (limit : ℕ) (to_mark : List Owed) (slots : List (Option Attempt)) (left : List Attempt) : Type 0 where
   pub limited : length slots ≤ limit
   pub few : length slots ≤ 120
   pub roomy : length to_mark + count_by is_some slots ≤ length slots
@@ -154,11 +154,11 @@ empty_holds limit count le = record {
   rises = tt;
 }
 
-pub other_limit : (limit k : ℕ) (to_mark : List Task) (slots : List (Option Attempt)) (left : List Attempt) → length slots ≤ k → Holds limit to_mark slots left → Holds k to_mark slots left
+pub other_limit : (limit k : ℕ) (to_mark : List Owed) (slots : List (Option Attempt)) (left : List Attempt) → length slots ≤ k → Holds limit to_mark slots left → Holds k to_mark slots left
 other_limit limit k to_mark slots left le h = record { limited = le; few = h.few; roomy = h.roomy; far = h.far; rises = h.rises }
 
 -- the first mark is at work
-pub marked_holds : (limit : ℕ) (to_mark : List Task) (slots : List (Option Attempt)) (left : List Attempt) → Holds limit to_mark slots left → Holds limit (drop 1 to_mark) slots left
+pub marked_holds : (limit : ℕ) (to_mark : List Owed) (slots : List (Option Attempt)) (left : List Attempt) → Holds limit to_mark slots left → Holds limit (drop 1 to_mark) slots left
 marked_holds limit to_mark slots left h = record {
   limited = h.limited;
   few = h.few;
@@ -168,7 +168,7 @@ marked_holds limit to_mark slots left h = record {
 }
 
 -- a report was taken
-pub freed_holds : (limit slot : ℕ) (to_mark : List Task) (slots : List (Option Attempt)) (left : List Attempt) → slot < length slots → Holds limit to_mark slots left → Holds limit to_mark (set slots slot None) left
+pub freed_holds : (limit slot : ℕ) (to_mark : List Owed) (slots : List (Option Attempt)) (left : List Attempt) → slot < length slots → Holds limit to_mark slots left → Holds limit to_mark (set slots slot None) left
 freed_holds limit slot to_mark slots left lt h = record {
   limited = let was = h.limited in let same = length-set slots slot None in omega arith;
   few = let was = h.few in let same = length-set slots slot None in omega arith;
@@ -178,7 +178,7 @@ freed_holds limit slot to_mark slots left lt h = record {
 }
 
 -- and it leads to a mark
-pub owed_holds : (limit slot : ℕ) (to_mark : List Task) (slots : List (Option Attempt)) (left : List Attempt) (x : Attempt) (t : Task) → slot < length slots → attempt_in slots slot ≡ Some x
+pub owed_holds : (limit slot : ℕ) (to_mark : List Owed) (slots : List (Option Attempt)) (left : List Attempt) (x : Attempt) (t : Owed) → slot < length slots → attempt_in slots slot ≡ Some x
     → Holds limit to_mark slots left → Holds limit (to_mark ++ t ∷ []) (set slots slot None) left
 owed_holds limit slot to_mark slots left x t lt there h =
     let after : Holds limit to_mark (set slots slot None) left = freed_holds limit slot to_mark slots left lt h in record {
@@ -196,7 +196,7 @@ owed_holds limit slot to_mark slots left x t lt there h =
     }
 
 -- for which there is room
-pub has_room : (limit slot : ℕ) (to_mark : List Task) (slots : List (Option Attempt)) (left : List Attempt) (x : Attempt) → slot < length slots → attempt_in slots slot ≡ Some x
+pub has_room : (limit slot : ℕ) (to_mark : List Owed) (slots : List (Option Attempt)) (left : List Attempt) (x : Attempt) → slot < length slots → attempt_in slots slot ≡ Some x
     → Holds limit to_mark slots left → length to_mark < 120
 has_room limit slot to_mark slots left x lt there h =
     let was = h.roomy in
@@ -227,7 +227,7 @@ sent_holds limit slot delivery slots (z ∷ left) x lt first h = record {
         subst (λ (w : Attempt). Far w.n w.place left) (some_is (numbered delivery x) y (sym at ∙ there)) of_first
 
 -- a pass has begun
-pub begun_holds : (limit n : ℕ) (dying : Bool) (to_mark : List Task) (slots : List (Option Attempt)) (left : List Attempt) (bytes : List ℕ) (rs : List Record)
+pub begun_holds : (limit n : ℕ) (dying : Bool) (to_mark : List Owed) (slots : List (Option Attempt)) (left : List Attempt) (bytes : List ℕ) (rs : List Record)
     → list_any (is_on n) slots ≡ false → records_of bytes ≡ Some rs → Holds limit to_mark slots left → Holds limit to_mark slots (attempts_of n dying rs)
 begun_holds limit n dying to_mark slots left bytes rs free read h = record {
   limited = h.limited;

@@ -1,3 +1,5 @@
+-- what each row of a sender holds open
+pub mod HoldsRows
 -- what a sender holds open
 pub mod Holds
 -- the last step of a todo pass
@@ -8,6 +10,8 @@ pub mod Sent
 pub mod Logged
 -- lists, slots and reports
 pub mod Lists
+-- when known messages were born
+pub mod Born
 -- what is known of messages
 pub mod Known
 -- requests, and what rows say of what was read
@@ -26,15 +30,21 @@ pub mod Coming
 pub mod Early
 -- each step of a turn keeps it so
 pub mod Turns
+-- each step of a note keeps it so
+pub mod Noted
 -- where each step leads, what it knows and asks
 pub mod Leads
 -- what the start has read
 pub mod StartSays
 -- what a todo pass has read
 pub mod PassSays
+-- which events tell no birth
+pub mod Still
 -- each step keeps what was said of senders
 pub mod Says
 -- what follows for each run
 pub mod Runs
+-- while a note is written nothing else is done
+pub mod Followed
 -- what it keeps of a channel agrees with its account
 pub mod Agreed

@@ -1,7 +1,9 @@
 -- Where a sender stands, and what fits there.
-use Rattle.std.proofs.Common.{◌≡◌, ℕ, ◌-◌, ◌≤◌, List, [], ◌∷◌, Bool, true, false, if◌then◌else◌, nat_lt, Option, Some, None, refl, sym, ap, ◌∙◌, map}
-use Rattle.std.specs.Prelude.{◌||◌, is_some, slice_get}
-use Rattle.call_fs.specs.declared.calls.Fd.{Fd}
+use Rattle.std.proofs.Common.{◌≡◌, ℕ, ◌-◌, ◌≤◌, List, [], ◌∷◌, Bool, true, false, if◌then◌else◌, nat_lt, Option, Some, None, refl, sym, ap, ◌∙◌, subst, map}
+use Rattle.std.specs.Prelude.{◌+◌, ◌||◌, is_some, slice_get}
+use Rattle.bounce_record.specs.declared.note_row.NoteRow.{NoteRow}
+use Rattle.bounce_record.specs.declared.note_row.NoteRow.TheVariants as written
+use Rattle.bounce_record.specs.Writing.{Writing}
 use Rattle.call_fs.specs.declared.program.Ready.{Ready}
 use Rattle.retry_schedule.specs.Due.{first_due}
 use Rattle.send_core.specs.declared.desk.Desk.{Desk}
@@ -13,8 +15,9 @@ use Rattle.send_core.specs.declared.row.Point.TheVariants as point
 use Rattle.send_core.specs.declared.row.Row.{Row}
 use Rattle.send_core.specs.declared.row.Row.TheVariants as at
 use Rattle.send_core.specs.Desk.{due_on, goes, next_idle, past_finish, past_todo, ready as made_ready, retried, stands_at, sweep_due, turn_counted, turn_over, closed_by}
-use Rattle.send_core.specs.Table.{arrive, beginning, finishing, finishing_by, from_begin, from_local, from_point, from_remote, from_reports, from_sweep, from_take, going_on, holds, link_of, marking, marking_by, or_else, passing, sweeping, taking}
+use Rattle.send_core.specs.Table.{arrive, begin_by, beginning, finishing, finishing_by, from_begin, from_local, from_point, from_remote, from_reports, from_sweep, from_take, going_on, holds, link_of, marking, marking_by, or_else, passing, sweeping, taking}
 use Rattle.send_jobs.specs.declared.attempts.Attempt.{Attempt}
+use Rattle.send_jobs.specs.declared.attempts.Failure.{Failure}
 use Rattle.send_jobs.specs.declared.attempts.Mark.{Mark}
 use Rattle.send_jobs.specs.declared.channels.Channel.{Channel}
 use Rattle.send_jobs.specs.declared.channels.Channel.TheVariants.{Local, Remote}
@@ -24,6 +27,8 @@ use Rattle.send_jobs.specs.declared.slots.Slots.{Slots}
 use Rattle.send_jobs.specs.Lanes.{next}
 use Rattle.send_jobs.specs.Sending.{lane, none_out}
 use Rattle.send_jobs.specs.Slots.{lowest}
+use Rattle.send_known.specs.Known.{birth_of}
+use Rattle.send_steps.specs.declared.book.Book.{Book}
 use Rattle.send_steps.specs.declared.link.Link.{Link}
 use Rattle.send_steps.specs.declared.reading.Reading.{Reading}
 use Rattle.send_steps.specs.declared.reading.Reading.TheVariants.{Opening, Going, Closing, Shutting}
@@ -31,8 +36,9 @@ use Rattle.send_steps.specs.declared.rows.Search.TheVariants as searches
 use Rattle.send_steps.specs.declared.rows.StartRow.{StartRow}
 use Rattle.send_steps.specs.declared.rows.StartRow.TheVariants as start
 use Rattle.send_steps.specs.declared.rows.SweepRow.TheVariants as sweep
-use Rattle.send_core.specs.Past.{Account, Source}
-use Rattle.send_core.specs.Agrees.{task_at}
+use Rattle.send_core.specs.Past.{Account, Owed, Work}
+use Rattle.send_core.specs.Past.Work.{Missing, Noting, Reading as ReadingFile}
+use Rattle.send_core.specs.Agrees.{owed_at}
 use Rattle.send_core.proofs.Fits.{Fits}
 use Rattle.send_core.proofs.Changes.{Both, Heard, both_ready, fits_ready}
 
@@ -46,8 +52,31 @@ BareAt point.TakeRemote al ar = Unit {0}
 BareAt point.Reports al ar = Unit {0}
 BareAt p al ar = IsBare al ar
 
--- what is known of each channel: its account, and of a file that is read, what it is
-module _ (P : Fd → Marked → Type 0) (f : Option Source) (al ar : Account) where
+-- the first mark is that of the first record to be marked
+pub head_of : (it : Mark) (marks : List Mark) (owed : List Owed) → map owed_at marks ≡ owed → slice_get marks 0 ≡ Some it → (rest : List Owed) × (owed ≡ owed_at it ∷ rest)
+head_of it [] owed e there = absurd (cc)
+head_of it (m ∷ marks) owed e there =
+    let same : m ≡ it = same_mark m it there in
+    (map owed_at marks, sym e ∙ ap (λ (x : Mark). owed_at x ∷ map owed_at marks) same)
+  where
+    same_mark : (x y : Mark) → ◌≡◌ {A = Option Mark} (Some x) (Some y) → x ≡ y
+    same_mark x y e = cc
+
+-- what is noted before a mark
+abbrev pub note_in : Option Mark → Option Failure
+note_in None = None
+note_in (Some m) = m.note
+
+-- by what is known of a message, a pass over it that begins then is a dying one
+abbrev pub late_in : Book → ℕ → ℕ → Bool
+late_in b n begun = nat_lt (birth_of n b.messages.known + b.controls.queue_lifetime) begun
+
+-- what is known of each channel: its account, of the file at work what it is, and of a mark at work what its past has
+module _ (P : MarkRow → Option Mark → Marked → Writing → Type 0) (f : Option Work) (al ar : Account) where
+  abbrev pub of_channel : Channel → Account
+  of_channel Local = al
+  of_channel Remote = ar
+
   -- before the spawners' first bytes
   abbrev pub Early : Slots → Link → Link → Type 0
   Early s l r = (s ≡ none_out 0 0) × Fits false al s.local l × Fits false ar s.remote r × (ar.heard ≡ None)
@@ -62,7 +91,7 @@ module _ (P : Fd → Marked → Type 0) (f : Option Source) (al ar : Account) wh
   AtPoint p s l r = Both false false al ar s l r × (f ≡ None) × BareAt p al ar
 
   abbrev pub InStart : StartRow → Slots → Link → Link → Type 0
-  InStart (start.Control file reading) s l r = Early s l r × (al.heard ≡ None)
+  InStart (start.Control file reading) s l r = Early s l r × (al.heard ≡ None) × (f ≡ None)
   InStart start.GreetLocal s l r = Early s l r × (al.heard ≡ None) × (f ≡ None)
   InStart (start.GreetRemote limit) s l r = Early s l r × Heard al.heard × (f ≡ None) × (limit ≤ al.limit)
   InStart row s l r = Rests s l r
@@ -76,30 +105,54 @@ module _ (P : Fd → Marked → Type 0) (f : Option Source) (al ar : Account) wh
   Half Local s l r = Both true false al ar s l r × (f ≡ None)
   Half Remote s l r = Both false true al ar s l r × (f ≡ None)
 
-  abbrev pub InMark : MarkRow → Marked → Slots → Link → Link → Type 0
-  InMark mark.Open m s l r = Steady s l r × IsFirst m.channel m s
-  InMark (mark.Write fd) m s l r = Half m.channel s l r × P fd m
-  InMark (mark.Close fd written) m s l r = Half m.channel s l r
+  -- a record of the local channel comes before each of the remote one
+  abbrev pub IsAlone : Channel → Type 0
+  IsAlone Local = Unit {0}
+  IsAlone Remote = al.to_mark ≡ []
 
-  abbrev pub IsReading : Reading → Channel → ℕ → List ℕ → Type 0
-  IsReading Opening c n read = f ≡ None
-  IsReading (Going fd) c n read = f ≡ Some (record { channel = c; n = n; fd = fd; bytes = read; over = false })
-  IsReading (Closing fd) c n read = f ≡ Some (record { channel = c; n = n; fd = fd; bytes = read; over = true })
-  IsReading (Shutting fd) c n read = f ≡ None
+  -- so it is, and no other comes before it
+  abbrev pub IsNext : Marked → Slots → Type 0
+  IsNext m s = IsFirst m.channel m s × IsAlone m.channel
 
-  abbrev pub Fit : Slots → Link → Link → List ℕ → Row → Type 0
-  Fit s l r read (at.Start row) = InStart row s l r
-  Fit s l r read (at.Turn p) = AtPoint p s l r
-  Fit s l r read (at.TakeLink c) = Steady s l r
-  Fit s l r read (at.Mark row m) = InMark row m s l r
-  Fit s l r read (at.UnlinkFile c n p) = AtPoint p s l r
-  Fit s l r read (at.ReadFile c n begun reading) = Both false false al ar s l r × ((lane c s).left ≡ []) × IsReading reading c n read × IsBare al ar
-  Fit s l r read (at.Request c) = Rests s l r × ((slot : ℕ) × (a : Attempt) × (lowest (lane c s).slots ≡ Some slot) × (next (lane c s) ≡ Some a))
-  Fit s l r read (at.Ended status) = Unit {0}
-  Fit s l r read row = Rests s l r
+  -- the bounce file, at each row of a note that is under way
+  abbrev pub NoteStands : NoteRow → Type 0
+  NoteStands written.Open = ⊥
+  NoteStands written.Create = f ≡ Some Missing
+  NoteStands (written.Stat fd) = f ≡ Some (Noting fd false)
+  NoteStands (written.Read fd place len) = f ≡ Some (Noting fd false)
+  NoteStands (written.Append fd done) = f ≡ Some (Noting fd false)
+  NoteStands (written.Sync fd) = f ≡ Some (Noting fd false)
+  NoteStands (written.Close fd) = f ≡ Some (Noting fd true)
+  NoteStands (written.Shut fd) = f ≡ Some (Noting fd false)
+  NoteStands written.Written = ⊥
+  NoteStands written.Failed = ⊥
+
+  abbrev pub InMark : MarkRow → Marked → Writing → Slots → Link → Link → Type 0
+  InMark mark.Note m w s l r = Steady s l r × IsNext m s × ((failure : Failure) × (note_in (slice_get (lane m.channel s).marks 0) ≡ Some failure))
+  InMark mark.Noting m w s l r = Both false false al ar s l r × NoteStands w.row × IsNext m s × P mark.Noting (slice_get (lane m.channel s).marks 0) m w
+  InMark mark.Open m w s l r = Steady s l r × IsNext m s × P mark.Open (slice_get (lane m.channel s).marks 0) m w
+  InMark (mark.Write fd) m w s l r = Half m.channel s l r × P (mark.Write fd) None m w
+  InMark (mark.Close fd written) m w s l r = Half m.channel s l r
+
+  abbrev pub IsReading : Reading → Channel → ℕ → ℕ → Book → Type 0
+  IsReading Opening c n begun b = f ≡ None
+  IsReading (Going fd) c n begun b = f ≡ Some (ReadingFile (record { channel = c; n = n; fd = fd; bytes = b.read; over = false; dying = late_in b n begun }))
+  IsReading (Closing fd) c n begun b = f ≡ Some (ReadingFile (record { channel = c; n = n; fd = fd; bytes = b.read; over = true; dying = late_in b n begun }))
+  IsReading (Shutting fd) c n begun b = f ≡ None
+
+  abbrev pub Fit : Slots → Link → Link → Book → Writing → Row → Type 0
+  Fit s l r b w (at.Start row) = InStart row s l r
+  Fit s l r b w (at.Turn p) = AtPoint p s l r
+  Fit s l r b w (at.TakeLink c) = Steady s l r
+  Fit s l r b w (at.Mark row m) = InMark row m w s l r
+  Fit s l r b w (at.UnlinkFile c n p) = AtPoint p s l r
+  Fit s l r b w (at.ReadFile c n begun reading) = Both false false al ar s l r × ((lane c s).left ≡ []) × IsReading reading c n begun b × IsBare al ar
+  Fit s l r b w (at.Request c) = Rests s l r × ((slot : ℕ) × (a : Attempt) × (lowest (lane c s).slots ≡ Some slot) × (next (lane c s) ≡ Some a))
+  Fit s l r b w (at.Ended status) = Unit {0}
+  Fit s l r b w row = Rests s l r
 
   abbrev pub FitAt : Row → Desk → Type 0
-  FitAt row d = Fit d.slots d.local d.remote d.book.read row
+  FitAt row d = Fit d.slots d.local d.remote d.book d.note row
 
   abbrev pub IsFit : Desk → Type 0
   IsFit d = FitAt d.row d
@@ -157,7 +210,7 @@ module _ (P : Fd → Marked → Type 0) (f : Option Source) (al ar : Account) wh
   half_ready Remote d h = (both_ready false true al ar d h.0, h.1)
 
   start_ready : (row : StartRow) (d : Desk) → InStart row d.slots d.local d.remote → InStart row (made_ready d).slots (made_ready d).local (made_ready d).remote
-  start_ready (start.Control file reading) d h = (early_ready d h.0, h.1)
+  start_ready (start.Control file reading) d h = (early_ready d h.0, h.1, h.2)
   start_ready start.GreetLocal d h = (early_ready d h.0, h.1, h.2)
   start_ready (start.GreetRemote limit) d h = (early_ready d h.0, h.1, h.2, h.3)
   start_ready (start.Scan split) d h = rests_ready d h
@@ -169,16 +222,18 @@ module _ (P : Fd → Marked → Type 0) (f : Option Source) (al ar : Account) wh
   start_ready start.Over d h = rests_ready d h
   start_ready (start.Ended status) d h = rests_ready d h
 
-  mark_ready : (row : MarkRow) (m : Marked) (d : Desk) → InMark row m d.slots d.local d.remote → InMark row m (made_ready d).slots (made_ready d).local (made_ready d).remote
-  mark_ready mark.Open m d h = (level_ready d h.0, h.1)
-  mark_ready (mark.Write fd) m d h = (half_ready m.channel d h.0, h.1)
-  mark_ready (mark.Close fd written) m d h = half_ready m.channel d h
+  mark_ready : (row : MarkRow) (m : Marked) (w : Writing) (d : Desk) → InMark row m w d.slots d.local d.remote → InMark row m w (made_ready d).slots (made_ready d).local (made_ready d).remote
+  mark_ready mark.Note m w d h = (level_ready d h.0, h.1, h.2)
+  mark_ready mark.Noting m w d h = (both_ready false false al ar d h.0, h.1, h.2, h.3)
+  mark_ready mark.Open m w d h = (level_ready d h.0, h.1, h.2)
+  mark_ready (mark.Write fd) m w d h = (half_ready m.channel d h.0, h.1)
+  mark_ready (mark.Close fd written) m w d h = half_ready m.channel d h
 
   pub fit_ready : (row : Row) (d : Desk) → FitAt row d → FitAt row (made_ready d)
   fit_ready (at.Start row) d h = start_ready row d h
   fit_ready (at.Turn p) d h = point_ready p d h
   fit_ready (at.TakeLink c) d h = level_ready d h
-  fit_ready (at.Mark row m) d h = mark_ready row m d h
+  fit_ready (at.Mark row m) d h = mark_ready row m d.note d h
   fit_ready (at.UnlinkFile c n p) d h = point_ready p d h
   fit_ready (at.ReadFile c n begun reading) d h = (both_ready false false al ar d h.0, h.1, h.2, h.3)
   fit_ready (at.Request c) d h = (rests_ready d h.0, h.1)
@@ -244,46 +299,61 @@ module _ (P : Fd → Marked → Type 0) (f : Option Source) (al ar : Account) wh
   no_marks (it ∷ marks) e = absurd (cc)
 
   bare_with : (a : Account) (lane : Lane) (link : Link) → Fits false a lane link → slice_get lane.marks 0 ≡ None → a.to_mark ≡ []
-  bare_with a lane link h none = sym h.4 ∙ ap (λ (marks : List Mark). map task_at marks) (no_marks lane.marks none)
+  bare_with a lane link h none = sym h.4 ∙ ap (λ (marks : List Mark). map owed_at marks) (no_marks lane.marks none)
 
-  reports_from : (d : Desk) (now : ℕ) → Level d → FitAt (from_reports d now) d
-  reports_from d now h = by_local (slice_get d.slots.local.marks 0) refl where
-    by_remote : (o : Option Mark) → slice_get d.slots.local.marks 0 ≡ None → slice_get d.slots.remote.marks 0 ≡ o → FitAt (or_else (marking_by Remote o) (from_local true d now)) d
-    by_remote (Some it) none e = (h, (it, e, refl, refl))
-    by_remote None none e = local_from true d now (h.0, h.1, (bare_with al d.slots.local d.local h.0.0 none, bare_with ar d.slots.remote d.remote h.0.1 e))
+  bare_remote : (d : Desk) → Level d → slice_get d.slots.local.marks 0 ≡ None → al.to_mark ≡ []
+  bare_remote d h none = bare_with al d.slots.local d.local h.0.0 none
 
-    by_local : (o : Option Mark) → slice_get d.slots.local.marks 0 ≡ o → FitAt (or_else (marking_by Local o) (or_else (marking Remote d) (from_local true d now))) d
-    by_local (Some it) e = (h, (it, e, refl, refl))
-    by_local None e = by_remote (slice_get d.slots.remote.marks 0) e refl
+  -- a mark begins at its open if nothing is noted before it
+  abbrev pub Frees : Type 0
+  Frees = (m : Marked) (it : Mark) (w : Writing) → it.note ≡ None → P mark.Open (Some it) m w
 
-  take_from : (d : Desk) (now : ℕ) (ready : Ready) → Level d → FitAt (from_take d now ready) d
-  take_from d now ready h = or_fits (taking Remote ready) (from_reports d now) d (taking_fits Remote ready d h) (reports_from d now h)
+  module _ (frees : Frees) where
+    begin_fits : (c : Channel) (it : Mark) (o : Option Failure) (d : Desk) → it.note ≡ o → slice_get (lane c d.slots).marks 0 ≡ Some it → Level d → IsAlone c
+        → let m : Marked = record { channel = c; n = it.attempt.n; place = it.attempt.place } in InMark (begin_by o) m d.note d.slots d.local d.remote
+    begin_fits c it None d e there h alone =
+        let m : Marked = record { channel = c; n = it.attempt.n; place = it.attempt.place } in
+        (h, ((it, there, refl, refl), alone), subst (λ (o : Option Mark). P mark.Open o m d.note) (sym there) (frees m it d.note e))
+    begin_fits c it (Some failure) d e there h alone = (h, ((it, there, refl, refl), alone), (failure, ap note_in there ∙ e))
 
-  begin_from : (d : Desk) (now : ℕ) (ready : Ready) → Level d → FitAt (from_begin d now ready) d
-  begin_from d now ready h = or_fits (taking Local ready) (from_take d now ready) d (taking_fits Local ready d h) (take_from d now ready h)
+    reports_from : (d : Desk) (now : ℕ) → Level d → FitAt (from_reports d now) d
+    reports_from d now h = by_local (slice_get d.slots.local.marks 0) refl where
+      by_remote : (o : Option Mark) → slice_get d.slots.local.marks 0 ≡ None → slice_get d.slots.remote.marks 0 ≡ o → FitAt (or_else (marking_by Remote o) (from_local true d now)) d
+      by_remote (Some it) none e = begin_fits Remote it it.note d refl e h (bare_remote d h none)
+      by_remote None none e = local_from true d now (h.0, h.1, (bare_with al d.slots.local d.local h.0.0 none, bare_with ar d.slots.remote d.remote h.0.1 e))
 
-  sweep_from : (d : Desk) (now : ℕ) (ready : Ready) → Calm d → FitAt (from_sweep d now ready) d
-  sweep_from d now ready h = or_fits (sweeping d now) (from_begin d now ready) d (sweeping_fits d now h) (begin_from d now ready (h.0, h.1))
+      by_local : (o : Option Mark) → slice_get d.slots.local.marks 0 ≡ o → FitAt (or_else (marking_by Local o) (or_else (marking Remote d) (from_local true d now))) d
+      by_local (Some it) e = begin_fits Local it it.note d refl e h tt
+      by_local None e = by_remote (slice_get d.slots.remote.marks 0) e refl
 
-  point_from : (p : Point) (d : Desk) (now : ℕ) (ready : Ready) → CalmAt p d → FitAt (from_point p d now ready) d
-  point_from point.TakeLocal d now ready h = begin_from d now ready (h.0, h.1)
-  point_from point.TakeRemote d now ready h = take_from d now ready (h.0, h.1)
-  point_from point.Reports d now ready h = reports_from d now (h.0, h.1)
-  point_from (point.Pass Local may) d now ready h = local_from may d now h
-  point_from (point.Pass Remote may) d now ready h = remote_from may d now h
-  point_from point.Finish d now ready h = or_fits (finishing d now) (from_sweep d now ready) d (finishing_fits (next_idle now d) d h) (sweep_from d now ready h)
-  point_from point.Sweep d now ready h = sweep_from d now ready h
+    take_from : (d : Desk) (now : ℕ) (ready : Ready) → Level d → FitAt (from_take d now ready) d
+    take_from d now ready h = or_fits (taking Remote ready) (from_reports d now) d (taking_fits Remote ready d h) (reports_from d now h)
 
-  pub arrives : (row : Row) (d : Desk) (now : ℕ) (ready : Ready) → FitAt row d → FitAt (arrive row d now ready) d
-  arrives (at.Turn p) d now ready h = point_from p d now ready h
-  arrives (at.Sweep row) d now ready h = h
-  arrives (at.Start row) d now ready h = h
-  arrives (at.TakeLink c) d now ready h = h
-  arrives (at.Mark row m) d now ready h = h
-  arrives (at.UnlinkFile c n p) d now ready h = h
-  arrives (at.ReadFile c n begun reading) d now ready h = h
-  arrives (at.Request c) d now ready h = h
-  arrives (at.FindTodo search) d now ready h = h
-  arrives at.InTodo d now ready h = h
-  arrives (at.Finish row n) d now ready h = h
-  arrives (at.Ended status) d now ready h = h
+    begin_from : (d : Desk) (now : ℕ) (ready : Ready) → Level d → FitAt (from_begin d now ready) d
+    begin_from d now ready h = or_fits (taking Local ready) (from_take d now ready) d (taking_fits Local ready d h) (take_from d now ready h)
+
+    sweep_from : (d : Desk) (now : ℕ) (ready : Ready) → Calm d → FitAt (from_sweep d now ready) d
+    sweep_from d now ready h = or_fits (sweeping d now) (from_begin d now ready) d (sweeping_fits d now h) (begin_from d now ready (h.0, h.1))
+
+    point_from : (p : Point) (d : Desk) (now : ℕ) (ready : Ready) → CalmAt p d → FitAt (from_point p d now ready) d
+    point_from point.TakeLocal d now ready h = begin_from d now ready (h.0, h.1)
+    point_from point.TakeRemote d now ready h = take_from d now ready (h.0, h.1)
+    point_from point.Reports d now ready h = reports_from d now (h.0, h.1)
+    point_from (point.Pass Local may) d now ready h = local_from may d now h
+    point_from (point.Pass Remote may) d now ready h = remote_from may d now h
+    point_from point.Finish d now ready h = or_fits (finishing d now) (from_sweep d now ready) d (finishing_fits (next_idle now d) d h) (sweep_from d now ready h)
+    point_from point.Sweep d now ready h = sweep_from d now ready h
+
+    pub arrives : (row : Row) (d : Desk) (now : ℕ) (ready : Ready) → FitAt row d → FitAt (arrive row d now ready) d
+    arrives (at.Turn p) d now ready h = point_from p d now ready h
+    arrives (at.Sweep row) d now ready h = h
+    arrives (at.Start row) d now ready h = h
+    arrives (at.TakeLink c) d now ready h = h
+    arrives (at.Mark row m) d now ready h = h
+    arrives (at.UnlinkFile c n p) d now ready h = h
+    arrives (at.ReadFile c n begun reading) d now ready h = h
+    arrives (at.Request c) d now ready h = h
+    arrives (at.FindTodo search) d now ready h = h
+    arrives at.InTodo d now ready h = h
+    arrives (at.Finish row n) d now ready h = h
+    arrives (at.Ended status) d now ready h = h

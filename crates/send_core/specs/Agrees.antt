@@ -13,15 +13,15 @@ use Rattle.send_core.specs.declared.row.MarkRow.{MarkRow}
 use Rattle.send_core.specs.declared.row.MarkRow.TheVariants as mark
 use Rattle.send_core.specs.declared.row.Row.{Row}
 use Rattle.send_core.specs.declared.row.Row.TheVariants as at
-use Rattle.send_core.specs.Past.{Account, Task, account}
+use Rattle.send_core.specs.Past.{Account, Owed, Task, account}
 use Rattle.send_core.specs.Table.{desk_after}
 
--- the record of an attempt, and of a mark
+-- the record of an attempt; and of a mark, with what is noted before it
 abbrev pub task_of : Attempt → Task
-task_of a = record { n = a.n; place = a.place; address = a.address }
+task_of a = record { n = a.n; place = a.place; address = a.address; dying = a.dying }
 
-abbrev pub task_at : Mark → Task
-task_at m = task_of m.attempt
+abbrev pub owed_at : Mark → Owed
+owed_at m = record { task = task_of m.attempt; note = m.note }
 
 -- the marks whose files weren't opened; once it was, the first is still at work
 abbrev pub unopened : Bool → List Mark → List Mark
@@ -35,6 +35,8 @@ is_same Remote Remote = true
 is_same c e = false
 
 abbrev pub is_marking : MarkRow → Bool → Bool
+is_marking mark.Note same = false
+is_marking mark.Noting same = false
 is_marking mark.Open same = false
 is_marking row same = same
 
@@ -46,12 +48,12 @@ abbrev pub has_ended : Row → Bool
 has_ended (at.Ended status) = true
 has_ended row = false
 
--- In flight are the attempts of the account, in its slots; to be marked are its records, in its order; and unless nothing is left of
--- the open pass, what is left is what is still to be given.
+-- In flight are the attempts of the account, in its slots; to be marked are its records, in its order and with their notes; and unless
+-- nothing is left of the open pass, what is left is what is still to be given.
 pub record Agrees (a : Account) (at_work : Bool) (lane : Lane) : Type 0 where
   pub in_flight : (slot : ℕ) → option_map task_of (attempt_in lane.slots slot) ≡ a.in_flight slot
   pub to_give : (lane.left ≡ []) ⊎ (map task_of lane.left ≡ a.to_give)
-  pub to_mark : map task_at (unopened at_work lane.marks) ≡ a.to_mark
+  pub to_mark : map owed_at (unopened at_work lane.marks) ≡ a.to_mark
 
 -- so it is of each channel until the sender has ended
 abbrev pub LanesAgree : Option ℕ → List Own → Type 0

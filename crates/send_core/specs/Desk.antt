@@ -1,20 +1,16 @@
 -- What the sender keeps, and what its steps do to that.
-use Rattle.std.specs.Prelude.{ℕ, ◌+◌, ◌-◌, ◌^◌, List, [], ◌∷◌, length, drop, min, Bool, true, false, ◌&&◌, ◌||◌, Option, Some, None, if◌then◌else◌, nat_lt, nat_le, ◌==◌, is_some, is_none}
+use Rattle.std.specs.Prelude.{ℕ, ◌+◌, ◌-◌, ◌^◌, List, [], ◌∷◌, length, drop, Bool, false, ◌&&◌, ◌||◌, Option, Some, None, if◌then◌else◌, nat_lt, is_some}
 use Rattle.envelope_records.specs.declared.channel.Record.{Record}
-use Rattle.retry_schedule.specs.Due.{moved}
-use Rattle.retry_schedule.specs.Retry.{next_retry}
 use Rattle.send_jobs.specs.declared.attempts.Attempt.{Attempt}
+use Rattle.send_jobs.specs.declared.attempts.Failure.{Failure}
 use Rattle.send_jobs.specs.declared.channels.Channel.{Channel}
 use Rattle.send_jobs.specs.declared.channels.Channel.TheVariants.{Local, Remote}
 use Rattle.send_jobs.specs.declared.jobs.Job.{Job}
-use Rattle.send_jobs.specs.declared.lane.Lane.{Lane}
-use Rattle.send_jobs.specs.Channels.{skip_of}
-use Rattle.send_jobs.specs.Lanes.{next, finished, begun_by, reported, owes, left_unmarked, job_over, ended}
+use Rattle.send_jobs.specs.Lanes.{next, begun_by, reported, owes, left_unmarked, job_over, ended}
 use Rattle.send_jobs.specs.Sending.{lane, at_lane, sent_on}
 use Rattle.send_jobs.specs.Slots.{attempt_in, lowest}
-use Rattle.send_known.specs.declared.messages.Messages.{Messages}
+use Rattle.send_jobs.specs.Tries.{retry_of as next_try}
 use Rattle.send_known.specs.Known.{birth_of, sender_of, first_idle}
-use Rattle.send_known.specs.Messages.{local_gone, remote_gone}
 use Rattle.spawn_protocol.specs.declared.report.Report.{Report}
 use Rattle.spawn_protocol.specs.Report.{Reader, counted, read_on}
 use Rattle.send_core.specs.declared.desk.Desk.{Desk}
@@ -24,6 +20,10 @@ use Rattle.send_core.specs.declared.row.Row.{Row}
 use Rattle.send_core.specs.declared.row.Row.TheVariants as at
 use Rattle.send_steps.specs.declared.link.Link.{Link}
 use Rattle.send_steps.specs.Requests.{requests_of, addressed}
+pub use Rattle.send_jobs.specs.Failures.{is_final, failure_in}
+pub use Rattle.send_jobs.specs.Lanes.{is_free_for}
+pub use Rattle.send_jobs.specs.Tries.{due_on, due_then, file_gone, moment_of}
+pub use Rattle.send_steps.specs.Sweep.{sweep_due}
 
 -- Where it stands
 
@@ -49,21 +49,6 @@ with_reader c reader d = with_link c (record (link c d) { reader = reader }) d
 abbrev pub with_requests : Channel → List (List ℕ) → Desk → Desk
 with_requests c texts d = with_link c (record (link c d) { requests = texts }) d
 
--- when messages are due on a channel
-abbrev pub due_on : Channel → Messages → List (ℕ × ℕ)
-due_on Local m = m.local
-due_on Remote m = m.remote
-
--- a message that is due on a channel is due there at another moment
-abbrev pub due_then : Channel → ℕ → ℕ → Messages → Messages
-due_then Local n due m = record m { local = moved (due, n) m.local }
-due_then Remote n due m = record m { remote = moved (due, n) m.remote }
-
--- its file of a channel is gone
-abbrev pub file_gone : Channel → ℕ → Messages → Messages
-file_gone Local n m = local_gone n m
-file_gone Remote n m = remote_gone n m
-
 -- a moment that never comes: while a job is on a message, that is not due
 abbrev pub never : ℕ
 never = 2 ^ 64 - 1
@@ -74,13 +59,9 @@ later now = now + 123
 
 -- Jobs
 
--- a moment that a clock may tell: one past the last counts as the last
-abbrev pub moment_of : ℕ → ℕ
-moment_of moment = min moment 250000000000
-
 -- the next retry of a message, reckoned at its pass's begin
 abbrev pub retry_of : Channel → ℕ → ℕ → Desk → ℕ
-retry_of c n begun d = next_retry (moment_of (birth_of n d.book.messages.known)) (moment_of begun) (skip_of c)
+retry_of c n begun d = next_try c n begun d.book.messages
 
 -- no job is on the message, and it is due then
 abbrev pub due_again : Channel → ℕ → ℕ → Desk → Desk
@@ -114,19 +95,18 @@ abbrev pub deferred : Channel → ℕ → Desk → Desk
 deferred c n d =
     let after = record d { slots = at_lane c (left_unmarked n) d.slots } in retried_if (job_over n (lane c after.slots)) c n after
 
--- its place is to be marked
-abbrev pub waits : Channel → Attempt → Desk → Desk
-waits c a d = record d { slots = at_lane c (owes (record { attempt = a; note = None })) d.slots }
+-- its place is to be marked, after this is noted if something is
+abbrev pub waits : Channel → Attempt → Option Failure → Desk → Desk
+waits c a note d = record d { slots = at_lane c (owes (record { attempt = a; note = note })) d.slots }
 
--- K leads to a mark. Until notes are written, D counts as any other letter does, and the place stays `T`. It does so too if 120
--- marks are to be made already, as in no run.
-abbrev pub settle : Bool → Channel → Attempt → Desk → Desk
-settle true c a d = if nat_lt (length (lane c d.slots).marks) 120 then waits c a d else deferred c a.n d
-settle false c a d = deferred c a.n d
+-- The place of a recipient that isn't tried again is to be marked, and else it stays `T`. It does so too if 120 marks are to be made already, as in no run.
+abbrev pub settle : Report → Channel → Attempt → Desk → Desk
+settle r c a d =
+    if is_final (counted r.letter) a.dying && nat_lt (length (lane c d.slots).marks) 120 then waits c a (failure_in r) d else deferred c a.n d
 
 abbrev pub told_by : Option Attempt → Channel → Report → Desk → Desk
 told_by None c r d = d
-told_by (Some a) c r d = settle (counted r.letter == 75) c a (record d { slots = at_lane c (reported r.slot) d.slots })
+told_by (Some a) c r d = settle r c a (record d { slots = at_lane c (reported r.slot) d.slots })
 
 -- a report was taken: of the attempt in its slot, if one is in flight there
 abbrev pub told : Channel → Report → Desk → Desk
@@ -141,10 +121,6 @@ abbrev pub heard : Channel → List ℕ → Desk → Desk
 heard c bytes d = let it = read_on (link c d).reader bytes in told_all c it.0 (with_reader c it.1 d)
 
 -- Passes
-
--- none is open on the channel, and no attempt at the message is in flight there
-abbrev pub is_free_for : ℕ → Lane → Bool
-is_free_for n l = is_none (next l) && finished n l
 
 -- a pass that begins then is a dying one: its message has been in the queue too long
 abbrev pub is_dying : ℕ → ℕ → Desk → Bool
@@ -170,10 +146,6 @@ abbrev pub ready : Desk → Desk
 ready d = ready_on Remote (ready_on Local d)
 
 -- The turn
-
-abbrev pub sweep_due : ℕ → Option ℕ → Bool
-sweep_due now None = true
-sweep_due now (Some last) = nat_le (last + 76431) now
 
 abbrev pub next_idle : ℕ → Desk → Option ℕ
 next_idle now d = first_idle now d.book.messages.known

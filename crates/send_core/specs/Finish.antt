@@ -1,13 +1,18 @@
 -- Points 5 and 6 of the sender's turn: the finish of a message, and the sweep.
 use Rattle.std.specs.Prelude.{ℕ, Some, true}
-use Rattle.send_known.specs.Known.{put_off}
+use Rattle.bounce_record.specs.declared.return_row.ReturnRow.{ReturnRow}
+use Rattle.bounce_record.specs.declared.return_row.ReturnRow.TheVariants as back
+use Rattle.bounce_record.specs.Returning.{Returning, return_begun, returned_on}
+use Rattle.call_fs.specs.declared.past.GotData.{GotData}
+use Rattle.send_known.specs.Known.{put_off, sender_of}
 use Rattle.send_known.specs.Messages.{forgotten}
+use Rattle.send_steps.specs.declared.book.Book.{Book}
 use Rattle.send_steps.specs.declared.rows.FinishRow.{FinishRow}
 use Rattle.send_steps.specs.declared.rows.FinishRow.TheVariants as finish
 use Rattle.send_steps.specs.declared.rows.SweepRow.{SweepRow}
 use Rattle.send_steps.specs.declared.rows.SweepRow.TheVariants as sweep
 use Rattle.send_steps.specs.Finish.{finish_to}
-use Rattle.send_steps.specs.Replies.{Said}
+use Rattle.send_steps.specs.Replies.{Said, said}
 use Rattle.send_steps.specs.Sweep.{searched, sweep_to}
 use Rattle.send_core.specs.declared.desk.Desk.{Desk}
 use Rattle.send_core.specs.declared.row.Row.TheVariants as at
@@ -28,13 +33,30 @@ finish_at finish.Over n now d = past_finish now (forgot n d)
 finish_at finish.Lost n now d = goes d (at.Ended 81)
 finish_at row n now d = goes d (at.Finish row n)
 
--- The turn isn't an idle one.
-abbrev pub busied : FinishRow → Desk → Desk
-busied finish.OpenBounce d = record d { busy = true }
-busied row d = d
+-- The return of a message that has a bounce file: its steps are those of bounce_record.
 
-abbrev pub act_finish : FinishRow → ℕ → ℕ → Said → Desk → Desk
-act_finish row n now s d = finish_at (finish_to row s.way s.fd) n now (busied row d)
+-- after what came at a step of it, by the controls and the sender that are known
+abbrev pub bounce_on : ℕ → ℕ → GotData → Returning → Book → Returning
+bounce_on n now came r b = returned_on b.controls (sender_of n b.messages.known) r now came
+
+-- where the finish then stands: without a bounce file at the unlink of the info file
+abbrev pub returned_to : ReturnRow → FinishRow
+returned_to back.Over = finish.UnlinkInfo
+returned_to back.Failed = finish.Later
+returned_to row = finish.Return
+
+-- the return begins with the open of the bounce file; the turn isn't an idle one
+abbrev pub bounce_opened : ℕ → ℕ → GotData → Desk → Desk
+bounce_opened n now came d =
+    let r = bounce_on n now came (return_begun n) d.book in finish_at (returned_to r.row) n now (record d { bounce = r; busy = true })
+
+abbrev pub returned : ℕ → ℕ → GotData → Desk → Desk
+returned n now came d = let r = bounce_on n now came d.bounce d.book in finish_at (returned_to r.row) n now (record d { bounce = r })
+
+abbrev pub act_finish : FinishRow → ℕ → ℕ → GotData → Desk → Desk
+act_finish finish.OpenBounce n now came d = bounce_opened n now came d
+act_finish finish.Return n now came d = returned n now came d
+act_finish row n now came d = finish_at (finish_to row (said came).way) n now d
 
 -- 6. The sweep: the last sweep is the moment of its first search, and the turn is over after the last one.
 

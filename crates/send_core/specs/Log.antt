@@ -1,16 +1,18 @@
 -- The sender's log (qmail-log(5)), as a function of its past: which lines come at an event, by what it keeps before that.
-use Rattle.std.specs.Prelude.{ℕ, ◌+◌, List, [], ◌∷◌, ◌++◌, length, Bool, true, false, Option, Some, None, if◌then◌else◌, is_some}
+use Rattle.std.specs.Prelude.{ℕ, List, [], ◌∷◌, ◌++◌, Option, Some, None, if◌then◌else◌, is_some}
+use Rattle.bounce_record.specs.Lines.{return_lines}
 use Rattle.call_fs.specs.declared.past.GotData.{GotData}
 use Rattle.call_fs.specs.declared.past.Own.{Own}
 use Rattle.send_jobs.specs.declared.attempts.Attempt.{Attempt}
 use Rattle.send_jobs.specs.declared.channels.Channel.{Channel}
 use Rattle.send_jobs.specs.declared.slots.Slots.{Slots}
 use Rattle.send_jobs.specs.Lanes.{next, reported}
-use Rattle.send_jobs.specs.Lines.{settled_lines, starting_if, status_line}
+use Rattle.send_jobs.specs.Lines.{settled_lines, starting_if}
 use Rattle.send_jobs.specs.Sending.{lane, at_lane, sent_on}
 use Rattle.send_jobs.specs.Slots.{attempt_in}
-use Rattle.send_log.specs.declared.lines.TheConstants.{LINE_ROOM}
-use Rattle.send_log.specs.Lines.{new_message, message_info, stray_report, left as left_message}
+use Rattle.send_log.specs.Lines.{stray_report}
+use Rattle.send_steps.specs.declared.rows.FinishRow.{FinishRow}
+use Rattle.send_steps.specs.declared.rows.FinishRow.TheVariants as finish
 use Rattle.send_steps.specs.declared.rows.StartRow.{StartRow}
 use Rattle.send_steps.specs.declared.rows.StartRow.TheVariants as start
 use Rattle.send_steps.specs.Files.{is_info}
@@ -28,12 +30,10 @@ use Rattle.send_core.specs.declared.row.Row.TheVariants as at
 use Rattle.send_core.specs.Desk.{link, told, with_reader}
 use Rattle.send_core.specs.Turn.{is_done}
 use Rattle.send_core.specs.Table.{desk_after, row_now}
+pub use Rattle.send_jobs.specs.Lines.{status_if}
+pub use Rattle.todo_pass.specs.Lines.{left_lines, queued_lines, queued_room}
 
 -- a request was given: the line of its attempt, if there is one, and what is in flight then
-abbrev pub status_if : Bool → Slots → List ℕ
-status_if true s = status_line s
-status_if false s = []
-
 abbrev pub request_lines : Option Attempt → Channel → Slots → List ℕ
 request_lines o c s = starting_if o c s ++ status_if (is_some o) (sent_on c s)
 
@@ -53,13 +53,6 @@ abbrev pub taken_lines : Channel → List ℕ → Desk → List ℕ
 taken_lines c bytes d = let it = reports_on (link c d).reader bytes in told_lines c it.0 (with_reader c it.1 d)
 
 -- a todo pass was done, or was left
-abbrev pub left_lines : PassRow → Pass → List ℕ
-left_lines (todo.Left why) p = left_message p.n
-left_lines row p = []
-
-abbrev pub queued_lines : Pass → List ℕ
-queued_lines p = new_message p.n ++ message_info p.n p.size p.sorted.sender p.sorted.pid p.sorted.uid
-
 abbrev pub over_lines : PassRow → Pass → List ℕ
 over_lines row p = if is_done row then queued_lines p else left_lines row p
 
@@ -72,18 +65,19 @@ abbrev pub start_lines : StartRow → Said → Desk → List ℕ
 start_lines (start.ReadInfo split n reading) s d = skipped_if (is_skipped (read_on reading s) (is_info d.book.read)) n
 start_lines row s d = []
 
+-- the finish of a message, the return of it included
+abbrev pub finish_lines_on : FinishRow → ℕ → GotData → Desk → List ℕ
+finish_lines_on finish.Return n came d = return_lines d.bounce.row n came
+finish_lines_on row n came d = finish_lines row n (said came).way
+
 -- the lines of what came at a row
 abbrev pub lines_at : Row → ℕ → GotData → Desk → List ℕ
 lines_at (at.Start row) now came d = start_lines row (said came) d
 lines_at (at.TakeLink c) now came d = if_fine (said came).way (taken_lines c (said came).bytes d)
 lines_at (at.Request c) now came d = if_fine (said came).way (request_lines (next (lane c d.slots)) c d.slots)
 lines_at at.InTodo now came d = pass_lines d.pass.row came (pass_moved d.book.controls d.pass now came)
-lines_at (at.Finish row n) now came d = finish_lines row n (said came).way
+lines_at (at.Finish row n) now came d = finish_lines_on row n came d
 lines_at row now came d = []
-
--- how much room the lines of a message take at most that was preprocessed
-abbrev pub queued_room : Pass → ℕ
-queued_room p = LINE_ROOM + LINE_ROOM + length p.sorted.sender
 
 -- the lines of an event, by what the sender keeps before it
 abbrev pub lines_of : Desk → Own → List ℕ

@@ -1,5 +1,5 @@
 -- What a sender's past says of a channel (qmail-send(8)), from its events alone: which records of the open pass are still to
--- be given, which attempts are in flight, and which records are still to be marked.
+-- be given, which attempts are in flight, and which records are still to be marked, after which note.
 use Rattle.std.specs.Prelude.{ℕ, List, [], ◌∷◌, ◌++◌, length, drop, Bool, true, false, ◌&&◌, Option, Some, None, if◌then◌else◌, ◌==◌, nat_lt, slice_get}
 use Rattle.std.specs.List.{filter_map}
 use Rattle.call_fs.specs.declared.calls.Answer.{Answer}
@@ -7,7 +7,7 @@ use Rattle.call_fs.specs.declared.calls.Answer.TheVariants as answer
 use Rattle.call_fs.specs.declared.calls.CallData.{CallData}
 use Rattle.call_fs.specs.declared.calls.CallData.TheVariants as call
 use Rattle.call_fs.specs.declared.calls.Fd.{Fd}
-use Rattle.call_fs.specs.declared.calls.How.{How}
+use Rattle.call_fs.specs.declared.calls.FsError.TheVariants as why
 use Rattle.call_fs.specs.declared.calls.How.TheVariants as how
 use Rattle.call_fs.specs.declared.calls.Told.{Told}
 use Rattle.call_fs.specs.declared.past.GotData.{GotData}
@@ -21,81 +21,125 @@ use Rattle.call_fs.specs.Maps.{put}
 use Rattle.envelope_records.specs.declared.channel.Record.{Record}
 use Rattle.queue_paths.specs.Names.{Name, parse}
 use Rattle.queue_paths.specs.Names.Name.{Of}
-use Rattle.queue_paths.specs.Names.Part.{Local as LocalFile, Remote as RemoteFile}
+use Rattle.queue_paths.specs.Names.Part.{Bounce as BounceFile, Local as LocalFile, Remote as RemoteFile}
+use Rattle.send_jobs.specs.declared.attempts.Failure.{Failure}
 use Rattle.send_jobs.specs.declared.channels.Channel.{Channel}
 use Rattle.send_jobs.specs.declared.channels.Channel.TheVariants.{Local, Remote}
+use Rattle.send_jobs.specs.Failures.{failure_in, is_final}
 use Rattle.send_steps.specs.Files.{records_of}
 use Rattle.spawn_protocol.specs.declared.report.Report.{Report}
 use Rattle.spawn_protocol.specs.Report.{counted, read_on}
 use Rattle.spawn_protocol.specs.Report.Reader.{AtBegin}
+use Rattle.send_core.specs.Births.{is_late}
 
 -- The records of a channel file
 
--- a recipient's record: the message, the place of its letter in the channel file, and the address
+-- A recipient's record: the message, the place of its letter in the channel file, the address, and whether its pass is a dying one, so
+-- that it isn't tried again whatever is reported.
 pub record Task : Type 0 where
   pub n : ℕ
   pub place : ℕ
   pub address : List ℕ
+  pub dying : Bool
+
+-- A record that isn't tried again and is to be marked, and what is noted of it before: nothing after K, and else the text of its
+-- report and whether the message is too old to be tried again.
+pub record Owed : Type 0 where
+  pub task : Task
+  pub note : Option Failure
 
 -- if it reads `T`
-abbrev pub task_if : ℕ → Record → Option Task
-task_if n r = if r.done then None else Some (record { n = n; place = r.place; address = r.address })
+abbrev pub task_if : ℕ → Bool → Record → Option Task
+task_if n dying r = if r.done then None else Some (record { n = n; place = r.place; address = r.address; dying = dying })
 
-abbrev pub tasks_by : ℕ → Option (List Record) → List Task
-tasks_by n None = []
-tasks_by n (Some records) = filter_map (task_if n) records
+abbrev pub tasks_by : ℕ → Bool → Option (List Record) → List Task
+tasks_by n dying None = []
+tasks_by n dying (Some records) = filter_map (task_if n dying) records
 
 -- Those of these bytes that read `T`, in order; none if the bytes aren't records alone. Of `Ta@x`, NUL, `Db@x`, NUL, `Tc@x`, NUL of
 -- message 7 they are (7, 0, a@x) and (7, 10, c@x).
-abbrev pub tasks_in : ℕ → List ℕ → List Task
-tasks_in n bytes = tasks_by n (records_of bytes)
+abbrev pub tasks_in : ℕ → Bool → List ℕ → List Task
+tasks_in n dying bytes = tasks_by n dying (records_of bytes)
 
--- The channel file that is being read
+-- The file at work
 
--- whose it is, its descriptor, the bytes so far, and whether the last read brought fewer bytes than were asked for
+-- A channel file that is being read: whose it is, its descriptor, the bytes so far, whether the last read brought fewer bytes than
+-- were asked for, and whether a pass that began at its open is a dying one.
 pub record Source : Type 0 where
   pub channel : Channel
   pub n : ℕ
   pub fd : Fd
   pub bytes : List ℕ
   pub over : Bool
+  pub dying : Bool
 
-abbrev pub source_of : Option Name → Fd → Option Source
-source_of (Some (Of LocalFile n)) fd = Some (record { channel = Local; n = n; fd = fd; bytes = []; over = false })
-source_of (Some (Of RemoteFile n)) fd = Some (record { channel = Remote; n = n; fd = fd; bytes = []; over = false })
-source_of other fd = None
+pub data Work : Type 0 where
+  -- a channel file is read
+  Reading : (source : Source) → Work
+  -- a bounce file is missing, and is to be created for a note
+  Missing : Work
+  -- a note is put into a bounce file; whether that is on the disk since
+  Noting : (fd : Fd) (synced : Bool) → Work
 
-abbrev pub opened_as : Option Name → Answer → Option Source
-opened_as name (answer.Opened fd) = source_of name fd
-opened_as name other = None
+-- for each message, whether a pass over it that begins now is a dying one
+abbrev pub source_of : (ℕ → Bool) → Option Name → Fd → Option Work
+source_of late (Some (Of LocalFile n)) fd = Some (Reading (record { channel = Local; n = n; fd = fd; bytes = []; over = false; dying = late n }))
+source_of late (Some (Of RemoteFile n)) fd = Some (Reading (record { channel = Remote; n = n; fd = fd; bytes = []; over = false; dying = late n }))
+source_of late other fd = None
+
+abbrev pub opened_as : (ℕ → Bool) → Option Name → Answer → Option Work
+opened_as late name (answer.Opened fd) = source_of late name fd
+opened_as late name other = None
 
 -- one of which a read failed isn't read whole
-abbrev pub longer : Source → ℕ → Answer → List ℕ → Option Source
-longer s len (answer.Count count) bytes = Some (record s { bytes = s.bytes ++ bytes; over = nat_lt (length bytes) len })
+abbrev pub longer : Source → ℕ → Answer → List ℕ → Option Work
+longer s len (answer.Count count) bytes = Some (Reading (record s { bytes = s.bytes ++ bytes; over = nat_lt (length bytes) len }))
 longer s len told bytes = None
 
 -- a read goes on with it if it is by its descriptor, from the end of the bytes so far
 abbrev pub goes_on : Source → Fd → ℕ → Bool
 goes_on s fd at = (fd.0 == s.fd.0) && (at == length s.bytes)
 
-abbrev pub read_more : Option Source → Fd → ℕ → ℕ → Told → Option Source
+abbrev pub read_more : Option Work → Fd → ℕ → ℕ → Told → Option Work
 read_more None fd at len told = None
-read_more (Some s) fd at len told = if goes_on s fd at then longer s len told.answer told.bytes else Some s
+read_more (Some (Reading s)) fd at len told = if goes_on s fd at then longer s len told.answer told.bytes else Some (Reading s)
+read_more (Some Missing) fd at len told = Some Missing
+read_more (Some (Noting f synced)) fd at len told = Some (Noting f synced)
 
-abbrev pub reading_on : Option Source → CallData → Told → Option Source
-reading_on before (call.Open name how.Read) told = opened_as (parse name) told.answer
-reading_on before (call.ReadAt fd at len) told = read_more before fd at len told
-reading_on before (call.Close fd) told = None
-reading_on before call told = before
+-- a bounce file was opened for a note, or was created
+abbrev pub note_opened : Option Name → Answer → Option Work
+note_opened (Some (Of BounceFile n)) (answer.Opened fd) = Some (Noting fd false)
+note_opened (Some (Of BounceFile n)) (answer.Refused why.NotThere) = Some Missing
+note_opened name told = None
 
-abbrev pub reading_by : Option Source → NeedData → GotData → Option Source
-reading_by before (needs.File call) (came.Answered told) = reading_on before call told
-reading_by before due came = before
+abbrev pub note_created : Option Name → Answer → Option Work
+note_created (Some (Of BounceFile n)) (answer.Created fd number) = Some (Noting fd false)
+note_created name told = None
 
--- after a past, newest event first: from the open until a close, or until a read fails
-abbrev pub reading : List Own → Option Source
-reading [] = None
-reading (event ∷ before) = reading_by (reading before) event.due event.came
+abbrev pub note_synced : Option Work → Fd → Answer → Option Work
+note_synced None fd told = None
+note_synced (Some (Reading s)) fd told = Some (Reading s)
+note_synced (Some Missing) fd told = Some Missing
+note_synced (Some (Noting f synced)) fd answer.Done = Some (Noting f (fd.0 == f.0))
+note_synced (Some (Noting f synced)) fd told = Some (Noting f synced)
+
+abbrev pub work_on : (ℕ → Bool) → Option Work → CallData → Told → Option Work
+work_on late before (call.Open name how.Read) told = opened_as late (parse name) told.answer
+work_on late before (call.Open name how.Append) told = note_opened (parse name) told.answer
+work_on late before (call.CreateExcl name) told = note_created (parse name) told.answer
+work_on late before (call.ReadAt fd at len) told = read_more before fd at len told
+work_on late before (call.Sync fd) told = note_synced before fd told.answer
+work_on late before (call.Close fd) told = None
+work_on late before call told = before
+
+abbrev pub work_by : (ℕ → Bool) → Option Work → NeedData → GotData → Option Work
+work_by late before (needs.File call) (came.Answered told) = work_on late before call told
+work_by late before due came = before
+
+-- after a past, newest event first: from its open until a close, or until a read fails
+abbrev pub work : List Own → Option Work
+work [] = None
+work (event ∷ before) = work_by (λ n. is_late before n event.read) (work before) event.due event.came
 
 -- What an event is on a channel
 
@@ -109,6 +153,8 @@ pub data Happening : Type 0 where
   Reads : (tasks : List Task) → Happening
   -- a channel file was opened for a mark, or couldn't be
   Marks : Happening
+  -- the note of the first record to be marked couldn't be written
+  GivesUp : Happening
 
 abbrev pub taken : Port → Channel → GotData → Happening
 taken port.Lspawn Local (came.Took bytes) = Takes bytes
@@ -121,8 +167,8 @@ given port.Rspawn Remote (slot ∷ rest) came.Gave = Gives slot
 given p c text got = Nothing
 
 abbrev pub whole_of : Channel → Channel → Source → Happening
-whole_of Local Local s = Reads (tasks_in s.n s.bytes)
-whole_of Remote Remote s = Reads (tasks_in s.n s.bytes)
+whole_of Local Local s = Reads (tasks_in s.n s.dying s.bytes)
+whole_of Remote Remote s = Reads (tasks_in s.n s.dying s.bytes)
 whole_of other c s = Nothing
 
 -- a close of it comes after a read that brought fewer bytes than were asked for
@@ -133,26 +179,54 @@ abbrev pub closed_if : Bool → Source → Channel → Happening
 closed_if true s c = whole_of s.channel c s
 closed_if false s c = Nothing
 
-abbrev pub closed : Option Source → Fd → Channel → Happening
-closed None fd c = Nothing
-closed (Some s) fd c = closed_if (ends s fd) s c
+-- The mark of a note is the first one of the local channel, and if that has none the first one of the remote channel: what is to
+-- be marked of the local channel is told beside it.
+abbrev pub given_up : Channel → List Owed → Happening
+given_up Local owed = GivesUp
+given_up Remote [] = GivesUp
+given_up Remote (first ∷ rest) = Nothing
 
-abbrev pub opened : How → Option Name → Channel → Happening
-opened how.Write (Some (Of LocalFile n)) Local = Marks
-opened how.Write (Some (Of RemoteFile n)) Remote = Marks
-opened h name c = Nothing
+-- a bounce file that is closed without a sync after the note has no whole note
+abbrev pub note_closed : Bool → Channel → List Owed → Happening
+note_closed true c owed = Nothing
+note_closed false c owed = given_up c owed
 
-abbrev pub called : CallData → Option Source → Channel → Happening
-called (call.Close fd) s c = closed s fd c
-called (call.Open name h) s c = opened h (parse name) c
-called other s c = Nothing
+abbrev pub closed : Option Work → Fd → List Owed → Channel → Happening
+closed None fd owed c = Nothing
+closed (Some (Reading s)) fd owed c = closed_if (ends s fd) s c
+closed (Some Missing) fd owed c = Nothing
+closed (Some (Noting f synced)) fd owed c = note_closed synced c owed
 
--- with what was being read before it
-abbrev pub happening : NeedData → GotData → Option Source → Channel → Happening
-happening (needs.File call) got s c = called call s c
-happening (needs.Take p) got s c = taken p c got
-happening (needs.Give p text) got s c = given p c text got
-happening due got s c = Nothing
+-- a file was opened for writing, or couldn't be
+abbrev pub opened : Option Name → Channel → Happening
+opened (Some (Of LocalFile n)) Local = Marks
+opened (Some (Of RemoteFile n)) Remote = Marks
+opened name c = Nothing
+
+-- a bounce file couldn't be opened for a note, though it isn't missing, or couldn't be created; no other file is opened to append
+abbrev pub unopened_note : Answer → List Owed → Channel → Happening
+unopened_note (answer.Opened fd) owed c = Nothing
+unopened_note (answer.Refused why.NotThere) owed c = Nothing
+unopened_note told owed c = given_up c owed
+
+abbrev pub uncreated_note : Option Name → Answer → List Owed → Channel → Happening
+uncreated_note (Some (Of BounceFile n)) (answer.Created fd number) owed c = Nothing
+uncreated_note (Some (Of BounceFile n)) told owed c = given_up c owed
+uncreated_note name told owed c = Nothing
+
+abbrev pub called : CallData → Told → Option Work → List Owed → Channel → Happening
+called (call.Close fd) told s owed c = closed s fd owed c
+called (call.Open name how.Write) told s owed c = opened (parse name) c
+called (call.Open name how.Append) told s owed c = unopened_note told.answer owed c
+called (call.CreateExcl name) told s owed c = uncreated_note (parse name) told.answer owed c
+called other told s owed c = Nothing
+
+-- with the file that was at work before it, and what was to be marked of the local channel
+abbrev pub happening : NeedData → GotData → Option Work → List Owed → Channel → Happening
+happening (needs.File call) (came.Answered told) s owed c = called call told s owed c
+happening (needs.Take p) got s owed c = taken p c got
+happening (needs.Give p text) got s owed c = given p c text got
+happening due got s owed c = Nothing
 
 -- The account of a channel
 
@@ -165,8 +239,9 @@ pub record Account : Type 0 where
   pub to_give : List Task
   -- in each slot the record of which a request was given, and no report taken since
   pub in_flight : ℕ → Option Task
-  -- the records of which a K report was taken, in this order, without those whose files were opened for a mark
-  pub to_mark : List Task
+  -- the records of which a final report was taken, in this order, without those whose files were opened for a mark and those whose
+  -- note couldn't be written
+  pub to_mark : List Owed
 
 abbrev pub none_yet : Account
 none_yet = record { limit = 0; heard = None; to_give = []; in_flight = λ slot. None; to_mark = [] }
@@ -178,14 +253,17 @@ reports_in bytes = (read_on AtBegin bytes).0
 abbrev pub news : List ℕ → List ℕ → List Report
 news before bytes = drop (length (reports_in before)) (reports_in (before ++ bytes))
 
--- a K report leads to a mark
-abbrev pub mark_if : Bool → Task → List Task → List Task
-mark_if true t tasks = tasks ++ t ∷ []
-mark_if false t tasks = tasks
+-- a final report leads to a mark: K, D, and in a dying pass any other letter
+abbrev pub mark_if : Bool → Owed → List Owed → List Owed
+mark_if true it owed = owed ++ it ∷ []
+mark_if false it owed = owed
+
+abbrev pub owed_by : Task → Report → Owed
+owed_by t r = record { task = t; note = failure_in r }
 
 abbrev pub settle_by : Option Task → Report → Account → Account
 settle_by None r a = a
-settle_by (Some t) r a = record a { in_flight = put a.in_flight r.slot None; to_mark = mark_if (counted r.letter == 75) t a.to_mark }
+settle_by (Some t) r a = record a { in_flight = put a.in_flight r.slot None; to_mark = mark_if (is_final (counted r.letter) t.dying) (owed_by t r) a.to_mark }
 
 -- a report was taken: of the attempt in its slot, if one is in flight there
 abbrev pub settle : Report → Account → Account
@@ -209,10 +287,11 @@ account_by (Takes bytes) a = took a.heard bytes a
 account_by (Gives slot) a = record a { to_give = drop 1 a.to_give; in_flight = put a.in_flight slot (slice_get a.to_give 0) }
 account_by (Reads tasks) a = record a { to_give = tasks }
 account_by Marks a = record a { to_mark = drop 1 a.to_mark }
+account_by GivesUp a = record a { to_mark = drop 1 a.to_mark }
 
 -- Of a past, newest event first. When that file was read whole and a request for slot 0 given, c is still to be given and a in
--- flight in slot 0; after the bytes 0, `Kok`, NUL nothing is in flight and a is to be marked; after the open of the file for
--- writing none is to be marked.
+-- flight in slot 0; after the bytes 0, `Kok`, NUL nothing is in flight and a is to be marked; after the bytes 0, `Dno`, NUL a is to
+-- be marked after a note of `no`; after the open of the file for writing none is to be marked.
 abbrev pub account : Channel → List Own → Account
 account c [] = none_yet
-account c (event ∷ before) = account_by (happening event.due event.came (reading before) c) (account c before)
+account c (event ∷ before) = account_by (happening event.due event.came (work before) (account Local before).to_mark c) (account c before)

@@ -2,16 +2,18 @@
 -- comes from (`arrive`), what is done there (`step_of`, with the bytes `words_of`), and where what came of it leads (`act`).
 use Rattle.std.specs.Prelude.{ℕ, List, [], ◌∷◌, length, Bool, true, false, Option, Some, None, if◌then◌else◌, is_some, slice_get}
 use Rattle.address_rules.specs.declared.control_file.ControlFile.TheVariants.{Me}
+use Rattle.bounce_record.specs.declared.note_row.NoteRow.TheVariants as written
+use Rattle.bounce_record.specs.declared.return_row.ReturnRow.TheVariants as back
+use Rattle.bounce_record.specs.Returning.{bare, due_of_return}
+use Rattle.bounce_record.specs.Writing.{Writing, due_of_writing}
 use Rattle.call_fs.specs.declared.calls.How.TheVariants as how
 use Rattle.call_fs.specs.declared.past.GotData.{GotData}
 use Rattle.call_fs.specs.declared.past.NeedData.{NeedData}
 use Rattle.call_fs.specs.declared.past.Own.{Own}
-use Rattle.call_fs.specs.declared.program.Port.{Port}
-use Rattle.call_fs.specs.declared.program.Port.TheVariants as port
 use Rattle.call_fs.specs.declared.program.Ready.{Ready}
-use Rattle.queue_paths.specs.declared.names.Name.{Name}
 use Rattle.queue_paths.specs.declared.names.Name.TheVariants as name
 use Rattle.retry_schedule.specs.Due.{first_due}
+use Rattle.send_jobs.specs.declared.attempts.Failure.{Failure}
 use Rattle.send_jobs.specs.declared.attempts.Mark.{Mark}
 use Rattle.send_jobs.specs.declared.channels.Channel.{Channel}
 use Rattle.send_jobs.specs.declared.channels.Channel.TheVariants.{Local, Remote}
@@ -47,8 +49,9 @@ use Rattle.send_steps.specs.Rows.{finish_step, start_step, sweep_step}
 use Rattle.send_steps.specs.Start.{new_book, start_takes_memory}
 use Rattle.send_core.specs.Desk.{link, due_on, sweep_due, next_idle, ready}
 use Rattle.send_core.specs.Start.{started}
-use Rattle.send_core.specs.Turn.{act_mark, begun_at, file_read, in_todo, requested, took, todo_named, unlinked}
+use Rattle.send_core.specs.Turn.{act_mark, mark_takes_memory, begun_at, file_read, in_todo, requested, took, todo_named, unlinked}
 use Rattle.send_core.specs.Finish.{act_finish, act_sweep}
+pub use Rattle.send_jobs.specs.Channels.{port_of, file_of}
 
 -- Where a step comes from: between two steps, from the first point of the turn that has something to do, by this moment and by
 -- what is ready. Nothing is changed by it, so a later look may come out otherwise.
@@ -70,9 +73,17 @@ abbrev pub taking : Channel → Ready → Option Row
 taking c ready = if holds (slice_get ready.links (link_of c)) then Some (at.TakeLink c) else None
 
 -- 2: the mark of the first report that waits for one; of the local spawner they were taken first
+-- it begins at its note, if it has one
+abbrev pub begin_by : Option Failure → MarkRow
+begin_by None = mark.Open
+begin_by (Some failure) = mark.Note
+
+abbrev pub mark_begin : Mark → MarkRow
+mark_begin m = begin_by m.note
+
 abbrev pub marking_by : Channel → Option Mark → Option Row
 marking_by c None = None
-marking_by c (Some m) = Some (at.Mark mark.Open (record { channel = c; n = m.attempt.n; place = m.attempt.place }))
+marking_by c (Some m) = Some (at.Mark (mark_begin m) (record { channel = c; n = m.attempt.n; place = m.attempt.place }))
 
 abbrev pub marking : Channel → Desk → Option Row
 marking c d = marking_by c (slice_get (lane c d.slots).marks 0)
@@ -137,15 +148,9 @@ arrive row d now ready = row
 
 -- What is done there
 
-abbrev pub port_of : Channel → Port
-port_of Local = port.Lspawn
-port_of Remote = port.Rspawn
-
-abbrev pub file_of : Channel → ℕ → Name
-file_of Local n = name.Local n
-file_of Remote n = name.Remote n
-
 abbrev pub mark_step : MarkRow → Marked → Step
+mark_step mark.Note m = step.Open (name.Bounce m.n) how.Append
+mark_step mark.Noting m = step.Wait
 mark_step mark.Open m = step.Open (file_of m.channel m.n) how.Write
 mark_step (mark.Write fd) m = step.Mark fd m.place
 mark_step (mark.Close fd written) m = step.Close fd
@@ -188,6 +193,8 @@ words_of row d = []
 
 abbrev pub due_at : Row → Desk → NeedData
 due_at at.InTodo d = due_of_pass d.pass
+due_at (at.Mark mark.Noting m) d = due_of_writing d.note
+due_at (at.Finish finish.Return n) d = due_of_return d.bounce
 due_at row d = due_by (step_of row (length d.book.read)) (words_of row d)
 
 -- Where what came leads, at this row and this moment
@@ -200,22 +207,23 @@ abbrev pub act : Row → ℕ → GotData → Desk → Desk
 act (at.Start row) now came d = started row (said came) d
 act (at.Turn p) now came d = d
 act (at.TakeLink c) now came d = busy (took (said came).way (said came).bytes c d)
-act (at.Mark row m) now came d = act_mark row m (said came) d
+act (at.Mark row m) now came d = act_mark row m came d
 act (at.UnlinkFile c n p) now came d = unlinked (said came).way c n p now d
 act (at.ReadFile c n begun reading) now came d =
     busy (file_read (read_on reading (said came)) c n (begun_at reading begun now) reading now (said came) d)
 act (at.Request c) now came d = busy (requested (said came).way c d)
 act (at.FindTodo search) now came d = todo_named (said came).way (said came).bytes search now d
 act at.InTodo now came d = in_todo now came d
-act (at.Finish row n) now came d = act_finish row n now (said came) d
+act (at.Finish row n) now came d = act_finish row n now came d
 act (at.Sweep row) now came d = act_sweep row now (said came) d
 act (at.Ended status) now came d = d
 
 -- What comes of it may take memory, for what is kept or for a line of the log. Of a search it takes none, and of no step of a
--- mark or a sweep.
+-- sweep, nor of a mark except for its note.
 abbrev pub takes_memory : Row → Bool
 takes_memory (at.Start row) = start_takes_memory row
 takes_memory (at.TakeLink c) = true
+takes_memory (at.Mark row m) = mark_takes_memory row
 takes_memory (at.ReadFile c n begun reading) = true
 takes_memory (at.Request c) = true
 takes_memory at.InTodo = true
@@ -236,6 +244,10 @@ moved_by row now came d = ready (act row now came d)
 abbrev pub moved : Desk → Own → Desk
 moved d event = moved_by (row_now d event.read event.ready) event.read event.came d
 
+-- no note is written, and none is to be
+abbrev pub no_note : Writing
+no_note = record { n = 0; row = written.Written; text = [] }
+
 -- a sender of so many turns begins with the first control file
 abbrev pub begun : Option ℕ → Desk
 begun turns = record {
@@ -249,6 +261,8 @@ begun turns = record {
   busy = false;
   turns = turns;
   pass = pass_begun 0;
+  note = no_note;
+  bounce = bare 0 back.Over;
 }
 
 -- what it keeps after a past, newest event first

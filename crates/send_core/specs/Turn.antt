@@ -1,9 +1,16 @@
 -- Points 1 to 4 of the sender's turn: takings, the marks that reports lead to, passes, and preprocessing.
-use Rattle.std.specs.Prelude.{ℕ, List, ◌∷◌, ◌++◌, take, Bool, true, false, Option, Some, None, if◌then◌else◌}
+use Rattle.std.specs.Prelude.{ℕ, List, [], ◌∷◌, ◌++◌, take, Bool, true, false, Option, Some, None, if◌then◌else◌, slice_get}
+use Rattle.address_rules.specs.declared.controls.Controls.{Controls}
+use Rattle.bounce_record.specs.declared.note_row.NoteRow.{NoteRow}
+use Rattle.bounce_record.specs.declared.note_row.NoteRow.TheVariants as written
+use Rattle.bounce_record.specs.Notes.{late_report}
+use Rattle.bounce_record.specs.Writing.{Writing, writing_begun, written_on}
 use Rattle.call_fs.specs.declared.calls.Fd.{Fd}
 use Rattle.call_fs.specs.declared.past.GotData.{GotData}
 use Rattle.envelope_records.specs.declared.channel.Record.{Record}
 use Rattle.mail_bytes.specs.Decimal.{digits}
+use Rattle.send_jobs.specs.declared.attempts.Failure.{Failure}
+use Rattle.send_jobs.specs.declared.attempts.Mark.{Mark}
 use Rattle.send_jobs.specs.declared.channels.Channel.{Channel}
 use Rattle.send_jobs.specs.declared.channels.Channel.TheVariants.{Local, Remote}
 use Rattle.send_jobs.specs.Lanes.{mark_settled, left_unmarked}
@@ -13,11 +20,10 @@ use Rattle.send_known.specs.Messages.{learned}
 use Rattle.send_steps.specs.declared.reading.Progress.{Progress}
 use Rattle.send_steps.specs.declared.reading.Progress.TheVariants.{Goes, Whole, Missing, Failed}
 use Rattle.send_steps.specs.declared.reading.Reading.{Reading}
-use Rattle.send_steps.specs.declared.reading.Reading.TheVariants.{Opening}
 use Rattle.send_steps.specs.declared.reply.Way.{Way}
 use Rattle.send_steps.specs.declared.reply.Way.TheVariants as way
 use Rattle.send_steps.specs.Files.{message_number, records_of}
-use Rattle.send_steps.specs.Replies.{Said}
+use Rattle.send_steps.specs.Replies.{Said, said}
 use Rattle.todo_pass.specs.declared.row.Row.{Row as PassRow}
 use Rattle.todo_pass.specs.declared.row.Row.TheVariants as todo
 use Rattle.todo_pass.specs.Sorting.{has}
@@ -35,6 +41,9 @@ use Rattle.send_steps.specs.declared.rows.Search.TheVariants as searches
 use Rattle.send_core.specs.Desk.{goes, stands_at, later, due_again, done_with, closed, heard, is_free_for, has_begun, request_sent, past_todo}
 use Rattle.send_steps.specs.Rows.{is_again}
 use Rattle.send_steps.specs.Start.{kept}
+pub use Rattle.send_steps.specs.Readings.{begun_at}
+pub use Rattle.send_steps.specs.Replies.{is_fine}
+pub use Rattle.todo_pass.specs.Rows.{is_done}
 
 -- A link that ended, or from which a taking or to which a giving failed, ends the sender.
 abbrev pub lost : Channel → Row
@@ -54,10 +63,6 @@ took w bytes c d = goes d (lost c)
 -- 2. Reports: a mark opens the channel file, overwrites the letter by `D`, and closes it. If the open or the
 -- overwriting fails, the place stays `T`; a close after it changes nothing.
 
-abbrev pub is_fine : Way → Bool
-is_fine way.Fine = true
-is_fine w = false
-
 abbrev pub mark_over : Bool → Marked → Desk → Desk
 mark_over true m d = closed m.channel m.n point.Reports (record d { slots = at_lane m.channel mark_settled d.slots })
 mark_over false m d = closed m.channel m.n point.Reports (record d { slots = at_lane m.channel (left_unmarked m.n) (at_lane m.channel mark_settled d.slots) })
@@ -66,10 +71,45 @@ abbrev pub mark_opened : Way → Marked → Fd → Desk → Desk
 mark_opened way.Fine m fd d = goes d (at.Mark (mark.Write fd) m)
 mark_opened w m fd d = mark_over false m d
 
-abbrev pub act_mark : MarkRow → Marked → Said → Desk → Desk
-act_mark mark.Open m s d = mark_opened s.way m s.fd d
-act_mark (mark.Write fd) m s d = goes d (at.Mark (mark.Close fd (is_fine s.way)) m)
-act_mark (mark.Close fd written) m s d = mark_over written m d
+-- A note comes before the mark of a recipient that couldn't be delivered to; its steps are those of bounce_record. If one fails the
+-- place stays `T`.
+
+-- what a note says: the report, and if the message is too old that it isn't tried again
+abbrev pub told_report : Option Failure → List ℕ
+told_report None = []
+told_report (Some f) = if f.is_late then late_report f.report else f.report
+
+abbrev pub note_of : Option Mark → ℕ → Controls → Writing
+note_of None n controls = writing_begun controls n [] []
+note_of (Some m) n controls = writing_begun controls n m.attempt.address (told_report m.note)
+
+-- the note of the first mark of the channel
+abbrev pub begin_note : Marked → Desk → Desk
+begin_note m d = record d { note = note_of (slice_get (lane m.channel d.slots).marks 0) m.n d.book.controls }
+
+abbrev pub noted_at : NoteRow → Marked → Desk → Desk
+noted_at written.Written m d = goes d (at.Mark mark.Open m)
+noted_at written.Failed m d = mark_over false m d
+noted_at row m d = goes d (at.Mark mark.Noting m)
+
+abbrev pub noted : Marked → GotData → Desk → Desk
+noted m came d = let w = written_on d.note came in noted_at w.row m (record d { note = w })
+
+-- what came of the open of the bounce file
+abbrev pub note_opened : Marked → GotData → Desk → Desk
+note_opened m came d = noted m came (begin_note m d)
+
+abbrev pub act_mark : MarkRow → Marked → GotData → Desk → Desk
+act_mark mark.Note m came d = note_opened m came d
+act_mark mark.Noting m came d = noted m came d
+act_mark mark.Open m came d = mark_opened (said came).way m (said came).fd d
+act_mark (mark.Write fd) m came d = goes d (at.Mark (mark.Close fd (is_fine (said came).way)) m)
+act_mark (mark.Close fd written) m came d = mark_over written m d
+
+-- what comes of the open for a note takes memory, for the text of that
+abbrev pub mark_takes_memory : MarkRow → Bool
+mark_takes_memory mark.Note = true
+mark_takes_memory row = false
 
 -- the channel file of a job that left no place `T` is unlinked
 abbrev pub unlinked : Way → Channel → ℕ → Point → ℕ → Desk → Desk
@@ -77,11 +117,6 @@ unlinked way.Fine c n p now d = done_with c n (stands_at d p)
 unlinked w c n p now d = due_again c n (later now) (stands_at d p)
 
 -- 3. Passes
-
--- a pass begins when its channel file is opened
-abbrev pub begun_at : Reading → ℕ → ℕ → ℕ
-begun_at Opening begun now = now
-begun_at other begun now = begun
 
 -- one that can't begin is tried again later
 abbrev pub put_later : Channel → ℕ → ℕ → Desk → Desk
@@ -134,10 +169,6 @@ abbrev pub todo_on : PassRow → Pass → ℕ → Desk → Desk
 todo_on (todo.Left why) p now d = past_todo now (record d { pass = p; last_left = digits p.n })
 todo_on todo.Lost p now d = record d { row = at.Ended 81; pass = p }
 todo_on row p now d = record d { row = at.InTodo; pass = p }
-
-abbrev pub is_done : PassRow → Bool
-is_done todo.Done = true
-is_done row = false
 
 -- A pass is done when the cleaner answers `+`: its message is known, and due at once.
 abbrev pub todo_over : PassRow → Pass → ℕ → Desk → Desk

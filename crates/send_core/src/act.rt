@@ -6,15 +6,16 @@ ghost use Rattle.send_core.specs.Log.{lines_at};
 ghost use Rattle.send_core.specs.Table.{act, moved_by, takes_memory};
 
 use crate::finish::{act_finish, act_sweep};
-use crate::passes::{begun_at, file_read, requested};
-use crate::reports::{act_mark, took, unlinked};
+use crate::marks::act_mark;
+use crate::passes::{file_read, requested};
+use crate::reports::{took, unlinked};
 use crate::start::started;
 use crate::todo::{in_todo, todo_named};
 use crate::{Desk, Row};
 use call_fs::Got;
 use mail_bytes::Memory;
 use send_log::Log;
-use send_steps::reply_of;
+use send_steps::{begun_at, reply_of};
 use std::alloc::Global;
 
 /// What came at this row, at this moment; then the next request of each channel is for its lowest free slot. After an `Err`
@@ -62,7 +63,7 @@ fn act(
             took(desk, log, alloc, channel, &reply)?;
             desk.busy = true;
         }
-        Row::Mark(row, marked) => act_mark(desk, row, marked, &reply),
+        Row::Mark(row, marked) => act_mark(desk, alloc, row, marked, got)?,
         Row::UnlinkFile { channel, n, point } => {
             unlinked(desk, reply.way, channel, n, point, now);
         }
@@ -82,7 +83,7 @@ fn act(
         }
         Row::FindTodo(search) => todo_named(desk, alloc, search, now, &reply),
         Row::InTodo => in_todo(desk, log, alloc, now, got)?,
-        Row::Finish(row, n) => act_finish(desk, log, row, n, now, &reply)?,
+        Row::Finish(row, n) => act_finish(desk, log, alloc, row, n, now, got)?,
         Row::Sweep(row) => act_sweep(desk, row, now, &reply),
         Row::Turn(_) | Row::Ended(_) => {}
     }

@@ -1,15 +1,12 @@
 // Where a step comes from.
 ghost use Rattle.std.specs.Prelude.{◌≡◌};
 ghost use Rattle.std.specs.Option.{option_copied};
-ghost use Rattle.retry_schedule.specs.Due.{first_due};
-ghost use Rattle.send_core.specs.Desk.{due_on};
-ghost use Rattle.send_core.specs.Table.{beginning, finishing, from_begin, from_local, from_point, from_remote, from_reports, from_sweep, from_take, going_on, marking, marking_by, or_else, passing, row_now, sweeping, taking};
+ghost use Rattle.send_core.specs.Table.{beginning, finishing, from_begin, from_local, from_point, from_remote, from_reports, from_sweep, from_take, going_on, mark_begin, marking, marking_by, or_else, passing, row_now, sweeping, taking};
 
-use crate::desk::sweep_due;
 use crate::{Desk, MarkRow, Marked, Point, Row};
 use call_fs::Ready;
-use send_jobs::{Channel, Mark};
-use send_steps::{FinishRow, Reading, Search, SweepRow};
+use send_jobs::{Channel, Mark, first_due};
+use send_steps::{FinishRow, Reading, Search, SweepRow, sweep_due};
 
 /// The row at which a sender that keeps this is, at this moment and with this ready.
 pub fn row_now(desk: &Desk, now: u64, ready: &Ready) -> Row
@@ -126,8 +123,18 @@ fn marking_by(channel: Channel, first: Option<&Mark>) -> Option<Row>
         Some(mark) => {
             let (n, place) = (mark.attempt.n, mark.attempt.place);
             let marked = Marked { channel, n, place };
-            Some(Row::Mark(MarkRow::Open, marked))
+            Some(Row::Mark(mark_begin(mark), marked))
         }
+    }
+}
+
+/// Where a mark begins: at its note, if it has one.
+fn mark_begin(mark: &Mark) -> MarkRow
+    ensures { result ≡ mark_begin mark.now }
+{
+    match mark.note {
+        None => MarkRow::Open,
+        Some(_) => MarkRow::Note,
     }
 }
 
@@ -138,17 +145,7 @@ fn passing(channel: Channel, may: bool, desk: &Desk, now: u64) -> Option<Row>
     if desk.slots.next_place(channel).is_some() {
         going_on(channel, desk.slots.lowest_free(channel))
     } else {
-        beginning(channel, may, first_due(channel, desk, now))
-    }
-}
-
-/// The message that is due first on a channel.
-fn first_due(channel: Channel, desk: &Desk, now: u64) -> Option<(u64, u64)>
-    ensures { result ≡ first_due now (due_on channel desk.now.book.messages) }
-{
-    match channel {
-        Channel::Local => desk.book.messages.local.first(now),
-        Channel::Remote => desk.book.messages.remote.first(now),
+        beginning(channel, may, first_due(&desk.book.messages, channel, now))
     }
 }
 

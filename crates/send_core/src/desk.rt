@@ -1,19 +1,18 @@
 // What the sender keeps.
 ghost use Rattle.std.specs.Prelude.{◌≡◌};
-ghost use Rattle.mail_bytes.specs.Moments.{IsMoment};
-ghost use Rattle.send_core.specs.Desk.{moment_of, sweep_due};
 
 use crate::{Point, Row};
+use bounce_record::{BounceSender, NoteWriter};
 use envelope_records::Record;
-use mail_bytes::{LAST_MOMENT, Memory, NameBuf};
-use send_jobs::{Channel, Job, Slots, retry_at};
+use mail_bytes::{Memory, NameBuf};
+use send_jobs::{Channel, Job, Slots, due_then, retry};
 use send_known::NEVER;
-use send_steps::{Book, Link, Requests};
+use send_steps::{Book, Link, Requests, sweep_due};
 use std::alloc::Global;
 use todo_pass::Pass;
 
 /// What the sender keeps: where it stands, what it knows and has due, what is in flight, unmarked and still to be given, and
-/// what a search, a reading or a todo pass at work holds.
+/// what a search, a reading, a todo pass, a note or a return at work holds.
 #[derive(Drop)]
 pub struct Desk {
     /// Where it stands.
@@ -36,12 +35,16 @@ pub struct Desk {
     pub turns: Option<u64>,
     /// The todo pass at work, or the last one.
     pub pass: Pass,
+    /// The note at work, or the last one.
+    pub note: NoteWriter,
+    /// The return of a message at work, or the last one.
+    pub bounce: BounceSender,
 }
 
 impl Desk {
     ghost use Rattle.std.specs.Prelude.{◌≡◌, IsTrue, OnOk, OnErr};
     ghost use Rattle.send_jobs.specs.Sending.{lane};
-    ghost use Rattle.send_core.specs.Desk.{stands_at, link, with_requests, due_then, due_again, retry_of, retried, done_with, closed, closed_by, is_dying, has_begun, request_sent, ready_on, ready, next_idle, turn_over, turn_counted, past_finish, past_todo, never, is_free_for};
+    ghost use Rattle.send_core.specs.Desk.{stands_at, link, with_requests, retried, closed, closed_by, is_dying, has_begun, request_sent, ready_on, ready, next_idle, turn_over, turn_counted, past_finish, past_todo, never, is_free_for};
 
     /// Stands between two steps.
     pub fn stands_at(&mut self, point: Point)
@@ -70,49 +73,11 @@ impl Desk {
         }
     }
 
-    /// No job is on the message, and it is due then.
-    pub fn due_again(&mut self, channel: Channel, n: u64, due: u64)
-        ensures { self.new ≡ due_again channel n due self.old }
-    {
-        self.slots.end_job(channel, n);
-        self.due_then(channel, n, due);
-    }
-
-    /// A message that is due on the channel is due there then.
-    fn due_then(&mut self, channel: Channel, n: u64, due: u64)
-        ensures { self.new ≡ record self.old { book = record self.old.book { messages = due_then channel n due self.old.book.messages } } }
-    {
-        match channel {
-            Channel::Local => self.book.messages.local.reschedule(n, due),
-            Channel::Remote => self.book.messages.remote.reschedule(n, due),
-        }
-    }
-
-    /// The next retry of a message, reckoned at its pass's begin.
-    fn retry_of(&self, channel: Channel, n: u64, begun: u64) -> u64
-        ensures { result ≡ retry_of channel n begun self.now }
-    {
-        let birth = moment_of(self.book.messages.known.birth_of(n));
-        retry_at(channel, birth, moment_of(begun))
-    }
-
     /// A job that left a place `T` is over.
     pub fn retry(&mut self, channel: Channel, n: u64, begun: u64)
         ensures { self.new ≡ retried channel n begun self.old }
     {
-        let due = self.retry_of(channel, n, begun);
-        self.due_again(channel, n, due);
-    }
-
-    /// A job that left none `T` is over, and the channel file is gone.
-    pub fn done_with(&mut self, channel: Channel, n: u64)
-        ensures { self.new ≡ done_with channel n self.old }
-    {
-        self.slots.end_job(channel, n);
-        match channel {
-            Channel::Local => self.book.messages.local_gone(n),
-            Channel::Remote => self.book.messages.remote_gone(n),
-        }
+        retry(&mut self.slots, &mut self.book.messages, channel, n, begun);
     }
 
     /// After a place of a message's job was settled.
@@ -163,7 +128,7 @@ impl Desk {
         let dying = self.is_dying(n, begun);
         self.slots
             .begin_pass(alloc, channel, n, records, begun, dying)?;
-        self.due_then(channel, n, NEVER);
+        due_then(&mut self.book.messages, channel, n, NEVER);
         self.set_requests(channel, requests);
         Ok(())
     }
@@ -236,23 +201,5 @@ impl Desk {
         } else {
             self.turn_over();
         }
-    }
-}
-
-/// A moment that a clock may tell: one past the last counts as the last.
-fn moment_of(moment: u64) -> u64
-    ensures is { result ≡ moment_of moment }
-    ensures moment { IsMoment result }
-{
-    moment.min(LAST_MOMENT)
-}
-
-/// Whether a sweep is due.
-pub fn sweep_due(now: u64, last: Option<u64>) -> bool
-    ensures { result ≡ sweep_due now last }
-{
-    match last {
-        None => true,
-        Some(last) => last <= now && now - last >= 76_431,
     }
 }

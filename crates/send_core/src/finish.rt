@@ -1,44 +1,107 @@
-// Points 5 and 6 of a turn: the finish of a message, and the sweep. Of these rows only the last one of a finish takes memory,
-// for its line of the log.
+// Points 5 and 6 of a turn: the finish of a message, and the sweep. Of these rows the return of a message takes memory, and the
+// last one of a finish, for its line of the log.
 ghost use Rattle.std.specs.Prelude.{◌≡◌, ◌++◌, false, IsOk, OnOk, OnErr};
 ghost use Rattle.mail_bytes.specs.Moments.{IsMoment};
-ghost use Rattle.send_steps.specs.Lines.{finish_lines, finish_takes_memory};
+ghost use Rattle.send_steps.specs.Lines.{finish_takes_memory};
 ghost use Rattle.send_steps.specs.Replies.{said_of};
-ghost use Rattle.send_core.specs.Finish.{act_finish, act_sweep, busied, finish_at, sweep_at, sweep_begun};
+ghost use Rattle.bounce_record.specs.Lines.{return_lines};
+ghost use Rattle.bounce_record.specs.Rows.{takes_memory};
+ghost use Rattle.call_fs.specs.Program.{came_of};
+ghost use Rattle.send_core.specs.Log.{finish_lines_on};
+ghost use Rattle.send_core.specs.Finish.{act_finish, act_sweep, bounce_on, bounce_opened, finish_at, returned, returned_to, sweep_at, sweep_begun};
 
 use crate::{Desk, Row};
+use bounce_record::{ReturnRow, add_returned};
+use call_fs::Got;
 use mail_bytes::Memory;
 use send_log::Log;
-use send_steps::{FinishRow, Reply, SweepRow, add_finished, finish_to};
+use send_steps::{FinishRow, Reply, SweepRow, add_finished, finish_to, reply_of};
+use std::alloc::Global;
 
 /// What came at a row of the finish of a message. After an `Err` all is as before.
 pub fn act_finish(
     desk: &mut Desk,
     log: &mut Log,
+    alloc: Global,
     row: FinishRow,
     n: u64,
     now: u64,
-    reply: &Reply<'_>,
+    got: &Got<'_>,
 ) -> Result<(), Memory>
     requires { IsMoment now }
-    ensures ok { OnOk result (desk.new ≡ act_finish row n now (said_of reply.now) desk.old) }
-    ensures log { OnOk result (log.new.text ≡ log.old.text ++ finish_lines row n (said_of reply.now).way) }
+    ensures ok { OnOk result (desk.new ≡ act_finish row n now (came_of got.now) desk.old) }
+    ensures log { OnOk result (log.new.text ≡ log.old.text ++ finish_lines_on row n (came_of got.now) desk.old) }
     ensures memory { finish_takes_memory row ≡ false → IsOk result }
     ensures err { OnErr result (desk.new ≡ desk.old) }
     ensures quiet { OnErr result (log.new.text ≡ log.old.text) }
 {
-    add_finished(log, row, n, reply.way)?;
-    busied(desk, row);
-    finish_at(desk, finish_to(row, reply.way, reply.fd), n, now);
+    match row {
+        FinishRow::OpenBounce => bounce_opened(desk, alloc, n, now, got),
+        FinishRow::Return => returned(desk, log, alloc, n, now, got)?,
+        _ => {
+            let way = reply_of(got).way;
+            add_finished(log, row, n, way)?;
+            finish_at(desk, finish_to(row, way), n, now);
+        }
+    }
     Ok(())
 }
 
-/// The turn of a finish isn't an idle one.
-fn busied(desk: &mut Desk, row: FinishRow)
-    ensures { desk.new ≡ busied row desk.old }
+/// What came at the open of the bounce file: the return of the message begins with it. The turn isn't an idle one. Takes no
+/// memory.
+fn bounce_opened(desk: &mut Desk, alloc: Global, n: u64, now: u64, got: &Got<'_>)
+    requires { IsMoment now }
+    ensures { desk.new ≡ bounce_opened n now (came_of got.now) desk.old }
 {
-    if let FinishRow::OpenBounce = row {
-        desk.busy = true;
+    desk.busy = true;
+    desk.bounce.begin(alloc, n);
+    go_back(desk, alloc, n, now, got).unwrap();
+    let row = returned_to(desk.bounce.row());
+    finish_at(desk, row, n, now);
+}
+
+/// What came at a step of the return of the message. After an `Err` all is as before.
+fn returned(
+    desk: &mut Desk,
+    log: &mut Log,
+    alloc: Global,
+    n: u64,
+    now: u64,
+    got: &Got<'_>,
+) -> Result<(), Memory>
+    requires { IsMoment now }
+    ensures ok { OnOk result (desk.new ≡ returned n now (came_of got.now) desk.old) }
+    ensures log { OnOk result (log.new.text ≡ log.old.text ++ return_lines desk.old.bounce.row n (came_of got.now)) }
+    ensures err { OnErr result (desk.new ≡ desk.old) }
+    ensures quiet { OnErr result (log.new.text ≡ log.old.text) }
+{
+    add_returned(log, desk.bounce.row(), n, got)?;
+    go_back(desk, alloc, n, now, got)?;
+    let row = returned_to(desk.bounce.row());
+    finish_at(desk, row, n, now);
+    Ok(())
+}
+
+/// The return goes on by what came. After an `Err` all is as before.
+fn go_back(desk: &mut Desk, alloc: Global, n: u64, now: u64, got: &Got<'_>) -> Result<(), Memory>
+    requires { IsMoment now }
+    ensures ok { OnOk result (desk.new ≡ record desk.old { bounce = bounce_on n now (came_of got.now) desk.old.bounce desk.old.book }) }
+    ensures memory { takes_memory desk.old.bounce.row ≡ false → IsOk result }
+    ensures err { OnErr result (desk.new ≡ desk.old) }
+{
+    let sender = desk.book.messages.known.sender_of(n);
+    desk.bounce
+        .done(alloc, &desk.book.controls, sender, now, got)
+}
+
+/// Where the finish then stands: a message that was returned, or that has no bounce file, goes on to the unlink of its info file.
+fn returned_to(row: ReturnRow) -> FinishRow
+    ensures { result ≡ returned_to row }
+{
+    match row {
+        ReturnRow::Over => FinishRow::UnlinkInfo,
+        ReturnRow::Failed => FinishRow::Later,
+        _ => FinishRow::Return,
     }
 }
 

@@ -7,7 +7,7 @@
 //! start), `specs/Turn.antt` (takings, reports, passes and preprocessing) and `specs/Finish.antt` (finish and sweep); the
 //! rows of start, finish and sweep stand in send_steps. The log is in `specs/Log.antt`. What follows for a whole run, from its
 //! past alone, is in `specs/Laws.antt`: which attempts are in flight, of which record each request is, and for which report each
-//! mark is made.
+//! note is written and each mark is made.
 #![tactic(auto)]
 
 mod act;
@@ -15,8 +15,8 @@ mod arrive;
 mod desk;
 mod finish;
 mod laws;
-mod lines;
 mod machine;
+mod marks;
 mod passes;
 mod reports;
 mod row;
@@ -26,6 +26,8 @@ mod steps;
 mod todo;
 
 pub use desk::Desk;
-pub use laws::{lanes_are_accounts, marks_are_of_reports, requests_are_of_records};
+pub use laws::{
+    lanes_are_accounts, marks_are_of_reports, notes_are_of_reports, requests_are_of_records,
+};
 pub use row::{MarkRow, Marked, Point, Row};
 pub use sender::Sender;

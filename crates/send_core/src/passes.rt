@@ -1,5 +1,5 @@
 // Point 3 of a turn: passes and requests.
-ghost use Rattle.std.specs.Prelude.{◌≡◌, ◌≤◌, ◌++◌, OnOk, OnErr};
+ghost use Rattle.std.specs.Prelude.{◌≡◌, ◌++◌, OnOk, OnErr};
 ghost use Rattle.std.specs.Option.{option_map};
 ghost use Rattle.mail_bytes.specs.Moments.{IsMoment};
 ghost use Rattle.send_jobs.specs.Lanes.{next};
@@ -7,16 +7,15 @@ ghost use Rattle.send_jobs.specs.Sending.{lane};
 ghost use Rattle.send_steps.specs.Lines.{if_fine};
 ghost use Rattle.send_steps.specs.Readings.{read_on};
 ghost use Rattle.send_steps.specs.Replies.{said_of};
-ghost use Rattle.send_core.specs.Desk.{is_free_for};
-ghost use Rattle.send_core.specs.Log.{request_lines, status_if};
-ghost use Rattle.send_core.specs.Turn.{begun_at, file_read, pass_opened, put_later, requested};
+ghost use Rattle.send_core.specs.Log.{request_lines};
+ghost use Rattle.send_core.specs.Turn.{file_read, pass_opened, put_later, requested};
 
 use crate::reports::lost;
 use crate::{Desk, Point, Row};
 use envelope_records::Record;
 use mail_bytes::Memory;
-use send_jobs::{Channel, Slots, put_starting, put_status};
-use send_log::{LINE_ROOM, Log};
+use send_jobs::{Channel, due_again, put_starting, status_if};
+use send_log::Log;
 use send_steps::{Progress, Reading, Reply, Way, keep, read_on, records_in};
 use std::alloc::Global;
 
@@ -55,16 +54,6 @@ pub fn file_read(
     Ok(())
 }
 
-/// When a pass began: at the open of its channel file.
-pub fn begun_at(reading: Reading, begun: u64, now: u64) -> u64
-    ensures { result ≡ begun_at reading begun now }
-{
-    match reading {
-        Reading::Opening => now,
-        _ => begun,
-    }
-}
-
 /// A channel file was read to its end. After an `Err` all is as before.
 fn pass_opened(
     desk: &mut Desk,
@@ -82,7 +71,7 @@ fn pass_opened(
     match records {
         None => put_later(desk, channel, n, now),
         Some(records) => {
-            if is_free_for(&desk.slots, channel, n) {
+            if desk.slots.is_free_for(channel, n) {
                 desk.begin(alloc, channel, n, begun, &records)?;
                 desk.close(channel, n, Point::Pass(channel, false));
             } else {
@@ -93,20 +82,19 @@ fn pass_opened(
     Ok(())
 }
 
-/// Whether no pass is open on the channel, and no attempt at the message is in flight there.
-fn is_free_for(slots: &Slots, channel: Channel, n: u64) -> bool
-    ensures { result ≡ is_free_for n (lane channel slots.now) }
-{
-    slots.next_place(channel).is_none() && slots.finished(channel, n)
-}
-
 /// A pass can't begin: it is tried again later.
 fn put_later(desk: &mut Desk, channel: Channel, n: u64, now: u64)
     requires { IsMoment now }
     ensures { desk.new ≡ put_later channel n now desk.old }
 {
     desk.stands_at(Point::Pass(channel, false));
-    desk.due_again(channel, n, now + 123);
+    due_again(
+        &mut desk.slots,
+        &mut desk.book.messages,
+        channel,
+        n,
+        now + 123,
+    );
 }
 
 /// A request was given, or its link is lost. After an `Err` all is as before.
@@ -127,14 +115,4 @@ pub fn requested(desk: &mut Desk, log: &mut Log, way: Way, channel: Channel) -> 
         _ => desk.row = lost(channel),
     }
     Ok(())
-}
-
-/// Puts the line of what is in flight, if a request was given. The condition: there is room for it.
-fn status_if(log: &mut Log, given: bool, slots: &Slots)
-    requires { LINE_ROOM ≤ log.old.room }
-    ensures { log.new.text ≡ log.old.text ++ status_if given slots.now }
-{
-    if given {
-        put_status(log, slots);
-    }
 }

@@ -1,4 +1,4 @@
-// Points 1 and 2 of a turn: what the spawners report, and the marks that it leads to.
+// Points 1 and 2 of a turn: what the spawners report, and where it leads.
 ghost use Rattle.std.specs.Prelude.{◌≡◌, ◌≤◌, ◌+◌, ◌++◌, OnOk, OnErr};
 ghost use Rattle.mail_bytes.specs.Moments.{IsMoment};
 ghost use Rattle.send_jobs.specs.Lines.{settled_room};
@@ -6,12 +6,13 @@ ghost use Rattle.send_steps.specs.Lines.{if_fine, reports_room};
 ghost use Rattle.send_steps.specs.Replies.{said_of};
 ghost use Rattle.send_core.specs.Desk.{deferred, heard, retried_if, settle, told, told_all, with_reader};
 ghost use Rattle.send_core.specs.Log.{report_lines_on, taken_lines, told_lines};
-ghost use Rattle.send_core.specs.Turn.{act_mark, after_take, is_fine, lost, mark_opened, mark_over, took, unlinked};
+ghost use Rattle.send_core.specs.Turn.{after_take, lost, took, unlinked};
 
-use crate::{Desk, MarkRow, Marked, Point, Row};
-use call_fs::Fd;
+use crate::{Desk, Point, Row};
 use mail_bytes::Memory;
-use send_jobs::{Attempt, Channel, Job, Mark, put_settled};
+use send_jobs::{
+    Attempt, Channel, Job, Mark, done_with, due_again, failure_in, is_final, put_settled,
+};
 use send_log::{Line, Log};
 use send_steps::{Reply, Way, make_room};
 use spawn_protocol::{Report, ReportReader};
@@ -77,7 +78,7 @@ fn hear(
     let heard = desk.link(channel).reader.hear(alloc, bytes)?;
     make_room(log, &heard.reports)?;
     set_reader(desk, channel, heard.reader);
-    tell_all(desk, log, channel, &heard.reports);
+    tell_all(desk, log, channel, heard.reports);
     Ok(())
 }
 
@@ -92,10 +93,10 @@ fn set_reader(desk: &mut Desk, channel: Channel, reader: ReportReader)
 }
 
 /// Reports were taken. The condition: there is room for their lines.
-fn tell_all(desk: &mut Desk, log: &mut Log, channel: Channel, reports: &[Report])
-    requires { reports_room reports.now ≤ log.old.room }
-    ensures desk { desk.new ≡ told_all channel reports.now desk.old }
-    ensures log { log.new.text ≡ log.old.text ++ told_lines channel reports.now desk.old }
+fn tell_all(desk: &mut Desk, log: &mut Log, channel: Channel, reports: Vec<Report>)
+    requires { reports_room reports.items ≤ log.old.room }
+    ensures desk { desk.new ≡ told_all channel reports.items desk.old }
+    ensures log { log.new.text ≡ log.old.text ++ told_lines channel reports.items desk.old }
 {
     for report in reports {
         tell(desk, log, channel, report);
@@ -103,11 +104,11 @@ fn tell_all(desk: &mut Desk, log: &mut Log, channel: Channel, reports: &[Report]
 }
 
 /// A report was taken: of the attempt in its slot, if one is in flight there. The condition: there is room for its lines.
-fn tell(desk: &mut Desk, log: &mut Log, channel: Channel, report: &Report)
-    requires { settled_room report.now.text ≤ log.old.room }
-    ensures desk { desk.new ≡ told channel report.now desk.old }
-    ensures log { log.new.text ≡ log.old.text ++ report_lines_on channel report.now desk.old }
-    ensures room { log.old.room ≤ log.new.room + settled_room report.now.text }
+fn tell(desk: &mut Desk, log: &mut Log, channel: Channel, report: Report)
+    requires { settled_room report.text ≤ log.old.room }
+    ensures desk { desk.new ≡ told channel report desk.old }
+    ensures log { log.new.text ≡ log.old.text ++ report_lines_on channel report desk.old }
+    ensures room { log.old.room ≤ log.new.room + settled_room report.text }
 {
     match desk.slots.report(channel, report.slot) {
         Ok(attempt) => {
@@ -118,18 +119,18 @@ fn tell(desk: &mut Desk, log: &mut Log, channel: Channel, report: &Report)
                 report.text.as_slice(),
                 &desk.slots,
             );
-            settle(desk, report.counts_as() == b'K', channel, attempt);
+            settle(desk, channel, attempt, report);
         }
         Err(_) => log.put(&Line::StrayReport { slot: report.slot }),
     }
 }
 
 /// The place of an attempt that is in flight no more is to be marked, or stays `T`.
-fn settle(desk: &mut Desk, delivered: bool, channel: Channel, attempt: Attempt)
-    ensures { desk.new ≡ settle delivered channel attempt desk.old }
+fn settle(desk: &mut Desk, channel: Channel, attempt: Attempt, report: Report)
+    ensures { desk.new ≡ settle report channel attempt desk.old }
 {
-    if delivered && desk.slots.marks(channel).len() < 120 {
-        let note = None;
+    if is_final(report.counts_as(), attempt.dying) && desk.slots.marks(channel).len() < 120 {
+        let note = failure_in(report);
         desk.slots.add_mark(channel, Mark { attempt, note });
     } else {
         defer(desk, channel, attempt.n);
@@ -154,50 +155,6 @@ fn retry_if(desk: &mut Desk, over: Option<Job>, channel: Channel, n: u64)
     }
 }
 
-/// What came at a row of a mark.
-pub fn act_mark(desk: &mut Desk, row: MarkRow, marked: Marked, reply: &Reply<'_>)
-    ensures { desk.new ≡ act_mark row marked (said_of reply.now) desk.old }
-{
-    match row {
-        MarkRow::Open => mark_opened(desk, reply.way, marked, reply.fd),
-        MarkRow::Write(fd) => {
-            desk.row = Row::Mark(MarkRow::Close(fd, is_fine(reply.way)), marked);
-        }
-        MarkRow::Close(_, written) => mark_over(desk, written, marked),
-    }
-}
-
-/// The channel file was opened for a mark, or couldn't be.
-fn mark_opened(desk: &mut Desk, way: Way, marked: Marked, fd: Fd)
-    ensures { desk.new ≡ mark_opened way marked fd desk.old }
-{
-    match way {
-        Way::Fine => desk.row = Row::Mark(MarkRow::Write(fd), marked),
-        _ => mark_over(desk, false, marked),
-    }
-}
-
-/// A mark was made, or was given up.
-fn mark_over(desk: &mut Desk, written: bool, marked: Marked)
-    ensures { desk.new ≡ mark_over written marked desk.old }
-{
-    desk.slots.settle_mark(marked.channel);
-    if !written {
-        desk.slots.leave_unmarked(marked.channel, marked.n);
-    }
-    desk.close(marked.channel, marked.n, Point::Reports);
-}
-
-/// Whether it was done.
-fn is_fine(way: Way) -> bool
-    ensures { result ≡ is_fine way }
-{
-    match way {
-        Way::Fine => true,
-        _ => false,
-    }
-}
-
 /// The channel file of a job that left no place `T` was unlinked, or couldn't be.
 pub fn unlinked(desk: &mut Desk, way: Way, channel: Channel, n: u64, point: Point, now: u64)
     requires { IsMoment now }
@@ -205,7 +162,13 @@ pub fn unlinked(desk: &mut Desk, way: Way, channel: Channel, n: u64, point: Poin
 {
     desk.stands_at(point);
     match way {
-        Way::Fine => desk.done_with(channel, n),
-        _ => desk.due_again(channel, n, now + 123),
+        Way::Fine => done_with(&mut desk.slots, &mut desk.book.messages, channel, n),
+        _ => due_again(
+            &mut desk.slots,
+            &mut desk.book.messages,
+            channel,
+            n,
+            now + 123,
+        ),
     }
 }

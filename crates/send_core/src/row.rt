@@ -32,9 +32,13 @@ pub struct Marked {
     pub place: u64,
 }
 
-/// The steps of a mark.
+/// The steps of a mark, and of the note that is written before it if the recipient couldn't be delivered to.
 #[derive(Clone, Copy)]
 pub enum MarkRow {
+    /// Opens the bounce file, to put a note at its end.
+    Note,
+    /// Writes the note: at the step of that.
+    Noting,
     /// Opens the channel file for writing.
     Open,
     /// Overwrites the letter by `D`.

@@ -11,13 +11,14 @@ ghost use Rattle.send_core.specs.Table.{Next, begun, due_at, takes_memory};
 use crate::act::go_on;
 use crate::arrive::row_now;
 use crate::steps::{step_of, words_of};
-use crate::{Desk, Point, Row};
+use crate::{Desk, MarkRow, Point, Row};
 use address_rules::ControlFile;
+use bounce_record::{BounceSender, NoteWriter};
 use call_fs::{Got, Need, Ready};
 use mail_bytes::{Memory, NameBuf};
 use send_jobs::{Channel, Marks, Slots};
 use send_log::Log;
-use send_steps::{Book, Link, NamedStep, Reading, StartRow};
+use send_steps::{Book, FinishRow, Link, NamedStep, Reading, StartRow};
 use std::alloc::Global;
 use std::marker::Model;
 use todo_pass::Pass;
@@ -109,6 +110,8 @@ impl Sender {
     {
         match row {
             Row::InTodo => self.desk.pass.need(),
+            Row::Mark(MarkRow::Noting, _) => self.desk.note.need(),
+            Row::Finish(FinishRow::Return, _) => self.desk.bounce.need(),
             row => self.step.need(words_of(row, &self.desk)),
         }
     }
@@ -146,7 +149,8 @@ impl Sender {
         matches!(self.desk.row, Row::Turn(Point::TakeLocal) | Row::Ended(_))
     }
 
-    /// The marks that are to be made on a channel, in order: those of the K reports that were taken and not acted upon yet.
+    /// The marks that are to be made on a channel, in order: those of the reports that were taken and not acted
+    /// upon yet, each with what is noted before it.
     pub fn marks(&self, channel: Channel) -> &Marks
         ensures { result.now ≡ (lane channel self.now.desk.slots).marks }
     {
@@ -205,5 +209,7 @@ fn new_desk(alloc: Global, turns: Option<u64>) -> Result<Desk, Memory>
         busy: false,
         turns,
         pass: Pass::new(alloc, 0)?,
+        note: NoteWriter::idle(alloc),
+        bounce: BounceSender::idle(alloc),
     })
 }

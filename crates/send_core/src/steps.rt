@@ -1,36 +1,17 @@
 // What is done at a row.
 ghost use Rattle.std.specs.Prelude.{◌≡◌};
-ghost use Rattle.send_core.specs.Table.{file_of, mark_step, port_of, search_words, start_words, step_of, sweep_words, words_of};
+ghost use Rattle.send_core.specs.Table.{mark_step, search_words, start_words, step_of, sweep_words, words_of};
 
 use crate::{Desk, MarkRow, Marked, Row};
-use call_fs::{How, Port};
+use call_fs::How;
 use queue_paths::Name;
-use send_jobs::Channel;
+use send_jobs::{file_of, port_of};
 use send_steps::{
     Dir, Search, StartRow, Step, SweepRow, finish_step, reading_step, start_step, sweep_step,
 };
 
-/// The port of the spawner of a channel.
-fn port_of(channel: Channel) -> Port
-    ensures { result ≡ port_of channel }
-{
-    match channel {
-        Channel::Local => Port::Lspawn,
-        Channel::Remote => Port::Rspawn,
-    }
-}
-
-/// The channel file of a message.
-fn file_of(channel: Channel, n: u64) -> Name
-    ensures { result ≡ file_of channel n }
-{
-    match channel {
-        Channel::Local => Name::Local(n),
-        Channel::Remote => Name::Remote(n),
-    }
-}
-
-/// What is done at a row, and how much the reading at work has read. At a row of the todo pass the pass itself says it.
+/// What is done at a row, and how much the reading at work has read. At a row of the todo pass, of a
+/// note or of a return that itself says it.
 pub fn step_of(row: Row, read: u64) -> Step
     ensures { result ≡ step_of row read }
 {
@@ -59,6 +40,8 @@ fn mark_step(row: MarkRow, marked: Marked) -> Step
     ensures { result ≡ mark_step row marked }
 {
     match row {
+        MarkRow::Note => Step::Open(Name::Bounce(marked.n), How::Append),
+        MarkRow::Noting => Step::Wait,
         MarkRow::Open => Step::Open(file_of(marked.channel, marked.n), How::Write),
         MarkRow::Write(fd) => Step::Mark(fd, marked.place),
         MarkRow::Close(fd, _) => Step::Close(fd),

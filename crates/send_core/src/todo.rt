@@ -1,22 +1,21 @@
 // Point 4 of a turn: preprocessing.
-ghost use Rattle.std.specs.Prelude.{◌≡◌, ◌≤◌, ◌++◌, OnOk, OnErr, IfOk};
+ghost use Rattle.std.specs.Prelude.{◌≡◌, ◌++◌, OnOk, OnErr, IfOk};
 ghost use Rattle.call_fs.specs.Program.{came_of};
 ghost use Rattle.send_steps.specs.Replies.{said_of};
 ghost use Rattle.send_known.specs.Messages.{learned};
 ghost use Rattle.todo_pass.specs.declared.row.Row.TheVariants as todo;
 ghost use Rattle.todo_pass.specs.Table.{answer_row, moved};
 ghost use Rattle.send_core.specs.Log.{left_lines, over_lines, pass_lines};
-ghost use Rattle.send_core.specs.Turn.{in_todo, is_done, known_of, todo_found, todo_named, todo_none, todo_on, todo_over};
+ghost use Rattle.send_core.specs.Turn.{in_todo, known_of, todo_found, todo_named, todo_none, todo_on, todo_over};
 
-use crate::lines::{put_queued, queued_room};
 use crate::{Desk, Row};
 use call_fs::Got;
 use mail_bytes::{ByteText, Memory};
 use send_known::Known;
-use send_log::{LINE_ROOM, Line, Log};
+use send_log::{LINE_ROOM, Log};
 use send_steps::{Reply, Search, Way, hold, message_number, number_text};
 use std::alloc::Global;
-use todo_pass::{Pass, Row as PassRow};
+use todo_pass::{Pass, Row as PassRow, is_plus, put_left, put_queued, queued_room};
 
 /// A search of `todo`. Takes no memory.
 pub fn todo_named(desk: &mut Desk, alloc: Global, search: Search, now: u64, reply: &Reply<'_>)
@@ -103,18 +102,6 @@ fn worked(
     Ok(())
 }
 
-/// Puts the line of a pass that is left. The condition: there is room for it.
-fn put_left(log: &mut Log, pass: &Pass)
-    requires { LINE_ROOM ≤ log.old.room }
-    ensures { log.new.text ≡ log.old.text ++ left_lines pass.now.row pass.now }
-{
-    if let PassRow::Left { .. } = pass.row() {
-        log.put(&Line::Left {
-            message: pass.number(),
-        });
-    }
-}
-
 /// The todo pass made a step: it may be left, or the link to the cleaner may be lost.
 fn goes_on(desk: &mut Desk, now: u64)
     ensures { desk.new ≡ todo_on desk.old.pass.row desk.old.pass now desk.old }
@@ -155,16 +142,6 @@ fn answered(
         Ok(())
     } else {
         worked(desk, log, alloc, now, got)
-    }
-}
-
-/// Whether the cleaner answered `+`.
-fn is_plus(got: &Got<'_>) -> bool
-    ensures { result ≡ is_done (answer_row (came_of got.now)) }
-{
-    match got {
-        Got::Took(bytes) => *bytes == b"+".as_slice(),
-        _ => false,
     }
 }
 

@@ -1,6 +1,6 @@
 -- One channel of the sender: what the open pass has still to give, what is in flight, which marks are to be made, and the
 -- jobs; and what each call does to it.
-use Rattle.std.specs.Prelude.{ℕ, ◌+◌, ◌≤◌, min, List, [], ◌∷◌, ◌++◌, length, drop, replicate, set, Bool, not, ◌&&◌, Option, Some, None, if◌then◌else◌, slice_get, is_some, count_by}
+use Rattle.std.specs.Prelude.{ℕ, ◌+◌, ◌≤◌, min, List, [], ◌∷◌, ◌++◌, length, drop, replicate, set, Bool, not, ◌&&◌, Option, Some, None, if◌then◌else◌, slice_get, is_some, is_none, count_by}
 use Rattle.std.specs.List.{list_any}
 use Rattle.envelope_records.specs.declared.channel.Record.{Record}
 use Rattle.send_jobs.specs.declared.attempts.Attempt.{Attempt}
@@ -53,6 +53,10 @@ is_in_flight n lane = list_any (is_on n) lane.slots
 -- each place of the message's pass was reported
 abbrev pub finished : ℕ → Lane → Bool
 finished n lane = not (is_open_on n lane) && not (is_in_flight n lane)
+
+-- none is open on the channel, and no attempt at the message is in flight there
+abbrev pub is_free_for : ℕ → Lane → Bool
+is_free_for n lane = is_none (next lane) && finished n lane
 
 -- one mark more is to be made, after the others
 abbrev pub owes : Mark → Lane → Lane

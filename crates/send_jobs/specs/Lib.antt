@@ -12,5 +12,11 @@ pub mod Lanes
 pub mod Sending
 -- runs of calls, and what holds after each
 pub mod Runs
+-- which reports are final, and what is noted then
+pub mod Failures
+-- when messages are tried again on a channel
+pub mod Tries
 -- the lines of the log that speak of deliveries
 pub mod Lines
+-- what a sender did of which its books tell
+pub mod Bookings

@@ -1,5 +1,5 @@
 -- The lines of the log that speak of deliveries (qmail-log(5)).
-use Rattle.std.specs.Prelude.{ℕ, ◌+◌, List, [], ◌++◌, length, Option, Some, None, codes}
+use Rattle.std.specs.Prelude.{ℕ, ◌+◌, List, [], ◌++◌, length, Bool, true, false, Option, Some, None, codes}
 use Rattle.send_log.specs.declared.lines.TheConstants.{LINE_ROOM}
 use Rattle.send_log.specs.Lines.{delivered, outcome_of, starting, status}
 use Rattle.send_jobs.specs.declared.attempts.Attempt.{Attempt}
@@ -12,6 +12,11 @@ use Rattle.send_jobs.specs.Sending.{next_delivery}
 -- what is in flight, and how many deliveries may be
 abbrev pub status_line : Slots → List ℕ
 status_line s = status (in_flight s.local) (length s.local.slots) (in_flight s.remote) (length s.remote.slots)
+
+-- if a request was given
+abbrev pub status_if : Bool → Slots → List ℕ
+status_if true s = status_line s
+status_if false s = []
 
 abbrev pub channel_word : Channel → List ℕ
 channel_word Local = codes "local"

@@ -1,6 +1,9 @@
 // Attempts, and the marks that their reports lead to.
+ghost use Rattle.std.specs.Prelude.{◌≡◌};
+ghost use Rattle.send_jobs.specs.Failures.{failure_in, is_final};
 
 use mail_bytes::ByteText;
+use spawn_protocol::Report;
 
 /// An attempt at a recipient of a message.
 #[derive(Debug, Drop)]
@@ -17,11 +20,41 @@ pub struct Attempt {
     pub address: ByteText,
 }
 
+/// What a note says of a recipient that couldn't be delivered to.
+#[derive(Debug, Drop)]
+pub struct Failure {
+    /// The text of the report, as it was taken.
+    pub report: ByteText,
+    /// Whether the note adds that the message is too old to be tried again: the report was of a temporary failure.
+    pub is_late: bool,
+}
+
 /// A mark that is to be made: a report has come, and the record of its attempt is to become `D`.
 #[derive(Debug, Drop)]
 pub struct Mark {
     /// The attempt that was reported.
     pub attempt: Attempt,
-    /// What a note says of it before the mark is made; `None` if the recipient was delivered to.
-    pub note: Option<ByteText>,
+    /// What is noted before the mark is made; `None` if the recipient was delivered to.
+    pub note: Option<Failure>,
+}
+
+/// Whether a recipient of which this letter was reported, in a pass that is dying or not, isn't tried again.
+pub fn is_final(letter: u8, dying: bool) -> bool
+    ensures { result ≡ is_final letter dying }
+{
+    letter == b'K' || letter == b'D' || dying
+}
+
+/// What is noted of a recipient that isn't tried again after this report.
+pub fn failure_in(report: Report) -> Option<Failure>
+    ensures { result ≡ failure_in report }
+{
+    let letter = report.counts_as();
+    if letter == b'K' {
+        return None;
+    }
+    Some(Failure {
+        report: report.text,
+        is_late: letter != b'D',
+    })
 }

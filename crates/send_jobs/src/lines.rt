@@ -1,7 +1,7 @@
 // The lines of the log that speak of deliveries.
 ghost use Rattle.std.specs.Prelude.{◌≡◌, ◌≤◌, ◌+◌, ◌++◌, length, is_some, IfOk, OnOk, OnErr};
 ghost use Rattle.send_jobs.specs.Lanes.{in_flight, next};
-ghost use Rattle.send_jobs.specs.Lines.{channel_word, settled_lines, settled_room, starting_if, status_line};
+ghost use Rattle.send_jobs.specs.Lines.{channel_word, settled_lines, settled_room, starting_if, status_if, status_line};
 ghost use Rattle.send_jobs.specs.Sending.{lane};
 ghost use Rattle.send_log.specs.Lines.{address_of, channel_of};
 
@@ -19,6 +19,16 @@ pub fn put_status(log: &mut Log, slots: &Slots)
         local: load(slots, Channel::Local),
         remote: load(slots, Channel::Remote),
     });
+}
+
+/// Puts the line of what is in flight, if a request was given. The condition: there is room for it.
+pub fn status_if(log: &mut Log, given: bool, slots: &Slots)
+    requires { LINE_ROOM ≤ log.old.room }
+    ensures { log.new.text ≡ log.old.text ++ status_if given slots.now }
+{
+    if given {
+        put_status(log, slots);
+    }
 }
 
 /// What is in flight, and how many deliveries may be, of one channel.

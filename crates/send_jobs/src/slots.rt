@@ -32,7 +32,7 @@ impl Slots {
     ghost use Rattle.send_jobs.specs.declared.slots.Slots.{Slots};
     ghost use Rattle.send_jobs.specs.Slots.{attempt_in, lowest, IsLeastFree};
     ghost use Rattle.send_jobs.specs.Jobs.{job_of};
-    ghost use Rattle.send_jobs.specs.Lanes.{begun_by, next, sent, reported, in_flight, is_in_flight, finished, owes, mark_settled, left_unmarked, job_over, ended, IsRoomy};
+    ghost use Rattle.send_jobs.specs.Lanes.{begun_by, next, sent, reported, in_flight, is_in_flight, finished, is_free_for, owes, mark_settled, left_unmarked, job_over, ended, IsRoomy};
     ghost use Rattle.send_jobs.specs.Sending.{lane, at_lane, none_out, next_delivery, sent_on};
 
     /// Nothing is out. `limits` says how many local and how many remote slots there are; more than `MAX_SLOTS` count as
@@ -193,6 +193,13 @@ impl Slots {
         ensures { result ≡ finished n (lane channel self.now) }
     {
         self.lane(channel).is_finished(n)
+    }
+
+    /// Whether no pass is open on the channel, and no attempt at message n is in flight there. Takes no memory.
+    pub fn is_free_for(&self, channel: Channel, n: u64) -> bool
+        ensures { result ≡ is_free_for n (lane channel self.now) }
+    {
+        self.next_place(channel).is_none() && self.finished(channel, n)
     }
 
     /// The marks that are to be made.

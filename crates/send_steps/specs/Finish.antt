@@ -1,16 +1,8 @@
--- The finish of a message whose channel files are gone: where each of its steps leads.
-use Rattle.call_fs.specs.declared.calls.Fd.{Fd}
+-- The finish of a message whose channel files are gone: where its steps lead from the unlink of its info file on.
 use Rattle.send_steps.specs.declared.reply.Way.{Way}
 use Rattle.send_steps.specs.declared.reply.Way.TheVariants as way
 use Rattle.send_steps.specs.declared.rows.FinishRow.{FinishRow}
 use Rattle.send_steps.specs.declared.rows.FinishRow.TheVariants as finish
-
--- Without a bounce file the info file is unlinked. Until notes are written there is none; one that is there is left alone, and
--- its message isn't finished.
-abbrev pub bounce_opened : Way → Fd → FinishRow
-bounce_opened way.Fine fd = finish.CloseBounce fd
-bounce_opened way.Absent fd = finish.UnlinkInfo
-bounce_opened w fd = finish.Later
 
 abbrev pub info_gone : Way → FinishRow
 info_gone way.Fine = finish.Give
@@ -25,11 +17,9 @@ abbrev pub removed : Way → FinishRow
 removed way.Fine = finish.Over
 removed w = finish.Lost
 
--- where a step leads that came out so and gave this descriptor, if it gave one
-abbrev pub finish_to : FinishRow → Way → Fd → FinishRow
-finish_to finish.OpenBounce w fd = bounce_opened w fd
-finish_to (finish.CloseBounce old) w fd = finish.Later
-finish_to finish.UnlinkInfo w fd = info_gone w
-finish_to finish.Give w fd = remove_given w
-finish_to finish.Take w fd = removed w
-finish_to row w fd = row
+-- where a step leads that came out so; where the open of the bounce file and the return lead is told by the return
+abbrev pub finish_to : FinishRow → Way → FinishRow
+finish_to finish.UnlinkInfo w = info_gone w
+finish_to finish.Give w = remove_given w
+finish_to finish.Take w = removed w
+finish_to row w = row

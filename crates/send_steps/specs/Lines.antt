@@ -30,8 +30,9 @@ abbrev pub finish_lines : FinishRow → ℕ → Way → List ℕ
 finish_lines finish.Take n w = if_fine w (end_message n)
 finish_lines row n w = []
 
--- room for that line is taken then
+-- room for that line is taken then, and a return takes memory
 abbrev pub finish_takes_memory : FinishRow → Bool
+finish_takes_memory finish.Return = true
 finish_takes_memory finish.Take = true
 finish_takes_memory row = false
 

@@ -28,6 +28,11 @@ read_on (Going fd) s = read_more s.way fd s.bytes
 read_on (Closing fd) s = Whole
 read_on (Shutting fd) s = Failed
 
+-- a reading begins when its file is opened
+abbrev pub begun_at : Reading → ℕ → ℕ → ℕ
+begun_at Opening begun now = now
+begun_at other begun now = begun
+
 -- the step of a reading, of which this one opens the file and so many bytes were read
 abbrev pub reading_step : Reading → Step → ℕ → Step
 reading_step Opening opening at = opening

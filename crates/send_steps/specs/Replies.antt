@@ -1,5 +1,5 @@
 -- What came of a step, in five ways.
-use Rattle.std.specs.Prelude.{ℕ, List, [], if◌then◌else◌, ◌==◌}
+use Rattle.std.specs.Prelude.{ℕ, List, [], Bool, true, false, if◌then◌else◌, ◌==◌}
 use Rattle.call_fs.specs.declared.calls.Answer.{Answer}
 use Rattle.call_fs.specs.declared.calls.Answer.TheVariants as answer
 use Rattle.call_fs.specs.declared.calls.Fd.{Fd}
@@ -21,6 +21,10 @@ pub record Said : Type 0 where
 
 abbrev pub said_of : Reply → Said
 said_of r = record { way = r.way; fd = r.fd; stat = r.stat; bytes = r.bytes.now }
+
+abbrev pub is_fine : Way → Bool
+is_fine way.Fine = true
+is_fine w = false
 
 abbrev pub no_fd : Fd
 no_fd = record { 0 = 0 }

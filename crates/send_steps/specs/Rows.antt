@@ -32,7 +32,6 @@ start_step (start.Ended status) read = step.Ended status
 
 abbrev pub finish_step : FinishRow → ℕ → Step
 finish_step finish.OpenBounce n = step.Open (name.Bounce n) how.Read
-finish_step (finish.CloseBounce fd) n = step.Close fd
 finish_step finish.UnlinkInfo n = step.Unlink (name.Info n)
 finish_step finish.Give n = step.Remove n
 finish_step finish.Take n = step.Take port.Clean

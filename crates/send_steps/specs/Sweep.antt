@@ -1,7 +1,7 @@
 -- The sweep: of each message file that isn't known and that at the moment of its stat was last written more than 36 hours ago it
 -- has the cleaner remove the message, if it has neither an info file nor a todo file. A name that is no number is passed over, and
 -- a number at a failure.
-use Rattle.std.specs.Prelude.{ℕ, ◌+◌, List, [], take, Bool, true, false, Option, Some, None, if◌then◌else◌, nat_lt}
+use Rattle.std.specs.Prelude.{ℕ, ◌+◌, List, [], take, Bool, true, false, Option, Some, None, if◌then◌else◌, nat_le, nat_lt}
 use Rattle.queue_limits.specs.declared.times.TheConstants.{PID_NAME_AGE}
 use Rattle.send_known.specs.declared.known.Known.{Known}
 use Rattle.send_known.specs.Known.{is_known}
@@ -12,6 +12,11 @@ use Rattle.send_steps.specs.declared.rows.SweepRow.{SweepRow}
 use Rattle.send_steps.specs.declared.rows.SweepRow.TheVariants as sweep
 use Rattle.send_steps.specs.Files.{message_number}
 use Rattle.send_steps.specs.Replies.{Said}
+
+-- it is made in the first turn, and then 76431 seconds after the last one
+abbrev pub sweep_due : ℕ → Option ℕ → Bool
+sweep_due now None = true
+sweep_due now (Some last) = nat_le (last + 76431) now
 
 abbrev pub sweep_row : Option ℕ → ℕ → List Known → SweepRow
 sweep_row None split known = sweep.Next split

@@ -1,6 +1,6 @@
 // How a file is read to its end.
 ghost use Rattle.std.specs.Prelude.{◌≡◌};
-ghost use Rattle.send_steps.specs.Readings.{read_on, reading_step};
+ghost use Rattle.send_steps.specs.Readings.{begun_at, read_on, reading_step};
 ghost use Rattle.send_steps.specs.Replies.{said_of};
 
 use crate::{Reply, Step, Way};
@@ -49,6 +49,16 @@ pub fn read_on(reading: Reading, reply: &Reply<'_>) -> Progress
         },
         Reading::Closing(_) => Progress::Whole,
         Reading::Shutting(_) => Progress::Failed,
+    }
+}
+
+/// When a reading began that is at this step: at its open.
+pub fn begun_at(reading: Reading, begun: u64, now: u64) -> u64
+    ensures { result ≡ begun_at reading begun now }
+{
+    match reading {
+        Reading::Opening => now,
+        _ => begun,
     }
 }
 

@@ -1,7 +1,7 @@
 // What came of a step.
 ghost use Rattle.std.specs.Prelude.{◌≡◌};
 ghost use Rattle.call_fs.specs.Program.{came_of};
-ghost use Rattle.send_steps.specs.Replies.{answered, plain, said, said_of, with_bytes, with_fd, with_stat};
+ghost use Rattle.send_steps.specs.Replies.{answered, is_fine, plain, said, said_of, with_bytes, with_fd, with_stat};
 
 use call_fs::{Answer, Fd, FsError, Got, Stat};
 
@@ -46,6 +46,16 @@ pub fn reply_of<'a>(got: &'a Got<'_>) -> Reply<'a>
         Got::Ended(_) | Got::Crashed | Got::Failed => plain(Way::Broken),
         Got::Gave | Got::Started { .. } => plain(Way::Fine),
         Got::Memory => plain(Way::NoMemory),
+    }
+}
+
+/// Whether a step was done.
+pub fn is_fine(way: Way) -> bool
+    ensures { result ≡ is_fine way }
+{
+    match way {
+        Way::Fine => true,
+        _ => false,
     }
 }
 

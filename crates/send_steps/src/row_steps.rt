@@ -29,17 +29,16 @@ pub fn start_step(row: StartRow, read: u64) -> Step
     }
 }
 
-/// What is done at a row of the finish of message n.
+/// What is done at a row of the finish of message n. At the return of it the return itself says it.
 pub fn finish_step(row: FinishRow, n: u64) -> Step
     ensures { result ≡ finish_step row n }
 {
     match row {
         FinishRow::OpenBounce => Step::Open(Name::Bounce(n), How::Read),
-        FinishRow::CloseBounce(fd) => Step::Close(fd),
         FinishRow::UnlinkInfo => Step::Unlink(Name::Info(n)),
         FinishRow::Give => Step::Remove(n),
         FinishRow::Take => Step::Take(Port::Clean),
-        FinishRow::Later | FinishRow::Over | FinishRow::Lost => Step::Wait,
+        FinishRow::Return | FinishRow::Later | FinishRow::Over | FinishRow::Lost => Step::Wait,
     }
 }
 

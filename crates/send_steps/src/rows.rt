@@ -3,7 +3,6 @@
 
 use crate::Reading;
 use address_rules::ControlFile;
-use call_fs::Fd;
 
 /// The steps of the start. A number `split` counts the 23 directories from 0.
 #[derive(Clone, Copy)]
@@ -60,8 +59,8 @@ pub enum StartRow {
 pub enum FinishRow {
     /// Opens its bounce file.
     OpenBounce,
-    /// Closes it. There is no bounce file before notes are written.
-    CloseBounce(Fd),
+    /// Returns it: at the step of that.
+    Return,
     /// Unlinks its info file.
     UnlinkInfo,
     /// Gives the cleaner the command to remove it.

@@ -1,11 +1,21 @@
 // Where the steps of the sweep lead.
 ghost use Rattle.std.specs.Prelude.{◌≡◌};
 ghost use Rattle.send_steps.specs.Replies.{said_of};
-ghost use Rattle.send_steps.specs.Sweep.{info_stated, mess_stated, searched, sweep_given, sweep_row, sweep_taken, sweep_to, swept, todo_stated};
+ghost use Rattle.send_steps.specs.Sweep.{info_stated, mess_stated, searched, sweep_due, sweep_given, sweep_row, sweep_taken, sweep_to, swept, todo_stated};
 
 use crate::{Book, Reply, SweepRow, Way, hold, message_number};
 use queue_limits::PID_NAME_AGE;
 use send_known::KnownList;
+
+/// Whether a sweep is due after one that began at this moment, if there was one.
+pub fn sweep_due(now: u64, last: Option<u64>) -> bool
+    ensures { result ≡ sweep_due now last }
+{
+    match last {
+        None => true,
+        Some(last) => last <= now && now - last >= 76_431,
+    }
+}
 
 /// What came at a row of the sweep, at this moment, and where that leads. Takes no memory.
 pub fn act_sweep(book: &mut Book, row: SweepRow, now: u64, reply: &Reply<'_>) -> SweepRow

@@ -1,5 +1,5 @@
 -- What a sender relies on between two steps it relies on at the row that is next.
-use Rattle.std.proofs.Common.{◌≡◌, ℕ, ◌≤◌, List, [], ◌∷◌, Bool, true, false, Option, Some, None, refl, sym, ap, subst, arith}
+use Rattle.std.proofs.Common.{◌≡◌, ℕ, ◌≤◌, List, [], ◌∷◌, inl, Bool, true, false, Option, Some, None, refl, sym, ap, ◌∙◌, subst, arith}
 use Rattle.std.specs.Prelude.{All, Contains, ◌||◌, not, if◌then◌else◌, nat_le, is_some, find, slice_get, IsSome}
 use Rattle.std.specs.Option.{option_map}
 use Rattle.std.proofs.lemmas.Bool.{and_parts, leb-true}
@@ -16,7 +16,8 @@ use Rattle.send_core.specs.declared.row.Row.{Row}
 use Rattle.send_core.specs.declared.row.Row.TheVariants as at
 use Rattle.send_core.specs.Agrees.{is_same}
 use Rattle.send_core.specs.Desk.{due_on, never, next_idle, sweep_due}
-use Rattle.send_core.specs.Table.{arrive, beginning, finishing, finishing_by, from_begin, from_local, from_point, from_remote, from_reports, from_sweep, from_take, going_on, holds, link_of, marking, marking_by, or_else, passing, sweeping, taking}
+use Rattle.send_core.specs.Table.{arrive, begin_by, beginning, finishing, finishing_by, from_begin, from_local, from_point, from_remote, from_reports, from_sweep, from_take, going_on, holds, link_of, marking, marking_by, or_else, passing, sweeping, taking}
+use Rattle.send_jobs.specs.declared.attempts.Failure.{Failure}
 use Rattle.send_jobs.specs.declared.attempts.Mark.{Mark}
 use Rattle.send_jobs.specs.declared.channels.Channel.{Channel}
 use Rattle.send_jobs.specs.declared.channels.Channel.TheVariants.{Local, Remote}
@@ -31,28 +32,32 @@ use Rattle.send_known.specs.Known.{first_idle, is_idle}
 use Rattle.send_steps.specs.declared.book.Book.{Book}
 use Rattle.send_steps.specs.declared.rows.Search.TheVariants as search
 use Rattle.send_steps.specs.declared.rows.SweepRow.TheVariants as sweep
-use Rattle.todo_pass.specs.Table.{Pass}
 use Rattle.channel_law.specs.Tied.{First, IsTied, waiting}
 use Rattle.channel_law.specs.Tied.First.{Unwritten}
 use Rattle.channel_law.proofs.Counts.{at_head, in_tail}
+use Rattle.queue_law.specs.Books.{Injection}
+use Rattle.queue_law.specs.Marks.{IsDelivered}
 use Rattle.queue_law.specs.Numbers.{Queue, About, about}
 use Rattle.sender_law.specs.Views.{files_of, first_at, first_if}
-use Rattle.sender_law.specs.Knows.{Knows, Serves, IsEntered, has_file}
+use Rattle.sender_law.specs.Knows.{Knows, Serves, IsEntered, IsReported, has_file}
 use Rattle.sender_law.specs.Knows.Knows.{Stays, Leaves}
-use Rattle.sender_law.specs.Rows.{HasNoJob, HasNoMarks, PointStands, RowStands}
+use Rattle.sender_law.specs.Rows.{HasNoJob, HasNoMarks, PointStands, RowStands, Works, works}
 use Rattle.sender_law.specs.Stands.{HasControls, Stands, StandsAt, SenderStands}
+use Rattle.sender_law.proofs.Heads.{first_all, first_in, some_same}
+use Rattle.sender_law.proofs.Others.{mark_has_job}
 
 -- at such a row no mark is written yet, and the control files were read
 pub record IsPlain (row : Row) : Type 0 where
   pub first : (ch : Channel) → first_at row ch ≡ Unwritten
   pub controls_read : HasControls row
 
-some_same : {A : Type 0} (x y : A) → ◌≡◌ {A = Option A} (Some x) (Some y) → x ≡ y
-some_same x y e = cc
-
 open_first : (b : Bool) → first_if b mark.Open ≡ Unwritten
 open_first true = refl
 open_first false = refl
+
+note_first : (b : Bool) → first_if b mark.Note ≡ Unwritten
+note_first true = refl
+note_first false = refl
 
 known_on : (p : Point) (row : Row) (w : About) (k : Known) → Knows (at.Turn p) w k → Knows row w k
 known_on p row w k (Stays h) = Stays h
@@ -111,7 +116,7 @@ found p (k ∷ ks) n e = by_test (found p ks n) (p k) refl e
     by_test more false t eq = let w = more eq in (w.0, in_tail k w.0 ks w.1, w.2, w.3)
 
 module _ (controls : Controls) (now read : ℕ) (q : Queue) (a : List ℕ) (not_later : read ≤ now) (told : IsMoment read) where
-  at_row : (p : Point) (b : Book) (s : Slots) (pass : Pass) → Stands controls now q a (at.Turn p) b s pass
+  at_row : (p : Point) (b : Book) (s : Slots) (pass : Works) → Stands controls now q a (at.Turn p) b s pass
       → (row : Row) → IsPlain row → RowStands controls now q a row b s pass → Stands controls now q a row b s pass
   at_row p b s pass h row plain rests = record {
     knows = record {
@@ -122,16 +127,16 @@ module _ (controls : Controls) (now read : ℕ) (q : Queue) (a : List ℕ) (not_
     lanes = λ ch. let l = h.lanes ch in record {
       tied = subst (λ (f : First). IsTied (files_of q ch) f (lane ch s)) (sym (plain.first ch)) l.tied;
       jobs = l.jobs;
-      marks = subst (λ (f : First). All (λ (m : Mark). IsEntered (about q m.attempt.n) ch m.attempt.place) (waiting f (lane ch s).marks)) (sym (plain.first ch)) l.marks;
+      marks = subst (λ (f : First). All (λ (m : Mark). IsEntered (about q m.attempt.n) ch m) (waiting f (lane ch s).marks)) (sym (plain.first ch)) l.marks;
     };
     apart = h.apart;
     controls_are = λ _. h.controls_are tt;
     rests = rests;
   }
 
-  module _ (d : Desk) (ready : Ready) (p : Point) (h : Stands controls now q a (at.Turn p) d.book d.slots d.pass) where
+  module _ (d : Desk) (ready : Ready) (p : Point) (h : Stands controls now q a (at.Turn p) d.book d.slots (works d)) where
     abbrev Good : Row → Type 0
-    Good row = IsPlain row × RowStands controls now q a row d.book d.slots d.pass
+    Good row = IsPlain row × RowStands controls now q a row d.book d.slots (works d)
 
     abbrev GoodIf : Option Row → Type 0
     GoodIf None = Unit {0}
@@ -145,12 +150,30 @@ module _ (controls : Controls) (now read : ℕ) (q : Queue) (a : List ℕ) (not_
     taking_good c true = (record { first = λ ch. refl; controls_read = tt }, tt)
     taking_good c false = tt
 
+    -- a mark begins with its note, if something is noted
+    marked_good : (c : Channel) (m : Mark) (o : Option Failure) → m.note ≡ o → slice_get (lane c d.slots).marks 0 ≡ Some m
+        → Good (at.Mark (begin_by o) (record { channel = c; n = m.attempt.n; place = m.attempt.place }))
+    marked_good c m None is e =
+        let l = h.lanes c in
+        let entered : IsEntered (about q m.attempt.n) c m = first_all (λ (x : Mark). IsEntered (about q x.attempt.n) c x) (lane c d.slots).marks m l.marks e in
+        let serves = mark_has_job q (at.Turn p) c d.slots l m (first_in (lane c d.slots).marks m e) in
+        let same : entered.injection ≡ serves.sorted.injection = some_same entered.injection serves.sorted.injection (sym entered.lives ∙ serves.sorted.lives) in
+        let delivered : IsDelivered entered.injection.ledger c m.attempt.place =
+        subst (λ (x : Option Failure). IsReported x entered.injection.ledger c m.attempt.place) is entered.reported in (
+          record { first = λ ch. open_first (is_same c ch); controls_read = tt },
+          (
+            record { first = m; there = e; number = refl; place = refl },
+            record { sorted = serves.sorted; done = inl (subst (λ (i : Injection). IsDelivered i.ledger c m.attempt.place) same delivered) },
+          ),
+        )
+    marked_good c m (Some failure) is e = (
+      record { first = λ ch. note_first (is_same c ch); controls_read = tt },
+      (record { first = m; there = e; number = refl; place = refl }, record { first = m; there = e; failure = failure; note_is = is }),
+    )
+
     marking_good : (c : Channel) (o : Option Mark) → slice_get (lane c d.slots).marks 0 ≡ o → GoodIf (marking_by c o)
     marking_good c None e = tt
-    marking_good c (Some m) e = (
-      record { first = λ ch. open_first (is_same c ch); controls_read = tt },
-      (record { first = m; there = e; number = refl; place = refl }, tt),
-    )
+    marking_good c (Some m) e = marked_good c m m.note refl e
 
     no_marks : marking Local d ≡ None → marking Remote d ≡ None → HasNoMarks d.slots
     no_marks e f Local = none_marked Local d.slots.local.marks e
@@ -215,9 +238,9 @@ module _ (controls : Controls) (now read : ℕ) (q : Queue) (a : List ℕ) (not_
     point_good point.Finish r = or_good (finishing d read) (from_sweep d read ready) (finish_good r (next_idle read d) refl) (λ _. from_sweep_good r)
     point_good point.Sweep r = from_sweep_good r
 
-  arrived_at : (row : Row) (d : Desk) (ready : Ready) → Stands controls now q a row d.book d.slots d.pass
-      → Stands controls now q a (arrive row d read ready) d.book d.slots d.pass
-  arrived_at (at.Turn p) d ready h = let g = point_good d ready p h p h.rests in at_row p d.book d.slots d.pass h (from_point p d read ready) g.0 g.1
+  arrived_at : (row : Row) (d : Desk) (ready : Ready) → Stands controls now q a row d.book d.slots (works d)
+      → Stands controls now q a (arrive row d read ready) d.book d.slots (works d)
+  arrived_at (at.Turn p) d ready h = let g = point_good d ready p h p h.rests in at_row p d.book d.slots (works d) h (from_point p d read ready) g.0 g.1
   arrived_at (at.Start row) d ready h = h
   arrived_at (at.TakeLink c) d ready h = h
   arrived_at (at.Mark row m) d ready h = h

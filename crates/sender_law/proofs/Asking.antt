@@ -3,6 +3,12 @@ use Rattle.std.proofs.Common.{◌≡◌, ℕ, ◌≤◌, List, [], ◌∷◌, �
 use Rattle.std.specs.Prelude.{All, Contains}
 use Rattle.std.proofs.lemmas.List.Elements.{All-head, All-tail}
 use Rattle.address_rules.specs.declared.controls.Controls.{Controls}
+use Rattle.bounce_record.specs.declared.note_row.NoteRow.{NoteRow}
+use Rattle.bounce_record.specs.declared.note_row.NoteRow.TheVariants as written
+use Rattle.bounce_record.specs.declared.return_row.ReturnRow.{ReturnRow}
+use Rattle.bounce_record.specs.declared.return_row.ReturnRow.TheVariants as back
+use Rattle.bounce_record.specs.Returning.{Returning, return_due_at}
+use Rattle.bounce_record.specs.Writing.{Writing, writing_due_at}
 use Rattle.call_fs.proofs.Maps.{put_same, put_other}
 use Rattle.call_fs.specs.declared.past.GotData.{GotData}
 use Rattle.call_fs.specs.declared.past.GotData.TheVariants as came
@@ -21,12 +27,13 @@ use Rattle.send_core.specs.declared.row.MarkRow.TheVariants as mark
 use Rattle.send_core.specs.declared.row.Row.{Row}
 use Rattle.send_core.specs.declared.row.Row.TheVariants as at
 use Rattle.send_core.specs.Desk.{due_on, link, ready}
-use Rattle.send_core.specs.Finish.{busied, looked_up, sweep_begun}
+use Rattle.send_core.specs.Finish.{looked_up, sweep_begun}
 use Rattle.send_core.specs.Table.{act, arrive, begun, due_at, moved_by, port_of, row_now}
 use Rattle.send_core.specs.Turn.{begun_at}
-use Rattle.send_core.proofs.Asked.{Asked, Base, IsAsked, Knows as KnowsAt, SaysAt, asked_addressed, asked_more}
+use Rattle.send_core.specs.Births.{none_born}
+use Rattle.send_core.specs.Papers.Papers.{Told}
+use Rattle.send_core.proofs.Asked.{Asked, Base, Facts, IsAsked, asked_addressed, asked_more}
 use Rattle.send_core.proofs.Known.{Each}
-use Rattle.send_core.proofs.Leads.{ok_file, ok_mark, ok_requested, ok_took, ok_unlinked}
 use Rattle.send_core.proofs.Says.{arrive_says, asked_first}
 use Rattle.send_jobs.specs.declared.attempts.Attempt.{Attempt}
 use Rattle.send_jobs.specs.declared.channels.Channel.{Channel}
@@ -45,7 +52,6 @@ use Rattle.send_steps.specs.declared.rows.StartRow.{StartRow}
 use Rattle.send_steps.specs.declared.rows.StartRow.TheVariants as start
 use Rattle.send_steps.specs.declared.rows.SweepRow.{SweepRow}
 use Rattle.send_steps.specs.declared.rows.SweepRow.TheVariants as sweep
-use Rattle.send_steps.specs.Finish.{finish_to}
 use Rattle.send_steps.specs.Readings.{read_on}
 use Rattle.send_steps.specs.Replies.{said}
 use Rattle.send_steps.specs.Requests.{addressed, first_text, request_of, to_slot}
@@ -53,8 +59,8 @@ use Rattle.send_steps.specs.Sweep.{sweep_to}
 use Rattle.todo_pass.specs.declared.row.Row.{Row as PassRow}
 use Rattle.todo_pass.specs.declared.row.Row.TheVariants as todo
 use Rattle.todo_pass.specs.Table.{Pass, due_at as pass_due, moved}
-use Rattle.queue_law.specs.Books.{Injection, delivered_in, with_delivered}
-use Rattle.queue_law.specs.Ledgers.{Spot}
+use Rattle.queue_law.specs.Books.{Injection, entered_in, with_line}
+use Rattle.queue_law.specs.Ledgers.{Line}
 use Rattle.queue_law.specs.Numbers.{About, Queue, about}
 use Rattle.queue_law.specs.Routes.{sender_of}
 use Rattle.queue_law.specs.Senders.{entered_queue}
@@ -65,7 +71,7 @@ use Rattle.sender_law.specs.Knows.Knows.{Stays, Leaves}
 use Rattle.sender_law.specs.Stands.{KnowsAll, SenderStands, SparesSorted, StandsAt}
 use Rattle.sender_law.specs.Views.{files_of, first_at}
 use Rattle.sender_law.proofs.Arrive.{arrived}
-use Rattle.sender_law.proofs.AskingRows.{Any, HasNoneLeft, Kept, Then, any_sound, busied_kept, finish_then, looked_kept, named_then, started_then, swept_then, went_then}
+use Rattle.sender_law.proofs.AskingRows.{Any, HasNoneLeft, Kept, Then, any_sound, births_in, born_in, file_then, finish_then, known_at, looked_kept, mark_then, named_then, requested_then, started_then, swept_then, took_then, unlinked_then, went_then}
 use Rattle.sender_law.proofs.Others.{same_about, the_job}
 use Rattle.sender_law.proofs.Requests.{requests, the}
 
@@ -119,20 +125,20 @@ on_queue q r d f h = record {
   reads = h.reads;
 }
 
--- a recipient is entered in the ledger of its message, which has the arguments that it had
-entered_sender : (q : Queue) (n : ℕ) (s : Spot) (m : ℕ) (sender : List ℕ) → SenderIs q m sender → SenderIs (entered_queue q n s) m sender
-entered_sender q n s m sender h = by (m == n) refl where
-  by : (b : Bool) → (m == n) ≡ b → SenderIs (entered_queue q n s) m sender
+-- a line is entered in the ledger of its message, which has the arguments that it had
+entered_sender : (q : Queue) (n : ℕ) (line : Line) (m : ℕ) (sender : List ℕ) → SenderIs q m sender → SenderIs (entered_queue q n line) m sender
+entered_sender q n line m sender h = by (m == n) refl where
+  by : (b : Bool) → (m == n) ≡ b → SenderIs (entered_queue q n line) m sender
   by true e =
       let same : m ≡ n = eqb-true m n e in
       let was : q.books.living n ≡ Some h.0 = sym (ap q.books.living same) ∙ h.1 in
-      let now : (delivered_in q.books n s).living m ≡ Some (with_delivered s h.0) =
-      ap (delivered_in q.books n s).living same ∙ put_same q.books.living n (option_map (with_delivered s) (q.books.living n)) ∙ ap (option_map (with_delivered s)) was in
-      (with_delivered s h.0, now, h.2)
-  by false e = (h.0, put_other q.books.living n (option_map (with_delivered s) (q.books.living n)) m (λ same. off (sym e ∙ eq-eqb m n same)) ∙ h.1, h.2)
+      let now : (entered_in q.books n line).living m ≡ Some (with_line line h.0) =
+      ap (entered_in q.books n line).living same ∙ put_same q.books.living n (option_map (with_line line) (q.books.living n)) ∙ ap (option_map (with_line line)) was in
+      (with_line line h.0, now, h.2)
+  by false e = (h.0, put_other q.books.living n (option_map (with_line line) (q.books.living n)) m (λ same. off (sym e ∙ eq-eqb m n same)) ∙ h.1, h.2)
 
-enters : (q : Queue) (n : ℕ) (s : Spot) (d : Desk) → TextsStand q d → TextsStand (entered_queue q n s) d
-enters q n s d h = on_queue q (entered_queue q n s) d (λ ch a sender _ w. entered_sender q n s a.n sender w) h
+enters : (q : Queue) (n : ℕ) (line : Line) (d : Desk) → TextsStand q d → TextsStand (entered_queue q n line) d
+enters q n line d h = on_queue q (entered_queue q n line) d (λ ch a sender _ w. entered_sender q n line a.n sender w) h
 
 -- an attempt that is still to be given is at a message that is preprocessed
 left_serves : (controls : Controls) (now : ℕ) (q : Queue) (a : List ℕ) (d : Desk) → SenderStands controls now q a d → (ch : Channel) (t : Attempt)
@@ -171,12 +177,9 @@ begins q turns = record { texts = none; first = idle; due = nothing; reads = tt 
 
 -- Each row
 
-known_at : (S : ℕ → List ℕ → Type 0) (row : Row) (d : Desk) → SaysAt S None row d → IsKnownAt row d.book.messages.known
-known_at S (at.ReadFile c n begun g) d h = h
-known_at S row d h = tt
-
-of_knows : (S : ℕ → List ℕ → Type 0) (d : Desk) → KnowsAt S None d → Then S d
-of_knows S d h = (((h.0.1, h.0.2), (h.0.0.1, h.0.0.2)), known_at S d.row d h.1)
+-- what a past has to tell of a desk, as the desk has it: the births of its messages, and its controls
+abbrev facts_of : Desk → Facts
+facts_of d = record { letter = None; births = record none_born { of = births_in d.book.messages.known }; papers = Told d.book.controls }
 
 -- with no job nothing is still to be given
 no_left : (files : Files) (first : First) (l : Lane) → IsTied files first l → l.jobs ≡ [] → (left : List Attempt) → l.left ≡ left → left ≡ []
@@ -202,18 +205,24 @@ module _ (q : Queue) (d : Desk) (h : TextsStand q d) where
     one k (Stays w) = (w.sorted.injection, w.sorted.lives, w.sender_is)
     one k (Leaves w) = absurd (stay k.n w)
 
-  base : (row : Row) → ((n : ℕ) → IsLeaving row n → ⊥) → KnowsAll q row d.book.messages → Base (SenderIs q) d
-  base row stay knows = ((each row d.book.messages.known stay knows.known, h.due Local, h.due Remote), kept.0.0, kept.0.1)
+  base : (row : Row) → ((n : ℕ) → IsLeaving row n → ⊥) → KnowsAll q row d.book.messages → Base (SenderIs q) (facts_of d) d
+  base row stay knows = (
+    (each row d.book.messages.known stay knows.known, h.due Local, h.due Remote, born_in d.book.messages.known),
+    kept.0.0,
+    kept.0.1,
+    refl,
+  )
 
-  any_base : Base Any d
+  any_base : Base Any (facts_of d) d
   any_base = (
     any_sound d.book.messages (h.due Local, h.due Remote),
     asked_more (SenderIs q) Any (λ n sender _. tt) d.local.requests d.slots.local.left kept.0.0,
     asked_more (SenderIs q) Any (λ n sender _. tt) d.remote.requests d.slots.remote.left kept.0.1,
+    refl,
   )
 
   arrives_known : (read : ℕ) (found : Ready) (row : Row) → IsKnownAt row d.book.messages.known → IsKnownAt (arrive row d read found) d.book.messages.known
-  arrives_known read found (at.Turn p) w = known_at Any (arrive (at.Turn p) d read found) d (arrive_says Any None d read found any_base (at.Turn p) tt)
+  arrives_known read found (at.Turn p) w = known_at Any (facts_of d) (arrive (at.Turn p) d read found) d (arrive_says Any (facts_of d) d read found (at.Turn p) (any_base, tt))
   arrives_known read found (at.Start row) w = w
   arrives_known read found (at.TakeLink c) w = w
   arrives_known read found (at.Mark row m) w = w
@@ -249,24 +258,18 @@ module _ (q : Queue) (d : Desk) (h : TextsStand q d) where
     at_row : (row : Row) (read : ℕ) (came : GotData) → StandsAt controls now q a row d → IsKnownAt row d.book.messages.known → Then (SenderIs q) (act row read came d)
     at_row (at.Start row) read came w known = started_then (SenderIs q) row (said came) d (none_left row w) kept
     at_row (at.Turn p) read came w known = (kept, h.reads)
-    at_row (at.TakeLink c) read came w known =
-        of_knows (SenderIs q) (act (at.TakeLink c) read came d) (ok_took (SenderIs q) None (said came).way (said came).bytes c d (base (at.TakeLink c) (λ n x. x) w.knows))
-    at_row (at.Mark row m) read came w known =
-        of_knows (SenderIs q) (act (at.Mark row m) read came d) (ok_mark (SenderIs q) None row m (said came) d (base (at.Mark row m) (λ n x. x) w.knows))
-    at_row (at.UnlinkFile c n p) read came w known =
-        of_knows (SenderIs q) (act (at.UnlinkFile c n p) read came d) (ok_unlinked (SenderIs q) None (said came).way c n p read d (base (at.UnlinkFile c n p) (λ n x. x) w.knows))
+    at_row (at.TakeLink c) read came w known = took_then (SenderIs q) (facts_of d) (said came).way (said came).bytes c d (base (at.TakeLink c) (λ n x. x) w.knows)
+    at_row (at.Mark row m) read came w known = mark_then (SenderIs q) (facts_of d) row m came d (base (at.Mark row m) (λ n x. x) w.knows)
+    at_row (at.UnlinkFile c n p) read came w known = unlinked_then (SenderIs q) (facts_of d) (said came).way c n p read d (base (at.UnlinkFile c n p) (λ n x. x) w.knows)
     at_row (at.ReadFile c n begun g) read came w known =
-        of_knows (SenderIs q) (act (at.ReadFile c n begun g) read came d)
-        (ok_file (SenderIs q) None (read_on g (said came)) c n (begun_at g begun read) g read (said came) d known (base (at.ReadFile c n begun g) (λ n x. x) w.knows))
+        file_then (SenderIs q) (facts_of d) (read_on g (said came)) c n (begun_at g begun read) g read (said came) d known (base (at.ReadFile c n begun g) (λ n x. x) w.knows)
     at_row (at.Request c) read came w known =
         let t = the (next (lane c d.slots)) w.rests.1.0 in
         let slot = the (lowest (lane c d.slots).slots) w.rests.1.1 in
-        of_knows (SenderIs q) (act (at.Request c) read came d)
-        (ok_requested (SenderIs q) None (said came).way c slot.0 t.0 d slot.1 t.1 (base (at.Request c) (λ n x. x) w.knows))
+        requested_then (SenderIs q) (facts_of d) (said came).way c slot.0 t.0 d slot.1 t.1 (base (at.Request c) (λ n x. x) w.knows)
     at_row (at.FindTodo search) read came w known = named_then (SenderIs q) (said came).way (said came).bytes search read d kept
     at_row at.InTodo read came w known = went_then (SenderIs q) d.pass.row came (moved d.book.controls d.pass read came) read d kept
-    at_row (at.Finish row n) read came w known =
-        finish_then (SenderIs q) (finish_to row (said came).way (said came).fd) n read (busied row d) (busied_kept (SenderIs q) row d kept)
+    at_row (at.Finish row n) read came w known = finish_then (SenderIs q) row n read came d kept
     at_row (at.Sweep row) read came w known =
         swept_then (SenderIs q) (sweep_to row read (said came) d.book) (looked_up row (said came) (sweep_begun row read d)) (looked_kept (SenderIs q) row (said came) read d kept)
     at_row (at.Ended status) read came w known = (kept, h.reads)
@@ -372,9 +375,37 @@ module _ (d : Desk) where
   pass_asks_none (todo.Left why) p = tt
   pass_asks_none todo.Lost p = tt
 
+  note_asks_none : (row : NoteRow) (w : Writing) → IsNoRequest (writing_due_at row w)
+  note_asks_none written.Open w = tt
+  note_asks_none written.Create w = tt
+  note_asks_none (written.Stat fd) w = tt
+  note_asks_none (written.Read fd place len) w = tt
+  note_asks_none (written.Append fd done) w = tt
+  note_asks_none (written.Sync fd) w = tt
+  note_asks_none (written.Close fd) w = tt
+  note_asks_none (written.Shut fd) w = tt
+  note_asks_none written.Written w = tt
+  note_asks_none written.Failed w = tt
+
+  return_asks_none : (row : ReturnRow) (it : Returning) → IsNoRequest (return_due_at row it)
+  return_asks_none back.Open it = tt
+  return_asks_none (back.ReadNotes fd) it = tt
+  return_asks_none (back.CloseNotes fd) it = tt
+  return_asks_none back.OpenMessage it = tt
+  return_asks_none (back.ReadMessage fd) it = tt
+  return_asks_none (back.CloseMessage fd) it = tt
+  return_asks_none (back.Shut fd) it = tt
+  return_asks_none back.Start it = tt
+  return_asks_none (back.Give pid) it = tt
+  return_asks_none (back.Await pid) it = tt
+  return_asks_none back.Unlink it = tt
+  return_asks_none back.Discard it = tt
+  return_asks_none back.Over it = tt
+  return_asks_none back.Failed it = tt
+
   finish_asks_none : (row : FinishRow) (n : ℕ) → IsNoRequest (due_at (at.Finish row n) d)
   finish_asks_none finish.OpenBounce n = tt
-  finish_asks_none (finish.CloseBounce fd) n = tt
+  finish_asks_none finish.Return n = return_asks_none d.bounce.row d.bounce
   finish_asks_none finish.UnlinkInfo n = tt
   finish_asks_none finish.Give n = tt
   finish_asks_none finish.Take n = tt
@@ -399,6 +430,8 @@ module _ (d : Desk) where
   by_request P asks none (at.Start row) = none (at.Start row) (start_asks_none row)
   by_request P asks none (at.Turn p) = none (at.Turn p) tt
   by_request P asks none (at.TakeLink c) = none (at.TakeLink c) tt
+  by_request P asks none (at.Mark mark.Note m) = none (at.Mark mark.Note m) tt
+  by_request P asks none (at.Mark mark.Noting m) = none (at.Mark mark.Noting m) (note_asks_none d.note.row d.note)
   by_request P asks none (at.Mark mark.Open m) = none (at.Mark mark.Open m) tt
   by_request P asks none (at.Mark (mark.Write fd) m) = none (at.Mark (mark.Write fd) m) tt
   by_request P asks none (at.Mark (mark.Close fd written) m) = none (at.Mark (mark.Close fd written) m) tt

@@ -33,6 +33,7 @@ use Rattle.send_core.specs.declared.row.Row.TheVariants as at
 use Rattle.send_core.specs.Desk.{due_on, sweep_due, next_idle}
 use Rattle.send_core.specs.Table.{arrive, beginning, due_at, finishing, finishing_by, from_begin, from_local, from_point, from_remote, from_reports, from_sweep, from_take, going_on, holds, link_of, marking, marking_by, moved_by, or_else, passing, sweeping, taking}
 use Rattle.errand_law.specs.Errands.Awaits.{Nothing, Answer, Over}
+use Rattle.sender_law.proofs.NoteDue.{note_gives, note_takes, return_gives, return_takes}
 use Rattle.sender_law.specs.Waits.{awaits_at, GivesAt, awaits}
 use Rattle.call_fs.specs.declared.past.GotData.{GotData}
 use Rattle.call_fs.specs.declared.past.GotData.TheVariants as came
@@ -98,6 +99,8 @@ gives d (at.Start start.Over) text due = absurd (cc)
 gives d (at.Start (start.Ended status)) text due = absurd (cc)
 gives d (at.Turn p) text due = absurd (cc)
 gives d (at.TakeLink c) text due = absurd (cc)
+gives d (at.Mark mark.Note m) text due = absurd (cc)
+gives d (at.Mark mark.Noting m) text due = absurd (note_gives d.note.row d.note port.Clean text due)
 gives d (at.Mark mark.Open m) text due = absurd (cc)
 gives d (at.Mark (mark.Write fd) m) text due = absurd (cc)
 gives d (at.Mark (mark.Close fd written) m) text due = absurd (cc)
@@ -119,7 +122,7 @@ gives d (at.Finish finish.Give n) text due = record {
   failed = λ now. refl;
 }
 gives d (at.Finish finish.OpenBounce n) text due = absurd (cc)
-gives d (at.Finish (finish.CloseBounce fd) n) text due = absurd (cc)
+gives d (at.Finish finish.Return n) text due = absurd (return_gives d.bounce.row d.bounce text due)
 gives d (at.Finish finish.UnlinkInfo n) text due = absurd (cc)
 gives d (at.Finish finish.Take n) text due = absurd (cc)
 gives d (at.Finish finish.Later n) text due = absurd (cc)
@@ -186,6 +189,8 @@ takes d (at.Start (start.Ended status)) due = absurd (cc)
 takes d (at.Turn p) due = absurd (cc)
 takes d (at.TakeLink channel.Local) due = absurd (cc)
 takes d (at.TakeLink channel.Remote) due = absurd (cc)
+takes d (at.Mark mark.Note m) due = absurd (cc)
+takes d (at.Mark mark.Noting m) due = absurd (note_takes d.note.row d.note port.Clean due)
 takes d (at.Mark mark.Open m) due = absurd (cc)
 takes d (at.Mark (mark.Write fd) m) due = absurd (cc)
 takes d (at.Mark (mark.Close fd written) m) due = absurd (cc)
@@ -199,7 +204,7 @@ takes d (at.FindTodo search) due = absurd (cc)
 takes d at.InTodo due = pass_takes d d.pass.row due
 takes d (at.Finish finish.Take n) due = (Foop n, refl)
 takes d (at.Finish finish.OpenBounce n) due = absurd (cc)
-takes d (at.Finish (finish.CloseBounce fd) n) due = absurd (cc)
+takes d (at.Finish finish.Return n) due = absurd (return_takes d.bounce.row d.bounce due)
 takes d (at.Finish finish.UnlinkInfo n) due = absurd (cc)
 takes d (at.Finish finish.Give n) due = absurd (cc)
 takes d (at.Finish finish.Later n) due = absurd (cc)
@@ -245,7 +250,7 @@ waits d (at.FindTodo search) c is = absurd (cc)
 waits d at.InTodo c is = pass_waits d d.pass.row c is
 waits d (at.Finish finish.Take n) c is = refl
 waits d (at.Finish finish.OpenBounce n) c is = absurd (cc)
-waits d (at.Finish (finish.CloseBounce fd) n) c is = absurd (cc)
+waits d (at.Finish finish.Return n) c is = absurd (cc)
 waits d (at.Finish finish.UnlinkInfo n) c is = absurd (cc)
 waits d (at.Finish finish.Give n) c is = absurd (cc)
 waits d (at.Finish finish.Later n) c is = absurd (cc)
@@ -303,7 +308,7 @@ loses d (at.ReadFile l n begun r) c is = absurd (cc)
 loses d (at.Request l) c is = absurd (cc)
 loses d (at.FindTodo search) c is = absurd (cc)
 loses d (at.Finish finish.OpenBounce n) c is = absurd (cc)
-loses d (at.Finish (finish.CloseBounce fd) n) c is = absurd (cc)
+loses d (at.Finish finish.Return n) c is = absurd (cc)
 loses d (at.Finish finish.UnlinkInfo n) c is = absurd (cc)
 loses d (at.Finish finish.Give n) c is = absurd (cc)
 loses d (at.Finish finish.Later n) c is = absurd (cc)

@@ -68,10 +68,10 @@ module _ (controls : Controls) (now : ℕ) (q : Queue) (a : List ℕ) (turns : O
       on_lane Local = record {
         tied = none_tied (files_of q Local);
         jobs = λ n job e. no_job q Local n job e;
-        marks = All-nil (λ (m : Mark). IsEntered (about q m.attempt.n) Local m.attempt.place);
+        marks = All-nil (λ (m : Mark). IsEntered (about q m.attempt.n) Local m);
       }
       on_lane Remote = record {
         tied = none_tied (files_of q Remote);
         jobs = λ n job e. no_job q Remote n job e;
-        marks = All-nil (λ (m : Mark). IsEntered (about q m.attempt.n) Remote m.attempt.place);
+        marks = All-nil (λ (m : Mark). IsEntered (about q m.attempt.n) Remote m);
       }

@@ -44,7 +44,7 @@ use Rattle.queue_law.proofs.Opens.{opened_held}
 use Rattle.queue_law.proofs.Sends.{reads_keep}
 use Rattle.sender_law.specs.Knows.{IsKnown, Knows}
 use Rattle.sender_law.specs.Knows.Knows.{Stays, Leaves}
-use Rattle.sender_law.specs.Rows.{HasNoJobs, HasNoMarks, ReadsOther}
+use Rattle.sender_law.specs.Rows.{HasNoJobs, HasNoMarks, ReadsOther, works}
 use Rattle.sender_law.specs.Stands.{DueApart, HasControls, SenderLeads, Stands, StandsAt}
 use Rattle.sender_law.proofs.Closes.{none_closed}
 use Rattle.sender_law.proofs.Entries.{Grows, due_all, known_all, lane_grown}
@@ -160,7 +160,7 @@ module _ (controls : Controls) (now : ℕ) (q : Queue) (a : List ℕ) where
   Rests (start.Ended status) = Unit {0}
   Rests row = ⊥
 
-  row_stands : (row : StartRow) (d : Desk) → OnStart q d → (HasControls (start_at row) → d.book.controls ≡ controls) → Rests row → Stands controls now q a (start_at row) d.book d.slots d.pass
+  row_stands : (row : StartRow) (d : Desk) → OnStart q d → (HasControls (start_at row) → d.book.controls ≡ controls) → Rests row → Stands controls now q a (start_at row) d.book d.slots (works d)
   row_stands (start.Control f g) d h c r = record {
     knows = record { known = All-weaker (λ (k : Known). IsKnown (about q k.n) k) (λ (k : Known). Knows (at.Start (start.Control f g)) (about q k.n) k) (λ k w. Stays w) d.book.messages.known h.known; due = h.due };
     lanes = λ ch. let l = h.lanes ch in record { tied = l.tied; jobs = l.jobs; marks = l.marks };
@@ -186,7 +186,7 @@ module _ (controls : Controls) (now : ℕ) (q : Queue) (a : List ℕ) where
 
   module _ (d : Desk) (h : OnStart q d) where
     abbrev Then : Book → Type 0
-    Then b = (HasControls (start_at b.row) → b.controls ≡ controls) → Stands controls now q a (start_at b.row) b d.slots d.pass
+    Then b = (HasControls (start_at b.row) → b.controls ≡ controls) → Stands controls now q a (start_at b.row) b d.slots (works d)
 
     failed_then : (w : Way) → Then (begins_at (start_failed w) d.book)
     failed_then way.NoMemory c = row_stands (start.Ended 51) (record d { book = begins_at (start.Ended 51) d.book }) (record { known = h.known; due = h.due; lanes = h.lanes; apart = h.apart; bare = h.bare; none = h.none }) c tt

@@ -295,7 +295,7 @@ module _ (q : Queue) (a : List ℕ) (d : Desk) (read : ℕ) (ready : Ready) wher
     is_deed (needs.Take port) link = tt
     is_deed (needs.Give port bytes) link = tt
     is_deed (needs.File call) link = tt
-    is_deed (needs.Start child) link = absurd link
+    is_deed (needs.Start child) link = tt
     is_deed (needs.Command text) link = absurd link
     is_deed needs.Wait link = absurd link
     is_deed (needs.Ended status) link = absurd link

@@ -15,14 +15,13 @@ use Rattle.send_jobs.specs.Lanes.{ended, job_over}
 use Rattle.send_jobs.specs.Sending.{lane}
 use Rattle.send_known.specs.declared.known.Known.{Known}
 use Rattle.send_steps.specs.declared.book.Book.{Book}
-use Rattle.todo_pass.specs.Table.{Pass}
 use Rattle.channel_law.specs.Tied.{First, IsTied, waiting}
 use Rattle.channel_law.specs.Tied.First.{Unwritten}
 use Rattle.queue_law.specs.Numbers.{Queue, About, about}
 use Rattle.sender_law.specs.Views.{files_of, first_at}
 use Rattle.sender_law.specs.Knows.{IsEntered, IsKnown, IsLeaving, Knows, Serves}
 use Rattle.sender_law.specs.Knows.Knows.{Stays, Leaves}
-use Rattle.sender_law.specs.Rows.{RowStands}
+use Rattle.sender_law.specs.Rows.{RowStands, Works, works}
 use Rattle.sender_law.specs.Stands.{DueApart, Stands}
 use Rattle.sender_law.proofs.Apart.{apart_again}
 use Rattle.sender_law.proofs.Arrive.{IsPlain}
@@ -39,29 +38,29 @@ stays_known : (row : Row) (w : About) (k : Known) → (IsLeaving row k.n → ⊥
 stays_known row w k f (Stays h) = h
 stays_known row w k f (Leaves h) = absurd (f h)
 
-pub lane_of : (controls : Controls) (now : ℕ) (q : Queue) (a : List ℕ) (row : Row) (b : Book) (s : Slots) (p : Pass) → Stands controls now q a row b s p
+pub lane_of : (controls : Controls) (now : ℕ) (q : Queue) (a : List ℕ) (row : Row) (b : Book) (s : Slots) (p : Works) → Stands controls now q a row b s p
     → (ch : Channel) → first_at row ch ≡ Unwritten → OnLane q ch (lane ch s)
 lane_of controls now q a row b s p h ch e = let l = h.lanes ch in record {
   tied = subst (λ (f : First). IsTied (files_of q ch) f (lane ch s)) e l.tied;
   jobs = l.jobs;
-  marks = subst (λ (f : First). All (λ (m : Mark). IsEntered (about q m.attempt.n) ch m.attempt.place) (waiting f (lane ch s).marks)) e l.marks;
+  marks = subst (λ (f : First). All (λ (m : Mark). IsEntered (about q m.attempt.n) ch m) (waiting f (lane ch s).marks)) e l.marks;
 }
 
 -- what a sender relies on at such a row
 pub on_of : (controls : Controls) (now : ℕ) (q : Queue) (a : List ℕ) (row : Row) (d : Desk) → IsPlain row → ((n : ℕ) → IsLeaving row n → ⊥)
-    → Stands controls now q a row d.book d.slots d.pass → OnDesk controls q d
+    → Stands controls now q a row d.book d.slots (works d) → OnDesk controls q d
 on_of controls now q a row d plain stays h = record {
   known = All-weaker (λ (k : Known). Knows row (about q k.n) k) (λ (k : Known). IsKnown (about q k.n) k) (λ k. stays_known row (about q k.n) k (stays k.n))
       d.book.messages.known h.knows.known;
   due = h.knows.due;
-  lanes = λ ch. lane_of controls now q a row d.book d.slots d.pass h ch (plain.first ch);
+  lanes = λ ch. lane_of controls now q a row d.book d.slots (works d) h ch (plain.first ch);
   apart = h.apart;
   controls_are = h.controls_are plain.controls_read;
 }
 
 -- and the other way, with what the row rests on
 pub stand : (controls : Controls) (now : ℕ) (q : Queue) (a : List ℕ) (row : Row) (d : Desk) → ((ch : Channel) → first_at row ch ≡ Unwritten) → OnDesk controls q d
-    → RowStands controls now q a row d.book d.slots d.pass → Stands controls now q a row d.book d.slots d.pass
+    → RowStands controls now q a row d.book d.slots (works d) → Stands controls now q a row d.book d.slots (works d)
 stand controls now q a row d plain h rests = record {
   knows = record {
     known = All-weaker (λ (k : Known). IsKnown (about q k.n) k) (λ (k : Known). Knows row (about q k.n) k) (λ k w. Stays w) d.book.messages.known h.known;
@@ -70,7 +69,7 @@ stand controls now q a row d plain h rests = record {
   lanes = λ ch. let l = h.lanes ch in record {
     tied = subst (λ (f : First). IsTied (files_of q ch) f (lane ch d.slots)) (sym (plain ch)) l.tied;
     jobs = l.jobs;
-    marks = subst (λ (f : First). All (λ (m : Mark). IsEntered (about q m.attempt.n) ch m.attempt.place) (waiting f (lane ch d.slots).marks)) (sym (plain ch)) l.marks;
+    marks = subst (λ (f : First). All (λ (m : Mark). IsEntered (about q m.attempt.n) ch m) (waiting f (lane ch d.slots).marks)) (sym (plain ch)) l.marks;
   };
   apart = h.apart;
   controls_are = λ _. h.controls_are;

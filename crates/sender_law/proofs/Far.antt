@@ -46,7 +46,7 @@ module _ (q r : Queue) (n : ℕ) (same : (k : ℕ) → k ≢ n → about r k ≡
         (λ k some. let job = the_job (job_of k l.jobs) some in
         ap (λ (w : About). records_at (w.parts (lane_part ch))) (same k (unlike k ch none (h.jobs k job.0 job.1))));
     jobs = λ k job e. let s = h.jobs k job e in serves_far k ch (unlike k ch none s) s;
-    marks = subst (All (λ (m : Mark). IsEntered (about r m.attempt.n) ch m.attempt.place)) (sym bare) (All-nil (λ (m : Mark). IsEntered (about r m.attempt.n) ch m.attempt.place));
+    marks = subst (All (λ (m : Mark). IsEntered (about r m.attempt.n) ch m)) (sym bare) (All-nil (λ (m : Mark). IsEntered (about r m.attempt.n) ch m));
   }
 
   pub due_far : (m : Messages) → ((ch : Channel) → Serves (about q n) ch → ⊥) → AllServe q m → AllServe r m

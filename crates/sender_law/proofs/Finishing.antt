@@ -1,20 +1,25 @@
 -- The events of a finish, over all that the sender relies on.
-use Rattle.std.proofs.Common.{◌≡◌, ℕ, List, [], get_or, false, Option, Some, None, refl, subst}
+use Rattle.std.proofs.Common.{◌≡◌, ◌≢◌, ℕ, List, get_or, true, false, Option, Some, None, refl, sym, subst}
 use Rattle.std.specs.Prelude.{All, position}
 use Rattle.std.proofs.lemmas.List.Elements.{All-contains, All-set, All-weaker}
 use Rattle.std.proofs.lemmas.List.Quantifiers.{position-Some}
 use Rattle.address_rules.specs.declared.controls.Controls.{Controls}
 use Rattle.call_fs.specs.declared.calls.CallData.{CallData}
 use Rattle.call_fs.specs.declared.calls.Told.{Told}
+use Rattle.bounce_record.specs.declared.return_row.ReturnRow.{ReturnRow}
+use Rattle.bounce_record.specs.declared.return_row.ReturnRow.TheVariants as back
+use Rattle.bounce_record.specs.Returning.{Returning, return_begun, return_due_at}
+use Rattle.call_fs.specs.declared.past.ChildData.{ChildData}
 use Rattle.call_fs.specs.declared.past.GotData.{GotData}
 use Rattle.call_fs.specs.declared.past.GotData.TheVariants.{Answered}
 use Rattle.call_fs.specs.declared.past.NeedData.TheVariants as needs
 use Rattle.call_fs.specs.declared.program.Port.{Port}
-use Rattle.call_fs.specs.Apply.{Fits}
+use Rattle.call_fs.specs.Apply.{Fits, IsReadBy}
 use Rattle.send_core.specs.declared.desk.Desk.{Desk}
 use Rattle.send_core.specs.declared.row.Row.TheVariants as at
 use Rattle.send_core.specs.Desk.{due_on, later}
-use Rattle.send_core.specs.Finish.{busied, finish_at, forgot, put_off_to}
+use Rattle.send_core.specs.Booked.{booked_at}
+use Rattle.send_core.specs.Finish.{bounce_on, finish_at, forgot, put_off_to, returned_to}
 use Rattle.send_core.specs.Table.{act, due_at}
 use Rattle.send_jobs.specs.declared.channels.Channel.{Channel}
 use Rattle.send_jobs.specs.declared.channels.Channel.TheVariants.{Local, Remote}
@@ -29,8 +34,7 @@ use Rattle.send_steps.specs.declared.rows.FinishRow.{FinishRow}
 use Rattle.send_steps.specs.declared.rows.FinishRow.TheVariants as finish
 use Rattle.send_steps.specs.Finish.{finish_to, remove_given, removed as gone_row}
 use Rattle.send_steps.specs.Replies.{said}
-use Rattle.send_steps.specs.Rows.{finish_step}
-use Rattle.send_steps.specs.Steps.{due_by}
+use Rattle.queue_law.specs.Books.{Child}
 use Rattle.queue_law.specs.Numbers.{About, Queue, about, Sound}
 use Rattle.queue_law.specs.Routes.{lane_part}
 use Rattle.queue_law.specs.Senders.{called_queue}
@@ -41,9 +45,15 @@ use Rattle.sender_law.specs.Stands.{DueApart, SenderLeads, SenderStands, StandsA
 use Rattle.sender_law.proofs.Apart.{IsApart}
 use Rattle.sender_law.proofs.Desks.{OnDesk}
 use Rattle.sender_law.proofs.Lanes.{AllServe, OnBoth, removed_each}
-use Rattle.sender_law.specs.Points.{KnowsEach}
+use Rattle.sender_law.specs.Points.{FinishLeads, HasChild, IsBeforeStatus, KnowsEach}
+use Rattle.sender_law.specs.Takings.{LeadsThrough, booked_queue}
+use Rattle.sender_law.specs.Takings.LeadsThrough.{Goes}
+use Rattle.sender_law.specs.Takings.LeadsThrough.{Stays as StaysSo}
+use Rattle.queue_law.proofs.Frame.{about_same}
+use Rattle.sender_law.proofs.Heads.{some_same}
 use Rattle.sender_law.proofs.Far.{due_far, far_if, lane_far}
-use Rattle.sender_law.proofs.Points.{chores_stand, finishes_lead}
+use Rattle.sender_law.proofs.Points.{chores_stand, each_on}
+use Rattle.sender_law.proofs.Returns.{finishes_lead, returns_go_on}
 use Rattle.sender_law.proofs.Turning.{past_finish_on}
 
 -- what a sender relies on at a row of a finish
@@ -54,7 +64,7 @@ record AtFinish (controls : Controls) (now : ℕ) (q : Queue) (a : List ℕ) (ro
   apart : DueApart d.book.messages d.slots
   controls_are : d.book.controls ≡ controls
   bare : HasNoMarks d.slots
-  rests : FinishStands now q a row n d.book.messages.known
+  rests : FinishStands controls now q a row n d.book.messages.known d.bounce
 
 at_finish : (controls : Controls) (now : ℕ) (q : Queue) (a : List ℕ) (row : FinishRow) (n : ℕ) (d : Desk) → StandsAt controls now q a (at.Finish row n) d → AtFinish controls now q a row n d
 at_finish controls now q a row n d h = record {
@@ -177,7 +187,7 @@ module _ (controls : Controls) (now : ℕ) (q : Queue) (a : List ℕ) (n read : 
 
   next_leads : (row : FinishRow) (d : Desk) → AtFinish controls now q a row n d → SenderStands controls now q a (finish_at row n read d)
   next_leads finish.OpenBounce d h = stands_there controls now q a finish.OpenBounce n d h
-  next_leads (finish.CloseBounce fd) d h = stands_there controls now q a (finish.CloseBounce fd) n d h
+  next_leads finish.Return d h = stands_there controls now q a finish.Return n d h
   next_leads finish.UnlinkInfo d h = stands_there controls now q a finish.UnlinkInfo n d h
   next_leads finish.Give d h = stands_there controls now q a finish.Give n d h
   next_leads finish.Take d h = stands_there controls now q a finish.Take n d h
@@ -214,30 +224,6 @@ module _ (controls : Controls) (now : ℕ) (q : Queue) (a : List ℕ) (n read : 
 
 -- Each event
 
-busied_at : (controls : Controls) (now : ℕ) (q : Queue) (a : List ℕ) (row next : FinishRow) (n : ℕ) (d : Desk) → AtFinish controls now q a next n d
-    → AtFinish controls now q a next n (busied row d)
-busied_at controls now q a finish.OpenBounce next n d h =
-    record { knows = h.knows; due = h.due; lanes = h.lanes; apart = h.apart; controls_are = h.controls_are; bare = h.bare; rests = h.rests }
-busied_at controls now q a (finish.CloseBounce fd) next n d h = h
-busied_at controls now q a finish.UnlinkInfo next n d h = h
-busied_at controls now q a finish.Give next n d h = h
-busied_at controls now q a finish.Take next n d h = h
-busied_at controls now q a finish.Later next n d h = h
-busied_at controls now q a finish.Over next n d h = h
-busied_at controls now q a finish.Lost next n d h = h
-
--- at a row of a call the message is idle, and nothing of it was removed
-idle_at : (now : ℕ) (q : Queue) (a : List ℕ) (row : FinishRow) (n : ℕ) (ks : List Known) (call : CallData) → due_by (finish_step row n) [] ≡ needs.File call → FinishStands now q a row n ks
-    → IsIdle n ks × ((m : ℕ) → IsLeaving (at.Finish row n) m → ⊥)
-idle_at now q a finish.OpenBounce n ks call due h = (h, λ m l. l.0)
-idle_at now q a (finish.CloseBounce fd) n ks call due h = (h.0, λ m l. l.0)
-idle_at now q a finish.UnlinkInfo n ks call due h = (h, λ m l. l.0)
-idle_at now q a finish.Give n ks call due h = absurd (cc)
-idle_at now q a finish.Take n ks call due h = absurd (cc)
-idle_at now q a finish.Later n ks call due h = absurd (cc)
-idle_at now q a finish.Over n ks call due h = absurd (cc)
-idle_at now q a finish.Lost n ks call due h = absurd (cc)
-
 unserved : (q : Queue) (n : ℕ) (ks : List Known) → All (λ (k : Known). IsKnown (about q k.n) k) ks → IsIdle n ks → (ch : Channel) → Serves (about q n) ch → ⊥
 unserved q n ks h idle ch s =
     let it = All-contains (λ (k : Known). IsKnown (about q k.n) k) ks idle.it h idle.there in
@@ -245,48 +231,178 @@ unserved q n ks h idle ch s =
     let there = s.there in
     absurd (cc)
 
-module _ (controls : Controls) (now : ℕ) (q : Queue) (a : List ℕ) where
-  pub finishes : Sound controls q → (row : FinishRow) (n : ℕ) (d : Desk) (read : ℕ) (call : CallData) (told : Told) (wrote : ℕ) → StandsAt controls now q a (at.Finish row n) d
-      → due_at (at.Finish row n) d ≡ needs.File call → Fits q.disk call told.answer wrote
-      → SenderLeads controls now a q (called_queue q a read call told.answer wrote q.role) (act (at.Finish row n) read (Answered told) d)
-  finishes G row n d read call told wrote h due fits =
-      let ks : List Known = d.book.messages.known in
-      let r : Queue = called_queue q a read call told.answer wrote q.role in
-      let f = finishes_lead controls now q a row n ks read call told wrote G h.knows.known h.rests.1 due fits in
+-- what a step of a finish leads to, with another return
+module _ (controls : Controls) (now : ℕ) (q : Queue) (a : List ℕ) (row : FinishRow) (n : ℕ) (d : Desk) (h : StandsAt controls now q a (at.Finish row n) d)
+    (stays : (m : ℕ) → IsLeaving (at.Finish row n) m → ⊥) (idle : IsIdle n d.book.messages.known) where
+  abbrev ks : List Known
+  ks = d.book.messages.known
+
+  there : (r : Queue) (next : FinishRow) (back : Returning) → ((m : ℕ) → m ≢ n → about r m ≡ about q m) → FinishStands controls now r a next n ks back
+      → KnowsEach r (at.Finish next n) ks → AtFinish controls now r a next n (record d { bounce = back })
+  there r next back same stands knows =
       let was = at_finish controls now q a row n d h in
-      let idle = idle_at now q a row n ks call due h.rests.1 in
-      let none = unserved q n ks (all_known q row n ks idle.1 h.knows.known) idle.0 in
-      let same = far_if now a n f.number q r f.leads.elsewhere f.only in
-      let next : FinishRow = finish_to row (said (Answered told)).way (said (Answered told)).fd in
-      let there : AtFinish controls now r a next n d = record {
-        knows = f.knows;
+      let none = unserved q n ks (all_known q row n ks stays h.knows.known) idle in
+      record {
+        knows = knows;
         due = due_far q r n same d.book.messages none was.due;
         lanes = λ ch. lane_far q r n same ch (lane ch d.slots) (none ch) (was.lanes ch) (was.bare ch);
         apart = was.apart;
         controls_are = was.controls_are;
         bare = was.bare;
-        rests = f.stands;
-      } in
-      record { number = f.number; closed = f.closed; leads = f.leads; stands = next_leads controls now r a n read next (busied row d) (busied_at controls now r a row next n d there) }
+        rests = stands;
+      }
+
+  leads_then : (r : Queue) (next : FinishRow) (back : Returning) → FinishLeads controls now a q r n next ks back → AtFinish controls now r a next n (record d { bounce = back })
+  leads_then r next back f = there r next back (far_if now a n f.number q r f.leads.elsewhere f.only) f.stands f.knows
+
+-- the turn isn't an idle one
+busied : (controls : Controls) (now : ℕ) (q : Queue) (a : List ℕ) (next : FinishRow) (n : ℕ) (d : Desk) → AtFinish controls now q a next n d
+    → AtFinish controls now q a next n (record d { busy = true })
+busied controls now q a next n d h = record { knows = h.knows; due = h.due; lanes = h.lanes; apart = h.apart; controls_are = h.controls_are; bare = h.bare; rests = h.rests }
+
+module _ (controls : Controls) (now : ℕ) (q : Queue) (a : List ℕ) (child : Option Child) where
+  abbrev Leads : FinishRow → ℕ → Desk → ℕ → CallData → Told → ℕ → Type 0
+  Leads row n d read call told wrote = SenderLeads controls now a q
+      (booked_queue child (booked_at (at.Finish row n) (Answered told) d) (called_queue q a read call told.answer wrote q.role)) (act (at.Finish row n) read (Answered told) d)
+
+  pub finishes : Sound controls q → (row : FinishRow) (n : ℕ) (d : Desk) (read : ℕ) (call : CallData) (told : Told) (wrote : ℕ) → StandsAt controls now q a (at.Finish row n) d
+      → due_at (at.Finish row n) d ≡ needs.File call → Fits q.disk call told.answer wrote → IsReadBy q.disk call told → Leads row n d read call told wrote
+  finishes G finish.OpenBounce n d read call told wrote h due fits given =
+      let it = bounce_on n read (Answered told) (return_begun n) d.book in
+      let r : Queue = called_queue q a read call told.answer wrote q.role in
+      let f = finishes_lead.opens controls now q a n d.book read call told wrote G h.knows.known h.rests.1 (h.controls_are tt) due fits in
+      let w = leads_then controls now q a finish.OpenBounce n d h (λ m l. l.0) h.rests.1 r (returned_to it.row) it f in
+      record {
+        number = f.number;
+        closed = f.closed;
+        leads = f.leads;
+        stands = next_leads controls now r a n read (returned_to it.row) (record d { bounce = it; busy = true }) (busied controls now r a (returned_to it.row) n (record d { bounce = it }) w);
+      }
+  finishes G finish.Return n d read call told wrote h due fits given =
+      let it = bounce_on n read (Answered told) d.bounce d.book in
+      let r : Queue = booked_queue child (booked_at (at.Finish finish.Return n) (Answered told) d) (called_queue q a read call told.answer wrote q.role) in
+      let f = finishes_lead.returns controls now q a child n d.book d.bounce read call told wrote G h.knows.known h.rests.1 (h.controls_are tt) due fits given in
+      let w = leads_then controls now q a finish.Return n d h (λ m l. l.0) h.rests.1.idle r (returned_to it.row) it f in
+      record { number = f.number; closed = f.closed; leads = f.leads; stands = next_leads controls now r a n read (returned_to it.row) (record d { bounce = it }) w }
+  finishes G finish.UnlinkInfo n d read call told wrote h due fits given =
+      let next : FinishRow = finish_to finish.UnlinkInfo (said (Answered told)).way in
+      let r : Queue = called_queue q a read call told.answer wrote q.role in
+      let f = finishes_lead.ends controls now q a n d.book.messages.known d.bounce read call told wrote G h.knows.known h.rests.1 due fits in
+      let w = leads_then controls now q a finish.UnlinkInfo n d h (λ m l. l.0) h.rests.1.0 r next d.bounce f in
+      record { number = f.number; closed = f.closed; leads = f.leads; stands = next_leads controls now r a n read next d w }
+  finishes G finish.Give n d read call told wrote h due fits given = absurd (cc)
+  finishes G finish.Take n d read call told wrote h due fits given = absurd (cc)
+  finishes G finish.Later n d read call told wrote h due fits given = absurd (cc)
+  finishes G finish.Over n d read call told wrote h due fits given = absurd (cc)
+  finishes G finish.Lost n d read call told wrote h due fits given = absurd (cc)
+
+-- Of a return only its injector is started and given something
+
+given_there : (row : ReturnRow) (it : Returning) (port : Port) (bytes : List ℕ) → return_due_at row it ≡ needs.Give port bytes → IsBeforeStatus row
+given_there (back.Give pid) it port bytes due = tt
+given_there back.Start it port bytes due = tt
+given_there back.Open it port bytes due = absurd (cc)
+given_there (back.ReadNotes fd) it port bytes due = absurd (cc)
+given_there (back.CloseNotes fd) it port bytes due = absurd (cc)
+given_there back.OpenMessage it port bytes due = absurd (cc)
+given_there (back.ReadMessage fd) it port bytes due = absurd (cc)
+given_there (back.CloseMessage fd) it port bytes due = absurd (cc)
+given_there (back.Shut fd) it port bytes due = absurd (cc)
+given_there (back.Await pid) it port bytes due = absurd (cc)
+given_there back.Unlink it port bytes due = absurd (cc)
+given_there back.Discard it port bytes due = absurd (cc)
+given_there back.Over it port bytes due = absurd (cc)
+given_there back.Failed it port bytes due = absurd (cc)
+
+started_there : (row : ReturnRow) (it : Returning) (asked : ChildData) → return_due_at row it ≡ needs.Start asked → IsBeforeStatus row
+started_there back.Start it asked due = tt
+started_there (back.Give pid) it asked due = tt
+started_there back.Open it asked due = absurd (cc)
+started_there (back.ReadNotes fd) it asked due = absurd (cc)
+started_there (back.CloseNotes fd) it asked due = absurd (cc)
+started_there back.OpenMessage it asked due = absurd (cc)
+started_there (back.ReadMessage fd) it asked due = absurd (cc)
+started_there (back.CloseMessage fd) it asked due = absurd (cc)
+started_there (back.Shut fd) it asked due = absurd (cc)
+started_there (back.Await pid) it asked due = absurd (cc)
+started_there back.Unlink it asked due = absurd (cc)
+started_there back.Discard it asked due = absurd (cc)
+started_there back.Over it asked due = absurd (cc)
+started_there back.Failed it asked due = absurd (cc)
+
+taken_there : (row : ReturnRow) (it : Returning) (port : Port) → return_due_at row it ≡ needs.Take port → (pid : ℕ) × (row ≡ back.Await pid)
+taken_there (back.Await pid) it port due = (pid, refl)
+taken_there back.Start it port due = absurd (cc)
+taken_there (back.Give pid) it port due = absurd (cc)
+taken_there back.Open it port due = absurd (cc)
+taken_there (back.ReadNotes fd) it port due = absurd (cc)
+taken_there (back.CloseNotes fd) it port due = absurd (cc)
+taken_there back.OpenMessage it port due = absurd (cc)
+taken_there (back.ReadMessage fd) it port due = absurd (cc)
+taken_there (back.CloseMessage fd) it port due = absurd (cc)
+taken_there (back.Shut fd) it port due = absurd (cc)
+taken_there back.Unlink it port due = absurd (cc)
+taken_there back.Discard it port due = absurd (cc)
+taken_there back.Over it port due = absurd (cc)
+taken_there back.Failed it port due = absurd (cc)
+
+module _ (controls : Controls) (now : ℕ) (q : Queue) (a : List ℕ) where
+  -- a step of a return that is no call, before its injector's status
+  goes_on : (n : ℕ) (d : Desk) (read : ℕ) (came : GotData) → StandsAt controls now q a (at.Finish finish.Return n) d → IsBeforeStatus d.bounce.row
+      → SenderStands controls now q a (act (at.Finish finish.Return n) read came d)
+  goes_on n d read came h before =
+      let it = bounce_on n read came d.bounce d.book in
+      let stands = returns_go_on.steps controls now q a n d.book d.bounce read came h.knows.known h.rests.1 before in
+      let knows = each_on q (at.Finish finish.Return n) (at.Finish (returned_to it.row) n) d.book.messages.known (λ m l. l.0) h.knows.known in
+      next_leads controls now q a n read (returned_to it.row) (record d { bounce = it })
+      (there controls now q a finish.Return n d h (λ m l. l.0) h.rests.1.idle q (returned_to it.row) it (λ m far. refl) stands knows)
 
   pub finish_gives : (row : FinishRow) (n : ℕ) (d : Desk) (read : ℕ) (port : Port) (bytes : List ℕ) (came : GotData) → StandsAt controls now q a (at.Finish row n) d
       → due_at (at.Finish row n) d ≡ needs.Give port bytes → SenderStands controls now q a (act (at.Finish row n) read came d)
   finish_gives finish.Give n d read port bytes came h due = given_leads controls now q a n read (said came).way d (at_finish controls now q a finish.Give n d h)
   finish_gives finish.OpenBounce n d read port bytes came h due = absurd (cc)
-  finish_gives (finish.CloseBounce fd) n d read port bytes came h due = absurd (cc)
+  finish_gives finish.Return n d read port bytes came h due = goes_on n d read came h (given_there d.bounce.row d.bounce port bytes due)
   finish_gives finish.UnlinkInfo n d read port bytes came h due = absurd (cc)
   finish_gives finish.Take n d read port bytes came h due = absurd (cc)
   finish_gives finish.Later n d read port bytes came h due = absurd (cc)
   finish_gives finish.Over n d read port bytes came h due = absurd (cc)
   finish_gives finish.Lost n d read port bytes came h due = absurd (cc)
 
-  pub finish_takes : (row : FinishRow) (n : ℕ) (d : Desk) (read : ℕ) (port : Port) (came : GotData) → StandsAt controls now q a (at.Finish row n) d
-      → due_at (at.Finish row n) d ≡ needs.Take port → SenderStands controls now q a (act (at.Finish row n) read came d)
-  finish_takes finish.Take n d read port came h due = taken_leads controls now q a n read (said came).way d (at_finish controls now q a finish.Take n d h)
-  finish_takes finish.OpenBounce n d read port came h due = absurd (cc)
-  finish_takes (finish.CloseBounce fd) n d read port came h due = absurd (cc)
-  finish_takes finish.UnlinkInfo n d read port came h due = absurd (cc)
-  finish_takes finish.Give n d read port came h due = absurd (cc)
-  finish_takes finish.Later n d read port came h due = absurd (cc)
-  finish_takes finish.Over n d read port came h due = absurd (cc)
-  finish_takes finish.Lost n d read port came h due = absurd (cc)
+  pub finish_starts : (row : FinishRow) (n : ℕ) (d : Desk) (read : ℕ) (asked : ChildData) (came : GotData) → StandsAt controls now q a (at.Finish row n) d
+      → due_at (at.Finish row n) d ≡ needs.Start asked → SenderStands controls now q a (act (at.Finish row n) read came d)
+  finish_starts finish.Return n d read asked came h due = goes_on n d read came h (started_there d.bounce.row d.bounce asked due)
+  finish_starts finish.Give n d read asked came h due = absurd (cc)
+  finish_starts finish.OpenBounce n d read asked came h due = absurd (cc)
+  finish_starts finish.UnlinkInfo n d read asked came h due = absurd (cc)
+  finish_starts finish.Take n d read asked came h due = absurd (cc)
+  finish_starts finish.Later n d read asked came h due = absurd (cc)
+  finish_starts finish.Over n d read asked came h due = absurd (cc)
+  finish_starts finish.Lost n d read asked came h due = absurd (cc)
+
+  -- what a taking leads to: of a return one step that enters the bounce, if its injector ended with 0
+  pub record FinishTakes (child : Option Child) (row : FinishRow) (n : ℕ) (d : Desk) (read : ℕ) (came : GotData) : Type 0 where
+    pub through : LeadsThrough controls now a q (booked_queue child (booked_at (at.Finish row n) came d) q)
+    pub sound : Sound controls (booked_queue child (booked_at (at.Finish row n) came d) q)
+    pub stands : SenderStands controls now (booked_queue child (booked_at (at.Finish row n) came d) q) a (act (at.Finish row n) read came d)
+
+  pub finish_takes : Sound controls q → (child : Option Child) (row : FinishRow) (n : ℕ) (d : Desk) (read : ℕ) (port : Port) (came : GotData) → StandsAt controls now q a (at.Finish row n) d
+      → due_at (at.Finish row n) d ≡ needs.Take port → HasChild (booked_at (at.Finish row n) came d) child → FinishTakes child row n d read came
+  finish_takes G child finish.Take n d read port came h due has =
+      record { through = StaysSo q; sound = G; stands = taken_leads controls now q a n read (said came).way d (at_finish controls now q a finish.Take n d h) }
+  finish_takes G child finish.Return n d read port came h due has =
+      let it = bounce_on n read came d.bounce d.book in
+      let r : Queue = booked_queue child (booked_at (at.Finish finish.Return n) came d) q in
+      let await = taken_there d.bounce.row d.bounce port due in
+      let f = returns_go_on.takes controls now q a child n await.0 d.book d.bounce read came G h.knows.known h.rests.1 (h.controls_are tt) await.1 has in
+      record {
+        through = Goes q r r n f.closed f.leads (StaysSo r);
+        sound = f.leads.sound;
+        stands = next_leads controls now r a n read (returned_to it.row) (record d { bounce = it })
+            (there controls now q a finish.Return n d h (λ m l. l.0) h.rests.1.idle r (returned_to it.row) it (λ m far. about_same now a (Some n) q r f.leads.elsewhere m (λ e. far (some_same m n (sym e)))) f.stands f.knows);
+      }
+  finish_takes G child finish.OpenBounce n d read port came h due has = absurd (cc)
+  finish_takes G child finish.UnlinkInfo n d read port came h due has = absurd (cc)
+  finish_takes G child finish.Give n d read port came h due has = absurd (cc)
+  finish_takes G child finish.Later n d read port came h due has = absurd (cc)
+  finish_takes G child finish.Over n d read port came h due has = absurd (cc)
+  finish_takes G child finish.Lost n d read port came h due has = absurd (cc)

@@ -35,7 +35,7 @@ use Rattle.send_steps.specs.Files.{message_number, records_of}
 use Rattle.send_steps.specs.Finish.{finish_to}
 use Rattle.send_steps.specs.Readings.{read_on}
 use Rattle.send_steps.specs.Replies.{Said, said}
-use Rattle.send_steps.specs.Rows.{finish_step, is_again, sweep_step}
+use Rattle.send_steps.specs.Rows.{is_again, sweep_step}
 use Rattle.send_steps.specs.Steps.{due_by, remove_text}
 use Rattle.send_steps.specs.Sweep.{sweep_row, sweep_to, swept}
 use Rattle.todo_pass.specs.declared.part.Target.{Target}
@@ -55,10 +55,16 @@ use Rattle.send_core.specs.declared.row.Point.TheVariants as point
 use Rattle.send_core.specs.declared.row.Row.{Row}
 use Rattle.send_core.specs.declared.row.Row.TheVariants as at
 use Rattle.send_core.specs.Desk.{closed, closed_by, goes, has_begun, is_free_for, past_finish, past_todo, request_sent, stands_at, sweep_due, turn_counted, turn_over}
-use Rattle.send_core.specs.Finish.{busied, finish_at, looked_up, sweep_at, sweep_begun}
+use Rattle.send_core.specs.Finish.{act_finish, bounce_on, finish_at, looked_up, returned_to, sweep_at, sweep_begun}
 use Rattle.send_core.specs.Start.{start_at}
 use Rattle.send_core.specs.Table.{act, arrive, busy, due_at, from_point}
-use Rattle.send_core.specs.Turn.{act_mark, begun_at, file_read, in_todo, lost, mark_opened, mark_over, pass_opened, requested, todo_found, todo_named, todo_none, todo_on, todo_over, took, unlinked}
+use Rattle.bounce_record.specs.declared.note_row.NoteRow.{NoteRow}
+use Rattle.bounce_record.specs.declared.note_row.NoteRow.TheVariants as note
+use Rattle.bounce_record.specs.declared.return_row.ReturnRow.{ReturnRow}
+use Rattle.bounce_record.specs.declared.return_row.ReturnRow.TheVariants as back
+use Rattle.bounce_record.specs.Returning.{Returning, return_begun}
+use Rattle.bounce_record.specs.Writing.{written_on}
+use Rattle.send_core.specs.Turn.{act_mark, begin_note, noted, noted_at, begun_at, file_read, in_todo, lost, mark_opened, mark_over, pass_opened, requested, todo_found, todo_named, todo_none, todo_on, todo_over, took, unlinked}
 use Rattle.sender_law.specs.Waits.{awaits_in, awaits_at, awaits, IsFree}
 use Rattle.sender_law.proofs.Awaits.{Begins, passing_at, point_begins}
 
@@ -120,10 +126,27 @@ mark_opens way.Absent m fd e = marked false m e
 mark_opens way.Broken m fd e = marked false m e
 mark_opens way.NoMemory m fd e = marked false m e
 
-marks : (row : MarkRow) (m : Marked) (s : Said) (e : Desk) → Free (act_mark row m s e)
-marks mark.Open m s e = mark_opens s.way m s.fd e
-marks (mark.Write fd) m s e = inl refl
-marks (mark.Close fd written) m s e = marked written m e
+notes_by : (row : NoteRow) (m : Marked) (e : Desk) → Free (noted_at row m e)
+notes_by note.Written m e = inl refl
+notes_by note.Failed m e = marked false m e
+notes_by note.Open m e = inl refl
+notes_by note.Create m e = inl refl
+notes_by (note.Stat fd) m e = inl refl
+notes_by (note.Read fd place len) m e = inl refl
+notes_by (note.Append fd done) m e = inl refl
+notes_by (note.Sync fd) m e = inl refl
+notes_by (note.Close fd) m e = inl refl
+notes_by (note.Shut fd) m e = inl refl
+
+notes : (m : Marked) (got : GotData) (e : Desk) → Free (noted m got e)
+notes m got e = notes_by (written_on e.note got).row m (record e { note = written_on e.note got })
+
+marks : (row : MarkRow) (m : Marked) (got : GotData) (e : Desk) → Free (act_mark row m got e)
+marks mark.Note m got e = notes m got (begin_note m e)
+marks mark.Noting m got e = notes m got e
+marks mark.Open m got e = mark_opens (said got).way m (said got).fd e
+marks (mark.Write fd) m got e = inl refl
+marks (mark.Close fd written) m got e = marked written m e
 
 unlinks : (w : Way) (c : Channel) (n : ℕ) (p : Point) (now : ℕ) (e : Desk) → Free (unlinked w c n p now e)
 unlinks way.Fine c n p now e = inl refl
@@ -335,23 +358,52 @@ finish_goes finish.Over n now e h = finish_past now _
 finish_goes finish.Lost n now e h = inr refl
 finish_goes finish.Take n now e h = absurd h
 finish_goes finish.OpenBounce n now e h = inl refl
-finish_goes (finish.CloseBounce fd) n now e h = inl refl
+finish_goes finish.Return n now e h = inl refl
 finish_goes finish.UnlinkInfo n now e h = inl refl
 finish_goes finish.Give n now e h = inl refl
 
-finish_leads : (row : FinishRow) (n : ℕ) (w : Way) (fd : Fd) → ((text : List ℕ) → due_by (finish_step row n) [] ≡ needs.Give port.Clean text → ⊥) → NoTake (finish_to row w fd)
-finish_leads finish.OpenBounce n way.Fine fd h = tt
-finish_leads finish.OpenBounce n way.Absent fd h = tt
-finish_leads finish.OpenBounce n w fd h = tt
-finish_leads (finish.CloseBounce old) n w fd h = tt
-finish_leads finish.UnlinkInfo n way.Fine fd h = tt
-finish_leads finish.UnlinkInfo n w fd h = tt
-finish_leads finish.Give n w fd h = absurd (h (remove_text n) refl)
-finish_leads finish.Take n way.Fine fd h = tt
-finish_leads finish.Take n w fd h = tt
-finish_leads finish.Later n w fd h = tt
-finish_leads finish.Over n w fd h = tt
-finish_leads finish.Lost n w fd h = tt
+info_leads : (w : Way) → NoTake (finish_to finish.UnlinkInfo w)
+info_leads way.Fine = tt
+info_leads way.Over = tt
+info_leads way.Absent = tt
+info_leads way.Broken = tt
+info_leads way.NoMemory = tt
+
+take_leads : (w : Way) → NoTake (finish_to finish.Take w)
+take_leads way.Fine = tt
+take_leads way.Over = tt
+take_leads way.Absent = tt
+take_leads way.Broken = tt
+take_leads way.NoMemory = tt
+
+return_leads : (row : ReturnRow) → NoTake (returned_to row)
+return_leads back.Over = tt
+return_leads back.Failed = tt
+return_leads back.Open = tt
+return_leads (back.ReadNotes fd) = tt
+return_leads (back.CloseNotes fd) = tt
+return_leads back.OpenMessage = tt
+return_leads (back.ReadMessage fd) = tt
+return_leads (back.CloseMessage fd) = tt
+return_leads (back.Shut fd) = tt
+return_leads back.Start = tt
+return_leads (back.Give pid) = tt
+return_leads (back.Await pid) = tt
+return_leads back.Unlink = tt
+return_leads back.Discard = tt
+
+returns_by : (it : Returning) (n now : ℕ) (e : Desk) → Free (finish_at (returned_to it.row) n now e)
+returns_by it n now e = finish_goes (returned_to it.row) n now e (return_leads it.row)
+
+finish_acts : (row : FinishRow) (n now : ℕ) (got : GotData) (e : Desk) → ((text : List ℕ) → due_at (at.Finish row n) e ≡ needs.Give port.Clean text → ⊥) → Free (act_finish row n now got e)
+finish_acts finish.OpenBounce n now got e h = let it = bounce_on n now got (return_begun n) e.book in returns_by it n now (record e { bounce = it; busy = true })
+finish_acts finish.Return n now got e h = let it = bounce_on n now got e.bounce e.book in returns_by it n now (record e { bounce = it })
+finish_acts finish.UnlinkInfo n now got e h = finish_goes (finish_to finish.UnlinkInfo (said got).way) n now e (info_leads (said got).way)
+finish_acts finish.Give n now got e h = absurd (h (remove_text n) refl)
+finish_acts finish.Take n now got e h = finish_goes (finish_to finish.Take (said got).way) n now e (take_leads (said got).way)
+finish_acts finish.Later n now got e h = finish_past now _
+finish_acts finish.Over n now got e h = finish_past now _
+finish_acts finish.Lost n now got e h = inr refl
 
 -- The sweep
 
@@ -429,14 +481,13 @@ step : (row : Row) (now : ℕ) (got : GotData) (e : Desk) → IsStep row → Non
 step (at.Start row) now got e h none = starts _ _
 step (at.Turn p) now got e h none = absurd h
 step (at.TakeLink c) now got e h none = takes (said got).way (said got).bytes c e
-step (at.Mark row m) now got e h none = marks row m (said got) e
+step (at.Mark row m) now got e h none = marks row m got e
 step (at.UnlinkFile c n p) now got e h none = unlinks (said got).way c n p now e
 step (at.ReadFile c n begun reading) now got e h none = reads (read_on reading (said got)) c n (begun_at reading begun now) reading now (said got) e
 step (at.Request c) now got e h none = requests (said got).way c e
 step (at.FindTodo search) now got e h none = searches (said got).way (said got).bytes search now e
 step at.InTodo now got e h none = passes e e.pass.row now got none
-step (at.Finish row n) now got e h none =
-    finish_goes (finish_to row (said got).way (said got).fd) n now (busied row e) (finish_leads row n (said got).way (said got).fd none)
+step (at.Finish row n) now got e h none = finish_acts row n now got e none
 step (at.Sweep row) now got e h none =
     sweep_goes (sweep_to row now (said got) e.book) (looked_up row (said got) (sweep_begun row now e)) (sweep_leads row now (said got).way (said got) e.book _ none)
 step (at.Ended status) now got e h none = absurd h

@@ -51,10 +51,11 @@ use Rattle.channel_law.proofs.Ties.{others_kept}
 use Rattle.sender_law.proofs.Closes.{lane_closed, one_closed}
 use Rattle.sender_law.proofs.Others.{the_job}
 use Rattle.queue_law.specs.Books.{Injection, Books}
-use Rattle.queue_law.specs.Marks.{IsDelivered}
+use Rattle.queue_law.specs.Marks.{IsDone}
 use Rattle.queue_law.specs.Numbers.{Queue, find, look, About, about, IsPreprocessed, Sound}
 use Rattle.queue_law.specs.Routes.{lane_part, sender_of}
 use Rattle.queue_law.specs.Senders.{HasLane, MayDrop, called_queue}
+use Rattle.queue_law.proofs.Growth.{grown_same}
 use Rattle.queue_law.proofs.Changes.{unlinks_one}
 use Rattle.queue_law.proofs.Readings.{records_are}
 use Rattle.queue_law.proofs.Sends.{drops_keep, lane_there, sorted_of_lane}
@@ -94,7 +95,7 @@ may_drop controls q c n l job none G h over clean =
       each = λ r on.
           let one = of.all r on in
           let done = among_all it.records one.0 all one.1 in
-          inr (subst (IsDelivered i.ledger c) one.2.place_is (one.2.done done));
+          inr (subst (IsDone i.ledger c) {x = one.0.place} one.2.place_is (one.2.done done));
     }
   where
     among_all : (xs : List Record) (x : Record) → All (λ (r : Record). r.done ≡ true) xs → Among x xs → x.done ≡ true
@@ -170,13 +171,13 @@ module _ (q r : Queue) (c : Channel) (n : ℕ) (books : r.books ≡ q.books) (go
   serves_still : (k : ℕ) (ch : Channel) → Of (lane_part ch) k ≢ Of (lane_part c) n → Serves (about q k) ch → Serves (about r k) ch
   serves_still k ch far h = record { sorted = (settled_still k h.sorted).0; file = h.file; there = others (Of (lane_part ch) k) far ∙ h.there }
 
-  entered_still : (k : ℕ) (ch : Channel) (place : ℕ) → IsEntered (about q k) ch place → IsEntered (about r k) ch place
-  entered_still k ch place h = record { injection = h.injection; lives = ap (λ (b : Books). b.living k) books ∙ h.lives; delivered = h.delivered }
+  entered_still : (k : ℕ) (ch : Channel) (m : Mark) → IsEntered (about q k) ch m → IsEntered (about r k) ch m
+  entered_still k ch m h = record { injection = h.injection; lives = ap (λ (b : Books). b.living k) books ∙ h.lives; reported = h.reported }
 
-  marks_still : (ch : Channel) (ms : List Mark) → All (λ (m : Mark). IsEntered (about q m.attempt.n) ch m.attempt.place) ms
-      → All (λ (m : Mark). IsEntered (about r m.attempt.n) ch m.attempt.place) ms
-  marks_still ch ms h = All-weaker (λ (m : Mark). IsEntered (about q m.attempt.n) ch m.attempt.place) (λ (m : Mark). IsEntered (about r m.attempt.n) ch m.attempt.place)
-      (λ m. entered_still m.attempt.n ch m.attempt.place) ms h
+  marks_still : (ch : Channel) (ms : List Mark) → All (λ (m : Mark). IsEntered (about q m.attempt.n) ch m) ms
+      → All (λ (m : Mark). IsEntered (about r m.attempt.n) ch m) ms
+  marks_still ch ms h = All-weaker (λ (m : Mark). IsEntered (about q m.attempt.n) ch m) (λ (m : Mark). IsEntered (about r m.attempt.n) ch m)
+      (λ m. entered_still m.attempt.n ch m) ms h
 
   -- of a channel with no job of the number
   lane_without : (ch : Channel) (l : Lane) → OnLane q ch l → ((k : ℕ) (job : Job) → job_of k l.jobs ≡ Some job → Of (lane_part ch) k ≢ Of (lane_part c) n) → OnLane r ch l
@@ -350,8 +351,8 @@ module _ (controls : Controls) (now : ℕ) (q : Queue) (a : List ℕ) (none : Ha
 
     same_looks : (told : Answer) → effect q.disk read (Unlink (path (Of (lane_part c) n))) told wrote ≡ q.disk → Grows q (after told)
     same_looks told e = record {
-      looks = λ part k. ap (λ (x : Disk). find x.names x.files (Of part k)) e;
-      lives = λ k i there. (i, there, refl, λ t w. w);
+      looks = λ part k far. ap (λ (x : Disk). find x.names x.files (Of part k)) e;
+      lives = λ k i there. (i, there, refl, grown_same i.ledger);
     }
 
     by_answer : (told : Answer) (bytes : List ℕ) → Fits q.disk (Unlink (path (Of (lane_part c) n))) told wrote → SenderLeads controls now a q (after told) (unlinked (answered told bytes).way c n p read d)

@@ -32,7 +32,7 @@ use Rattle.sender_law.specs.Knows.{IsEntered, Serves}
 pub record OnLane (q : Queue) (ch : Channel) (l : Lane) : Type 0 where
   pub tied : IsTied (files_of q ch) Unwritten l
   pub jobs : (n : ℕ) (job : Job) → job_of n l.jobs ≡ Some job → Serves (about q n) ch
-  pub marks : All (λ (m : Mark). IsEntered (about q m.attempt.n) ch m.attempt.place) l.marks
+  pub marks : All (λ (m : Mark). IsEntered (about q m.attempt.n) ch m) l.marks
 
 abbrev pub OnBoth : Queue → Slots → Type 0
 OnBoth q s = (ch : Channel) → OnLane q ch (lane ch s)
@@ -77,13 +77,12 @@ module _ (q : Queue) (ch : Channel) (l : Lane) (h : OnLane q ch l) where
   jobs_unmarked : (n k : ℕ) (job : Job) → job_of k (unmark n l.jobs) ≡ Some job → Serves (about q k) ch
   jobs_unmarked n k job e = let w = unmarked_was (n == k) n (job_of k l.jobs) job (sym (job_unmarked n k l.jobs) ∙ e) in h.jobs k w.0 w.1
 
-  pub owed_on : (slot : ℕ) (a : Attempt) (m : Mark) → attempt_in l.slots slot ≡ Some a → m.attempt ≡ a → IsEntered (about q a.n) ch a.place
+  pub owed_on : (slot : ℕ) (a : Attempt) (m : Mark) → attempt_in l.slots slot ≡ Some a → m.attempt ≡ a → IsEntered (about q m.attempt.n) ch m
       → OnLane q ch (owes m (reported slot l))
   owed_on slot a m there same entered = record {
     tied = (report_kept (files_of q ch) l slot a m h.tied there same).0;
     jobs = h.jobs;
-    marks = All-push (λ (x : Mark). IsEntered (about q x.attempt.n) ch x.attempt.place) l.marks m h.marks
-        (subst (λ (x : Attempt). IsEntered (about q x.n) ch x.place) (sym same) entered);
+    marks = All-push (λ (x : Mark). IsEntered (about q x.attempt.n) ch x) l.marks m h.marks entered;
   }
 
   pub left_on : (slot : ℕ) (a : Attempt) → attempt_in l.slots slot ≡ Some a → OnLane q ch (left_unmarked a.n (reported slot l))

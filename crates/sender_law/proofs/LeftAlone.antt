@@ -1,5 +1,7 @@
 -- What others do, and time, leave a sender.
-use Rattle.std.proofs.Common.{◌≡◌, ◌≢◌, ℕ, ◌≤◌, List, Option, Some}
+use Rattle.std.proofs.Common.{◌≡◌, ◌≢◌, ℕ, ◌≤◌, List, Option, Some, subst}
+use Rattle.std.specs.Prelude.{All}
+use Rattle.std.proofs.lemmas.List.Elements.{All-contains}
 use Rattle.address_rules.specs.declared.controls.Controls.{Controls}
 use Rattle.send_core.specs.declared.desk.Desk.{Desk}
 use Rattle.send_core.specs.declared.row.Row.{Row}
@@ -16,9 +18,11 @@ use Rattle.queue_law.specs.Numbers.{Queue, about}
 use Rattle.queue_law.specs.Rests.{Spares}
 use Rattle.queue_law.specs.Steps.{Elsewhere}
 use Rattle.sender_law.specs.InTodo.{PassGoesOn, TodoStands}
-use Rattle.sender_law.specs.Rows.{FinishStands, RowStands}
-use Rattle.sender_law.specs.Stands.{SenderStands, SparesSorted}
-use Rattle.sender_law.proofs.Others.{knows_kept, lanes_kept, rests_kept}
+use Rattle.sender_law.specs.Knows.{IsRemoved, Knows}
+use Rattle.sender_law.specs.Knows.Knows.{Stays, Leaves}
+use Rattle.sender_law.specs.Rows.{FinishStands, IsIdle, RowStands, Works, works}
+use Rattle.sender_law.specs.Stands.{KnowsAll, SenderStands, SparesSorted}
+use Rattle.sender_law.proofs.Others.{knows_kept, lanes_kept, rests_kept, same_about}
 use Rattle.sender_law.specs.LeftAlone.{LeavesPass, LeavesRow, SendersAreLeftAlone}
 use Rattle.sender_law.proofs.Alone.{points_are_left_alone}
 use Rattle.sender_law.proofs.Passing.{passes_go_on}
@@ -44,29 +48,44 @@ module _ (controls : Controls) (now : ℕ) (a o : List ℕ) (m k : Option ℕ) (
   todo_left (todo.Left why) p l h = tt
   todo_left todo.Lost p l h = tt
 
-  finish_left : (row : FinishRow) (n : ℕ) (p : Pass) (known : List Known) → LeavesRow (at.Finish row n) p k q r → FinishStands now q a row n known → FinishStands now r a row n known
-  finish_left finish.OpenBounce n p known l h = h
-  finish_left (finish.CloseBounce fd) n p known l h = (h.0, (h.1.0, E.opens a fd.0 h.1.0 far h.1.1))
-  finish_left finish.UnlinkInfo n p known l h = h
-  finish_left finish.Give n p known l h = points_are_left_alone.finish now a o m k q r E far S finish.Give n known l h
-  finish_left finish.Take n p known l h = h
-  finish_left finish.Later n p known l h = tt
-  finish_left finish.Over n p known l h = tt
-  finish_left finish.Lost n p known l h = tt
+  -- the number of an idle message is as it was, until it is removed
+  idle_same : (row : FinishRow) (n : ℕ) (known : List Known) → (IsRemoved row → ⊥) → All (λ (x : Known). Knows (at.Finish row n) (about q x.n) x) known → IsIdle n known
+      → about r n ≡ about q n
+  idle_same row n known stays knows idle =
+      let it = All-contains (λ (x : Known). Knows (at.Finish row n) (about q x.n) x) known idle.it knows idle.there in
+      subst (λ (j : ℕ). about r j ≡ about q j) idle.number (by it)
+    where
+      by : Knows (at.Finish row n) (about q idle.it.n) idle.it → about r idle.it.n ≡ about q idle.it.n
+      by (Stays w) = same_about q r spares idle.it.n w.sorted
+      by (Leaves l) = absurd (stays l.0)
 
-  row_left : (row : Row) (b : Book) (s : Slots) (p : Pass) → LeavesRow row p k q r → RowStands controls now q a row b s p → RowStands controls now r a row b s p
-  row_left at.InTodo b s p l h = (h.0, (h.1.0, todo_left p.row p l h.1.1))
-  row_left (at.Finish row n) b s p l h = (h.0, finish_left row n p b.messages.known l h.1)
-  row_left (at.Sweep row) b s p l h = (h.0, points_are_left_alone.sweeps now a k q r S row b.messages.known l h.1)
-  row_left (at.Start row) b s p l h = rests_kept controls now a o m q r E far spares (at.Start row) b s p tt h
-  row_left (at.Turn point) b s p l h = rests_kept controls now a o m q r E far spares (at.Turn point) b s p tt h
-  row_left (at.TakeLink ch) b s p l h = rests_kept controls now a o m q r E far spares (at.TakeLink ch) b s p tt h
-  row_left (at.Mark row mark) b s p l h = rests_kept controls now a o m q r E far spares (at.Mark row mark) b s p tt h
-  row_left (at.UnlinkFile ch n point) b s p l h = rests_kept controls now a o m q r E far spares (at.UnlinkFile ch n point) b s p tt h
-  row_left (at.ReadFile ch n begun g) b s p l h = rests_kept controls now a o m q r E far spares (at.ReadFile ch n begun g) b s p tt h
-  row_left (at.Request ch) b s p l h = rests_kept controls now a o m q r E far spares (at.Request ch) b s p tt h
-  row_left (at.FindTodo search) b s p l h = rests_kept controls now a o m q r E far spares (at.FindTodo search) b s p tt h
-  row_left (at.Ended status) b s p l h = tt
+  finish_left : (row : FinishRow) (n : ℕ) (p : Works) (known : List Known) → LeavesRow (at.Finish row n) p.pass k q r
+      → All (λ (x : Known). Knows (at.Finish row n) (about q x.n) x) known → FinishStands controls now q a row n known p.bounce → FinishStands controls now r a row n known p.bounce
+  finish_left finish.OpenBounce n p known l knows h = h
+  finish_left finish.Return n p known l knows h =
+      points_are_left_alone.finish controls now a o m k q r E far S finish.Return n known p.bounce (idle_same finish.Return n known (λ x. x) knows h.idle) h
+  finish_left finish.UnlinkInfo n p known l knows h =
+      points_are_left_alone.finish controls now a o m k q r E far S finish.UnlinkInfo n known p.bounce (idle_same finish.UnlinkInfo n known (λ x. x) knows h.0) h
+  finish_left finish.Give n p known l knows h = points_are_left_alone.finish controls now a o m k q r E far S finish.Give n known p.bounce l h
+  finish_left finish.Take n p known l knows h = h
+  finish_left finish.Later n p known l knows h = tt
+  finish_left finish.Over n p known l knows h = tt
+  finish_left finish.Lost n p known l knows h = tt
+
+  row_left : (row : Row) (b : Book) (s : Slots) (p : Works) → LeavesRow row p.pass k q r → KnowsAll q row b.messages → RowStands controls now q a row b s p
+      → RowStands controls now r a row b s p
+  row_left at.InTodo b s p l knows h = (h.0, (h.1.0, todo_left p.pass.row p.pass l h.1.1))
+  row_left (at.Finish row n) b s p l knows h = (h.0, finish_left row n p b.messages.known l knows.known h.1)
+  row_left (at.Sweep row) b s p l knows h = (h.0, points_are_left_alone.sweeps now a k q r S row b.messages.known l h.1)
+  row_left (at.Start row) b s p l knows h = rests_kept controls now a o m q r E far spares (at.Start row) b s p tt h
+  row_left (at.Turn point) b s p l knows h = rests_kept controls now a o m q r E far spares (at.Turn point) b s p tt h
+  row_left (at.TakeLink ch) b s p l knows h = rests_kept controls now a o m q r E far spares (at.TakeLink ch) b s p tt h
+  row_left (at.Mark row mark) b s p l knows h = rests_kept controls now a o m q r E far spares (at.Mark row mark) b s p tt h
+  row_left (at.UnlinkFile ch n point) b s p l knows h = rests_kept controls now a o m q r E far spares (at.UnlinkFile ch n point) b s p tt h
+  row_left (at.ReadFile ch n begun g) b s p l knows h = rests_kept controls now a o m q r E far spares (at.ReadFile ch n begun g) b s p tt h
+  row_left (at.Request ch) b s p l knows h = rests_kept controls now a o m q r E far spares (at.Request ch) b s p tt h
+  row_left (at.FindTodo search) b s p l knows h = rests_kept controls now a o m q r E far spares (at.FindTodo search) b s p tt h
+  row_left (at.Ended status) b s p l knows h = tt
 
   left : (d : Desk) → LeavesRow d.row d.pass k q r → SenderStands controls now q a d → SenderStands controls now r a d
   left d l h = record {
@@ -74,7 +93,7 @@ module _ (controls : Controls) (now : ℕ) (a o : List ℕ) (m k : Option ℕ) (
     lanes = λ ch. lanes_kept q r d.row ch d.slots spares (h.lanes ch);
     apart = h.apart;
     controls_are = h.controls_are;
-    rests = row_left d.row d.book d.slots d.pass l h.rests;
+    rests = row_left d.row d.book d.slots (works d) l h.knows h.rests;
   }
 
 -- Time
@@ -100,9 +119,9 @@ module _ (controls : Controls) (now later : ℕ) (soon : now ≤ later) (q : Que
   todo_later (todo.Left why) p h = tt
   todo_later todo.Lost p h = tt
 
-  row_later : (row : Row) (b : Book) (s : Slots) (p : Pass) → RowStands controls now q a row b s p → RowStands controls later q a row b s p
-  row_later at.InTodo b s p h = (h.0, (h.1.0, todo_later p.row p h.1.1))
-  row_later (at.Finish row n) b s p h = (h.0, points_are_left_alone.finish_later now later soon q a row n b.messages.known h.1)
+  row_later : (row : Row) (b : Book) (s : Slots) (p : Works) → RowStands controls now q a row b s p → RowStands controls later q a row b s p
+  row_later at.InTodo b s p h = (h.0, (h.1.0, todo_later p.pass.row p.pass h.1.1))
+  row_later (at.Finish row n) b s p h = (h.0, points_are_left_alone.finish_later controls now later soon q a row n b.messages.known p.bounce h.1)
   row_later (at.Sweep row) b s p h = (h.0, points_are_left_alone.sweeps_later now later soon q a row b.messages.known h.1)
   row_later (at.Start row) b s p h = h
   row_later (at.Turn point) b s p h = h
@@ -120,7 +139,7 @@ module _ (controls : Controls) (now later : ℕ) (soon : now ≤ later) (q : Que
     lanes = h.lanes;
     apart = h.apart;
     controls_are = h.controls_are;
-    rests = row_later d.row d.book d.slots d.pass h.rests;
+    rests = row_later d.row d.book d.slots (works d) h.rests;
   }
 
 pub senders_are_left_alone : SendersAreLeftAlone

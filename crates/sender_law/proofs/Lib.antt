@@ -16,8 +16,14 @@ pub mod Entries
 pub mod Requests
 -- channel files that go
 pub mod Gone
+-- the first of a list
+pub mod Heads
 -- marks
 pub mod Marking
+-- notes
+pub mod Noting
+-- what is due at a step of a note
+pub mod NoteDue
 -- the write of a mark
 pub mod Writes
 -- passes that open
@@ -46,16 +52,20 @@ pub mod Fits
 pub mod Passing
 -- what a sender gives its cleaner and takes from it
 pub mod Awaits
--- it starts no program
+-- what programs it starts
 pub mod Programs
 -- when a sender waits for nothing
 pub mod Frees
+-- the giving to a child
+pub mod Given
 -- what others leave of a finish and of the sweep
 pub mod Alone
 -- steps that concern one number
 pub mod Far
 -- where a turn goes on
 pub mod Turning
+-- returns
+pub mod Returns
 -- the events of a finish
 pub mod Finishing
 -- the events of a sweep

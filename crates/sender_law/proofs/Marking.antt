@@ -34,7 +34,7 @@ use Rattle.send_jobs.specs.Jobs.{job_of, unmark}
 use Rattle.send_jobs.specs.Lanes.{job_over, left_unmarked, mark_settled}
 use Rattle.send_jobs.specs.Sending.{at_lane, lane}
 use Rattle.send_known.specs.declared.known.Known.{Known}
-use Rattle.send_steps.specs.Replies.{answered}
+use Rattle.call_fs.specs.declared.past.GotData.TheVariants.{Answered}
 use Rattle.channel_law.specs.Tied.{First, IsTied, waiting}
 use Rattle.channel_law.specs.Tied.First.{Unwritten, Unsure, Written}
 use Rattle.channel_law.proofs.Ties.{given_up_kept, made_kept, others_kept}
@@ -45,14 +45,15 @@ use Rattle.queue_law.proofs.Looks.{find_some}
 use Rattle.queue_law.proofs.Opens.{opened_held}
 use Rattle.queue_law.proofs.Sends.{reads_keep}
 use Rattle.sender_law.specs.Views.{by_mark, files_of, first_if, records_at}
-use Rattle.sender_law.specs.Knows.{IsEntered, IsKnown, Knows, Serves}
+use Rattle.sender_law.specs.Knows.{IsDoneIn, IsEntered, IsKnown, Knows, Serves}
 use Rattle.sender_law.specs.Knows.Knows.{Stays, Leaves}
 use Rattle.sender_law.specs.Rows.{HasFile, IsFirstMark, MarkHolds, PointStands}
 use Rattle.sender_law.specs.Stands.{DueApart, LaneStands, SenderLeads, SenderStands, StandsAt}
 use Rattle.sender_law.proofs.Apart.{IsFewer, apart_lane, fewer_unmarked}
 use Rattle.sender_law.proofs.Closes.{none_closed}
 use Rattle.sender_law.proofs.Desks.{OnDesk, due_again_on, stand}
-use Rattle.sender_law.proofs.Entries.{Grows, due_all, known_all, lane_grown, serves_grown, entered_grown}
+use Rattle.queue_law.proofs.Growth.{grown_same}
+use Rattle.sender_law.proofs.Entries.{Grows, due_all, known_all, lane_bare, lane_grown, serves_grown, entered_grown}
 use Rattle.sender_law.proofs.Gone.{lane_name, point_ended}
 use Rattle.sender_law.proofs.Lanes.{AllServe, OnBoth, OnLane, ended_on, over_there, unmarked_was}
 use Rattle.send_jobs.proofs.JobLemmas.{job_unmarked}
@@ -92,7 +93,7 @@ pub record AtMark (controls : Controls) (q : Queue) (row : MarkRow) (c : Channel
   pub others : (ch : Channel) → ch ≢ c → OnLane q ch (lane ch d.slots)
   pub tied : IsTied (files_of q c) (by_mark row) (lane c d.slots)
   pub jobs : (n : ℕ) (job : Job) → job_of n (lane c d.slots).jobs ≡ Some job → Serves (about q n) c
-  pub marks : All (λ (m : Mark). IsEntered (about q m.attempt.n) c m.attempt.place) (waiting (by_mark row) (lane c d.slots).marks)
+  pub marks : All (λ (m : Mark). IsEntered (about q m.attempt.n) c m) (waiting (by_mark row) (lane c d.slots).marks)
 
 same_same : (c : Channel) → is_same c c ≡ true
 same_same Local = refl
@@ -109,7 +110,7 @@ stays row m w k (Stays h) = h
 stays row m w k (Leaves h) = absurd h
 
 abbrev Entered : Queue → Channel → Mark → Type 0
-Entered q ch m = IsEntered (about q m.attempt.n) ch m.attempt.place
+Entered q ch m = IsEntered (about q m.attempt.n) ch m
 
 pub at_mark : (controls : Controls) (now : ℕ) (q : Queue) (a : List ℕ) (row : MarkRow) (m : Marked) (d : Desk) → StandsAt controls now q a (at.Mark row m) d
     → AtMark controls q row m.channel d
@@ -157,7 +158,7 @@ lanes_at controls q row m d h ch = ⊎_elim
     })
     (which m.channel ch)
 
-pub at_stands : (controls : Controls) (now : ℕ) (q : Queue) (a : List ℕ) (row : MarkRow) (m : Marked) (d : Desk) → AtMark controls q row m.channel d → IsFirstMark m d.slots → MarkHolds q a row m
+pub at_stands : (controls : Controls) (now : ℕ) (q : Queue) (a : List ℕ) (row : MarkRow) (m : Marked) (d : Desk) → AtMark controls q row m.channel d → IsFirstMark m d.slots → MarkHolds controls q a row m d.slots d.note
     → StandsAt controls now q a (at.Mark row m) d
 at_stands controls now q a row m d h first holds = record {
   knows = record {
@@ -178,9 +179,9 @@ at_grown controls q r row c d g h = record {
   apart = h.apart;
   controls_are = h.controls_are;
   others = λ ch far. lane_grown q r g ch (lane ch d.slots) (h.others ch far);
-  tied = others_kept (files_of q c) (files_of r c) (by_mark row) (lane c d.slots) h.tied (λ n _. ap records_at (g.looks (lane_part c) n));
+  tied = others_kept (files_of q c) (files_of r c) (by_mark row) (lane c d.slots) h.tied (λ n _. ap records_at (g.looks (lane_part c) n (lane_bare c)));
   jobs = λ n job e. serves_grown q r g n c (h.jobs n job e);
-  marks = All-weaker (Entered q c) (Entered r c) (λ m. entered_grown q r g m.attempt.n c m.attempt.place) (waiting (by_mark row) (lane c d.slots).marks) h.marks;
+  marks = All-weaker (Entered q c) (Entered r c) (λ m. entered_grown q r g m.attempt.n c m) (waiting (by_mark row) (lane c d.slots).marks) h.marks;
 }
 
 -- A mark that is over
@@ -227,7 +228,7 @@ given_up n l = left_unmarked n (mark_settled l)
 
 module _ (controls : Controls) (now : ℕ) (q : Queue) (a : List ℕ) (row : MarkRow) (m : Marked) (d : Desk) (first : IsFirstMark m d.slots) (h : AtMark controls q row m.channel d) where
   -- it wasn't made, and stays `T`
-  over_failed : SenderStands controls now q a (mark_over false m d)
+  pub over_failed : SenderStands controls now q a (mark_over false m d)
   over_failed =
       let one : OnLane q m.channel (given_up m.n (lane m.channel d.slots)) =
       subst (λ (n : ℕ). OnLane q m.channel (given_up n (lane m.channel d.slots))) first.number (given_lane controls q row m.channel d h first.first first.there) in
@@ -263,11 +264,11 @@ module _ (controls : Controls) (now : ℕ) (q : Queue) (a : List ℕ) (G : Sound
   opening = call.Open (path (Of (lane_part m.channel) m.n)) how.Write
 
   same_books : (c : CallData) (told : Answer) → ((part : Part) (n : ℕ) → look (after c told) (Of part n) ≡ look q (Of part n)) → Grows q (after c told)
-  same_books c told e = record { looks = e; lives = λ k i there. (i, there, refl, λ t w. w) }
+  same_books c told e = record { looks = λ part n far. e part n; lives = λ k i there. (i, there, refl, grown_same i.ledger) }
 
-  opened_leads : (fd : Fd) → AtMark controls q mark.Open m.channel d → Fits q.disk opening (answer.Opened fd) wrote
+  opened_leads : (fd : Fd) → AtMark controls q mark.Open m.channel d → IsDoneIn (about q m.n) m.channel m.place → Fits q.disk opening (answer.Opened fd) wrote
       → SenderLeads controls now a q (after opening (answer.Opened fd)) (goes d (at.Mark (mark.Write fd) m))
-  opened_leads fd h fits =
+  opened_leads fd h sure fits =
       let x : Name = Of (lane_part m.channel) m.n in
       let r : Queue = after opening (answer.Opened fd) in
       let g = same_books opening (answer.Opened fd) (λ part n. refl) in
@@ -288,7 +289,7 @@ module _ (controls : Controls) (now : ℕ) (q : Queue) (a : List ℕ) (G : Sound
           tied = then_at.tied;
           jobs = then_at.jobs;
           marks = then_at.marks;
-        }) first file;
+        }) first (file, sure);
       }
 
   not_opened : (told : Answer) → AtMark controls q mark.Open m.channel d → Fits q.disk opening told wrote → Grows q (after opening told)
@@ -300,19 +301,19 @@ module _ (controls : Controls) (now : ℕ) (q : Queue) (a : List ℕ) (G : Sound
     stands = over_failed controls now (after opening told) a mark.Open m d first (at_grown controls q (after opening told) mark.Open m.channel d g h);
   }
 
-  pub open_answer : (told : Answer) (bytes : List ℕ) → AtMark controls q mark.Open m.channel d → Fits q.disk opening told wrote
-      → SenderLeads controls now a q (after opening told) (act_mark mark.Open m (answered told bytes) d)
-  open_answer (answer.Opened fd) bytes h fits = opened_leads fd h fits
-  open_answer (answer.Refused why.NotThere) bytes h fits = not_opened (answer.Refused why.NotThere) h fits (same_books opening (answer.Refused why.NotThere) (λ part n. refl))
-  open_answer (answer.Refused why.Fault) bytes h fits = not_opened (answer.Refused why.Fault) h fits (same_books opening (answer.Refused why.Fault) (λ part n. refl))
-  open_answer (answer.Refused why.Memory) bytes h fits = not_opened (answer.Refused why.Memory) h fits (same_books opening (answer.Refused why.Memory) (λ part n. refl))
-  open_answer (answer.Refused why.Exists) bytes h fits = absurd fits
-  open_answer (answer.Created fd k) bytes h fits = absurd fits
-  open_answer (answer.Count k) bytes h fits = absurd fits
-  open_answer answer.Done bytes h fits = absurd fits
-  open_answer (answer.Stat s) bytes h fits = absurd fits
-  open_answer (answer.Name k) bytes h fits = absurd fits
-  open_answer answer.NoName bytes h fits = absurd fits
+  pub open_answer : (told : Answer) (bytes : List ℕ) → AtMark controls q mark.Open m.channel d → IsDoneIn (about q m.n) m.channel m.place → Fits q.disk opening told wrote
+      → SenderLeads controls now a q (after opening told) (act_mark mark.Open m (Answered (record { answer = told; bytes = bytes })) d)
+  open_answer (answer.Opened fd) bytes h sure fits = opened_leads fd h sure fits
+  open_answer (answer.Refused why.NotThere) bytes h sure fits = not_opened (answer.Refused why.NotThere) h fits (same_books opening (answer.Refused why.NotThere) (λ part n. refl))
+  open_answer (answer.Refused why.Fault) bytes h sure fits = not_opened (answer.Refused why.Fault) h fits (same_books opening (answer.Refused why.Fault) (λ part n. refl))
+  open_answer (answer.Refused why.Memory) bytes h sure fits = not_opened (answer.Refused why.Memory) h fits (same_books opening (answer.Refused why.Memory) (λ part n. refl))
+  open_answer (answer.Refused why.Exists) bytes h sure fits = absurd fits
+  open_answer (answer.Created fd k) bytes h sure fits = absurd fits
+  open_answer (answer.Count k) bytes h sure fits = absurd fits
+  open_answer answer.Done bytes h sure fits = absurd fits
+  open_answer (answer.Stat s) bytes h sure fits = absurd fits
+  open_answer (answer.Name k) bytes h sure fits = absurd fits
+  open_answer answer.NoName bytes h sure fits = absurd fits
 
   close_leads : (fd : Fd) (written : Bool) → AtMark controls q (mark.Close fd written) m.channel d → q.holder fd.0 ≡ Some a → Fits q.disk (call.Close fd) answer.Done wrote
       → SenderLeads controls now a q (after (call.Close fd) answer.Done) (mark_over written m d)

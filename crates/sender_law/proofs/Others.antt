@@ -3,15 +3,19 @@ use Rattle.std.proofs.Common.{◌≡◌, ◌≢◌, ℕ, ◌≤◌, List, true, 
 use Rattle.std.specs.Prelude.{Contains, IsSome}
 use Rattle.std.proofs.lemmas.List.Elements.{All-weaker}
 use Rattle.address_rules.specs.declared.controls.Controls.{Controls}
+use Rattle.bounce_record.specs.declared.note_row.NoteRow.{NoteRow}
+use Rattle.bounce_record.specs.declared.note_row.NoteRow.TheVariants as written
+use Rattle.bounce_record.specs.Writing.{Writing}
 use Rattle.call_fs.specs.declared.calls.How.{How}
 use Rattle.call_fs.specs.declared.calls.How.TheVariants as how
 use Rattle.call_fs.specs.Disk.{Open as OpenFile}
 use Rattle.queue_paths.specs.Names.{Part}
 use Rattle.queue_paths.specs.Names.Name.{Of}
-use Rattle.queue_paths.specs.Names.Part.{Info, Local as LocalFile}
+use Rattle.queue_paths.specs.Names.Part.{Bounce, Info, Local as LocalFile}
 use Rattle.send_core.specs.declared.row.MarkRow.{MarkRow}
 use Rattle.send_core.specs.declared.row.MarkRow.TheVariants as mark
 use Rattle.send_core.specs.declared.row.Marked.{Marked}
+use Rattle.send_core.specs.Turn.{told_report}
 use Rattle.send_core.specs.declared.row.Row.{Row}
 use Rattle.send_core.specs.declared.row.Row.TheVariants as at
 use Rattle.send_jobs.specs.declared.attempts.Mark.{Mark}
@@ -29,19 +33,19 @@ use Rattle.send_steps.specs.declared.reading.Reading.{Reading}
 use Rattle.send_steps.specs.declared.reading.Reading.TheVariants as reading
 use Rattle.send_steps.specs.declared.rows.StartRow.{StartRow}
 use Rattle.send_steps.specs.declared.rows.StartRow.TheVariants as start
-use Rattle.todo_pass.specs.Table.{Pass}
 use Rattle.channel_law.specs.Tied.{in_hand, is_mark_at, waiting}
 use Rattle.channel_law.proofs.Counts.{all_where, contained_counts}
 use Rattle.channel_law.proofs.Ties.{at_itself, others_kept}
 use Rattle.queue_law.specs.Numbers.{Queue, look, About, about, is_later}
+use Rattle.queue_law.specs.Bouncing.{HoldsBounce}
 use Rattle.queue_law.specs.Injectors.{IsHeld}
 use Rattle.queue_law.specs.Passes.{HasOpen}
 use Rattle.queue_law.specs.Routes.{lane_part}
 use Rattle.queue_law.specs.Steps.{Elsewhere}
 use Rattle.sender_law.specs.Views.{files_of, first_at, records_at}
-use Rattle.sender_law.specs.Knows.{IsSettledIn, IsEntered, IsKnown, IsThereIf, Knows, Serves}
+use Rattle.sender_law.specs.Knows.{IsDoneIn, IsSettledIn, IsEntered, IsKnown, IsThereIf, Knows, Serves}
 use Rattle.sender_law.specs.Knows.Knows.{Stays, Leaves}
-use Rattle.sender_law.specs.Rows.{HasFile, HasText, IsFound, IsLearned, MarkHolds, Reads, ReadsOther, RowStands, StartStands}
+use Rattle.sender_law.specs.Rows.{HasFile, HasText, IsFound, IsLearned, MarkHolds, NamesNoted, NoteHolds, Reads, ReadsOther, RowStands, StartStands, Works, noted_name}
 use Rattle.sender_law.specs.Stands.{KnowsAll, LaneStands, SparesSorted}
 use Rattle.sender_law.specs.Laws.{IsAmongSorted}
 
@@ -125,17 +129,42 @@ module _ (q r : Queue) (spares : SparesSorted q r) where
     start_kept start.Over read h = tt
     start_kept (start.Ended status) read h = tt
 
-    mark_kept : (row : MarkRow) (m : Marked) → MarkHolds q a row m → MarkHolds r a row m
-    mark_kept mark.Open m h = tt
-    mark_kept (mark.Write fd) m h = file_kept a (lane_part m.channel) m.n how.Write fd.0 (lane_later m.channel) (opens fd.0) h
-    mark_kept (mark.Close fd written) m h = open_kept fd.0 h
+    bounce_kept : (n fd : ℕ) → HoldsBounce q a n fd → HoldsBounce r a n fd
+    bounce_kept n fd h = record { file = h.file; there = same_look Bounce n refl ∙ h.there; mode = h.mode; opened = opens fd (record { number = h.file.number; mode = h.mode }) h.opened }
 
-    row_kept : (controls : Controls) (now : ℕ) (row : Row) (b : Book) (s : Slots) (p : Pass) → IsAmongSorted row → RowStands controls now q a row b s p
+    done_kept : (n : ℕ) (ch : Channel) (place : ℕ) → IsDoneIn (about q n) ch place → IsDoneIn (about r n) ch place
+    done_kept n ch place h = subst (λ (w : About). IsDoneIn w ch place) (sym (same_about n h.sorted)) h
+
+    module _ (controls : Controls) where
+      names_kept : (n : ℕ) (bytes : List ℕ) → NamesNoted controls (about q n) bytes → NamesNoted controls (about r n) bytes
+      names_kept n bytes h = subst (λ (w : About). NamesNoted controls w bytes) (sym (same_about n h.sorted)) h
+
+      note_kept : (row : NoteRow) (m : Marked) (name report text : List ℕ) → NoteHolds controls q a row m name report text → NoteHolds controls r a row m name report text
+      unfolding bounce_kept
+      note_kept written.Open m name report text h = absurd h
+      note_kept written.Create m name report text h = tt
+      note_kept (written.Stat fd) m name report text h = bounce_kept m.n fd.0 h
+      note_kept (written.Read fd place len) m name report text h = record { held = bounce_kept m.n fd.0 h.held; some = h.some; place_is = h.place_is; len_is = h.len_is }
+      note_kept (written.Append fd done) m name report text h = record { held = bounce_kept m.n fd.0 h.held; base = h.base; names = names_kept m.n h.base h.names; rest = h.rest }
+      note_kept (written.Sync fd) m name report text h = record { held = bounce_kept m.n fd.0 h.held; base = h.base; names = names_kept m.n h.base h.names; bytes = h.bytes }
+      note_kept (written.Close fd) m name report text h = (open_kept fd.0 h.0, done_kept m.n m.channel m.place h.1)
+      note_kept (written.Shut fd) m name report text h = open_kept fd.0 h
+      note_kept written.Written m name report text h = absurd h
+      note_kept written.Failed m name report text h = absurd h
+
+      mark_kept : (row : MarkRow) (m : Marked) (s : Slots) (w : Writing) → MarkHolds controls q a row m s w → MarkHolds controls r a row m s w
+      mark_kept mark.Note m s w h = h
+      mark_kept mark.Noting m s w h = record { of = h.of; holds = note_kept w.row m (noted_name controls h.of.first) (told_report (Some h.of.failure)) w.text h.holds }
+      mark_kept mark.Open m s w h = done_kept m.n m.channel m.place h
+      mark_kept (mark.Write fd) m s w h = (file_kept a (lane_part m.channel) m.n how.Write fd.0 (lane_later m.channel) (opens fd.0) h.0, done_kept m.n m.channel m.place h.1)
+      mark_kept (mark.Close fd written) m s w h = open_kept fd.0 h
+
+    row_kept : (controls : Controls) (now : ℕ) (row : Row) (b : Book) (s : Slots) (p : Works) → IsAmongSorted row → RowStands controls now q a row b s p
         → RowStands controls now r a row b s p
     row_kept controls now (at.Start row) b s p among h = (h.0, (h.1.0, start_kept row b.read h.1.1))
     row_kept controls now (at.Turn point) b s p among h = h
     row_kept controls now (at.TakeLink ch) b s p among h = tt
-    row_kept controls now (at.Mark row m) b s p among h = (h.0, mark_kept row m h.1)
+    row_kept controls now (at.Mark row m) b s p among h = (h.0, mark_kept controls row m s p.note h.1)
     row_kept controls now (at.UnlinkFile ch n point) b s p among h = h
     row_kept controls now (at.ReadFile ch n begun g) b s p among h =
         (h.0, (h.1.0, (serves_kept n ch h.1.1.0, reads_kept (lane_part ch) n g b.read (lane_later ch) h.1.1.1)))
@@ -156,13 +185,13 @@ pub lanes_kept : (q r : Queue) (row : Row) (ch : Channel) (s : Slots) → Spares
 lanes_kept q r row ch s spares h = record {
   tied = others_kept (files_of q ch) (files_of r ch) (first_at row ch) (lane ch s) h.tied (λ n _. ap records_at (same_look q r spares (lane_part ch) n (lane_later ch)));
   jobs = λ n job e. serves_kept q r spares n ch (h.jobs n job e);
-  marks = all_where (λ (m : Mark). IsEntered (about q m.attempt.n) ch m.attempt.place) (λ (m : Mark). IsEntered (about r m.attempt.n) ch m.attempt.place)
+  marks = all_where (λ (m : Mark). IsEntered (about q m.attempt.n) ch m) (λ (m : Mark). IsEntered (about r m.attempt.n) ch m)
       (waiting (first_at row ch) (lane ch s).marks)
-      (λ m w e. subst (λ (z : About). IsEntered z ch m.attempt.place) (sym (same_about q r spares m.attempt.n (mark_has_job q row ch s h m w).sorted)) e)
+      (λ m w e. subst (λ (z : About). IsEntered z ch m) (sym (same_about q r spares m.attempt.n (mark_has_job q row ch s h m w).sorted)) e)
       h.marks;
 }
 
 pub rests_kept : (controls : Controls) (now : ℕ) (a o : List ℕ) (m : Option ℕ) (q r : Queue) → Elsewhere now o m q r → a ≢ o → SparesSorted q r
-    → (row : Row) (b : Book) (s : Slots) (p : Pass) → IsAmongSorted row → RowStands controls now q a row b s p → RowStands controls now r a row b s p
+    → (row : Row) (b : Book) (s : Slots) (p : Works) → IsAmongSorted row → RowStands controls now q a row b s p → RowStands controls now r a row b s p
 rests_kept controls now a o m q r E far spares row b s p among h =
     row_kept q r spares a (λ fd how held. E.opens a fd how far held) controls now row b s p among h

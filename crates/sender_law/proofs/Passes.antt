@@ -53,6 +53,7 @@ use Rattle.sender_law.specs.Stands.{DueApart, SenderLeads, SenderStands, StandsA
 use Rattle.sender_law.proofs.Apart.{IsApart}
 use Rattle.sender_law.proofs.Closes.{none_closed}
 use Rattle.sender_law.proofs.Desks.{OnDesk, due_again_on, on_of, stand}
+use Rattle.queue_law.proofs.Growth.{grown_same}
 use Rattle.sender_law.proofs.Entries.{Grows, serves_grown}
 use Rattle.sender_law.proofs.Gone.{desk_grown}
 use Rattle.sender_law.proofs.Lanes.{OnLane, lane_on, none_on, then_on}
@@ -63,8 +64,8 @@ use Rattle.sender_law.proofs.Texts.{they_are}
 -- a step that concerns no number changes none of their names, and no injection
 pub grown_by : (now : ℕ) (a : List ℕ) (q r : Queue) → Elsewhere now a None q r → Grows q r
 grown_by now a q r E = record {
-  looks = λ part n. E.looks (Of part n) (λ e. absurd (cc));
-  lives = λ n i there. (i, E.living n (λ e. absurd (cc)) ∙ there, refl, λ t w. w);
+  looks = λ part n far. E.looks (Of part n) (λ e. absurd (cc));
+  lives = λ n i there. (i, E.living n (λ e. absurd (cc)) ∙ there, refl, grown_same i.ledger);
 }
 
 -- The due entries when a job begins

@@ -2,6 +2,10 @@
 use Rattle.std.proofs.Common.{ℕ, ◌+◌, ◌-◌, List, [], ◌∷◌, drop, Bool, true, false, Option, Some, None}
 use Rattle.std.specs.Prelude.{◌||◌, if◌then◌else◌, is_some, nat_lt, slice_get}
 use Rattle.address_rules.specs.declared.control_file.ControlFile.{ControlFile}
+use Rattle.bounce_record.specs.declared.note_row.NoteRow.{NoteRow}
+use Rattle.bounce_record.specs.declared.note_row.NoteRow.TheVariants as written
+use Rattle.bounce_record.specs.Returning.{return_begun}
+use Rattle.bounce_record.specs.Writing.{written_on}
 use Rattle.call_fs.specs.declared.calls.Fd.{Fd}
 use Rattle.call_fs.specs.declared.past.GotData.{GotData}
 use Rattle.call_fs.specs.declared.past.NeedData.{NeedData}
@@ -19,10 +23,10 @@ use Rattle.send_core.specs.declared.row.Point.TheVariants as point
 use Rattle.send_core.specs.declared.row.Row.{Row}
 use Rattle.send_core.specs.declared.row.Row.TheVariants as at
 use Rattle.send_core.specs.Desk.{closed, closed_by, due_on, goes, has_begun, is_free_for, later, next_idle, past_finish, past_todo, request_sent, retried, stands_at, sweep_due, turn_counted, turn_over, with_requests}
-use Rattle.send_core.specs.Finish.{busied, finish_at, forgot, looked_up, put_off_to, sweep_at, sweep_begun}
+use Rattle.send_core.specs.Finish.{act_finish, bounce_on, finish_at, forgot, looked_up, put_off_to, returned_to, sweep_at, sweep_begun}
 use Rattle.send_core.specs.Start.{start_at}
 use Rattle.send_core.specs.Table.{act, arrive, beginning, due_at, finishing, finishing_by, from_begin, from_local, from_point, from_remote, from_reports, from_sweep, from_take, going_on, holds, link_of, marking, marking_by, or_else, passing, sweeping, taking}
-use Rattle.send_core.specs.Turn.{act_mark, begun_at, file_read, is_done, known_of, lost, mark_opened, mark_over, pass_opened, put_later, requested, todo_found, todo_named, todo_none, todo_on, todo_over, todo_went, took, unlinked}
+use Rattle.send_core.specs.Turn.{act_mark, begin_note, begun_at, file_read, is_done, known_of, lost, mark_opened, mark_over, noted, noted_at, pass_opened, put_later, requested, todo_found, todo_named, todo_none, todo_on, todo_over, todo_went, took, unlinked}
 use Rattle.send_jobs.specs.declared.attempts.Mark.{Mark}
 use Rattle.send_jobs.specs.declared.channels.Channel.{Channel}
 use Rattle.send_jobs.specs.declared.channels.Channel.TheVariants.{Local, Remote}
@@ -62,11 +66,12 @@ abbrev pub IsPast : Row → Type 0
 IsPast (at.Start (start.Control f g)) = ⊥
 IsPast row = Unit {0}
 
--- something that is done: a file call, a giving or a taking
+-- something that is done: a file call, a giving, a taking or the start of a program
 abbrev pub IsDeed : NeedData → Type 0
 IsDeed (needs.File call) = Unit {0}
 IsDeed (needs.Take port) = Unit {0}
 IsDeed (needs.Give port bytes) = Unit {0}
+IsDeed (needs.Start child) = Unit {0}
 IsDeed due = ⊥
 
 abbrev PastIf : Option Row → Type 0
@@ -275,10 +280,20 @@ opened_past way.Absent m fd d = over_past false m d
 opened_past way.NoMemory m fd d = over_past false m d
 opened_past way.Broken m fd d = over_past false m d
 
-mark_past : (row : MarkRow) (m : Marked) (s : Said) (d : Desk) → Past (act_mark row m s d)
-mark_past mark.Open m s d = opened_past s.way m s.fd d
-mark_past (mark.Write fd) m s d = tt
-mark_past (mark.Close fd written) m s d = over_past written m d
+note_past : (row : NoteRow) (m : Marked) (d : Desk) → Past (noted_at row m d)
+note_past written.Written m d = tt
+note_past written.Failed m d = over_past false m d
+note_past row m d = tt
+
+noted_past : (m : Marked) (got : GotData) (d : Desk) → Past (noted m got d)
+noted_past m got d = note_past (written_on d.note got).row m (record d { note = written_on d.note got })
+
+mark_past : (row : MarkRow) (m : Marked) (got : GotData) (d : Desk) → Past (act_mark row m got d)
+mark_past mark.Note m got d = noted_past m got (begin_note m d)
+mark_past mark.Noting m got d = noted_past m got d
+mark_past mark.Open m got d = opened_past (said got).way m (said got).fd d
+mark_past (mark.Write fd) m got d = tt
+mark_past (mark.Close fd done) m got d = over_past done m d
 
 unlinked_past : (w : Way) (c : Channel) (n : ℕ) (p : Point) (now : ℕ) (d : Desk) → Past (unlinked w c n p now d)
 unlinked_past way.Fine c n p now d = tt
@@ -379,13 +394,18 @@ went_past todo.Done came p now d = on_past p.row p now d
 
 finish_at_past : (row : FinishRow) (n now : ℕ) (d : Desk) → Past (finish_at row n now d)
 finish_at_past finish.OpenBounce n now d = tt
-finish_at_past (finish.CloseBounce fd) n now d = tt
+finish_at_past finish.Return n now d = tt
 finish_at_past finish.UnlinkInfo n now d = tt
 finish_at_past finish.Give n now d = tt
 finish_at_past finish.Take n now d = tt
 finish_at_past finish.Later n now d = finish_past now (put_off_to n (later now) d)
 finish_at_past finish.Over n now d = finish_past now (forgot n d)
 finish_at_past finish.Lost n now d = tt
+
+act_finish_past : (row : FinishRow) (n now : ℕ) (got : GotData) (d : Desk) → Past (act_finish row n now got d)
+act_finish_past finish.OpenBounce n now got d = let it = bounce_on n now got (return_begun n) d.book in finish_at_past (returned_to it.row) n now (record d { bounce = it; busy = true })
+act_finish_past finish.Return n now got d = let it = bounce_on n now got d.bounce d.book in finish_at_past (returned_to it.row) n now (record d { bounce = it })
+act_finish_past row n now got d = finish_at_past (finish_to row (said got).way) n now d
 
 sweep_at_past : (row : SweepRow) (d : Desk) → Past (sweep_at row d)
 sweep_at_past sweep.First d = tt
@@ -402,13 +422,13 @@ pub acts_past : (row : Row) (now : ℕ) (came : GotData) (d : Desk) → IsPast r
 acts_past (at.Start row) now came d h deed = start_past row (said came) d h deed
 acts_past (at.Turn p) now came d h deed = absurd deed
 acts_past (at.TakeLink c) now came d h deed = took_past (said came).way (said came).bytes c d
-acts_past (at.Mark row m) now came d h deed = mark_past row m (said came) d
+acts_past (at.Mark row m) now came d h deed = mark_past row m came d
 acts_past (at.UnlinkFile c n p) now came d h deed = unlinked_past (said came).way c n p now d
 acts_past (at.ReadFile c n begun g) now came d h deed = file_past (read_on g (said came)) c n (begun_at g begun now) g now (said came) d
 acts_past (at.Request c) now came d h deed = requested_past (said came).way c d
 acts_past (at.FindTodo search) now came d h deed = named_past (said came).way (said came).bytes search now d
 acts_past at.InTodo now came d h deed = went_past d.pass.row came (moved d.book.controls d.pass now came) now d
-acts_past (at.Finish row n) now came d h deed = finish_at_past (finish_to row (said came).way (said came).fd) n now (busied row d)
+acts_past (at.Finish row n) now came d h deed = act_finish_past row n now came d
 acts_past (at.Sweep row) now came d h deed = sweep_at_past (sweep_to row now (said came) d.book) (looked_up row (said came) (sweep_begun row now d))
 acts_past (at.Ended status) now came d h deed = absurd deed
 

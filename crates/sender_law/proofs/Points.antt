@@ -9,9 +9,9 @@ use Rattle.call_fs.specs.declared.calls.Answer.{Answer}
 use Rattle.call_fs.specs.declared.calls.Answer.TheVariants as answer
 use Rattle.call_fs.specs.declared.calls.CallData.{CallData}
 use Rattle.call_fs.specs.declared.calls.CallData.TheVariants as call
-use Rattle.call_fs.specs.declared.calls.Fd.{Fd}
 use Rattle.call_fs.specs.declared.calls.FsError.TheVariants as why
-use Rattle.call_fs.specs.declared.calls.How.TheVariants as how
+use Rattle.call_fs.specs.declared.calls.Told.{Told}
+use Rattle.bounce_record.specs.Returning.{Returning}
 use Rattle.call_fs.specs.declared.past.NeedData.{NeedData}
 use Rattle.call_fs.specs.declared.past.NeedData.TheVariants as needs
 use Rattle.call_fs.specs.Apply.{Fits}
@@ -21,7 +21,6 @@ use Rattle.queue_paths.specs.Names.Part.{Mess, Todo, Info, Bounce}
 use Rattle.send_known.specs.declared.known.Known.{Known}
 use Rattle.send_known.specs.Known.{is_known, forgotten}
 use Rattle.send_steps.specs.declared.book.Book.{Book}
-use Rattle.send_steps.specs.declared.rows.FinishRow.{FinishRow}
 use Rattle.send_steps.specs.declared.rows.FinishRow.TheVariants as finish
 use Rattle.send_steps.specs.declared.rows.SweepRow.{SweepRow}
 use Rattle.send_steps.specs.declared.rows.SweepRow.TheVariants as sweep
@@ -33,22 +32,20 @@ use Rattle.send_steps.specs.Steps.{due_by}
 use Rattle.send_steps.specs.Sweep.{sweep_row, sweep_to, swept}
 use Rattle.send_core.specs.declared.row.Row.{Row}
 use Rattle.send_core.specs.declared.row.Row.TheVariants as at
-use Rattle.queue_law.specs.Numbers.{Queue, entry, About, about, Phase, Sound}
+use Rattle.queue_law.specs.Numbers.{Queue, entry, look, About, about, Phase, Sound}
 use Rattle.queue_law.specs.Numbers.Phase.{Free, Queued, Sorted, Finished}
-use Rattle.queue_law.specs.Passes.{HasOpen}
 use Rattle.queue_law.specs.Rests.{IsAccepted, IsClosed}
 use Rattle.queue_law.specs.Senders.{LeadsOn, MayEnd, OnlyReads, called_queue}
 use Rattle.queue_law.proofs.Begins.{rests_begin}
 use Rattle.queue_law.proofs.Changes.{unlinks_one}
 use Rattle.queue_law.proofs.Frame.{about_same}
 use Rattle.queue_law.proofs.Looks.{find_none, find_some}
-use Rattle.queue_law.proofs.Opens.{opened_held}
 use Rattle.queue_law.proofs.Sends.{reads_keep, ends_keep}
 use Rattle.sender_law.specs.Knows.{IsKnown, IsLeaving, Knows}
 use Rattle.sender_law.specs.Knows.Knows.{Stays, Leaves}
 use Rattle.sender_law.specs.Rows.{FinishStands, IsIdle, SweepStands}
-use Rattle.sender_law.specs.Points.{KnowsEach, FinishLeads, FinishesLead, SweepLeads, SweepsLead, ChoresStand}
-use Rattle.sender_law.proofs.Closes.{none_closed, one_closed}
+use Rattle.sender_law.specs.Points.{KnowsEach, FinishLeads, SweepLeads, SweepsLead, ChoresStand}
+use Rattle.sender_law.proofs.Closes.{one_closed}
 
 -- The sweep
 
@@ -166,11 +163,11 @@ knows_on : (row next : Row) (w : About) (k : Known) → (IsLeaving row k.n → �
 knows_on row next w k stays (Stays known) = Stays known
 knows_on row next w k stays (Leaves leaving) = absurd (stays leaving)
 
-known_of : (row : Row) (w : About) (k : Known) → (IsLeaving row k.n → ⊥) → Knows row w k → IsKnown w k
+pub known_of : (row : Row) (w : About) (k : Known) → (IsLeaving row k.n → ⊥) → Knows row w k → IsKnown w k
 known_of row w k stays (Stays known) = known
 known_of row w k stays (Leaves leaving) = absurd (stays leaving)
 
-each_on : (q : Queue) (row next : Row) (known : List Known) → ((n : ℕ) → IsLeaving row n → ⊥) → KnowsEach q row known → KnowsEach q next known
+pub each_on : (q : Queue) (row next : Row) (known : List Known) → ((n : ℕ) → IsLeaving row n → ⊥) → KnowsEach q row known → KnowsEach q next known
 each_on q row next known stays h =
     All-weaker (λ (k : Known). Knows row (about q k.n) k) (λ (k : Known). Knows next (about q k.n) k) (λ k it. knows_on row next (about q k.n) k (stays k.n) it) known h
 
@@ -185,71 +182,20 @@ has_message controls now q n (Sorted h) may = record {
 }
 has_message controls now q n (Finished h) may = let none = h.unsorted Info refl in let there = may.there in absurd (cc)
 
-module _ (controls : Controls) (now : ℕ) (q : Queue) (a : List ℕ) (read wrote : ℕ) (G : Sound controls q) (n : ℕ) (known : List Known) where
-  abbrev FinishSteps : FinishRow → CallData → Type 0
-  FinishSteps row asked = (told : Answer) (bytes : List ℕ) → Fits q.disk asked told wrote
-      → FinishLeads controls now a q (called_queue q a read asked told wrote q.role) n (finish_to row (answered told bytes).way (answered told bytes).fd) known
+module _ (controls : Controls) (now : ℕ) (q : Queue) (a : List ℕ) (read wrote : ℕ) (G : Sound controls q) (n : ℕ) (known : List Known) (back : Returning) where
+  abbrev FinishSteps : CallData → Type 0
+  FinishSteps asked = (told : Answer) (bytes : List ℕ) → Fits q.disk asked told wrote
+      → FinishLeads controls now a q (called_queue q a read asked told wrote q.role) n (finish_to finish.UnlinkInfo (answered told bytes).way) known back
 
-  never : (row : FinishRow) → (IsLeaving (at.Finish row n) n → ⊥) → (m : ℕ) → IsLeaving (at.Finish row n) m → ⊥
-  never row stays m is = stays (is.0, refl)
-
-  open_bounce : IsIdle n known → KnowsEach q (at.Finish finish.OpenBounce n) known → FinishSteps finish.OpenBounce (call.Open (path (Of Bounce n)) how.Read)
-  open_bounce idle each (answer.Opened fd) bytes fits =
-      let w = opened_held q a read (path (Of Bounce n)) how.Read fd wrote fits in
-      record {
-        number = None;
-        only = inl refl;
-        closed = none_closed now q;
-        leads = reads controls now q a read wrote G (call.Open (path (Of Bounce n)) how.Read) (answer.Opened fd) tt fits;
-        stands = (idle, (_, w.2));
-        knows = each_on q (at.Finish finish.OpenBounce n) (at.Finish (finish.CloseBounce fd) n) known (λ m is. is.0) each;
-      }
-  open_bounce idle each (answer.Refused why.NotThere) bytes fits = record {
-    number = None;
-    only = inl refl;
-    closed = none_closed now q;
-    leads = reads controls now q a read wrote G (call.Open (path (Of Bounce n)) how.Read) (answer.Refused why.NotThere) tt fits;
-    stands = idle;
-    knows = each_on q (at.Finish finish.OpenBounce n) (at.Finish finish.UnlinkInfo n) known (λ m is. is.0) each;
-  }
-  open_bounce idle each (answer.Refused why.Fault) bytes fits = record {
-    number = None;
-    only = inl refl;
-    closed = none_closed now q;
-    leads = reads controls now q a read wrote G (call.Open (path (Of Bounce n)) how.Read) (answer.Refused why.Fault) tt fits;
-    stands = tt;
-    knows = each_on q (at.Finish finish.OpenBounce n) (at.Finish finish.Later n) known (λ m is. is.0) each;
-  }
-  open_bounce idle each (answer.Refused why.Memory) bytes fits = record {
-    number = None;
-    only = inl refl;
-    closed = none_closed now q;
-    leads = reads controls now q a read wrote G (call.Open (path (Of Bounce n)) how.Read) (answer.Refused why.Memory) tt fits;
-    stands = tt;
-    knows = each_on q (at.Finish finish.OpenBounce n) (at.Finish finish.Later n) known (λ m is. is.0) each;
-  }
-  open_bounce idle each told bytes fits = absurd fits
-
-  close_bounce : (fd : Fd) → HasOpen q a fd.0 → KnowsEach q (at.Finish (finish.CloseBounce fd) n) known → FinishSteps (finish.CloseBounce fd) (call.Close fd)
-  close_bounce fd held each answer.Done bytes fits = record {
-    number = None;
-    only = inl refl;
-    closed = none_closed now q;
-    leads = reads controls now q a read wrote G (call.Close fd) answer.Done held.1.held fits;
-    stands = tt;
-    knows = each_on q (at.Finish (finish.CloseBounce fd) n) (at.Finish finish.Later n) known (λ m is. is.0) each;
-  }
-  close_bounce fd held each told bytes fits = absurd fits
-
-  may_end : IsIdle n known → KnowsEach q (at.Finish finish.UnlinkInfo n) known → MayEnd (about q n)
-  may_end idle each =
+  may_end : IsIdle n known → look q (Of Bounce n) ≡ None → KnowsEach q (at.Finish finish.UnlinkInfo n) known → MayEnd (about q n)
+  may_end idle bare each =
       let at_it = All-contains (λ (k : Known). Knows (at.Finish finish.UnlinkInfo n) (about q k.n) k) known idle.it each idle.there in
       let it = subst (λ m. IsKnown (about q m) idle.it) idle.number (known_of (at.Finish finish.UnlinkInfo n) (about q idle.it.n) idle.it (λ is. is.0) at_it) in
-      record { no_todo = it.sorted.no_todo; info = it.sorted.info; there = it.sorted.info_there; gone = λ ch. it.gone ch (idle.none ch) }
+      record { no_todo = it.sorted.no_todo; info = it.sorted.info; there = it.sorted.info_there; gone = λ ch. it.gone ch (idle.none ch); no_bounce = bare }
 
-  unlink_info : IsIdle n known → KnowsEach q (at.Finish finish.UnlinkInfo n) known → FinishSteps finish.UnlinkInfo (call.Unlink (path (Of Info n)))
-  unlink_info idle each answer.Done bytes fits =
-      let may = may_end idle each in
+  unlink_info : IsIdle n known → look q (Of Bounce n) ≡ None → KnowsEach q (at.Finish finish.UnlinkInfo n) known → FinishSteps (call.Unlink (path (Of Info n)))
+  unlink_info idle bare each answer.Done bytes fits =
+      let may = may_end idle bare each in
       let asked = call.Unlink (path (Of Info n)) in
       let r = called_queue q a read asked answer.Done wrote q.role in
       let leads = ends_keep controls now q a G read n answer.Done wrote may fits in
@@ -274,41 +220,34 @@ module _ (controls : Controls) (now : ℕ) (q : Queue) (a : List ℕ) (read wrot
             (eqb_tells k.n n))
             known each;
       }
-  unlink_info idle each (answer.Refused why.NotThere) bytes fits = record {
+  unlink_info idle bare each (answer.Refused why.NotThere) bytes fits = record {
     number = Some n;
     only = inr refl;
-    closed = one_closed now q n (has_message controls now q n (G.fine n) (may_end idle each));
-    leads = ends_keep controls now q a G read n (answer.Refused why.NotThere) wrote (may_end idle each) fits;
+    closed = one_closed now q n (has_message controls now q n (G.fine n) (may_end idle bare each));
+    leads = ends_keep controls now q a G read n (answer.Refused why.NotThere) wrote (may_end idle bare each) fits;
     stands = tt;
     knows = each_on q (at.Finish finish.UnlinkInfo n) (at.Finish finish.Later n) known (λ m is. is.0) each;
   }
-  unlink_info idle each (answer.Refused why.Fault) bytes fits = record {
+  unlink_info idle bare each (answer.Refused why.Fault) bytes fits = record {
     number = Some n;
     only = inr refl;
-    closed = one_closed now q n (has_message controls now q n (G.fine n) (may_end idle each));
-    leads = ends_keep controls now q a G read n (answer.Refused why.Fault) wrote (may_end idle each) fits;
+    closed = one_closed now q n (has_message controls now q n (G.fine n) (may_end idle bare each));
+    leads = ends_keep controls now q a G read n (answer.Refused why.Fault) wrote (may_end idle bare each) fits;
     stands = tt;
     knows = each_on q (at.Finish finish.UnlinkInfo n) (at.Finish finish.Later n) known (λ m is. is.0) each;
   }
-  unlink_info idle each told bytes fits = absurd fits
+  unlink_info idle bare each told bytes fits = absurd fits
 
-  finish_call : (row : FinishRow) (own asked : CallData) → ◌≡◌ {A = NeedData} (needs.File own) (needs.File asked) → FinishSteps row own → FinishSteps row asked
-  finish_call row own asked due h = let same : own ≡ asked = cc in subst (FinishSteps row) same h
-
-  finish_at : (row : FinishRow) (asked : CallData) → FinishStands now q a row n known → KnowsEach q (at.Finish row n) known
-      → due_by (finish_step row n) [] ≡ needs.File asked → FinishSteps row asked
-  finish_at finish.OpenBounce asked h each due = finish_call finish.OpenBounce _ asked due (open_bounce h each)
-  finish_at (finish.CloseBounce fd) asked h each due = finish_call (finish.CloseBounce fd) _ asked due (close_bounce fd h.1 each)
-  finish_at finish.UnlinkInfo asked h each due = finish_call finish.UnlinkInfo _ asked due (unlink_info h each)
-  finish_at finish.Give asked h each due = absurd (cc)
-  finish_at finish.Take asked h each due = absurd (cc)
-  finish_at finish.Later asked h each due = absurd (cc)
-  finish_at finish.Over asked h each due = absurd (cc)
-  finish_at finish.Lost asked h each due = absurd (cc)
-
-pub finishes_lead : FinishesLead
-finishes_lead controls now q a row n known read asked told wrote G each h due fits =
-    finish_at controls now q a read wrote G n known row asked h each due told.answer told.bytes fits
+pub ends_lead : (controls : Controls) (now : ℕ) (q : Queue) (a : List ℕ) (n : ℕ) (known : List Known) (back : Returning) (read : ℕ) (asked : CallData) (told : Told) (wrote : ℕ)
+    → Sound controls q → KnowsEach q (at.Finish finish.UnlinkInfo n) known → FinishStands controls now q a finish.UnlinkInfo n known back
+    → due_by (finish_step finish.UnlinkInfo n) [] ≡ needs.File asked → Fits q.disk asked told.answer wrote
+    → FinishLeads controls now a q (called_queue q a read asked told.answer wrote q.role) n (finish_to finish.UnlinkInfo (answered told.answer told.bytes).way) known back
+ends_lead controls now q a n known back read asked told wrote G each h due fits =
+    let same : call.Unlink (path (Of Info n)) ≡ asked = file_same (call.Unlink (path (Of Info n))) asked due in
+    subst (FinishSteps controls now q a read wrote G n known back) same (unlink_info controls now q a read wrote G n known back h.0 h.1 each) told.answer told.bytes fits
+  where
+    file_same : (own asked : CallData) → ◌≡◌ {A = NeedData} (needs.File own) (needs.File asked) → own ≡ asked
+    file_same own asked due = cc
 
 -- Afterwards
 
@@ -327,7 +266,7 @@ forgets q rest n (k ∷ known) each =
 
 pub chores_stand : ChoresStand
 chores_stand = record {
-  finish_gives = λ controls now q a n known h. h.1;
+  finish_gives = λ controls now q a n known back h. h.1;
   sweep_gives = λ controls now q a split n known h. h.1;
   forgets = λ q row rest n known is each. forgets q rest n known (subst (λ z. KnowsEach q z known) is each);
 }

@@ -109,7 +109,7 @@ module _ (controls : Controls) (now : ℕ) (q : Queue) (a : List ℕ) (G : Sound
         subst (λ t. before ++ t ≡ take (length (before ++ t)) file_bytes) (sym is) (piece_begins file_bytes before k h.begins) in
         record { held = record { file = h.held.file; there = h.held.there; opened = h.held.opened }; begins = grown }
 
-    at_going : (told : Answer) (bytes : List ℕ) → Fits q.disk (taking fd) told wrote → IsReadBy q.disk (taking fd) (record { answer = told; bytes = bytes })
+    pub at_going : (told : Answer) (bytes : List ℕ) → Fits q.disk (taking fd) told wrote → IsReadBy q.disk (taking fd) (record { answer = told; bytes = bytes })
         → ReadingLeads controls now a q (after (taking fd) told) part n (read_on (Going fd) (answered told bytes)) before (kept (Going fd) before ++ (answered told bytes).bytes)
     at_going (answer.Count k) bytes fits by = record {
       leads = reads_keep controls now q a G read (taking fd) (answer.Count k) wrote tt fits;

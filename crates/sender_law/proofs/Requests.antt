@@ -27,7 +27,7 @@ use Rattle.channel_law.specs.Tied.{IsTied}
 use Rattle.channel_law.specs.Tied.First.{Unwritten}
 use Rattle.queue_law.specs.Numbers.{Queue}
 use Rattle.sender_law.specs.Views.{files_of}
-use Rattle.sender_law.specs.Rows.{HasNoMarks}
+use Rattle.sender_law.specs.Rows.{HasNoMarks, works}
 use Rattle.sender_law.specs.Stands.{DueApart, SenderStands, Stands, StandsAt}
 use Rattle.sender_law.specs.Passing.{RequestLeads}
 use Rattle.sender_law.proofs.Apart.{IsFewer, apart_lane}
@@ -85,7 +85,7 @@ plain_row c = record { first = λ ch. refl; controls_read = tt }
 
 module _ (controls : Controls) (now : ℕ) (q : Queue) (a : List ℕ) where
   -- what a desk with these slots relies on at the next point
-  gave_on : (c : Channel) (s : Slots) (d : Desk) → OnDesk controls q d → OnBoth q s → DueApart d.book.messages s → HasNoMarks s → Stands controls now q a (at.Turn (point.Pass c false)) d.book s d.pass
+  gave_on : (c : Channel) (s : Slots) (d : Desk) → OnDesk controls q d → OnBoth q s → DueApart d.book.messages s → HasNoMarks s → Stands controls now q a (at.Turn (point.Pass c false)) d.book s (works d)
   gave_on c s d h lanes apart bare =
       let e : Desk = record d { slots = s } in
       let on : OnDesk controls q e = record { known = h.known; due = h.due; lanes = lanes; apart = apart; controls_are = h.controls_are } in
@@ -93,14 +93,14 @@ module _ (controls : Controls) (now : ℕ) (q : Queue) (a : List ℕ) where
 
   -- the request was given
   given_on : (c : Channel) (d : Desk) → OnDesk controls q d → HasNoMarks d.slots → (slot : ℕ) (t : Attempt) → next (lane c d.slots) ≡ Some t → lowest (lane c d.slots).slots ≡ Some slot
-      → Stands controls now q a (at.Turn (point.Pass c false)) d.book (sent_on c d.slots) d.pass
+      → Stands controls now q a (at.Turn (point.Pass c false)) d.book (sent_on c d.slots) (works d)
   given_on c d h bare slot t e f =
       let s : Slots = sent_as (Some slot) c (next_delivery d.slots) d.slots in
       let same : sent_on c d.slots ≡ s = ap (λ o. sent_as o c (next_delivery d.slots) d.slots) f in
-      subst (λ (x : Slots). Stands controls now q a (at.Turn (point.Pass c false)) d.book x d.pass) (sym same)
+      subst (λ (x : Slots). Stands controls now q a (at.Turn (point.Pass c false)) d.book x (works d)) (sym same)
       (gave_on c s d h (sent_both q c d.slots h.lanes (next_delivery d.slots) slot t e f) (sent_apart c d.book.messages d.slots h.apart (next_delivery d.slots) slot t e f) (sent_bare c d.slots bare (next_delivery d.slots) slot t e f))
 
-  sent_by : (c : Channel) (d : Desk) (b : Bool) → is_some (next (lane c d.slots)) ≡ b → Stands controls now q a (at.Turn (point.Pass c false)) d.book (sent_on c d.slots) d.pass
+  sent_by : (c : Channel) (d : Desk) (b : Bool) → is_some (next (lane c d.slots)) ≡ b → Stands controls now q a (at.Turn (point.Pass c false)) d.book (sent_on c d.slots) (works d)
       → IsSome (next (lane c d.slots)) → SenderStands controls now q a (request_sent c (stands_at d (point.Pass c false)))
   sent_by Local d b e h some =
       subst (λ (x : Bool). SenderStands controls now q a (if x then with_requests Local (drop 1 d.local.requests) (record (stands_at d (point.Pass Local false)) { slots = sent_on Local d.slots }) else stands_at d (point.Pass Local false)))
@@ -109,7 +109,7 @@ module _ (controls : Controls) (now : ℕ) (q : Queue) (a : List ℕ) where
       subst (λ (x : Bool). SenderStands controls now q a (if x then with_requests Remote (drop 1 d.remote.requests) (record (stands_at d (point.Pass Remote false)) { slots = sent_on Remote d.slots }) else stands_at d (point.Pass Remote false)))
       (sym some) h
 
-  lost_at : (c : Channel) (d : Desk) → OnDesk controls q d → Stands controls now q a (lost c) d.book d.slots d.pass
+  lost_at : (c : Channel) (d : Desk) → OnDesk controls q d → Stands controls now q a (lost c) d.book d.slots (works d)
   lost_at Local d h = stand controls now q a (at.Ended 82) d (λ ch. refl) h tt
   lost_at Remote d h = stand controls now q a (at.Ended 83) d (λ ch. refl) h tt
 

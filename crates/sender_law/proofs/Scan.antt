@@ -46,7 +46,7 @@ use Rattle.queue_law.proofs.Looks.{find_none, find_some}
 use Rattle.queue_law.proofs.Sends.{reads_keep}
 use Rattle.sender_law.specs.Knows.{IsKnown, IsThereIf, Serves, has_file}
 use Rattle.sender_law.specs.Readings.{ReadsOn}
-use Rattle.sender_law.specs.Rows.{HasNoJobs, HasNoMarks, HasText, IsFound, IsLearned, StartStands}
+use Rattle.sender_law.specs.Rows.{HasNoJobs, HasNoMarks, HasText, IsFound, IsLearned, StartStands, works}
 use Rattle.sender_law.specs.Scan.{IsScan}
 use Rattle.sender_law.specs.Stands.{SenderLeads, Stands, StandsAt}
 use Rattle.sender_law.proofs.Closes.{none_closed}
@@ -136,7 +136,7 @@ module _ (controls : Controls) (now : ℕ) (q : Queue) (a : List ℕ) (d : Desk)
   Well b = OnDesk controls q (With b) × Rests q a b.row b.read
 
   -- what such a desk relies on at the row where it is then
-  stands_then : (row : StartRow) (b : Book) → OnDesk controls q (With b) → Rests q a row b.read → Stands controls now q a (start_at row) b d.slots d.pass
+  stands_then : (row : StartRow) (b : Book) → OnDesk controls q (With b) → Rests q a row b.read → Stands controls now q a (start_at row) b d.slots (works d)
   stands_then (start.Control file g) b on r = absurd r.0
   stands_then start.GreetLocal b on r = stand controls now q a (at.Start start.GreetLocal) (With b) (λ ch. refl) on (bare, (none, r.1))
   stands_then (start.GreetRemote limit) b on r = stand controls now q a (at.Start (start.GreetRemote limit)) (With b) (λ ch. refl) on (bare, (none, r.1))
@@ -150,7 +150,7 @@ module _ (controls : Controls) (now : ℕ) (q : Queue) (a : List ℕ) (d : Desk)
   stands_then start.Over b on r = stand controls now q a (start_at start.Over) (With b) (λ ch. refl) on tt
   stands_then (start.Ended status) b on r = stand controls now q a (at.Ended status) (With b) (λ ch. refl) on tt
 
-  pub stands_with : (b : Book) → Well b → Stands controls now q a (start_at b.row) b d.slots d.pass
+  pub stands_with : (b : Book) → Well b → Stands controls now q a (start_at b.row) b d.slots (works d)
   stands_with b w = stands_then b.row b w.0 w.1
 
   -- only the row, what was read, or after which name the search goes on is another
@@ -219,11 +219,11 @@ tells_absent w o e t = subst (λ (v : Way). Tells v o) e t
 learned_grown : (q r : Queue) (n : ℕ) (read : List ℕ) → Grows q r → IsLearned q n read → IsLearned r n read
 learned_grown q r n read g l = record {
   sorted = (settled_grown q r g n l.sorted).0;
-  text = record { file = l.text.file; there = g.looks Info n ∙ l.text.there; text = l.text.text };
+  text = record { file = l.text.file; there = g.looks Info n (λ s. cc) ∙ l.text.there; text = l.text.text };
 }
 
 found_grown : (q r : Queue) (n : ℕ) → Grows q r → IsFound q n → IsFound r n
-found_grown q r n g f there = (settled_grown q r g n (f (λ none. there (g.looks Info n ∙ none)))).0
+found_grown q r n g f there = (settled_grown q r g n (f (λ none. there (g.looks Info n (λ s. cc) ∙ none)))).0
 
 module _ (controls : Controls) (now : ℕ) (q : Queue) (a : List ℕ) (G : Sound controls q) (d : Desk) (read wrote : ℕ) where
   abbrev after : CallData → Answer → Queue
@@ -250,7 +250,7 @@ module _ (controls : Controls) (now : ℕ) (q : Queue) (a : List ℕ) (G : Sound
     grown = desk_grown controls q r d grows on
 
     stated : (there missing : StartRow) → (w ≡ way.Fine → Rests r a there d.book.read) → (w ≡ way.Absent → Rests r a missing d.book.read)
-        → Stands controls now r a (start_at (by_way w there missing)) (record d.book { row = by_way w there missing }) d.slots d.pass
+        → Stands controls now r a (start_at (by_way w there missing)) (record d.book { row = by_way w there missing }) d.slots (works d)
     stated there missing f g = stands_with controls now r a d grown bare none (record d.book { row = by_way w there missing })
         (on_row controls now r a d grown bare none (by_way w there missing), stated_rests r a w there missing d.book.read f g)
 
@@ -268,7 +268,7 @@ module _ (controls : Controls) (now : ℕ) (q : Queue) (a : List ℕ) (G : Sound
         leads = L;
         stands = stated (Of Todo n) told fits on h.rests.0 h.rests.1.0 (start.Scan split) (start.ReadInfo split n Opening)
             (λ e. (tt, tt))
-            (λ e. (tt, (found_of controls r n L.sound (g.looks Todo n ∙ tells_absent (answered told.answer told.bytes).way (look q (Of Todo n)) e t), tt)));
+            (λ e. (tt, (found_of controls r n L.sound (g.looks Todo n (λ s. cc) ∙ tells_absent (answered told.answer told.bytes).way (look q (Of Todo n)) e t), tt)));
       }
 
   stat_info : (split n : ℕ) (told : Told) → StandsAt controls now q a (at.Start (start.StatInfo split n)) d → Fits q.disk (call.Stat (path (Of Info n))) told.answer wrote
@@ -301,8 +301,8 @@ module _ (controls : Controls) (now : ℕ) (q : Queue) (a : List ℕ) (G : Sound
         closed = none_closed now q;
         leads = L;
         stands = stated (Of LocalFile n) told fits on h.rests.0 h.rests.1.0 (start.StatRemote split n birth true) (start.StatRemote split n birth false)
-            (λ e. let y = tells_fine (answered told.answer told.bytes).way (look q (Of LocalFile n)) e t in (tt, (l, (y.0, g.looks LocalFile n ∙ y.1))))
-            (λ e. (tt, (l, g.looks LocalFile n ∙ tells_absent (answered told.answer told.bytes).way (look q (Of LocalFile n)) e t)));
+            (λ e. let y = tells_fine (answered told.answer told.bytes).way (look q (Of LocalFile n)) e t in (tt, (l, (y.0, g.looks LocalFile n (λ s. cc) ∙ y.1))))
+            (λ e. (tt, (l, g.looks LocalFile n (λ s. cc) ∙ tells_absent (answered told.answer told.bytes).way (look q (Of LocalFile n)) e t)));
       }
 
   stat_remote : (split n birth : ℕ) (local : Bool) (told : Told) → StandsAt controls now q a (at.Start (start.StatRemote split n birth local)) d
@@ -314,9 +314,9 @@ module _ (controls : Controls) (now : ℕ) (q : Queue) (a : List ℕ) (G : Sound
       let g = grows (Of RemoteFile n) told fits on h.rests.0 h.rests.1.0 in
       let r : Queue = after (call.Stat (path (Of RemoteFile n))) told.answer in
       let v : Way = (answered told.answer told.bytes).way in
-      let t : Tells v (look r (Of RemoteFile n)) = subst (Tells v) (sym (g.looks RemoteFile n)) (stat_tells q (Of RemoteFile n) told.answer told.bytes wrote fits) in
+      let t : Tells v (look r (Of RemoteFile n)) = subst (Tells v) (sym (g.looks RemoteFile n (λ s. cc))) (stat_tells q (Of RemoteFile n) told.answer told.bytes wrote fits) in
       let l = learned_grown q r n d.book.read g h.rests.1.1.0 in
-      let on_local : IsThereIf local (look r (Of LocalFile n)) = subst (IsThereIf local) (sym (g.looks LocalFile n)) h.rests.1.1.1 in
+      let on_local : IsThereIf local (look r (Of LocalFile n)) = subst (IsThereIf local) (sym (g.looks LocalFile n (λ s. cc))) h.rests.1.1.1 in
       let grown_desk = grown (Of RemoteFile n) told fits on h.rests.0 h.rests.1.0 in
       record {
         number = None;

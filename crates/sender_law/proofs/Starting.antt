@@ -31,7 +31,7 @@ use Rattle.channel_law.proofs.Counts.{counted_none}
 use Rattle.queue_law.specs.Numbers.{Queue, about}
 use Rattle.sender_law.specs.Views.{files_of}
 use Rattle.sender_law.specs.Knows.{IsEntered}
-use Rattle.sender_law.specs.Rows.{HasNoJobs, HasNoMarks}
+use Rattle.sender_law.specs.Rows.{HasNoJobs, HasNoMarks, works}
 use Rattle.sender_law.specs.Stands.{DueApart, SenderStands, Stands, StandsAt}
 use Rattle.sender_law.proofs.Apart.{IsApart}
 use Rattle.sender_law.proofs.Desks.{OnDesk, on_of}
@@ -58,7 +58,7 @@ none_on : (q : Queue) (ch : Channel) (n : ℕ) → OnLane q ch (empty n)
 none_on q ch n = record {
   tied = none_tied (files_of q ch) n;
   jobs = λ m job e. absurd (cc);
-  marks = All-nil (λ (m : Mark). IsEntered (about q m.attempt.n) ch m.attempt.place);
+  marks = All-nil (λ (m : Mark). IsEntered (about q m.attempt.n) ch m);
 }
 
 both_none : (q : Queue) (local remote : ℕ) → OnBoth q (none_out local remote)
@@ -81,7 +81,7 @@ none_apart m local remote Remote = All-weaker (λ (e : ℕ × ℕ). Unit {0}) (I
 
 module _ (controls : Controls) (now : ℕ) (q : Queue) (a : List ℕ) where
   local_on : (w : Way) (bytes : List ℕ) (d : Desk) → OnDesk controls q d → HasNoMarks d.slots → HasNoJobs d.slots
-      → Stands controls now q a (start_at (greeted_local w bytes d.book).row) (greeted_local w bytes d.book) d.slots d.pass
+      → Stands controls now q a (start_at (greeted_local w bytes d.book).row) (greeted_local w bytes d.book) d.slots (works d)
   local_on way.Fine (byte ∷ rest) d h bare none =
       stands_with controls now q a d h bare none (greeted_local way.Fine (byte ∷ rest) d.book) (on_row controls now q a d h bare none (start.GreetRemote (min byte d.book.controls.concurrency_local)), (tt, tt))
   local_on way.Fine [] d h bare none = stands_with controls now q a d h bare none (greeted_local way.Fine [] d.book) (on_row controls now q a d h bare none (start.Ended 82), (tt, tt))
@@ -91,7 +91,7 @@ module _ (controls : Controls) (now : ℕ) (q : Queue) (a : List ℕ) where
   local_on way.Broken bytes d h bare none = stands_with controls now q a d h bare none (greeted_local way.Broken bytes d.book) (on_row controls now q a d h bare none (start.Ended 82), (tt, tt))
 
   remote_on : (w : Way) (bytes : List ℕ) (d : Desk) → OnDesk controls q d → HasNoMarks d.slots → HasNoJobs d.slots
-      → Stands controls now q a (start_at (greeted_remote w bytes d.book).row) (greeted_remote w bytes d.book) d.slots d.pass
+      → Stands controls now q a (start_at (greeted_remote w bytes d.book).row) (greeted_remote w bytes d.book) d.slots (works d)
   remote_on way.Fine (byte ∷ rest) d h bare none =
       stands_with controls now q a d h bare none (greeted_remote way.Fine (byte ∷ rest) d.book) (on_after controls now q a d h bare none (start.Scan 0) [], (tt, tt))
   remote_on way.Fine [] d h bare none = stands_with controls now q a d h bare none (greeted_remote way.Fine [] d.book) (on_row controls now q a d h bare none (start.Ended 83), (tt, tt))

@@ -3,8 +3,9 @@ use Rattle.std.proofs.Common.{◌≡◌, ◌≢◌, ◌⊎◌, inl, inr, ℕ, ze
 use Rattle.std.specs.Prelude.{All, Contains, slice_get, flat_map}
 use Rattle.std.specs.Option.{option_map}
 use Rattle.std.proofs.lemmas.Bool.Decides.{eqb_tells}
-use Rattle.std.proofs.lemmas.List.Elements.{All-drop, All-head, All-weaker}
+use Rattle.std.proofs.lemmas.List.Elements.{All-drop, All-weaker}
 use Rattle.address_rules.specs.declared.controls.Controls.{Controls}
+use Rattle.address_rules.specs.Nuls.{HaveNoNul}
 use Rattle.call_fs.specs.declared.calls.Answer.{Answer}
 use Rattle.call_fs.specs.declared.calls.Answer.TheVariants as answer
 use Rattle.call_fs.specs.declared.calls.CallData.{CallData}
@@ -16,7 +17,7 @@ use Rattle.call_fs.specs.declared.calls.Told.{Told}
 use Rattle.call_fs.specs.declared.past.GotData.TheVariants.{Answered}
 use Rattle.call_fs.specs.declared.past.NeedData.TheVariants as needs
 use Rattle.call_fs.specs.declared.modes.Mode.{Mode}
-use Rattle.call_fs.specs.Apply.{Fits, changed, overwritten, put_over}
+use Rattle.call_fs.specs.Apply.{Fits, IsReadBy, changed, overwritten, put_over}
 use Rattle.call_fs.specs.Disk.{Disk, File, Open as OpenFile}
 use Rattle.call_fs.specs.Maps.{put}
 use Rattle.call_fs.proofs.Maps.{put_cases}
@@ -24,7 +25,7 @@ use Rattle.envelope_records.specs.declared.channel.Record.{Record}
 use Rattle.envelope_records.specs.Records.{AreRecords, text_of}
 use Rattle.queue_paths.specs.Names.{Name, Part, name_of, path}
 use Rattle.queue_paths.specs.Names.Name.{Of}
-use Rattle.queue_paths.specs.Names.Part.{Todo, Info}
+use Rattle.queue_paths.specs.Names.Part.{Bounce, Todo, Info}
 use Rattle.send_core.specs.declared.desk.Desk.{Desk}
 use Rattle.send_core.specs.declared.row.MarkRow.{MarkRow}
 use Rattle.send_core.specs.declared.row.MarkRow.TheVariants as mark
@@ -32,7 +33,9 @@ use Rattle.send_core.specs.declared.row.Marked.{Marked}
 use Rattle.send_core.specs.declared.row.Row.TheVariants as at
 use Rattle.send_core.specs.Desk.{due_on, goes}
 use Rattle.send_core.specs.Table.{act, due_at, file_of}
-use Rattle.send_core.specs.Turn.{act_mark}
+use Rattle.send_core.specs.Booked.{booked_at}
+use Rattle.send_core.specs.Turn.{act_mark, note_of}
+use Rattle.send_core.specs.Turn.{noted as turned}
 use Rattle.send_jobs.specs.declared.attempts.Attempt.{Attempt}
 use Rattle.send_jobs.specs.declared.attempts.Mark.{Mark}
 use Rattle.send_jobs.specs.declared.channels.Channel.{Channel}
@@ -42,33 +45,36 @@ use Rattle.send_jobs.specs.Jobs.{job_of}
 use Rattle.send_jobs.specs.Sending.{lane}
 use Rattle.send_known.specs.declared.known.Known.{Known}
 use Rattle.send_steps.specs.Files.{records_of}
-use Rattle.send_steps.specs.Replies.{answered}
 use Rattle.send_steps.proofs.Records.{are_read}
 use Rattle.channel_law.specs.Files.{IsOpen, marked, with_mark}
 use Rattle.channel_law.specs.Tied.{First, IsTied, in_hand, is_mark_at}
 use Rattle.channel_law.specs.Tied.First.{Unwritten, Unsure, Written}
-use Rattle.channel_law.proofs.Counts.{at_head, contained_counts, head_or_tail, not_in_none}
+use Rattle.channel_law.proofs.Counts.{contained_counts, head_or_tail, not_in_none}
 use Rattle.channel_law.proofs.Marks.{failed_kept, written_kept}
 use Rattle.channel_law.proofs.Texts.{At, at_of, mark_is, one_width, width}
 use Rattle.channel_law.proofs.Ties.{at_itself, others_kept, unsure_kept}
-use Rattle.queue_law.specs.Books.{Books}
-use Rattle.queue_law.specs.Numbers.{Queue, Entry, find, look, about, Sound}
+use Rattle.queue_law.specs.Books.{Books, Child}
+use Rattle.queue_law.specs.Numbers.{Queue, Entry, Role, find, look, about, Sound}
 use Rattle.queue_law.specs.Passes.{HasOpen}
 use Rattle.queue_law.specs.Rests.{IsClosed}
 use Rattle.queue_law.specs.Routes.{lane_part, sender_of}
 use Rattle.queue_law.specs.Senders.{LeadsOn, MayMark, called_queue}
 use Rattle.queue_law.proofs.Changes.{marks_one}
+use Rattle.queue_law.proofs.Growth.{grown_same}
 use Rattle.queue_law.proofs.Looks.{find_near, find_same, found}
 use Rattle.queue_law.proofs.Sends.{marks_keep}
 use Rattle.sender_law.specs.Views.{files_of, records_at}
-use Rattle.sender_law.specs.Knows.{IsEntered, IsKnown, IsSettledIn, Serves}
+use Rattle.sender_law.specs.Knows.{IsDoneIn, IsEntered, IsKnown, IsSettledIn, Serves}
 use Rattle.sender_law.specs.Rows.{HasFile, IsFirstMark}
 use Rattle.sender_law.specs.Stands.{SenderLeads, SenderStands, StandsAt}
+use Rattle.sender_law.specs.Takings.{booked_queue}
 use Rattle.sender_law.proofs.Closes.{lane_closed, one_closed}
 use Rattle.sender_law.proofs.Entries.{Grows}
 use Rattle.sender_law.proofs.Gone.{file_call, info_apart, lane_name, other_number, todo_apart}
+use Rattle.sender_law.proofs.Heads.{first_all, first_in}
 use Rattle.sender_law.proofs.Lanes.{AllServe, OnLane}
 use Rattle.sender_law.proofs.Marking.{AtMark, at_grown, at_mark, at_stands, close_answer, open_answer, which}
+use Rattle.sender_law.proofs.Noting.{note_opens, note_step}
 use Rattle.sender_law.proofs.Others.{the_job}
 use Rattle.sender_law.proofs.Texts.{they_are}
 
@@ -106,17 +112,6 @@ dee_bytes : (read place : ℕ) (f : File) (bytes : List ℕ) → f.bytes ≡ byt
 dee_bytes read place f bytes e lt =
     let len = ap length e in
     ap (λ t. put_over place t f.bytes) (take_dee (length f.bytes - place) (omega (arith, len, lt))) ∙ ap (put_over place dee) e
-
-some_same : {A : Type 0} (x y : A) → ◌≡◌ {A = Option A} (Some x) (Some y) → x ≡ y
-some_same x y e = cc
-
-first_all : (P : Mark → Type 0) (ms : List Mark) (x : Mark) → All P ms → slice_get ms 0 ≡ Some x → P x
-first_all P [] x h e = absurd (cc)
-first_all P (y ∷ ys) x h e = subst P (some_same y x e) (All-head P y ys h)
-
-first_in : (ms : List Mark) (x : Mark) → slice_get ms 0 ≡ Some x → Contains ms x
-first_in [] x e = absurd (cc)
-first_in (y ∷ ys) x e = subst (Contains (y ∷ ys)) (some_same y x e) (at_head y ys)
 
 -- Names of channel files
 
@@ -169,13 +164,13 @@ module _ (q r : Queue) (c : Channel) (n place : ℕ) (books : r.books ≡ q.book
       (λ far. record { sorted = (settled_after k h.sorted).0; file = h.file; there = others (lane_part ch) k far ∙ h.there })
       (name_case ch c k n)
 
-  entered_after : (k : ℕ) (ch : Channel) (at_place : ℕ) → IsEntered (about q k) ch at_place → IsEntered (about r k) ch at_place
-  entered_after k ch at_place h = record { injection = h.injection; lives = ap (λ (b : Books). b.living k) books ∙ h.lives; delivered = h.delivered }
+  entered_after : (k : ℕ) (ch : Channel) (m : Mark) → IsEntered (about q k) ch m → IsEntered (about r k) ch m
+  entered_after k ch m h = record { injection = h.injection; lives = ap (λ (b : Books). b.living k) books ∙ h.lives; reported = h.reported }
 
-  marks_after : (ch : Channel) (ms : List Mark) → All (λ (m : Mark). IsEntered (about q m.attempt.n) ch m.attempt.place) ms
-      → All (λ (m : Mark). IsEntered (about r m.attempt.n) ch m.attempt.place) ms
-  marks_after ch ms h = All-weaker (λ (m : Mark). IsEntered (about q m.attempt.n) ch m.attempt.place) (λ (m : Mark). IsEntered (about r m.attempt.n) ch m.attempt.place)
-      (λ m. entered_after m.attempt.n ch m.attempt.place) ms h
+  marks_after : (ch : Channel) (ms : List Mark) → All (λ (m : Mark). IsEntered (about q m.attempt.n) ch m) ms
+      → All (λ (m : Mark). IsEntered (about r m.attempt.n) ch m) ms
+  marks_after ch ms h = All-weaker (λ (m : Mark). IsEntered (about q m.attempt.n) ch m) (λ (m : Mark). IsEntered (about r m.attempt.n) ch m)
+      (λ m. entered_after m.attempt.n ch m) ms h
 
   other_lane : (ch : Channel) → ch ≢ c → (l : Lane) → OnLane q ch l → OnLane r ch l
   other_lane ch far l h = record {
@@ -224,7 +219,7 @@ module _ (q r : Queue) (c : Channel) (n place : ℕ) (books : r.books ≡ q.book
       others = λ ch far. other_lane ch far (lane ch d.slots) (h.others ch far);
       tied = tied_after Written (written_kept (files_of q c) first (lane c d.slots) h.tied is_first);
       jobs = λ k job e. serves_after k c (h.jobs k job e);
-      marks = marks_after c _ (All-drop (λ (m : Mark). IsEntered (about q m.attempt.n) c m.attempt.place) 1 (lane c d.slots).marks h.marks);
+      marks = marks_after c _ (All-drop (λ (m : Mark). IsEntered (about q m.attempt.n) c m) 1 (lane c d.slots).marks h.marks);
     }
     written_at false = record {
       known = known_all_after;
@@ -262,7 +257,7 @@ looks_same e None x = refl
 looks_same e (Some o) x = find_same e.names e.names e.files (put e.files o.number (e.files o.number)) x refl (λ i w. put_self e.files o.number i)
 
 module _ (controls : Controls) (now : ℕ) (q : Queue) (a : List ℕ) (G : Sound controls q) (m : Marked) (d : Desk) (first : IsFirstMark m d.slots) (read : ℕ) (fd : Fd)
-    (h : AtMark controls q (mark.Write fd) m.channel d) (file : HasFile q a (lane_part m.channel) m.n how.Write fd.0) where
+    (h : AtMark controls q (mark.Write fd) m.channel d) (file : HasFile q a (lane_part m.channel) m.n how.Write fd.0) (sure : IsDoneIn (about q m.n) m.channel m.place) where
   abbrev writing : CallData
   writing = call.WriteAt fd m.place dee
 
@@ -283,17 +278,11 @@ module _ (controls : Controls) (now : ℕ) (q : Queue) (a : List ℕ) (G : Sound
       let job = the_job (job_of k l.jobs) (h.tied.owned k p held) in
       subst (λ z. Serves (about q z) m.channel) first.number (h.jobs k job.0 job.1)
 
-  entered : IsEntered (about q m.n) m.channel m.place
-  entered =
-      let mk = first.first in
-      let one = first_all (λ (z : Mark). IsEntered (about q z.attempt.n) m.channel z.attempt.place) (lane m.channel d.slots).marks mk h.marks first.there in
-      subst (λ z. IsEntered (about q m.n) m.channel z) first.place (subst (λ z. IsEntered (about q z) m.channel mk.attempt.place) first.number one)
-
   may : MayMark q a m.n m.channel fd.0 m.place
   may = record {
-    lane = record { no_todo = serves.sorted.no_todo; file = file.file; there = file.there; injection = entered.injection; lives = entered.lives };
+    lane = record { no_todo = serves.sorted.no_todo; file = file.file; there = file.there; injection = sure.sorted.injection; lives = sure.sorted.lives };
     opened = file.opened;
-    delivered = entered.delivered;
+    done = sure.done;
   }
 
   leads : (told : Answer) (wrote : ℕ) → Fits q.disk writing told wrote → LeadsOn controls now a (Some m.n) q (after wrote told)
@@ -353,10 +342,10 @@ module _ (controls : Controls) (now : ℕ) (q : Queue) (a : List ℕ) (G : Sound
   stand_then told wrote written e f there = at_stands controls now (after wrote told) a (mark.Close fd written) m d there first (open_then told wrote e f)
 
   grows_to : (told : Answer) (wrote : ℕ) → ((part : Part) (k : ℕ) → look (after wrote told) (Of part k) ≡ look q (Of part k)) → Grows q (after wrote told)
-  grows_to told wrote e = record { looks = e; lives = λ k i there. (i, there, refl, λ t w. w) }
+  grows_to told wrote e = record { looks = λ part k far. e part k; lives = λ k i there. (i, there, refl, grown_same i.ledger) }
 
   pub write_answer : (wrote : ℕ) (told : Answer) (bytes : List ℕ) → Fits q.disk writing told wrote
-      → SenderLeads controls now a q (after wrote told) (act_mark (mark.Write fd) m (answered told bytes) d)
+      → SenderLeads controls now a q (after wrote told) (act_mark (mark.Write fd) m (Answered (record { answer = told; bytes = bytes })) d)
   write_answer wrote answer.Done bytes fits = record {
     number = Some m.n;
     closed = closed;
@@ -397,22 +386,53 @@ module _ (controls : Controls) (now : ℕ) (q : Queue) (a : List ℕ) (G : Sound
 
 -- Each step
 
-module _ (controls : Controls) (now : ℕ) (q : Queue) (a : List ℕ) (G : Sound controls q) (m : Marked) (d : Desk) (read : ℕ) (told : Told) (wrote : ℕ) where
-  pub marks : (row : MarkRow) (c : CallData) → StandsAt controls now q a (at.Mark row m) d → due_at (at.Mark row m) d ≡ needs.File c → Fits q.disk c told.answer wrote
-      → SenderLeads controls now a q (called_queue q a read c told.answer wrote q.role) (act (at.Mark row m) read (Answered told) d)
-  marks mark.Open c h due fits =
+-- at the begin of a note
+at_noting : (controls : Controls) (now : ℕ) (q : Queue) (a : List ℕ) (m : Marked) (d : Desk) → StandsAt controls now q a (at.Mark mark.Note m) d → AtMark controls q mark.Noting m.channel d
+at_noting controls now q a m d h =
+    let t = at_mark controls now q a mark.Note m d h in
+    record { known = t.known; due = t.due; apart = t.apart; controls_are = t.controls_are; others = t.others; tied = t.tied; jobs = t.jobs; marks = t.marks }
+
+module _ (controls : Controls) (now : ℕ) (q : Queue) (a : List ℕ) (child : Option Child) (plain : HaveNoNul controls) (G : Sound controls q) (m : Marked) (d : Desk) (read : ℕ) (told : Told)
+    (wrote : ℕ) where
+  -- to what a call leads
+  abbrev Leads : MarkRow → CallData → Type 0
+  Leads row c = (role : ℕ → Role) × SenderLeads controls now a q (booked_queue child (booked_at (at.Mark row m) (Answered told) d) (called_queue q a read c told.answer wrote role))
+      (act (at.Mark row m) read (Answered told) d)
+
+  noted : StandsAt controls now q a (at.Mark mark.Noting m) d → (c : CallData) → due_at (at.Mark mark.Noting m) d ≡ needs.File c → Fits q.disk c told.answer wrote → IsReadBy q.disk c told
+      → Leads mark.Noting c
+  noted h c due fits given =
+      let there = at_mark controls now q a mark.Noting m d h in
+      let n = h.rests.1 in
+      note_step controls now q a G m d h.rests.0 read wrote there n.of plain d.note.row child c told n.holds due fits given
+
+  note_begins : StandsAt controls now q a (at.Mark mark.Note m) d → (c : CallData) → due_at (at.Mark mark.Note m) d ≡ needs.File c → Fits q.disk c told.answer wrote → Leads mark.Note c
+  note_begins h c due fits =
+      let there = at_noting controls now q a m d h in
+      let to = h.rests.1 in
+      let same : c ≡ call.Open (path (Of Bounce m.n)) how.Append = sym (file_call (call.Open (path (Of Bounce m.n)) how.Append) c due) in
+      let go = note_opens controls now q a G m d h.rests.0 read wrote there to told.answer told.bytes (subst (λ z. Fits q.disk z told.answer wrote) same fits) in
+      let by_first : Option Mark → Type 0 = λ o. SenderLeads controls now a q (called_queue q a read (call.Open (path (Of Bounce m.n)) how.Append) told.answer wrote q.role)
+      (turned m (Answered told) (record d { note = note_of o m.n d.book.controls })) in
+      (q.role, subst (λ z. SenderLeads controls now a q (called_queue q a read z told.answer wrote q.role) (act_mark mark.Note m (Answered told) d)) (sym same) (subst by_first (sym to.there) go))
+
+  pub marks : (row : MarkRow) (c : CallData) → StandsAt controls now q a (at.Mark row m) d → due_at (at.Mark row m) d ≡ needs.File c → Fits q.disk c told.answer wrote → IsReadBy q.disk c told
+      → Leads row c
+  marks mark.Note c h due fits given = note_begins h c due fits
+  marks mark.Noting c h due fits given = noted h c due fits given
+  marks mark.Open c h due fits given =
       let there = at_mark controls now q a mark.Open m d h in
       let same : c ≡ call.Open (path (Of (lane_part m.channel) m.n)) how.Write =
       sym (file_call (call.Open (path (name_of (file_of m.channel m.n))) how.Write) c due) ∙ ap (λ t. call.Open t how.Write) (lane_name m.channel m.n) in
-      let go = open_answer controls now q a G m d h.rests.0 read wrote told.answer told.bytes there (subst (λ z. Fits q.disk z told.answer wrote) same fits) in
-      subst (λ z. SenderLeads controls now a q (called_queue q a read z told.answer wrote q.role) (act_mark mark.Open m (answered told.answer told.bytes) d)) (sym same) go
-  marks (mark.Write fd) c h due fits =
+      let go = open_answer controls now q a G m d h.rests.0 read wrote told.answer told.bytes there h.rests.1 (subst (λ z. Fits q.disk z told.answer wrote) same fits) in
+      (q.role, subst (λ z. SenderLeads controls now a q (called_queue q a read z told.answer wrote q.role) (act_mark mark.Open m (Answered told) d)) (sym same) go)
+  marks (mark.Write fd) c h due fits given =
       let there = at_mark controls now q a (mark.Write fd) m d h in
       let same : c ≡ call.WriteAt fd m.place dee = sym (file_call (call.WriteAt fd m.place dee) c due) in
-      let go = write_answer controls now q a G m d h.rests.0 read fd there h.rests.1 wrote told.answer told.bytes (subst (λ z. Fits q.disk z told.answer wrote) same fits) in
-      subst (λ z. SenderLeads controls now a q (called_queue q a read z told.answer wrote q.role) (act_mark (mark.Write fd) m (answered told.answer told.bytes) d)) (sym same) go
-  marks (mark.Close fd written) c h due fits =
+      let go = write_answer controls now q a G m d h.rests.0 read fd there h.rests.1.0 h.rests.1.1 wrote told.answer told.bytes (subst (λ z. Fits q.disk z told.answer wrote) same fits) in
+      (q.role, subst (λ z. SenderLeads controls now a q (called_queue q a read z told.answer wrote q.role) (act_mark (mark.Write fd) m (Answered told) d)) (sym same) go)
+  marks (mark.Close fd written) c h due fits given =
       let there = at_mark controls now q a (mark.Close fd written) m d h in
       let same : c ≡ call.Close fd = sym (file_call (call.Close fd) c due) in
       let go = close_answer controls now q a G m d h.rests.0 read wrote fd written told.answer told.bytes there h.rests.1.1.held (subst (λ z. Fits q.disk z told.answer wrote) same fits) in
-      subst (λ z. SenderLeads controls now a q (called_queue q a read z told.answer wrote q.role) (act_mark (mark.Close fd written) m (answered told.answer told.bytes) d)) (sym same) go
+      (q.role, subst (λ z. SenderLeads controls now a q (called_queue q a read z told.answer wrote q.role) (act_mark (mark.Close fd written) m (Answered told) d)) (sym same) go)

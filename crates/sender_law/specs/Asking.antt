@@ -22,7 +22,7 @@ use Rattle.send_known.specs.declared.known.Known.{Known}
 use Rattle.send_known.specs.Known.{is_known}
 use Rattle.send_steps.specs.Requests.{addressed, request_of, to_slot}
 use Rattle.queue_law.specs.Books.{Injection}
-use Rattle.queue_law.specs.Ledgers.{Spot}
+use Rattle.queue_law.specs.Ledgers.{Line}
 use Rattle.queue_law.specs.Numbers.{Queue}
 use Rattle.queue_law.specs.Routes.{sender_of}
 use Rattle.queue_law.specs.Senders.{entered_queue}
@@ -75,8 +75,8 @@ pub record TextsKeep : Type 0 where
   -- whatever comes of what is due
   pub goes_on : (controls : Controls) (now : ℕ) (q : Queue) (a : List ℕ) (d : Desk) (read : ℕ) (ready : Ready) (came : GotData) → read ≤ now → IsMoment read
       → SenderStands controls now q a d → TextsStand q d → TextsStand q (moved_by (row_now d read ready) read came d)
-  -- a recipient is entered as delivered
-  pub enters : (q : Queue) (n : ℕ) (s : Spot) (d : Desk) → TextsStand q d → TextsStand (entered_queue q n s) d
+  -- a line is entered in a ledger
+  pub enters : (q : Queue) (n : ℕ) (line : Line) (d : Desk) → TextsStand q d → TextsStand (entered_queue q n line) d
   -- a step of another actor leaves alone what is preprocessed
   pub others : (controls : Controls) (now : ℕ) (q r : Queue) (a : List ℕ) (d : Desk) → SparesSorted q r → SenderStands controls now q a d → TextsStand q d → TextsStand r d
 

@@ -67,10 +67,11 @@ abbrev pub ControlStands : Queue → List ℕ → Row → Book → Type 0
 ControlStands q a (at.Start (start.Control f reading)) b = FilesRead q a f reading b
 ControlStands q a row b = Unit {0}
 
--- it is given or taken by a link
+-- it is given or taken by a link, or opens one to a program
 abbrev pub IsOnLink : NeedData → Type 0
 IsOnLink (needs.Take port) = Unit {0}
 IsOnLink (needs.Give port bytes) = Unit {0}
+IsOnLink (needs.Start child) = Unit {0}
 IsOnLink due = ⊥
 
 -- The laws
@@ -85,7 +86,8 @@ pub record ControlsStay : Type 0 where
   pub said : (controls : Controls) (q r : Queue) → LeavesControls q r → AreControls controls q.disk → AreControls controls r.disk
 
 -- A sender reads them as they are. It begins with none; whatever is answered to a file call of it that is due, it has read what they
--- hold, and what it takes from them is what they say; once it gives or takes it is past them; and what others do leaves what it read.
+-- hold, and what it takes from them is what they say; once it gives, takes or starts a program it is past them; and what others do leaves
+-- what it read.
 pub record ControlsAreRead : Type 0 where
   pub begins : (q : Queue) (a : List ℕ) (turns : Option ℕ) → ControlStands q a (begun turns).row (begun turns).book
   pub calls : (controls : Controls) (q : Queue) (a : List ℕ) (d : Desk) (read : ℕ) (ready : Ready) (call : CallData) (told : Told) (wrote : ℕ) (role : ℕ → Role)

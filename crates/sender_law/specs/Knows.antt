@@ -2,6 +2,9 @@
 use Rattle.std.specs.Prelude.{◌≡◌, ℕ, Bool, true, false, Option, Some, None}
 use Rattle.send_core.specs.declared.row.Row.{Row}
 use Rattle.send_core.specs.declared.row.Row.TheVariants as at
+use Rattle.call_fs.specs.Disk.{Among}
+use Rattle.send_jobs.specs.declared.attempts.Failure.{Failure}
+use Rattle.send_jobs.specs.declared.attempts.Mark.{Mark}
 use Rattle.send_jobs.specs.declared.channels.Channel.{Channel}
 use Rattle.send_jobs.specs.declared.channels.Channel.TheVariants.{Local, Remote}
 use Rattle.send_known.specs.declared.known.Known.{Known}
@@ -9,7 +12,8 @@ use Rattle.send_steps.specs.declared.rows.FinishRow.{FinishRow}
 use Rattle.send_steps.specs.declared.rows.FinishRow.TheVariants as finish
 use Rattle.queue_paths.specs.Names.Part.{Todo, Info}
 use Rattle.queue_law.specs.Books.{Injection}
-use Rattle.queue_law.specs.Marks.{IsDelivered}
+use Rattle.queue_law.specs.Ledgers.{Ledger}
+use Rattle.queue_law.specs.Marks.{IsDelivered, IsDone}
 use Rattle.queue_law.specs.Numbers.{Entry, About}
 use Rattle.queue_law.specs.Routes.{lane_part, sender_of}
 
@@ -61,8 +65,19 @@ pub record Serves (w : About) (ch : Channel) : Type 0 where
   pub file : Entry
   pub there : w.parts (lane_part ch) ≡ Some file
 
--- the recipient whose record stands at this place was reported delivered
-pub record IsEntered (w : About) (ch : Channel) (place : ℕ) : Type 0 where
+-- what was reported of the recipient whose record stands at this place: that it was delivered to, or if something is noted of it, that it
+-- failed for good
+abbrev pub IsReported : Option Failure → Ledger → Channel → ℕ → Type 0
+IsReported None l ch place = IsDelivered l ch place
+IsReported (Some failure) l ch place = Among (record { channel = ch; place = place }) l.failed
+
+-- so it is in the ledger, of the recipient of a mark
+pub record IsEntered (w : About) (ch : Channel) (m : Mark) : Type 0 where
   pub injection : Injection
   pub lives : w.living ≡ Some injection
-  pub delivered : IsDelivered injection.ledger ch place
+  pub reported : IsReported m.note injection.ledger ch m.attempt.place
+
+-- it was delivered to, or its note is synced: its record may be marked
+pub record IsDoneIn (w : About) (ch : Channel) (place : ℕ) : Type 0 where
+  pub sorted : IsSettledIn w
+  pub done : IsDone sorted.injection.ledger ch place

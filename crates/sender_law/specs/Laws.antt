@@ -10,11 +10,10 @@ use Rattle.send_jobs.specs.declared.channels.Channel.{Channel}
 use Rattle.send_jobs.specs.declared.slots.Slots.{Slots}
 use Rattle.send_known.specs.declared.messages.Messages.{Messages}
 use Rattle.send_steps.specs.declared.book.Book.{Book}
-use Rattle.todo_pass.specs.Table.{Pass}
 use Rattle.mail_bytes.specs.Moments.{IsMoment}
 use Rattle.queue_law.specs.Numbers.{Queue}
 use Rattle.queue_law.specs.Steps.{Elsewhere}
-use Rattle.sender_law.specs.Rows.{RowStands}
+use Rattle.sender_law.specs.Rows.{RowStands, Works}
 use Rattle.sender_law.specs.Stands.{KnowsAll, LaneStands, SenderStands, SparesSorted, StandsAt}
 
 -- A sender that begins relies on nothing of the queue.
@@ -38,4 +37,4 @@ pub record SortedIsLeftAlone : Type 0 where
   pub knows : (q r : Queue) (row : Row) (m : Messages) → SparesSorted q r → KnowsAll q row m → KnowsAll r row m
   pub lanes : (q r : Queue) (row : Row) (ch : Channel) (s : Slots) → SparesSorted q r → LaneStands q row ch s → LaneStands r row ch s
   pub rests : (controls : Controls) (now : ℕ) (a o : List ℕ) (m : Option ℕ) (q r : Queue) → Elsewhere now o m q r → a ≢ o → SparesSorted q r
-      → (row : Row) (b : Book) (s : Slots) (p : Pass) → IsAmongSorted row → RowStands controls now q a row b s p → RowStands controls now r a row b s p
+      → (row : Row) (b : Book) (s : Slots) (p : Works) → IsAmongSorted row → RowStands controls now q a row b s p → RowStands controls now r a row b s p

@@ -8,11 +8,11 @@ pub mod InTodo
 pub mod Rows
 -- what a living sender relies on
 pub mod Stands
--- what is entered as reports are taken
+-- what is entered in the ledgers
 pub mod Takings
 -- requests, and channel files that go
 pub mod Passing
--- the steps of a mark
+-- the steps of a mark, and of its note
 pub mod Marking
 -- readings of files
 pub mod Readings
@@ -32,7 +32,7 @@ pub mod Commands
 pub mod Waits
 -- a todo pass inside a sender
 pub mod Searches
--- the finish of a message and the sweep
+-- the finish of a message, with its return, and the sweep
 pub mod Points
 -- each event of a sender
 pub mod Whole

@@ -18,14 +18,13 @@ use Rattle.send_jobs.specs.Sending.{lane}
 use Rattle.send_known.specs.declared.known.Known.{Known}
 use Rattle.send_known.specs.declared.messages.Messages.{Messages}
 use Rattle.send_steps.specs.declared.book.Book.{Book}
-use Rattle.todo_pass.specs.Table.{Pass}
 use Rattle.queue_law.specs.Numbers.{Queue, Entry, look, about}
 use Rattle.queue_law.specs.Rests.{IsClosed}
 use Rattle.queue_law.specs.Senders.{LeadsOn}
 use Rattle.queue_law.specs.Steps.{LeavesLater}
 use Rattle.sender_law.specs.Views.{files_of, first_at}
 use Rattle.sender_law.specs.Knows.{Knows, Serves, IsEntered}
-use Rattle.sender_law.specs.Rows.{RowStands}
+use Rattle.sender_law.specs.Rows.{RowStands, Works, works}
 
 -- Each known message is preprocessed, and of each that is due on a channel the file is there.
 pub record KnowsAll (q : Queue) (row : Row) (m : Messages) : Type 0 where
@@ -33,11 +32,11 @@ pub record KnowsAll (q : Queue) (row : Row) (m : Messages) : Type 0 where
   pub due : (ch : Channel) → All (λ (e : ℕ × ℕ). Serves (about q e.1) ch) (due_on ch m)
 
 -- What is kept of a channel is tied to its files, as they read now; of each job the file is there; and each mark whose record may read
--- `T` is of a recipient that was reported delivered.
+-- `T` is of a recipient that was reported delivered, or if something is noted of it, as failed for good.
 pub record LaneStands (q : Queue) (row : Row) (ch : Channel) (s : Slots) : Type 0 where
   pub tied : IsTied (files_of q ch) (first_at row ch) (lane ch s)
   pub jobs : (n : ℕ) (job : Job) → job_of n (lane ch s).jobs ≡ Some job → Serves (about q n) ch
-  pub marks : All (λ (m : Mark). IsEntered (about q m.attempt.n) ch m.attempt.place) (waiting (first_at row ch) (lane ch s).marks)
+  pub marks : All (λ (m : Mark). IsEntered (about q m.attempt.n) ch m) (waiting (first_at row ch) (lane ch s).marks)
 
 -- A message with a job on a channel is due there, if it is, at the moment that never comes.
 abbrev pub DueApart : Messages → Slots → Type 0
@@ -49,8 +48,8 @@ HasControls (at.Start (start.Control file reading)) = ⊥
 HasControls (at.Ended status) = ⊥
 HasControls row = Unit {0}
 
--- At this row, with this book, these slots and this todo pass.
-pub record Stands (controls : Controls) (now : ℕ) (q : Queue) (a : List ℕ) (row : Row) (b : Book) (s : Slots) (p : Pass) : Type 0 where
+-- At this row, with this book and these slots, and with what stands at work beside them.
+pub record Stands (controls : Controls) (now : ℕ) (q : Queue) (a : List ℕ) (row : Row) (b : Book) (s : Slots) (p : Works) : Type 0 where
   pub knows : KnowsAll q row b.messages
   pub lanes : (ch : Channel) → LaneStands q row ch s
   pub apart : DueApart b.messages s
@@ -59,11 +58,11 @@ pub record Stands (controls : Controls) (now : ℕ) (q : Queue) (a : List ℕ) (
 
 -- so it is of a sender with this desk
 abbrev pub SenderStands : Controls → ℕ → Queue → List ℕ → Desk → Type 0
-SenderStands controls now q a d = Stands controls now q a d.row d.book d.slots d.pass
+SenderStands controls now q a d = Stands controls now q a d.row d.book d.slots (works d)
 
 -- at this row, to which it has come
 abbrev pub StandsAt : Controls → ℕ → Queue → List ℕ → Row → Desk → Type 0
-StandsAt controls now q a row d = Stands controls now q a row d.book d.slots d.pass
+StandsAt controls now q a row d = Stands controls now q a row d.book d.slots (works d)
 
 -- What an event of a sender leads to: what holds of the queue holds then too, of all but one number nothing changed, which is one that no
 -- injector touches, and the sender has what it relies on.

@@ -1,6 +1,8 @@
 -- What a sender waits for, by its table: when it gives a command to its cleaner, and when it takes the answer.
 use Rattle.std.specs.Prelude.{◌≡◌, ◌⊎◌, ℕ, List}
+use Rattle.bounce_record.specs.declared.return_row.ReturnRow.TheVariants as back
 use Rattle.call_fs.specs.declared.past.ChildData.{ChildData}
+use Rattle.call_fs.specs.declared.past.ChildData.TheVariants as child
 use Rattle.call_fs.specs.declared.past.GotData.{GotData}
 use Rattle.call_fs.specs.declared.past.GotData.TheVariants as came
 use Rattle.call_fs.specs.declared.past.NeedData.TheVariants as needs
@@ -58,6 +60,13 @@ pub record GivesAt (row : Row) (d : Desk) (text : List ℕ) : Type 0 where
   pub given : (now : ℕ) → awaits (moved_by row now came.Gave d) ≡ Answer command
   pub failed : (now : ℕ) → awaits (moved_by row now came.Failed d) ≡ Over
 
+-- the injector of a bounce is started, with room for that
+pub record StartsAt (row : Row) (d : Desk) (asked : ChildData) : Type 0 where
+  pub n : ℕ
+  pub at_return : row ≡ at.Finish finish.Return n
+  pub due : d.bounce.row ≡ back.Start
+  pub asked_is : asked ≡ child.Bounce d.bounce.room
+
 -- it waits for nothing, or does nothing more
 abbrev pub IsFree : Awaits → Type 0
 IsFree w = (w ≡ Nothing) ⊎ (w ≡ Over)
@@ -75,8 +84,8 @@ pub record SendersWait : Type 0 where
   -- and if that brings nothing, it does nothing more
   pub lost : (d : Desk) (row : Row) (now : ℕ) (got : GotData) → due_at row d ≡ needs.Take port.Clean → (got ≡ came.End) ⊎ (got ≡ came.Failed)
       → awaits (moved_by row now got d) ≡ Over
-  -- it starts no program, and runs no command
-  pub starts : (d : Desk) (row : Row) (asked : ChildData) → due_at row d ≡ needs.Start asked → ⊥
+  -- it starts no program but the injector of a bounce, and runs no command
+  pub starts : (d : Desk) (row : Row) (asked : ChildData) → due_at row d ≡ needs.Start asked → StartsAt row d asked
   pub runs : (d : Desk) (row : Row) (text : List ℕ) → due_at row d ≡ needs.Command text → ⊥
   -- after each event but a giving to the cleaner it waits for nothing, or does nothing more
   pub free : (d : Desk) (read : ℕ) (ready : Ready) (got : GotData) → ((text : List ℕ) → due_at (row_now d read ready) d ≡ needs.Give port.Clean text → ⊥)

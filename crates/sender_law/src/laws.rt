@@ -8,7 +8,7 @@ ghost use Rattle.sender_law.specs.LeftAlone.{SendersAreLeftAlone};
 ghost use Rattle.sender_law.specs.Marking.{MarksKeep};
 ghost use Rattle.sender_law.specs.Passes.{PassesOpen};
 ghost use Rattle.sender_law.specs.Passing.{FilesGo, RequestsKeep};
-ghost use Rattle.sender_law.specs.Points.{ChoresStand, FinishesLead, PointsAreLeftAlone, SweepsLead};
+ghost use Rattle.sender_law.specs.Points.{ChoresStand, FinishesLead, PointsAreLeftAlone, ReturnsGoOn, SweepsLead};
 ghost use Rattle.sender_law.specs.Readings.{ReadingsKeep};
 ghost use Rattle.sender_law.specs.Scan.{ScansKeep};
 ghost use Rattle.sender_law.specs.Searches.{DoneIsKnown, PassesGive, PassesGoOn, SearchBegins, UnlinksLeaveLearned};
@@ -32,8 +32,8 @@ pub fn sorted_is_left_alone()
     ensures { SortedIsLeftAlone }
 {}
 
-/// A taking from a spawner enters the recipients of whom a report says that they were delivered, each in flight in its slot; and
-/// it keeps what holds of the queue and what the sender relies on.
+/// A taking from a spawner enters the recipients of whom a report is final, as delivered or as failed for good, each in flight in its slot;
+/// and it keeps what holds of the queue and what the sender relies on.
 pub fn takings_keep()
     ensures { TakingsKeep }
 {}
@@ -44,14 +44,15 @@ pub fn requests_keep()
     ensures { RequestsKeep }
 {}
 
-/// The unlink of a channel file that is due is of one all of whose recipients were reported delivered; and it keeps what holds
+/// The unlink of a channel file that is due is of one all of whose recipients were reported delivered or are noted; and it keeps what holds
 /// of the queue and what the sender relies on, whether it is done or fails.
 pub fn files_go()
     ensures { FilesGo }
 {}
 
-/// Each call of a mark that is due keeps what holds of the queue and what the sender relies on, whatever is answered: the open
-/// of the channel file, the overwriting of the letter, of which any part may have been written, and the close.
+/// Each call of a mark that is due keeps what holds of the queue and what the sender relies on, whatever is answered: each call of its note,
+/// of which the sync enters the recipient as noted; and the open of the channel file, the overwriting of the letter, of which any part may
+/// have been written, and the close.
 pub fn marks_keep()
     ensures { MarksKeep }
 {}
@@ -115,9 +116,16 @@ pub fn done_is_known()
     ensures { DoneIsKnown }
 {}
 
-/// Each call of a finish keeps what holds of the queue, and leads to a row at which the sender has what it relies on.
+/// Each call of a finish keeps what holds of the queue, and leads to a row at which the sender has what it relies on: the open of the bounce
+/// file, each call by which that and the message are read and the bounce file goes, and the unlink of the info file.
 pub fn finishes_lead()
     ensures { FinishesLead }
+{}
+
+/// So does each other step of a return: the start of the bounce's injector, the giving of the bounce, and the taking of its status, which
+/// enters the bounce if it is 0.
+pub fn returns_go_on()
+    ensures { ReturnsGoOn }
 {}
 
 /// So does each call of the sweep.

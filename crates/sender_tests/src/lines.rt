@@ -55,6 +55,12 @@ pub(crate) fn got_of<'a>(word: &str, text: &str, bytes: &'a [u8]) -> Option<Got<
         "gave" => Some(Got::Gave),
         "end" => Some(Got::End),
         "failed" => Some(Got::Failed),
+        "nomemory" => Some(Got::Memory),
+        "started" => Some(Got::Started {
+            pid: text.parse::<u32>().ok()?,
+        }),
+        "exit" => Some(Got::Ended(text.parse::<u8>().ok()?)),
+        "crashed" => Some(Got::Crashed),
         "read" | "full" => Some(Got::File(Answer::Count(bytes.len() as u64), bytes)),
         "name" => Some(Got::File(name_of(bytes)?, b"")),
         "stat" => Some(Got::File(stat_of(text)?, b"")),

@@ -1,6 +1,6 @@
 // What a sender needs, as a text.
 
-use call_fs::{Call, How, Need, PIECE, Port};
+use call_fs::{Call, Child, How, Need, PIECE, Port};
 use mail_bytes::{Memory, dec, escape};
 use send_jobs::{Mark, Marks};
 use std::alloc::Global;
@@ -56,6 +56,9 @@ pub(crate) fn need_text(alloc: Global, need: Need<'_>) -> Result<Vec<u8>, Memory
             .text(bytes)?,
         Need::Ended(status) => Words::of(alloc, b"ended")?.number(u64::from(status))?,
         Need::Wait => Words::of(alloc, b"wait")?,
+        Need::Start(Child::Bounce { room }) => Words::of(alloc, b"start")?
+            .text(b"bounce")?
+            .number(room)?,
         Need::Start(_) => Words::of(alloc, b"start")?,
         Need::Command(_) => Words::of(alloc, b"command")?,
     };
@@ -85,6 +88,8 @@ fn port_word(port: Port) -> &'static [u8] {
         Port::Clean => b"clean",
         Port::Lspawn => b"lspawn",
         Port::Rspawn => b"rspawn",
+        Port::Program(0) => b"program",
+        Port::Status(0) => b"status",
         _ => b"other",
     }
 }

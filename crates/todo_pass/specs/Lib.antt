@@ -22,6 +22,8 @@ pub mod Stands
 pub mod Run
 -- what a run does to a disk
 pub mod Disks
+-- the lines of the log that speak of a pass
+pub mod Lines
 -- why a pass ended as it did
 pub mod Causes
 -- the laws of passes

@@ -29,6 +29,11 @@ abbrev pub CountsOn : Row → Type 0
 CountsOn (at.Append t fd done) = done + piece_size < 2 ^ 64
 CountsOn row = Unit {0}
 
+-- the pass is done
+abbrev pub is_done : Row → Bool
+is_done at.Done = true
+is_done row = false
+
 -- what comes of it may take memory: the bytes of todo are kept, and what they say
 abbrev pub takes_memory : Row → Bool
 takes_memory (at.ReadTodo fd) = true

@@ -11,6 +11,7 @@
 mod arguments;
 mod head;
 pub mod laws;
+mod lines;
 mod machine;
 mod names;
 mod part;
@@ -22,8 +23,10 @@ mod sorting;
 mod steps;
 
 pub use arguments::Arguments;
+pub use lines::{put_left, put_queued, queued_room};
 pub use machine::TodoPass;
 pub use part::{Part, Target};
 pub use pass::Pass;
 pub use row::{End, Row, Why};
 pub use sorted::Sorted;
+pub use steps::is_plus;

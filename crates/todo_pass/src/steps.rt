@@ -1,6 +1,7 @@
 // Where an answer leads that changes nothing but the row: the plain part of the table of a todo pass.
 ghost use Rattle.std.specs.Prelude.{◌≡◌};
 ghost use Rattle.call_fs.specs.Program.{came_of};
+ghost use Rattle.todo_pass.specs.Rows.{is_done};
 ghost use Rattle.todo_pass.specs.Sorting.{has};
 ghost use Rattle.todo_pass.specs.Table.{answer_row, clear_row, cleared, create_row, give_row, made_row, local_row, remote_row, open_row, sync_row, why_of};
 
@@ -140,6 +141,16 @@ pub fn give_row(got: &Got<'_>) -> Row
     match got {
         Got::Gave => Row::Answer,
         _ => Row::Lost,
+    }
+}
+
+/// Whether the cleaner answered `+`.
+pub fn is_plus(got: &Got<'_>) -> bool
+    ensures { result ≡ is_done (answer_row (came_of got.now)) }
+{
+    match got {
+        Got::Took(bytes) => *bytes == b"+".as_slice(),
+        _ => false,
     }
 }
 

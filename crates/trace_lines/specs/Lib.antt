@@ -1,2 +1,4 @@
 -- the line of what an actor did
 pub mod Acts
+-- the lines of a mail
+pub mod Mails

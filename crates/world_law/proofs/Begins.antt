@@ -1,5 +1,5 @@
 -- The invariant holds at the start.
-use Rattle.std.proofs.Common.{None, refl, arith}
+use Rattle.std.proofs.Common.{⊎_elim, None, refl, arith}
 use Rattle.address_rules.specs.declared.controls.Controls.{Controls}
 use Rattle.call_fs.specs.Disk.{Disk}
 use Rattle.queue_paths.specs.Names.Name.{Pid, Of}
@@ -41,11 +41,14 @@ inv_begins controls d has o = record {
   role = λ _. AsOld;
   moment = omega arith;
   sound = begins_sound controls d o;
+  bounces = λ i kept x h. ⊎_elim (λ w. let v = w.1 in absurd (cc)) (λ none. absurd none) kept;
   crew = λ a x h. absurd (cc);
+  crewed = λ x there. absurd (cc);
   fares = λ a x h. absurd (cc);
   control = has;
   old = λ f i there. (refl, o.settled (control_text f) i there);
   tenants = λ a d b h. absurd (cc);
+  child = tt;
   errands = record {
     waits = None;
     errand = losses_keep.lost None fresh none_asked;

@@ -65,6 +65,7 @@ use Rattle.world_law.specs.Inv.{ErrandRests, Inv}
 use Rattle.world_law.specs.Laws.{CleanersKeep}
 use Rattle.world_law.proofs.Moved.{moved_by}
 use Rattle.world_law.proofs.Stepped.{led_keeps}
+use Rattle.world_law.proofs.Tenants.{GoesOn}
 
 -- What it does: a file call, a taking of commands, or a giving of an answer
 
@@ -276,6 +277,9 @@ module _ (controls : Controls) (s : State) (I : Inv controls s) (wrote : ℕ) (b
   stands : CleanerStands controls s.now q place
   stands = I.fares name (cleaner began past) is
 
+  goes : GoesOn (s.actors name) (Cleaner began)
+  goes = subst (λ (o : Option Actor). GoesOn o (Cleaner began)) (sym is) refl
+
   abbrev actors_after : NeedData → GotData → List ℕ → Option Actor
   actors_after due came = put_at s.actors name (Some (cleaner began (event due came ∷ past)))
 
@@ -302,13 +306,13 @@ module _ (controls : Controls) (s : State) (I : Inv controls s) (wrote : ℕ) (b
   taken : (came : GotData) → due_by place own.read ≡ needs.Take port.Input → Yields (s.pipework.pipes name port.Input) came → Inv controls (then_state (needs.Take port.Input) came)
   taken came next comes =
       let it = piped (needs.Take port.Input) came tt tt next (offered (s.pipework.pipes name port.Input) came comes) in
-      moved_by controls s I name (cleaner began (event (needs.Take port.Input) came ∷ past)) (pipework_after s.pipework name (needs.Take port.Input) came wrote) refl it.1 I.tenants
+      moved_by controls s I name (cleaner began (event (needs.Take port.Input) came ∷ past)) (pipework_after s.pipework name (needs.Take port.Input) came wrote) refl it.1 goes (λ none. none) (λ b d t h. inl h)
       (then_errands (needs.Take port.Input) came tt q it.0)
 
   given : (bytes : List ℕ) (came : GotData) → due_by place own.read ≡ needs.Give port.Output bytes → Inv controls (then_state (needs.Give port.Output bytes) came)
   given bytes came next =
       let it = piped (needs.Give port.Output bytes) came tt tt next tt in
-      moved_by controls s I name (cleaner began (event (needs.Give port.Output bytes) came ∷ past)) (pipework_after s.pipework name (needs.Give port.Output bytes) came wrote) refl it.1 I.tenants
+      moved_by controls s I name (cleaner began (event (needs.Give port.Output bytes) came ∷ past)) (pipework_after s.pipework name (needs.Give port.Output bytes) came wrote) refl it.1 goes (λ none. none) (λ b d t h. inl h)
       (then_errands (needs.Give port.Output bytes) came tt q it.0)
 
   -- a file call
@@ -354,10 +358,10 @@ module _ (controls : Controls) (s : State) (I : Inv controls s) (wrote : ℕ) (b
     called =
         led_keeps controls s I name r leads.number (number_at place.row) leads.elsewhere leads.spares
         (others_spare.cleaners controls s.now q name past own.read own.ready c told wrote I.sound stands no_later next fits)
-        (controls_stay.but_pid q r leads.outside leads.old I.old) leads.sound
+        (controls_stay.but_pid q r leads.outside leads.old I.old) leads.sound I.bounces
         (λ o other since events there h. absurd (other (I.crew o (cleaner since events) there)))
         (λ o other since events there h. sender_left o since events there)
-        (cleaner began (this ∷ past)) refl leads.stands
+        (cleaner began (this ∷ past)) refl goes (λ none. none) leads.stands
         (then_errands (needs.File c) (got.Answered told) tt r
         (cleaned_errands controls s.now q r x errands this wrote (cleans_keep errands.waits this wrote x errands.errand (sym next) tt) leads.spares still_closed leads.done))
 

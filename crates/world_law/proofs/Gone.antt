@@ -54,6 +54,7 @@ use Rattle.world_law.specs.Crew.{is_alive, is_well, awaits_by, awaits_in, place_
 use Rattle.world_law.specs.Fares.{FaresBy, SpawnerHolds}
 use Rattle.world_law.specs.Inv.{Inv, ErrandRests, ErrandsRest}
 use Rattle.world_law.specs.Laws.{EndsKeep, StopsKeep}
+use Rattle.world_law.proofs.Tenants.{GoesOn, dead_child, one_child, one_crewed, one_keeps, tenants_kept}
 
 -- Steps that change nothing that concerns a number
 
@@ -282,18 +283,25 @@ module _ (controls : Controls) (s : State) (I : Inv controls s) (a : List ℕ) (
       (λ (c : (o ≢ a) × (actors_after o ≡ s.actors o)). others o y c.0 (sym c.1 ∙ h))
       (put_at_cases s.actors a (Some (with_life x life)) o)
 
+  goes : GoesOn (s.actors a) x.program
+  goes = subst (λ (o : Option Actor). GoesOn o x.program) (sym is) refl
+
   pub finished_keeps : Inv controls (finished s a life (Some x))
   finished_keeps = record {
     role = I.role;
     moment = I.moment;
     sound = record { suits = I.sound.suits; fine = I.sound.fine; over = I.sound.over };
+    bounces = I.bounces;
     crew = each_after (λ y o. IsNamed o y.program) (I.crew a x is) (λ o y other h. I.crew o y h);
     fares = each_after (λ y o. FaresBy controls s.now over o y.program y.past y.life)
         (fares_over controls s.now before over refl a x.program x.past x.life life dead ends (I.fares a x is))
         (λ o y other h. fares_other o other y.program y.past y.life (I.fares o y h));
     control = controls_stay.said controls before over same_controls I.control;
     old = same_controls.old;
-    tenants = I.tenants;
+    crewed = one_crewed s.actors a (with_life x life) goes I.crewed;
+    tenants = tenants_kept s (finished s a life (Some x)) (one_keeps s.actors a (with_life x life) goes) (λ o d t h. inl h) I.tenants;
+    child = one_child s (finished s a life (Some x)) (one_keeps s.actors a (with_life x life) goes) (λ o d t h. inl h) I.tenants a (with_life x life)
+        (dead_child (finished s a life (Some x)) x.program x.past life dead) I.child;
     errands = errands_over;
   }
 

@@ -1,4 +1,5 @@
 -- A machine stop.
+use Rattle.std.specs.Prelude.{Contains}
 use Rattle.std.proofs.Common.{◌≡◌, ℕ, List, [], Bool, true, false, Option, Some, None, option_map, refl, sym, ◌∙◌, subst, codes}
 use Rattle.address_rules.specs.declared.controls.Controls.{Controls}
 use Rattle.call_fs.specs.declared.crash_file_system.Survival.{Survival}
@@ -14,17 +15,19 @@ use Rattle.queue_law.proofs.Halts.{injector_halt, sound_after}
 use Rattle.queue_law.proofs.Looks.{mapped_some}
 use Rattle.sender_law.specs.ControlFiles.{LeavesControls}
 use Rattle.sender_law.proofs.ControlsStay.{controls_stay}
+use Rattle.actor_names.specs.MailNames.{members}
 use Rattle.world_events.specs.declared.event.Program.{Program}
 use Rattle.world_events.specs.declared.event.Program.TheVariants.{Injector, Cleaner, Sender, LocalSpawner, RemoteSpawner}
-use Rattle.mail_world.specs.History.{Actor, Life, State, cut_off, happens, stopped}
+use Rattle.mail_world.specs.History.{Actor, IsSender, Life, State, cut_off, happens, stopped}
 use Rattle.mail_world.specs.History.Event.{Halt}
 use Rattle.mail_world.specs.History.Life.{Alive, Over, Stopped}
 use Rattle.mail_world.specs.Untouched.{queue}
 use Rattle.world_law.specs.Crew.{IsNamed, awaits_by, awaits_in, is_alive, is_well, link_in, lives_in, place_in}
 use Rattle.world_law.specs.Fares.{FaresBy}
-use Rattle.world_law.specs.Inv.{ErrandRests, Inv}
+use Rattle.world_law.specs.Inv.{ChildFares, ErrandRests, Inv}
 use Rattle.world_law.specs.Laws.{HaltsKeep}
 use Rattle.world_law.proofs.Gone.{dead_cleaner}
+use Rattle.world_law.proofs.Tenants.{dead_child}
 
 -- each actor that lived is stopped
 fares_stopped : (controls : Controls) (now : ℕ) (q : Queue) (contents : ℕ → List ℕ) (a : List ℕ) (program : Program) (past : List Own) (life : Life)
@@ -63,6 +66,10 @@ stopped_dead Alive = refl
 stopped_dead (Over status) = refl
 stopped_dead Stopped = refl
 
+child_halted : (t : State) (o : Option Actor) → ChildFares t (option_map stopped o)
+child_halted t None = tt
+child_halted t (Some x) = dead_child t x.program x.past (cut_off x.life) (stopped_dead x.life)
+
 lives_halted : (o : Option Actor) → lives_in (option_map stopped o) ≡ false
 lives_halted None = refl
 lives_halted (Some x) = dead_cleaner x.program (cut_off x.life) (stopped_dead x.life)
@@ -91,16 +98,29 @@ module _ (controls : Controls) (s : State) (I : Inv controls s) (contents : ℕ 
   same_controls : LeavesControls (queue s I.role) after
   same_controls = controls_stay.halts (queue s I.role) contents all I.old
 
+  -- who isn't there wasn't there
+  was_none : (o : Option Actor) → option_map stopped o ≡ None → o ≡ None
+  was_none None gone = refl
+  was_none (Some x) gone = absurd (cc)
+
+  sender_stopped : (x : Actor) → option_map stopped (s.actors (codes "sender")) ≡ Some x → IsSender x.program → (a : List ℕ) → Contains members a → s.actors a ≡ None → ⊥
+  sender_stopped x there it =
+      let w = mapped_some stopped (s.actors (codes "sender")) x there in
+      I.crewed w.0 w.1 (subst (λ (z : Actor). IsSender z.program) (sym w.2) it)
+
   halted_keeps : (how : Survival) → Inv controls (happens s (Halt how contents))
   halted_keeps how = record {
     role = I.role;
     moment = I.moment;
     sound = sound_after (queue s I.role) contents all controls I.sound;
+    bounces = I.bounces;
     crew = each_stopped (λ a x. IsNamed a x.program) (λ a x is. I.crew a x is);
     fares = each_stopped (λ a x. FaresBy controls s.now after a x.program x.past x.life) (λ a x is. fares_stopped controls s.now (queue s I.role) contents a x.program x.past x.life (I.fares a x is));
     control = controls_stay.said controls (queue s I.role) after same_controls I.control;
     old = same_controls.old;
+    crewed = λ x there it a member gone. sender_stopped x there it a member (was_none (s.actors a) gone);
     tenants = λ a d b h. absurd (cc);
+    child = child_halted (happens s (Halt how contents)) (s.actors (codes "sender"));
     errands = halted_errands controls s.now (queue s I.role) after (lives_in (s.actors (codes "clean"))) (lives_in (option_map stopped (s.actors (codes "clean")))) (link_in s)
         (awaits_in (option_map stopped (s.actors (codes "sender")))) (place_in (option_map stopped (s.actors (codes "clean")))) I.errands
         (awaits_halted (s.actors (codes "sender"))) (place_halted (s.actors (codes "clean"))) (lives_halted (s.actors (codes "clean")));

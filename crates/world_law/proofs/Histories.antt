@@ -1,12 +1,16 @@
 -- Each event keeps what holds of the whole system, which so holds after each legal history; and each giving to a spawner is an attempt.
-use Rattle.std.proofs.Common.{◌≡◌, ℕ, List, [], ◌∷◌, Option, Some, None, refl, sym, ap, ◌∙◌, subst, arith, IsSomeAnd}
+use Rattle.std.proofs.Common.{◌≡◌, inl, inr, ⊎_elim, ℕ, List, [], ◌∷◌, Option, Some, None, refl, sym, ap, ◌∙◌, subst, arith, IsSomeAnd}
 use Rattle.address_rules.specs.declared.controls.Controls.{Controls}
-use Rattle.call_fs.specs.Disk.{Disk}
+use Rattle.call_fs.specs.Disk.{Among, Disk}
 use Rattle.call_fs.specs.declared.past.NeedData.{NeedData}
 use Rattle.call_fs.specs.declared.past.NeedData.TheVariants as needs
 use Rattle.call_fs.specs.declared.past.Own.{Own}
 use Rattle.call_fs.specs.declared.program.Ready.{Ready}
 use Rattle.mail_bytes.specs.Moments.{IsMoment}
+use Rattle.queue_inject.specs.declared.injection.Arguments.{Arguments}
+use Rattle.queue_law.specs.Accounts.{Accounted}
+use Rattle.queue_law.specs.Accounts.Accounted.{Returned}
+use Rattle.queue_law.specs.Notes.{told_name}
 use Rattle.queue_law.specs.Numbers.{Queue}
 use Rattle.send_core.specs.Table.{desk_after, due_at, port_of, row_now}
 use Rattle.send_jobs.specs.declared.channels.Channel.{Channel}
@@ -21,6 +25,7 @@ use Rattle.mail_world.specs.History.Life.{Alive}
 use Rattle.mail_world.specs.Untouched.{queue}
 use Rattle.mail_world.specs.World.{IsHistory}
 use Rattle.mail_world.proofs.Waiting.{legal_before}
+use Rattle.world_law.specs.Bounces.{BouncesAreAccepted, IsBounceOf, IsByBounce, IsNamedInBounce, ReturnedRecipientsAreNamed}
 use Rattle.world_law.specs.Fares.{FaresBy, SenderFares}
 use Rattle.world_law.specs.Headline.{AttemptsAreSound, EachSafe, Headline, IsAttempt, WorldsAreSafe}
 use Rattle.world_law.specs.Inv.{Inv}
@@ -116,3 +121,25 @@ attempts_are_sound controls d a own wrote before has legal x is start program ch
     let same : may.actor ≡ x = same_actor may.actor x (sym may.reads.is ∙ is) in
     subst (λ (y : Actor). IsAttempt (after d before) y.past ch text) same
     (attempted controls (after d before) (always controls d before has legal.0) a own wrote may start (ap (λ (y : Actor). y.program) same ∙ program) ch text given)
+
+pub bounces_are_accepted : BouncesAreAccepted
+bounces_are_accepted controls d before has legal i h = (always controls d before has legal).bounces i (⊎_elim
+    (λ (lives : (after d before).books.living i.number ≡ Some i). inl (i.number, lives))
+    (λ (over : Among i (after d before).books.over). inr over)
+    h)
+
+pub returned_recipients_are_named : ReturnedRecipientsAreNamed
+returned_recipients_are_named controls d before has legal i here r account says = by account says where
+  by : (it : Accounted controls (after d before).disk (after d before).books i r) → IsByBounce it → IsNamedInBounce controls (after d before).books i (told_name controls r.address)
+  by (Returned failed x bounced read named) says =
+      let w = bounces_are_accepted controls d before has legal i here x bounced in
+      record {
+        notes = x.notes;
+        read = read;
+        named = named;
+        bounce = w.accepted.0;
+        injected = w.accepted.1;
+        accepted = w.accepted.4;
+        carries = subst (λ (z : Arguments). IsBounceOf controls i.args x.notes z) (sym w.accepted.3) w.carries;
+      }
+  by other says = absurd says

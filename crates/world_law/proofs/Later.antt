@@ -1,5 +1,5 @@
 -- What time leaves, and a report of a remote program.
-use Rattle.std.proofs.Common.{◌≢◌, ℕ, ◌≤◌, ◌==◌, List, Bool, true, false, ◌&&◌, Option, Some, None, bytes_eq, codes, if◌then◌else◌}
+use Rattle.std.proofs.Common.{inl, inr, ℕ, ◌≤◌, ◌==◌, List, Bool, true, ◌&&◌, Some, None, refl, bytes_eq, codes}
 use Rattle.address_rules.specs.declared.controls.Controls.{Controls}
 use Rattle.call_fs.specs.declared.past.Own.{Own}
 use Rattle.errand_law.specs.Errands.{Link}
@@ -13,15 +13,17 @@ use Rattle.queue_law.proofs.RestIsKept.{rest_is_kept}
 use Rattle.sender_law.proofs.LeftAlone.{senders_are_left_alone}
 use Rattle.world_events.specs.declared.event.Program.{Program}
 use Rattle.world_events.specs.declared.event.Program.TheVariants.{Injector, Cleaner, Sender, LocalSpawner, RemoteSpawner}
-use Rattle.world_pipes.specs.Pipework.{Tenant}
-use Rattle.world_pipes.specs.Pipework.Tenant.{Runs, Remote}
-use Rattle.mail_world.specs.History.{Life}
+use Rattle.world_pipes.specs.Pipework.{Pipework, with_report}
+use Rattle.world_pipes.specs.Pipework.Tenant.{Remote}
+use Rattle.mail_world.specs.History.{Life, happens, report_text}
+use Rattle.mail_world.specs.History.Event.{Moment, Report}
 use Rattle.mail_world.specs.History.Life.{Alive, Over, Stopped}
 use Rattle.mail_world.specs.Untouched.{queue}
 use Rattle.world_law.specs.Crew.{is_alive, is_well, lives_in, link_in}
 use Rattle.world_law.specs.Fares.{FaresBy}
 use Rattle.world_law.specs.Inv.{ErrandRests}
 use Rattle.world_law.specs.Laws.{MomentsKeep, ReportsKeep}
+use Rattle.world_law.proofs.Tenants.{RunsNoMore, child_kept, slot_put, slot_named, tenants_kept}
 
 fares_later : (controls : Controls) (now m : ℕ) → now ≤ m → (q : Queue) (a : List ℕ) (program : Program) (past : List Own) (life : Life)
     → FaresBy controls now q a program past life → FaresBy controls m q a program past life
@@ -50,18 +52,21 @@ moments_keep m controls s I may = record {
   role = I.role;
   moment = may.moment;
   sound = I.sound;
+  bounces = I.bounces;
   crew = I.crew;
+  crewed = I.crewed;
   fares = λ a x h. fares_later controls s.now m may.no_earlier (queue s I.role) a x.program x.past x.life (I.fares a x h);
   control = I.control;
   old = I.old;
-  tenants = I.tenants;
+  tenants = tenants_kept s (happens s (Moment m)) (λ a x h. (x, h, refl)) (λ a d t h. inl h) I.tenants;
+  child = child_kept s (happens s (Moment m)) (λ a x h. (x, h, refl)) (λ a d t h. inl h) I.tenants (s.actors (codes "sender")) I.child;
   errands = errands_later controls s.now m may.no_earlier (queue s I.role) (lives_in (s.actors (codes "clean"))) (link_in s) I.errands;
 }
 
-none_runs : (programs : List ℕ → ℕ → Option Tenant) → ((a : List ℕ) (d : ℕ) (b : List ℕ) → programs a d ≢ Some (Runs b)) → (t : Bool) (a : List ℕ) (d : ℕ) (b : List ℕ)
-    → (if t then Some (Remote true) else programs a d) ≢ Some (Runs b)
-none_runs programs none true a d b is = absurd (cc)
-none_runs programs none false a d b is = none a d b is
+-- its program is in a slot of the remote spawner
+reported_runs : (w : Pipework) (slot : ℕ) (bytes : List ℕ) → RunsNoMore w (with_report w slot bytes)
+reported_runs w slot bytes b d t is = slot_put (bytes_eq b (codes "rspawn") && (d == slot)) b (w.programs b d) (Some (Remote true)) t
+    (λ both. inr (true, refl, slot_named b (codes "rspawn") (d == slot) both)) is
 
 -- it is put into a pipe of the remote spawner
 pub reports_keep : ReportsKeep
@@ -69,10 +74,13 @@ reports_keep slot letter text controls s I may = record {
   role = I.role;
   moment = I.moment;
   sound = I.sound;
+  bounces = I.bounces;
   crew = I.crew;
+  crewed = I.crewed;
   fares = I.fares;
   control = I.control;
   old = I.old;
-  tenants = λ b d. none_runs s.pipework.programs I.tenants (bytes_eq b (codes "rspawn") && (d == slot)) b d;
+  tenants = tenants_kept s (happens s (Report slot letter text)) (λ a x h. (x, h, refl)) (reported_runs s.pipework slot (report_text letter text)) I.tenants;
+  child = child_kept s (happens s (Report slot letter text)) (λ a x h. (x, h, refl)) (reported_runs s.pipework slot (report_text letter text)) I.tenants (s.actors (codes "sender")) I.child;
   errands = I.errands;
 }

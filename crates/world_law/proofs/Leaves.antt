@@ -15,7 +15,7 @@ use Rattle.mail_bytes.specs.Moments.{IsMoment}
 use Rattle.no_mailbox.specs.Table.{place_after as local_after, row_now as local_now}
 use Rattle.queue_paths.specs.Names.Name.{Of}
 use Rattle.queue_inject.specs.declared.injection.Arguments.{Arguments}
-use Rattle.queue_law.specs.Books.{Books, Injection, IsInjected, IsLater}
+use Rattle.queue_law.specs.Books.{Books, Child as Bouncer, Injection, IsInjected, IsLater}
 use Rattle.queue_law.specs.Injectors.{IsHeld}
 use Rattle.queue_law.specs.Numbers.{IsSorted, Queue, find}
 use Rattle.queue_law.specs.Senders.{OnlyReads}
@@ -26,12 +26,11 @@ use Rattle.queue_law.proofs.Frame.{about_same, outside_same, still_there}
 use Rattle.queue_law.proofs.Sends.{reads_keep}
 use Rattle.queue_law.proofs.Tests.{unless_same}
 use Rattle.remote_spawn.specs.Table.{due_from, place_after as remote_after}
-use Rattle.send_core.specs.Delivered.{delivered_at}
+use Rattle.send_core.specs.Booked.{booked_at}
 use Rattle.send_core.specs.Table.{desk_after, due_at, row_now}
 use Rattle.send_core.specs.declared.desk.Desk.{Desk}
 use Rattle.send_core.specs.declared.row.Row.{Row}
-use Rattle.sender_law.specs.Takings.{LeadsThrough, told_queue}
-use Rattle.sender_law.specs.Takings.LeadsThrough.{Goes, Stays}
+use Rattle.sender_law.specs.Takings.{booked_queue}
 use Rattle.sender_law.proofs.ControlsRead.{controls_are_read}
 use Rattle.sender_law.proofs.Whole.{senders_keep as sender_keeps}
 use Rattle.spawner_parts.specs.Table.{row_now as remote_now}
@@ -40,19 +39,20 @@ use Rattle.spawner_parts.specs.declared.row.Row.{Row as SpawnRow}
 use Rattle.spawner_parts.specs.declared.row.Row.TheVariants as spawn
 use Rattle.world_events.specs.declared.event.Program.{Program}
 use Rattle.world_events.specs.declared.event.Program.TheVariants.{Injector, Cleaner, Sender, LocalSpawner, RemoteSpawner}
-use Rattle.mail_world.specs.History.{Actor, Allowed, ComesOf, Event, Life, MayDo, MayRead, State, acted, after, finished, happens, next_of, unless_by}
+use Rattle.mail_world.specs.History.{Actor, Allowed, ComesOf, Event, Life, MayBear, MayDo, MayRead, State, acted, after, bears, books_after, bouncer_of, disk_after, finished, happens, holder_after, next_of, unless_by}
 use Rattle.mail_world.specs.History.Event.{Start, Act, Child, Generation, Report, End, Stop, Moment, Halt}
 use Rattle.mail_world.specs.History.Life.{Alive, Over, Stopped}
 use Rattle.mail_world.specs.Untouched.{IsOther, about_in, doer, program_of, queue}
 use Rattle.world_law.specs.Fares.{SenderFares, SpawnerHolds}
 use Rattle.world_law.specs.Inv.{Inv}
 use Rattle.world_law.specs.Leaves.{EventsLeave, IsSparing, LeavesMost, LeavesOutside}
-use Rattle.world_law.proofs.Children.{never_born}
 use Rattle.world_law.proofs.Histories.{always}
 use Rattle.world_law.proofs.Locals.{IsLocal, local_due}
 use Rattle.world_law.proofs.Remotes.{arrive_holds}
-use Rattle.world_law.proofs.SendersEvents.{entered_is, none_entered, told_other}
-use Rattle.world_law.proofs.SendersPipes.{IsOther as IsOfSpawner}
+use Rattle.world_law.proofs.SendersChild.{taken_has}
+use Rattle.world_law.proofs.SendersEvents.{none_entered, told_other}
+use Rattle.world_law.proofs.SendersOthers.{through}
+use Rattle.world_law.proofs.SendersPipes.{IsOther as IsElsewhere}
 
 -- what an event of this actor, with this program, leaves of a state
 record Leaves (p : Option Program) (a : List ℕ) (s t : State) : Type 0 where
@@ -104,27 +104,6 @@ abbrev IsNoTaking : NeedData → Type 0
 IsNoTaking (needs.File c) = ⊥
 IsNoTaking (needs.Take from) = ⊥
 IsNoTaking due = Unit {0}
-
-later_still : (b : Books) (i j : Injection) → IsLater i j → (k : Injection) × IsInjected b k × IsLater j k → (k : Injection) × IsInjected b k × IsLater i k
-later_still b i j l w = (
-  w.0,
-  w.1,
-  record {
-    number_is = w.2.number_is ∙ l.number_is;
-    actor_is = w.2.actor_is ∙ l.actor_is;
-    args_are = w.2.args_are ∙ l.args_are;
-    accepted_is = w.2.accepted_is ∙ l.accepted_is;
-    delivered = λ x h. w.2.delivered x (l.delivered x h);
-  },
-)
-
--- through all that a taking enters
-through : (controls : Controls) (now : ℕ) (a : List ℕ) (q r : Queue) → LeadsThrough controls now a q r → (i : Injection) → IsInjected q.books i → i.accepted ≡ true
-    → (j : Injection) × IsInjected r.books j × IsLater i j
-through controls now a q r (Stays z) i h accepted = still_there z.books i h
-through controls now a q r (Goes x y z n closed leads rest) i h accepted =
-    let w = leads.elsewhere.accepted i h accepted in
-    later_still z.books i w.0 w.2 (through controls now a y z rest w.0 w.1 (w.2.accepted_is ∙ accepted))
 
 module _ (controls : Controls) (s : State) (I : Inv controls s) (a : List ℕ) (own : Own) (wrote : ℕ) where
   abbrev q : Queue
@@ -195,6 +174,10 @@ module _ (controls : Controls) (s : State) (I : Inv controls s) (a : List ℕ) (
     abbrev row : Row
     row = row_now d own.read own.ready
 
+    -- the injector of a bounce, if it has started one
+    abbrev child : Option Bouncer
+    child = bouncer_of s a
+
     sender_fares : SenderFares controls s.now q a d
     sender_fares = I.fares a (actor (Sender since) past) may.is
 
@@ -205,13 +188,13 @@ module _ (controls : Controls) (s : State) (I : Inv controls s) (a : List ℕ) (
         → Then (Sender since) past (needs.File c) (got.Answered told)
     sender_called c told due comes =
         let reads = controls_are_read.calls controls q a d own.read own.ready c told wrote I.role I.control sender_fares.control due comes.0 comes.1 in
-        let l = sender_keeps.calls controls s.now q a d own.read own.ready c told wrote I.control.no_nul I.sound may.no_later moment sender_fares.stands due comes.0 comes.1 reads.0 in
+        let l = sender_keeps.calls controls s.now q a child d own.read own.ready c told wrote I.control.no_nul I.sound may.no_later moment sender_fares.stands due comes.0 comes.1 reads.0 in
         let w = l.1.leads in
         record { outside = w.outside; opens = w.elsewhere.opens; accepted = w.elsewhere.accepted; sorted = λ sparing. absurd sparing }
 
     -- what a taking enters
     abbrev Enters : GotData → Type 0
-    Enters came = (i : Injection) → IsInjected s.books i → i.accepted ≡ true → (j : Injection) × IsInjected (told_queue (delivered_at row came d) q).books j × IsLater i j
+    Enters came = (i : Injection) → IsInjected s.books i → i.accepted ≡ true → (j : Injection) × IsInjected (booked_queue child (booked_at row came d) q).books j × IsLater i j
 
     took_left : (from : Port) (came : GotData) → Enters came → Then (Sender since) past (needs.Take from) came
     took_left from came enters = record {
@@ -221,20 +204,21 @@ module _ (controls : Controls) (s : State) (I : Inv controls s) (a : List ℕ) (
       sorted = λ sparing. absurd sparing;
     }
 
-    entered_other : (from : Port) (came : GotData) → IsOfSpawner from → due_at row d ≡ needs.Take from → Enters came
-    entered_other from came it due =
-        let t = sender_keeps.takes controls s.now q a d own.read own.ready from came I.control.no_nul I.sound may.no_later moment sender_fares.stands due (told_other controls s.now q row came d from it due) in
-        subst (λ (r : Queue). (i : Injection) → IsInjected s.books i → i.accepted ≡ true → (j : Injection) × IsInjected r.books j × IsLater i j) (entered_is row came d q)
-        (through controls s.now a q _ t.leads)
+    entered_other : (from : Port) (came : GotData) → IsElsewhere from → due_at row d ≡ needs.Take from → ComesOf s a (needs.Take from) came wrote → Enters came
+    entered_other from came it due comes =
+        let has = taken_has controls s I a (I.crew a (actor (Sender since) past) may.is) wrote from came it comes in
+        let t = sender_keeps.takes controls s.now q a child d own.read own.ready from came I.control.no_nul I.sound may.no_later moment sender_fares.stands due
+        (told_other controls s.now child q row came d from it due has) in
+        through controls s.now a q (booked_queue child (booked_at row came d) q) t.leads
 
-    sender_took : (from : Port) (came : GotData) → due_at row d ≡ needs.Take from → Then (Sender since) past (needs.Take from) came
-    sender_took port.Clean came due = took_left port.Clean came
-        (λ i h accepted. subst (λ (r : Queue). (j : Injection) × IsInjected r.books j × IsLater i j) (sym (none_entered row came d q due)) (still_there s.books i h))
-    sender_took from came due = took_left from came (entered_other from came tt due)
+    sender_took : (from : Port) (came : GotData) → due_at row d ≡ needs.Take from → ComesOf s a (needs.Take from) came wrote → Then (Sender since) past (needs.Take from) came
+    sender_took port.Clean came due comes = took_left port.Clean came
+        (λ i h accepted. subst (λ (r : Queue). (j : Injection) × IsInjected r.books j × IsLater i j) (sym (none_entered child row came d q due)) (still_there s.books i h))
+    sender_took from came due comes = took_left from came (entered_other from came tt due comes)
 
     sender_left : (due : NeedData) (came : GotData) → next_of (Sender since) past own.read own.ready ≡ due → ComesOf s a due came wrote → Then (Sender since) past due came
     sender_left (needs.File c) came next comes = answered (Then (Sender since) past (needs.File c)) c came comes (λ told comes. sender_called c told next comes)
-    sender_left (needs.Take from) came next comes = sender_took from came next
+    sender_left (needs.Take from) came next comes = sender_took from came next comes
     sender_left due came next comes = passed (Sender since) past due came tt
 
   -- The local spawner, which calls no file
@@ -318,10 +302,21 @@ of_none s e none disk holder books = record {
 over_leaves : (s : State) (a : List ℕ) (life : Life) (x : Actor) → s.actors a ≡ Some x → Leaves (program_of (s.actors a)) a s (finished s a life (s.actors a))
 over_leaves s a life x is = subst (λ (o : Option Actor). Leaves (program_of o) a s (finished s a life o)) (sym is) (ended (Some x.program) a s life x)
 
+-- the start of a child leaves all of the queue
+child_leaves : (s : State) (parent : List ℕ) (own : Own) (a : List ℕ) (program : Program) → MayBear s parent own a program
+    → Leaves (program_of (s.actors parent)) parent s (happens s (Child parent own a program))
+child_leaves s parent own a program may =
+    let x = may.actor in
+    subst (λ (o : Option Actor). Leaves (program_of o) parent s (bears (acted s parent own 0 o) parent own a program)) (sym may.reads.is)
+    (idle (Some x.program) parent s (bears (acted s parent own 0 (Some x)) parent own a program)
+    (ap (λ (z : NeedData). disk_after s.disk own.read z own.came 0) may.starts)
+    (ap (λ (z : NeedData). holder_after s.holder parent z own.came) may.starts)
+    (ap (λ (z : NeedData). books_after (bouncer_of s parent) s.books parent x.program x.past own.read own.ready z own.came) may.starts))
+
 leaves : (controls : Controls) (s : State) (I : Inv controls s) (e : Event) → Allowed s e → LeavesMost s e
 leaves controls s I (Start a program) may = of_none s (Start a program) refl refl refl refl
 leaves controls s I (Act a own wrote) may = of_actor s (Act a own wrote) a (λ o other. other) (act_leaves controls s I a own wrote may)
-leaves controls s I (Child parent own a program) may = absurd (never_born parent own a program s may)
+leaves controls s I (Child parent own a program) may = of_actor s (Child parent own a program) parent (λ o other. other) (child_leaves s parent own a program may)
 leaves controls s I (Generation sender clean lspawn rspawn) may = of_none s (Generation sender clean lspawn rspawn) refl refl refl refl
 leaves controls s I (Report slot letter text) may = of_none s (Report slot letter text) refl refl refl refl
 leaves controls s I (End a read ready status) may = of_actor s (End a read ready status) a (λ o other. other) (over_leaves s a (Over status) may.actor may.reads.is)

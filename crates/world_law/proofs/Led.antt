@@ -1,5 +1,5 @@
 -- What led to a world is safe.
-use Rattle.std.proofs.Common.{ℕ, List, ◌++◌, Option, Some, None, subst, sym}
+use Rattle.std.proofs.Common.{ℕ, List, Option, Some, None, subst, sym}
 use Rattle.address_rules.specs.declared.controls.Controls.{Controls}
 use Rattle.call_fs.specs.Disk.{Disk}
 use Rattle.mail_bytes.specs.Told.{OnTold}

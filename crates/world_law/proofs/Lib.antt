@@ -4,8 +4,14 @@ pub mod Begins
 pub mod Later
 -- the state is safe
 pub mod Safe
+-- who runs in the slots, and which members are there
+pub mod Tenants
 -- an end and a stop
 pub mod Gone
+-- the bounces in ledgers
+pub mod Bounces
+-- what a child is given
+pub mod Inputs
 -- one actor that moves
 pub mod Moved
 -- the start of an injector and of a generation
@@ -30,9 +36,11 @@ pub mod SendersOthers
 pub mod SendersPut
 -- the pipes of the sender
 pub mod SendersPipes
+-- what the sender takes of its child
+pub mod SendersChild
 -- the events of the sender
 pub mod SendersEvents
--- no actor starts another one
+-- the start of an injector of a bounce
 pub mod Children
 -- what holds after each legal history
 pub mod Histories

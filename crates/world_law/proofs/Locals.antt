@@ -1,5 +1,5 @@
 -- An event of the local spawner, which takes requests and gives reports, and touches no file.
-use Rattle.std.proofs.Common.{◌≡◌, ℕ, List, ◌∷◌, Option, Some, refl, sym, subst, codes}
+use Rattle.std.proofs.Common.{◌≡◌, inl, ℕ, List, ◌∷◌, Option, Some, refl, sym, subst, codes}
 use Rattle.address_rules.specs.declared.controls.Controls.{Controls}
 use Rattle.call_fs.specs.declared.past.GotData.{GotData}
 use Rattle.call_fs.specs.declared.past.GotData.TheVariants as got
@@ -57,7 +57,7 @@ module _ (controls : Controls) (s : State) (I : Inv controls s) (wrote : ℕ) (b
   then_state due = acted s (codes "lspawn") (event due) wrote (Some (spawner past))
 
   local_seen : (due : NeedData) → s.actors (codes "lspawn") ≡ Some (spawner past) → IsSeenAs (s.actors (codes "lspawn")) (spawner (event due ∷ past))
-  local_seen due there = subst (λ (o : Option Actor). IsSeenAs o (spawner (event due ∷ past))) (sym there) (record { awaits = awaits_none life; place = refl; lives = λ h. absurd (cc) })
+  local_seen due there = subst (λ (o : Option Actor). IsSeenAs o (spawner (event due ∷ past))) (sym there) (record { awaits = awaits_none life; place = refl; lives = λ h. absurd (cc); goes = refl; quiet = λ it. it })
     where
       awaits_none : (l : Life) → awaits_by l (LocalSpawner began) (event due ∷ past) ≡ awaits_by l (LocalSpawner began) past
       awaits_none Alive = refl
@@ -67,10 +67,10 @@ module _ (controls : Controls) (s : State) (I : Inv controls s) (wrote : ℕ) (b
   local_by : (due : NeedData) → IsLocal due → ComesOf s (codes "lspawn") due own.came wrote → s.actors (codes "lspawn") ≡ Some (spawner past) → Inv controls (then_state due)
   local_by (needs.Give port.Output bytes) is comes there =
       moved_keeps controls s I (codes "lspawn") (spawner (event (needs.Give port.Output bytes) ∷ past)) (pipework_after s.pipework (codes "lspawn") (needs.Give port.Output bytes) own.came wrote) refl tt
-      (local_seen (needs.Give port.Output bytes) there) (given_same s.pipework bytes own.came wrote) I.tenants
+      (local_seen (needs.Give port.Output bytes) there) (given_same s.pipework bytes own.came wrote) (λ b d t h. inl h)
   local_by (needs.Take port.Input) is comes there =
       moved_keeps controls s I (codes "lspawn") (spawner (event (needs.Take port.Input) ∷ past)) (pipework_after s.pipework (codes "lspawn") (needs.Take port.Input) own.came wrote) refl tt
-      (local_seen (needs.Take port.Input) there) (taken_same s.pipework own.came wrote) I.tenants
+      (local_seen (needs.Take port.Input) there) (taken_same s.pipework own.came wrote) (λ b d t h. inl h)
   local_by needs.Wait is comes there = absurd comes
   local_by (needs.Ended status) is comes there = absurd comes
   local_by other is comes there = absurd is

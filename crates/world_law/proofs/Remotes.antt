@@ -1,5 +1,5 @@
 -- The events of the remote spawner: it takes requests and gives reports, starts remote programs, and reads messages.
-use Rattle.std.proofs.Common.{◌≡◌, ◌≢◌, ℕ, ◌==◌, List, ◌∷◌, Bool, true, false, ◌&&◌, Option, Some, None, refl, sym, ap, subst, bytes_eq, codes, if◌then◌else◌}
+use Rattle.std.proofs.Common.{◌≡◌, ◌≢◌, inl, inr, ℕ, ◌==◌, List, ◌∷◌, Bool, true, false, ◌&&◌, Option, Some, None, refl, sym, ap, subst, bytes_eq, codes, if◌then◌else◌}
 use Rattle.std.specs.Prelude.{nat_lt, length, take}
 use Rattle.address_rules.specs.declared.controls.Controls.{Controls}
 use Rattle.call_fs.specs.declared.calls.Answer.{Answer}
@@ -49,10 +49,11 @@ use Rattle.mail_world.specs.History.Life.{Alive}
 use Rattle.mail_world.specs.Untouched.{queue}
 use Rattle.world_law.specs.Crew.{IsNamed}
 use Rattle.world_law.specs.Fares.{SpawnerHolds}
-use Rattle.world_law.specs.Inv.{Inv}
+use Rattle.world_law.specs.Inv.{Inv, IsBouncer}
 use Rattle.world_law.specs.Laws.{RemotesKeep}
-use Rattle.world_law.proofs.Moved.{IsSameLink, IsSeenAs, RunsNone, moved_keeps}
+use Rattle.world_law.proofs.Moved.{IsSameLink, IsSeenAs, moved_keeps}
 use Rattle.world_law.proofs.Stepped.{stepped_keeps}
+use Rattle.world_law.proofs.Tenants.{RunsNoMore, slot_named, slot_put}
 
 -- What it holds open as it goes on
 
@@ -126,57 +127,47 @@ module _ (q : Queue) (a : List ℕ) where
 
 -- Pipes and slots
 
-put_runs_none : (programs : List ℕ → ℕ → Option Tenant) (t : Option Tenant) → ((b : List ℕ) → t ≢ Some (Runs b)) → ((a : List ℕ) (d : ℕ) (b : List ℕ) → programs a d ≢ Some (Runs b))
-    → (x : Bool) (a : List ℕ) (d : ℕ) (b : List ℕ) → (if x then t else programs a d) ≢ Some (Runs b)
-put_runs_none programs t lacks none true a d b is = lacks b is
-put_runs_none programs t lacks none false a d b is = none a d b is
-
 -- what it does leaves what lies between the sender and its cleaner, and starts no actor
 record IsApart (v w : Pipework) : Type 0 where
   link : IsSameLink v w
-  none : RunsNone w
+  none : RunsNoMore v w
 
-module _ (w : Pipework) (none : RunsNone w) (wrote : ℕ) where
+module _ (w : Pipework) (lacks : (d : ℕ) (b : List ℕ) → w.programs (codes "rspawn") d ≢ Some (Runs b)) (wrote : ℕ) where
   abbrev Then : NeedData → GotData → Type 0
   Then due came = IsApart w (pipework_after w (codes "rspawn") due came wrote)
 
   reported : (bytes : List ℕ) (came : GotData) → Then (needs.Give port.Output bytes) came
-  reported bytes got.Gave = record { link = record { given = refl; answers = refl }; none = none }
-  reported bytes got.Failed = record { link = record { given = refl; answers = refl }; none = none }
-  reported bytes came = record { link = record { given = refl; answers = refl }; none = none }
+  reported bytes got.Gave = record { link = record { given = refl; answers = refl }; none = λ b e t is. inl is }
+  reported bytes got.Failed = record { link = record { given = refl; answers = refl }; none = λ b e t is. inl is }
+  reported bytes came = record { link = record { given = refl; answers = refl }; none = λ b e t is. inl is }
 
   requested : (came : GotData) → Then (needs.Take port.Input) came
-  requested (got.Took bytes) = record { link = record { given = refl; answers = refl }; none = none }
-  requested came = record { link = record { given = refl; answers = refl }; none = none }
+  requested (got.Took bytes) = record { link = record { given = refl; answers = refl }; none = λ b e t is. inl is }
+  requested came = record { link = record { given = refl; answers = refl }; none = λ b e t is. inl is }
 
   output_taken : (d : ℕ) (came : GotData) → Then (needs.Take (port.Program d)) came
-  output_taken d (got.Took bytes) = record { link = record { given = refl; answers = refl }; none = none }
-  output_taken d came = record { link = record { given = refl; answers = refl }; none = none }
-
-  no_tenant : (b : List ℕ) → ◌≢◌ {A = Option Tenant} None (Some (Runs b))
-  no_tenant b is = absurd (cc)
-
-  remote_tenant : (b : List ℕ) → ◌≢◌ {A = Option Tenant} (Some (Remote false)) (Some (Runs b))
-  remote_tenant b is = absurd (cc)
+  output_taken d (got.Took bytes) = record { link = record { given = refl; answers = refl }; none = λ b e t is. inl is }
+  output_taken d came = record { link = record { given = refl; answers = refl }; none = λ b e t is. inl is }
 
   status_taken : (d : ℕ) (came : GotData) → Then (needs.Take (port.Status d)) came
-  status_taken d (got.Took bytes) = record { link = record { given = refl; answers = refl }; none = none }
+  status_taken d (got.Took bytes) = record { link = record { given = refl; answers = refl }; none = λ b e t is. inl is }
   status_taken d (got.Ended status) = record {
     link = record { given = refl; answers = refl };
-    none = λ b e. put_runs_none w.programs None no_tenant none (bytes_eq b (codes "rspawn") && (e == d)) b e;
+    none = λ b e t is. slot_put (bytes_eq b (codes "rspawn") && (e == d)) b (w.programs b e) None t (λ both. inl refl) is;
   }
   status_taken d got.Crashed = record {
     link = record { given = refl; answers = refl };
-    none = λ b e. put_runs_none w.programs None no_tenant none (bytes_eq b (codes "rspawn") && (e == d)) b e;
+    none = λ b e t is. slot_put (bytes_eq b (codes "rspawn") && (e == d)) b (w.programs b e) None t (λ both. inl refl) is;
   }
-  status_taken d came = record { link = record { given = refl; answers = refl }; none = none }
+  status_taken d came = record { link = record { given = refl; answers = refl }; none = λ b e t is. inl is }
 
   started : (slot : ℕ) (domain sender recipient : List ℕ) (came : GotData) → Then (needs.Start (child.Remote slot domain sender recipient)) came
   started slot domain sender recipient (got.Started pid) = record {
     link = record { given = refl; answers = refl };
-    none = λ b e. put_runs_none w.programs (Some (Remote false)) remote_tenant none (bytes_eq b (codes "rspawn") && (e == slot)) b e;
+    none = λ b e t is. slot_put (bytes_eq b (codes "rspawn") && (e == slot)) b (w.programs b e) (Some (Remote false)) t
+        (λ both. inr (false, refl, slot_named b (codes "rspawn") (e == slot) both)) is;
   }
-  started slot domain sender recipient came = record { link = record { given = refl; answers = refl }; none = none }
+  started slot domain sender recipient came = record { link = record { given = refl; answers = refl }; none = λ b e t is. inl is }
 
   -- a remote program takes what it is given: no actor's pipe gets it
   no_input : (o : Option Tenant) → ((b : List ℕ) → o ≢ Some (Runs b)) → input_of o ≡ None
@@ -187,16 +178,23 @@ module _ (w : Pipework) (none : RunsNone w) (wrote : ℕ) where
   program_fed : (d : ℕ) (bytes : List ℕ) (came : GotData) → Then (needs.Give (port.Program d) bytes) came
   program_fed d bytes came = by came where
     far : input_of (w.programs (codes "rspawn") d) ≡ None
-    far = no_input (w.programs (codes "rspawn") d) (none (codes "rspawn") d)
+    far = no_input (w.programs (codes "rspawn") d) (lacks d)
 
     -- nothing is put into a pipe of an actor
     same : (more : List ℕ) (a : List ℕ) (p : Port) → (put_pipe w.pipes (input_of (w.programs (codes "rspawn") d)) (λ pipe. closed_pipe (given_pipe more pipe)) a p).bytes ≡ (w.pipes a p).bytes
     same more a p = ap (λ (to : Option Mouth). (put_pipe w.pipes to (λ pipe. closed_pipe (given_pipe more pipe)) a p).bytes) far
 
     by : (came : GotData) → Then (needs.Give (port.Program d) bytes) came
-    by got.Gave = record { link = record { given = same bytes (codes "clean") port.Input; answers = same bytes (codes "sender") port.Clean }; none = none }
-    by got.Failed = record { link = record { given = same (take wrote bytes) (codes "clean") port.Input; answers = same (take wrote bytes) (codes "sender") port.Clean }; none = none }
-    by came = record { link = record { given = refl; answers = refl }; none = none }
+    by got.Gave = record { link = record { given = same bytes (codes "clean") port.Input; answers = same bytes (codes "sender") port.Clean }; none = λ b e t is. inl is }
+    by got.Failed = record { link = record { given = same (take wrote bytes) (codes "clean") port.Input; answers = same (take wrote bytes) (codes "sender") port.Clean }; none = λ b e t is. inl is }
+    by came = record { link = record { given = refl; answers = refl }; none = λ b e t is. inl is }
+
+-- no actor runs in a slot of the remote spawner
+runs_no_actor : (controls : Controls) (s : State) (I : Inv controls s) (d : ℕ) (b : List ℕ) → s.pipework.programs (codes "rspawn") d ≢ Some (Runs b)
+runs_no_actor controls s I d b is =
+    let w : IsBouncer s (codes "rspawn") d b = I.tenants (codes "rspawn") d (Runs b) is in
+    let v : true ≡ false = ap (λ (t : List ℕ). bytes_eq (codes "rspawn") t) w.parent_is in
+    absurd (cc)
 
 -- An event
 
@@ -217,7 +215,7 @@ module _ (controls : Controls) (s : State) (I : Inv controls s) (wrote : ℕ) (b
   here = row_now (place_after past) own.ready
 
   seen : (y : List Own) → s.actors name ≡ Some (spawner past) → IsSeenAs (s.actors name) (spawner y)
-  seen y is = subst (λ (o : Option Actor). IsSeenAs o (spawner y)) (sym is) (record { awaits = refl; place = refl; lives = λ h. h })
+  seen y is = subst (λ (o : Option Actor). IsSeenAs o (spawner y)) (sym is) (record { awaits = refl; place = refl; lives = λ h. h; goes = refl; quiet = λ it. it })
 
   -- what is no file call
   piped : (due : NeedData) (came : GotData) → s.actors name ≡ Some (spawner past) → SpawnerHolds (queue s I.role) name (act remote here came (place_after past)).row
@@ -236,7 +234,7 @@ module _ (controls : Controls) (s : State) (I : Inv controls s) (wrote : ℕ) (b
       let l = reads_keep controls s.now q name I.sound own.read c told.answer wrote only fits in
       let spared = rest_is_kept.closed s.now name None q r l.elsewhere I.sound.suits (λ n h. absurd (cc)) in
       stepped_keeps controls s I name r None l.elsewhere spared.0 spared.1 (others_spare.reads s.now name q r l.elsewhere)
-      (controls_stay.outside q r l.outside l.old I.old) l.sound (spawner (event (needs.File c) (got.Answered told) ∷ past)) refl
+      (controls_stay.outside q r l.outside l.old I.old) l.sound I.bounces (spawner (event (needs.File c) (got.Answered told) ∷ past)) refl
       (seen (event (needs.File c) (got.Answered told) ∷ past) is) holds
 
   abbrev To : Row → NeedData → GotData → Type 0
@@ -297,20 +295,20 @@ module _ (controls : Controls) (s : State) (I : Inv controls s) (wrote : ℕ) (b
     files row c e only answers got.Memory comes = absurd comes
 
     by_row : (row : Row) (came : GotData) → here ≡ row → SpawnerHolds q name row → ComesOf s name (due_from row place) came wrote → Inv controls (then_state (due_from row place) came)
-    by_row at.Greet came e h comes = piped (due_from at.Greet place) came is (at_here at.Greet came e (gave_holds q name came place)) (reported s.pipework I.tenants wrote greeting came)
+    by_row at.Greet came e h comes = piped (due_from at.Greet place) came is (at_here at.Greet came e (gave_holds q name came place)) (reported s.pipework (runs_no_actor controls s I) wrote greeting came)
     by_row at.Idle came e h comes = absurd comes
-    by_row at.TakeInput came e h comes = piped (needs.Take port.Input) came is (at_here at.TakeInput came e (took_holds q name came place)) (requested s.pipework I.tenants wrote came)
+    by_row at.TakeInput came e h comes = piped (needs.Take port.Input) came is (at_here at.TakeInput came e (took_holds q name came place)) (requested s.pipework (runs_no_actor controls s I) wrote came)
     by_row at.OpenMess came e h comes = files at.OpenMess (call.Open place.name how.Read) e tt (λ told fits. opened_holds q told.answer place place.name told.bytes fits) came comes
     by_row (at.ReadMess fd) came e h comes =
         files (at.ReadMess fd) (call.ReadAt fd (length place.message) PIECE) e tt (λ told fits. read_holds q told.answer place fd (length place.message) told.bytes fits h) came comes
     by_row (at.CloseMess fd whole) came e h comes =
         files (at.CloseMess fd whole) (call.Close fd) e h.1.held (λ told fits. closed_holds (called_queue q name own.read (call.Close fd) told.answer wrote I.role) name whole place) came comes
-    by_row at.Start came e h comes = piped (due_from at.Start place) came is (at_here at.Start came e (launched_holds q name came place)) (started s.pipework I.tenants wrote place.request.slot (domain_of place.request.recipient) place.request.sender place.request.recipient came)
-    by_row at.Feed came e h comes = piped (due_from at.Feed place) came is (at_here at.Feed came e (next_holds q name place)) (program_fed s.pipework I.tenants wrote place.request.slot place.message came)
+    by_row at.Start came e h comes = piped (due_from at.Start place) came is (at_here at.Start came e (launched_holds q name came place)) (started s.pipework (runs_no_actor controls s I) wrote place.request.slot (domain_of place.request.recipient) place.request.sender place.request.recipient came)
+    by_row at.Feed came e h comes = piped (due_from at.Feed place) came is (at_here at.Feed came e (next_holds q name place)) (program_fed s.pipework (runs_no_actor controls s I) wrote place.request.slot place.message came)
     by_row (at.TakeOutput slot) came e h comes =
-        piped (needs.Take (port.Program slot)) came is (at_here (at.TakeOutput slot) came e (printed_holds q name slot came place)) (output_taken s.pipework I.tenants wrote slot came)
-    by_row (at.TakeStatus slot) came e h comes = piped (needs.Take (port.Status slot)) came is (at_here (at.TakeStatus slot) came e tt) (status_taken s.pipework I.tenants wrote slot came)
-    by_row at.Report came e h comes = piped (needs.Give port.Output place.report) came is (at_here at.Report came e (gave_holds q name came place)) (reported s.pipework I.tenants wrote place.report came)
+        piped (needs.Take (port.Program slot)) came is (at_here (at.TakeOutput slot) came e (printed_holds q name slot came place)) (output_taken s.pipework (runs_no_actor controls s I) wrote slot came)
+    by_row (at.TakeStatus slot) came e h comes = piped (needs.Take (port.Status slot)) came is (at_here (at.TakeStatus slot) came e tt) (status_taken s.pipework (runs_no_actor controls s I) wrote slot came)
+    by_row at.Report came e h comes = piped (needs.Give port.Output place.report) came is (at_here at.Report came e (gave_holds q name came place)) (reported s.pipework (runs_no_actor controls s I) wrote place.report came)
     by_row (at.Ended code) came e h comes = absurd comes
 
     remote_event : due_from here place ≡ own.due → ComesOf s name own.due own.came wrote → Inv controls (then_state own.due own.came)

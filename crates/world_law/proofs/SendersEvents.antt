@@ -1,10 +1,16 @@
 -- The events of the sender: file calls, what it gives to its cleaner and to the spawners, and what it takes from them.
-use Rattle.std.proofs.Common.{◌≡◌, ◌⊎◌, inl, inr, ℕ, ◌≤◌, List, ◌∷◌, ◌++◌, length, take, drop, Option, Some, None, refl, sym, ap, ◌∙◌, subst, arith, codes}
+use Rattle.std.specs.Prelude.{Contains}
+use Rattle.std.proofs.Common.{◌≡◌, ◌≢◌, ◌⊎◌, inl, inr, ℕ, ◌≤◌, ◌==◌, List, [], ◌∷◌, ◌++◌, length, take, drop, Bool, true, false, if◌then◌else◌, Option, Some, None, refl, sym, ap, ◌∙◌, subst, arith, codes, ⊎_elim}
 use Rattle.std.proofs.lemmas.List.{drop_at}
 use Rattle.address_rules.specs.declared.controls.Controls.{Controls}
+use Rattle.bounce_record.specs.declared.return_row.ReturnRow.{ReturnRow}
+use Rattle.bounce_record.specs.declared.return_row.ReturnRow.TheVariants as back
+use Rattle.bounce_record.specs.Returning.{Returning, return_due_at}
 use Rattle.call_fs.specs.Apply.{Fits, IsReadBy}
 use Rattle.call_fs.specs.declared.calls.CallData.{CallData}
 use Rattle.call_fs.specs.declared.calls.Told.{Told}
+use Rattle.call_fs.specs.declared.past.ChildData.{ChildData}
+use Rattle.call_fs.specs.declared.past.ChildData.TheVariants as child_kinds
 use Rattle.call_fs.specs.declared.past.GotData.{GotData}
 use Rattle.call_fs.specs.declared.past.GotData.TheVariants as got
 use Rattle.call_fs.specs.declared.past.NeedData.{NeedData}
@@ -14,48 +20,60 @@ use Rattle.call_fs.specs.declared.program.Port.{Port}
 use Rattle.call_fs.specs.declared.program.Port.TheVariants as port
 use Rattle.errand_law.specs.Errands.{Awaits}
 use Rattle.errand_law.specs.Errands.Awaits.{Nothing, Answer}
+use Rattle.actor_names.specs.MailNames.{members}
 use Rattle.mail_bytes.specs.Moments.{IsMoment}
 use Rattle.queue_clean.specs.Commands.{ended, text_of}
+use Rattle.queue_law.specs.Books.{Child as Bouncer, HasQueued}
 use Rattle.queue_law.specs.Numbers.{Queue}
 use Rattle.queue_law.specs.Senders.{called_queue}
-use Rattle.send_core.specs.Delivered.{delivered_at}
+use Rattle.send_core.specs.Booked.{booked_at, returned_at}
 use Rattle.send_core.specs.declared.desk.Desk.{Desk}
+use Rattle.send_core.specs.declared.row.MarkRow.TheVariants as mark
 use Rattle.send_core.specs.declared.row.Row.{Row}
 use Rattle.send_core.specs.declared.row.Row.TheVariants as at
 use Rattle.send_core.specs.Table.{desk_after, due_at, moved_by, row_now}
+use Rattle.send_jobs.specs.Bookings.Booking.{Returned}
 use Rattle.send_jobs.specs.declared.channels.Channel.TheVariants.{Local, Remote}
+use Rattle.send_steps.specs.declared.rows.FinishRow.TheVariants as finish
 use Rattle.sender_law.specs.ControlFiles.{IsOnLink, LeavesControls}
 use Rattle.sender_law.specs.Stands.{StandsAt}
-use Rattle.sender_law.specs.Takings.{told_queue}
+use Rattle.sender_law.specs.Points.{HasChild}
+use Rattle.sender_law.specs.Takings.{booked_queue}
 use Rattle.sender_law.specs.Waits.{IsFree, awaits, awaits_at}
-use Rattle.sender_law.specs.Whole.{IsTold, SenderTakes, taken_at}
+use Rattle.sender_law.specs.Whole.{IsTold, SenderTakes}
 use Rattle.sender_law.proofs.Arrive.{arrived}
 use Rattle.sender_law.proofs.Asking.{texts_keep}
 use Rattle.sender_law.proofs.Awaits.{arrives, gives, lost, takes}
 use Rattle.sender_law.proofs.ControlsRead.{controls_are_read}
 use Rattle.sender_law.proofs.ControlsStay.{controls_stay}
 use Rattle.sender_law.proofs.Frees.{free}
-use Rattle.sender_law.proofs.Programs.{StartsNone, starts_none}
+use Rattle.sender_law.proofs.NoteDue.{note_takes, return_takes}
+use Rattle.sender_law.proofs.Programs.{runs_none, starts_of}
 use Rattle.sender_law.proofs.Whole.{senders_keep as sender_keeps}
 use Rattle.todo_pass.specs.declared.row.Row.{Row as PassRow}
 use Rattle.todo_pass.specs.declared.row.Row.TheVariants as todo
 use Rattle.todo_pass.specs.Table.{Pass, due_at as due_in}
 use Rattle.world_pipes.specs.Pipework.{Pipework, pipework_after}
+use Rattle.world_pipes.specs.Pipework.Tenant.{Runs}
 use Rattle.world_events.specs.declared.event.Program.{Program}
 use Rattle.world_events.specs.declared.event.Program.TheVariants.{Sender}
-use Rattle.mail_world.specs.History.{Actor, ComesOf, IsSender, Life, State, acted, next_of}
+use Rattle.mail_world.specs.History.{Actor, ComesOf, IsSender, Life, State, acted, bouncer_of, next_of}
 use Rattle.mail_world.specs.History.Life.{Alive}
 use Rattle.mail_world.specs.Untouched.{queue}
+use Rattle.world_law.specs.Bounces.{BouncesAreQueued}
 use Rattle.world_law.specs.Crew.{IsNamed, awaits_in, link_in, lives_in}
 use Rattle.world_law.specs.Fares.{SenderFares}
-use Rattle.world_law.specs.Inv.{ErrandRests, Inv}
+use Rattle.world_law.specs.Inv.{ErrandRests, FedBy, Inv}
 use Rattle.world_law.specs.Laws.{SendersKeep}
+use Rattle.world_law.proofs.Bounces.{IsStatusTaken, MayBook, booked_bounces, returns_alone}
 use Rattle.world_law.proofs.Gone.{errands_at}
 use Rattle.world_law.proofs.Moved.{IsSameLink}
+use Rattle.world_law.proofs.SendersChild.{IsOfChild, carried, child_queued, taken_has}
 use Rattle.world_law.proofs.SendersLink.{IsBusy, answered_errands, asked_errands, cut_errands, given_rests, idle_at, idle_errands, told_by_link}
-use Rattle.world_law.proofs.SendersOthers.{others_fare, others_fare_on}
-use Rattle.world_law.proofs.SendersPipes.{IsOther, gives_same, takes_none, takes_same}
-use Rattle.world_law.proofs.SendersPut.{OthersFare, idle_by, sender, sent_keeps, texts_on, texts_told}
+use Rattle.world_law.proofs.SendersOthers.{others_fare, others_fare_on, through}
+use Rattle.world_law.proofs.SendersPipes.{IsOther, NoTenantMore, gives_same, takes_same, takes_slots}
+use Rattle.world_law.proofs.SendersPut.{OthersFare, idle_by, sender, sent, sent_keeps, texts_booked, texts_on}
+use Rattle.world_law.proofs.Tenants.{GoesOn, KeepsPrograms, came_kept, one_keeps}
 
 -- What is due by its table
 
@@ -69,20 +87,35 @@ pass_takes : (row : PassRow) (p : Pass) (from : Port) → due_in row p ≡ needs
 pass_takes todo.Answer p from is = cc
 pass_takes row p from is = absurd (cc)
 
-pub told_other : (controls : Controls) (now : ℕ) (q : Queue) (row : Row) (came : GotData) (d : Desk) (from : Port) → IsOther from → due_at row d ≡ needs.Take from
-    → IsTold controls now q row came d
-told_other controls now q at.InTodo came d from it due = λ done. absurd (subst IsOther (sym (pass_takes d.pass.row d.pass from due)) it)
-told_other controls now q row came d from it due = tt
+-- a return takes the status of its injector alone
+ended_has : (child : Option Bouncer) (n pid : ℕ) (notes : List ℕ) (came : GotData) → IsOfChild child came → HasChild (returned_at (back.Await pid) n notes came) child
+ended_has child n pid notes (got.Ended status) has = by (status == 0) where
+  by : (zero : Bool) → HasChild (if zero then Returned n ∷ [] else []) child
+  by true = has
+  by false = tt
+ended_has child n pid notes came has = tt
 
--- a taking enters what its reports say, if it is from a spawner
-pub entered_is : (row : Row) (came : GotData) (d : Desk) (q : Queue) → taken_at row came d q ≡ told_queue (delivered_at row came d) q
-entered_is (at.TakeLink c) came d q = refl
-entered_is row came d q = refl
+return_has : (row : ReturnRow) (it : Returning) (child : Option Bouncer) (n : ℕ) (notes : List ℕ) (came : GotData) (from : Port) → return_due_at row it ≡ needs.Take from → IsOfChild child came
+    → HasChild (returned_at row n notes came) child
+return_has (back.Await pid) it child n notes came from due has = ended_has child n pid notes came has
+return_has row it child n notes came from due has = absurd (cc)
 
-pub none_entered : (row : Row) (came : GotData) (d : Desk) (q : Queue) → due_at row d ≡ needs.Take port.Clean → told_queue (delivered_at row came d) q ≡ q
-none_entered (at.TakeLink Local) came d q due = absurd (cc)
-none_entered (at.TakeLink Remote) came d q due = absurd (cc)
-none_entered row came d q due = refl
+pub told_other : (controls : Controls) (now : ℕ) (child : Option Bouncer) (q : Queue) (row : Row) (came : GotData) (d : Desk) (from : Port) → IsOther from → due_at row d ≡ needs.Take from
+    → IsOfChild child came → IsTold controls now child q row came d
+told_other controls now child q at.InTodo came d from it due has = λ done. absurd (subst IsOther (sym (pass_takes d.pass.row d.pass from due)) it)
+told_other controls now child q (at.Finish finish.Return n) came d from it due has = return_has d.bounce.row d.bounce child n d.bounce.notes came from due has
+told_other controls now child q (at.Finish row n) came d from it due has = tt
+told_other controls now child q row came d from it due has = tt
+
+-- nothing is entered with what is taken from the cleaner
+pub none_entered : (child : Option Bouncer) (row : Row) (came : GotData) (d : Desk) (q : Queue) → due_at row d ≡ needs.Take port.Clean → booked_queue child (booked_at row came d) q ≡ q
+none_entered child (at.TakeLink Local) came d q due = absurd (cc)
+none_entered child (at.TakeLink Remote) came d q due = absurd (cc)
+none_entered child (at.Mark mark.Noting m) came d q due = absurd (note_takes d.note.row d.note port.Clean due)
+none_entered child (at.Mark row m) came d q due = refl
+none_entered child (at.Finish finish.Return n) came d q due = absurd (return_takes d.bounce.row d.bounce due)
+none_entered child (at.Finish row n) came d q due = refl
+none_entered child row came d q due = refl
 
 module _ (controls : Controls) (s : State) (I : Inv controls s) (wrote began : ℕ) (past : List Own) (own : Own) (is : s.actors (codes "sender") ≡ Some (sender began past)) (soon : own.read ≤ s.now) where
   abbrev name : List ℕ
@@ -109,6 +142,10 @@ module _ (controls : Controls) (s : State) (I : Inv controls s) (wrote began : �
   abbrev pipes_then : NeedData → GotData → Pipework
   pipes_then due came = pipework_after s.pipework name due came wrote
 
+  -- the injector of a bounce, if it has started one
+  abbrev child : Option Bouncer
+  child = bouncer_of s name
+
   fares : SenderFares controls s.now q name d
   fares = I.fares name (sender began past) is
 
@@ -126,6 +163,10 @@ module _ (controls : Controls) (s : State) (I : Inv controls s) (wrote began : �
 
   is_free : (due : NeedData) (came : GotData) → due_at row d ≡ due → GivesNone due → IsFree (awaits (next came))
   is_free due came e none = free d own.read own.ready came (λ text given. subst GivesNone (sym e ∙ given) none)
+
+  -- the injector of a bounce has no member's name
+  apart : (a : List ℕ) (slot : ℕ) (b : List ℕ) → s.pipework.programs a slot ≡ Some (Runs b) → b ≢ codes "clean"
+  apart a slot b e same = (I.tenants a slot (Runs b) e).apart (subst (λ (n : List ℕ). Contains members n) (sym same) (1, omega arith, refl))
 
   same_controls : LeavesControls q q
   same_controls = record { names = λ f. refl; bytes = λ f i there. refl; old = I.old }
@@ -146,6 +187,25 @@ module _ (controls : Controls) (s : State) (I : Inv controls s) (wrote began : �
       (idle_errands controls s.now q r (lives_in (s.actors (codes "clean"))) (lives_in (s.actors (codes "clean"))) (link_in s) I.errands (idle due e busy)
       (awaits (next came)) (is_free due came e none)))
 
+  -- what was due is told by its table
+  fed_when : (t : State) (due : NeedData) (came : GotData) → due_at row d ≡ due → FedBy t due came → FedBy t (due_at row d) came
+  fed_when t due came is fed = subst (λ (z : NeedData). FedBy t z came) (sym is) fed
+
+  -- no file call enters a bounce
+  call_books : (told : Told) → MayBook controls child (booked_at row (got.Answered told) d) s.books
+  call_books told = ⊎_elim
+      (λ none. inl none)
+      (λ (w : IsStatusTaken row (got.Answered told) d). let ends : got.Answered told ≡ got.Ended 0 = w.zero in absurd (cc))
+      (returns_alone row (got.Answered told) d)
+
+  -- a taking enters that of the child
+  taken_books : (came : GotData) → (came ≡ got.Ended 0 → (c : Bouncer) → child ≡ Some c → HasQueued s.books c.actor c.args) → MayBook controls child (booked_at row came d) s.books
+  taken_books came queued = ⊎_elim
+      (λ none. inl none)
+      (λ (w : IsStatusTaken row came d).
+      inr (w.n, w.alone, λ c has i lives. record { accepted = queued w.zero c has; carries = carried controls s I began past is own.read own.ready came here w c has i lives }))
+      (returns_alone row came d)
+
   -- A file call
 
   called : (call : CallData) (told : Told) → due_at row d ≡ needs.File call → Fits s.disk call told.answer wrote → IsReadBy s.disk call told
@@ -153,47 +213,66 @@ module _ (controls : Controls) (s : State) (I : Inv controls s) (wrote began : �
   called call told due fits by =
       let came : GotData = got.Answered told in
       let reads = controls_are_read.calls controls q name d own.read own.ready call told wrote I.role I.control fares.control due fits by in
-      let l = sender_keeps.calls controls s.now q name d own.read own.ready call told wrote I.control.no_nul I.sound soon moment fares.stands due fits by reads.0 in
-      let r : Queue = called_queue q name own.read call told.answer wrote l.0 in
+      let l = sender_keeps.calls controls s.now q name child d own.read own.ready call told wrote I.control.no_nul I.sound soon moment fares.stands due fits by reads.0 in
+      let made : Queue = called_queue q name own.read call told.answer wrote l.0 in
+      let r : Queue = booked_queue child (booked_at row came d) made in
       let read = controls_are_read.calls controls q name d own.read own.ready call told wrote l.0 I.control fares.control due fits by in
       let none : (link_in s).awaits ≡ Nothing = idle (needs.File call) due tt in
-      sent_keeps controls s I r began (event (needs.File call) came ∷ past) (pipes_then (needs.File call) came) l.1.leads.sound
-      (controls_stay.outside q r l.1.leads.outside l.1.leads.old I.old)
+      let C : LeavesControls q r = controls_stay.outside q r l.1.leads.outside l.1.leads.old I.old in
+      sent_keeps controls s I r began past (event (needs.File call) came ∷ past) (pipes_then (needs.File call) came) is l.1.leads.sound
+      (booked_bounces controls child (booked_at row came d) s.books l.1.leads.elsewhere.accepted (call_books told) I.bounces)
+      C
       (λ o x other there.
       others_fare controls s.now l.1.number q r l.1.leads.elsewhere I.sound.suits l.1.closed o other x.program x.past x.life (I.crew o x there)
       (idle_by controls s I none o x.program x.past x.life there (I.crew o x there)) (I.fares o x there))
-      (record { stands = l.1.stands; control = read.1; texts = texts_on q r refl (next came) (texts_keep.goes_on controls s.now q name d own.read own.ready came soon moment fares.stands fares.texts) })
-      I.tenants
+      (record {
+        stands = l.1.stands;
+        control = controls_are_read.others made r name (next came).row (next came).book (record { names = λ f. refl; bytes = λ f i there. refl; old = C.old }) (λ fd how h. h) read.1;
+        texts = texts_booked child (booked_at row came d) made (next came)
+            (texts_on q made refl (next came) (texts_keep.goes_on controls s.now q name d own.read own.ready came soon moment fares.stands fares.texts));
+      })
+      (λ b e t there. there) (fed_when (sent s r began (event (needs.File call) came ∷ past) (pipes_then (needs.File call) came)) (needs.File call) came due tt)
       (idle_then r (needs.File call) came due tt tt (record { given = refl; answers = refl }))
 
   -- A giving
 
-  gave : (to : Port) (bytes : List ℕ) (came : GotData) → due_at row d ≡ needs.Give to bytes → Then q (needs.Give to bytes) came → Inv controls (then_state (needs.Give to bytes) came)
-  gave to bytes came due errands =
-      sent_keeps controls s I q began (event (needs.Give to bytes) came ∷ past) (pipes_then (needs.Give to bytes) came) I.sound same_controls (λ o x other there. I.fares o x there)
+  gave : (to : Port) (bytes : List ℕ) (came : GotData) → due_at row d ≡ needs.Give to bytes → FedBy (then_state (needs.Give to bytes) came) (needs.Give to bytes) came → Then q (needs.Give to bytes) came → Inv controls (then_state (needs.Give to bytes) came)
+  gave to bytes came due fed errands =
+      sent_keeps controls s I q began past (event (needs.Give to bytes) came ∷ past) (pipes_then (needs.Give to bytes) came) is I.sound I.bounces same_controls (λ o x other there. I.fares o x there)
       (record {
         stands = sender_keeps.gives controls s.now q name d own.read own.ready to bytes came soon moment fares.stands due;
         control = controls_are_read.rest q name d own.read own.ready came (subst IsOnLink (sym due) tt);
         texts = texts_keep.goes_on controls s.now q name d own.read own.ready came soon moment fares.stands fares.texts;
       })
-      I.tenants errands
+      (λ b e t there. there) (fed_when (then_state (needs.Give to bytes) came) (needs.Give to bytes) came due fed) errands
 
-  gave_other : (to : Port) (bytes : List ℕ) (came : GotData) → due_at row d ≡ needs.Give to bytes → IsOther to → GivesNone (needs.Give to bytes) → Inv controls (then_state (needs.Give to bytes) came)
-  gave_other to bytes came due it none = gave to bytes came due (idle_then q (needs.Give to bytes) came due tt none (gives_same s.pipework I.tenants wrote to bytes came it))
+  -- what a child is given is its input
+  fed_of : (to : Port) (bytes : List ℕ) (came : GotData) → ComesOf s name (needs.Give to bytes) came wrote → FedBy s (needs.Give to bytes) came
+  fed_of (port.Program slot) bytes got.Gave comes = comes
+  fed_of to bytes came comes = tt
+
+  still_sends : (due : NeedData) (came : GotData) → KeepsPrograms s.actors (then_state due came).actors
+  still_sends due came = one_keeps s.actors name (sender began (event due came ∷ past)) (subst (λ (o : Option Actor). GoesOn o (Sender began)) (sym is) refl)
+
+  gave_other : (to : Port) (bytes : List ℕ) (came : GotData) → due_at row d ≡ needs.Give to bytes → IsOther to → GivesNone (needs.Give to bytes)
+      → ComesOf s name (needs.Give to bytes) came wrote → Inv controls (then_state (needs.Give to bytes) came)
+  gave_other to bytes came due it none comes = gave to bytes came due
+      (came_kept s (then_state (needs.Give to bytes) came) (still_sends (needs.Give to bytes) came) (λ b e t there. inl there) I.tenants (needs.Give to bytes) came (fed_of to bytes came comes))
+      (idle_then q (needs.Give to bytes) came due tt none (gives_same s.pipework apart wrote to bytes came it))
 
   -- a command, whole or in part
   gave_command : (bytes : List ℕ) (came : GotData) → due_at row d ≡ needs.Give port.Clean bytes → ComesOf s name (needs.Give port.Clean bytes) came wrote
       → Inv controls (then_state (needs.Give port.Clean bytes) came)
   gave_command bytes got.Gave due comes =
       let g = gives d row bytes due in
-      gave port.Clean bytes got.Gave due
+      gave port.Clean bytes got.Gave due tt
       (subst (λ (t : List ℕ). Between q (awaits (next got.Gave)) ((link_in s).given ++ t) (link_in s).answers) (sym g.text_is)
       (subst (λ (w : Awaits). Between q w ((link_in s).given ++ ended (text_of g.command)) (link_in s).answers) (sym (g.given own.read))
       (asked_errands controls s.now q (lives_in (s.actors (codes "clean"))) (lives_in (s.actors (codes "clean"))) (link_in s) I.errands (waits_as ∙ g.idle) g.command
       (given_rests controls s.now q name d row here g.command g.is))))
   gave_command bytes got.Failed due comes =
       let g = gives d row bytes due in
-      gave port.Clean bytes got.Failed due
+      gave port.Clean bytes got.Failed due tt
       (subst (λ (t : List ℕ). Between q (awaits (next got.Failed)) ((link_in s).given ++ take wrote t) (link_in s).answers) (sym g.text_is)
       (subst (λ (w : Awaits). Between q w ((link_in s).given ++ take wrote (ended (text_of g.command))) (link_in s).answers) (sym (g.failed own.read))
       (cut_errands controls s.now q (lives_in (s.actors (codes "clean"))) (lives_in (s.actors (codes "clean"))) (link_in s) I.errands (waits_as ∙ g.idle) g.command
@@ -203,35 +282,37 @@ module _ (controls : Controls) (s : State) (I : Inv controls s) (wrote began : �
   -- A taking
 
   abbrev told_then : GotData → Queue
-  told_then came = told_queue (delivered_at row came d) q
+  told_then came = booked_queue child (booked_at row came d) q
 
-  taking : (from : Port) (came : GotData) → due_at row d ≡ needs.Take from → IsTold controls s.now q row came d → SenderTakes controls s.now name q (told_then came) (next came)
-  taking from came due told = subst (λ (r : Queue). SenderTakes controls s.now name q r (next came)) (entered_is row came d q)
-      (sender_keeps.takes controls s.now q name d own.read own.ready from came I.control.no_nul I.sound soon moment fares.stands due told)
+  taking : (from : Port) (came : GotData) → due_at row d ≡ needs.Take from → IsTold controls s.now child q row came d → SenderTakes controls s.now name q (told_then came) (next came)
+  taking from came due told = sender_keeps.takes controls s.now q name child d own.read own.ready from came I.control.no_nul I.sound soon moment fares.stands due told
 
-  took : (from : Port) (came : GotData) → due_at row d ≡ needs.Take from → IsTold controls s.now q row came d → OthersFare controls s (told_then came) → Then (told_then came) (needs.Take from) came
+  took : (from : Port) (came : GotData) → due_at row d ≡ needs.Take from → IsTold controls s.now child q row came d → BouncesAreQueued controls (told_then came).books → OthersFare controls s (told_then came) → Then (told_then came) (needs.Take from) came
       → Inv controls (then_state (needs.Take from) came)
-  took from came due told others errands =
+  took from came due told bounces others errands =
       let t = taking from came due told in
-      sent_keeps controls s I (told_then came) began (event (needs.Take from) came ∷ past) (pipes_then (needs.Take from) came) t.sound
+      sent_keeps controls s I (told_then came) began past (event (needs.Take from) came ∷ past) (pipes_then (needs.Take from) came) is t.sound bounces
       (record { names = λ f. refl; bytes = λ f i there. refl; old = I.old }) others
       (record {
         stands = t.stands;
         control = controls_are_read.rest (told_then came) name d own.read own.ready came (subst IsOnLink (sym due) tt);
-        texts = texts_told (delivered_at row came d) q (next came) (texts_keep.goes_on controls s.now q name d own.read own.ready came soon moment fares.stands fares.texts);
+        texts = texts_booked child (booked_at row came d) q (next came) (texts_keep.goes_on controls s.now q name d own.read own.ready came soon moment fares.stands fares.texts);
       })
-      (takes_none s.pipework I.tenants wrote from came) errands
+      (takes_slots s.pipework apart wrote from came) (fed_when (sent s (told_then came) began (event (needs.Take from) came ∷ past) (pipes_then (needs.Take from) came)) (needs.Take from) came due tt) errands
 
-  -- from a spawner
-  took_other : (from : Port) (came : GotData) → due_at row d ≡ needs.Take from → IsOther from → IsBusy (needs.Take from) → Inv controls (then_state (needs.Take from) came)
-  took_other from came due it busy =
-      let told = told_other controls s.now q row came d from it due in
+  -- from a spawner, or of the injector of a bounce
+  took_other : (from : Port) (came : GotData) → due_at row d ≡ needs.Take from → IsOther from → IsBusy (needs.Take from) → IsOfChild child came
+      → (came ≡ got.Ended 0 → (c : Bouncer) → child ≡ Some c → HasQueued s.books c.actor c.args) → Inv controls (then_state (needs.Take from) came)
+  took_other from came due it busy has queued =
+      let told = told_other controls s.now child q row came d from it due has in
       let none : (link_in s).awaits ≡ Nothing = idle (needs.Take from) due busy in
       took from came due told
+      (booked_bounces controls child (booked_at row came d) s.books (through controls s.now name q (told_then came) (taking from came due told).leads)
+      (taken_books came queued) I.bounces)
       (λ o x other there.
       others_fare_on controls s.now o other x.program x.past x.life (I.crew o x there) (idle_by controls s I none o x.program x.past x.life there (I.crew o x there))
       q (told_then came) (taking from came due told).leads I.sound (I.fares o x there))
-      (idle_then (told_then came) (needs.Take from) came due busy tt (takes_same s.pipework I.tenants wrote from came it))
+      (idle_then (told_then came) (needs.Take from) came due busy tt (takes_same s.pipework apart wrote from came it))
 
   -- from its cleaner, which enters nothing
   module _ (due : due_at row d ≡ needs.Take port.Clean) where
@@ -239,44 +320,72 @@ module _ (controls : Controls) (s : State) (I : Inv controls s) (wrote began : �
     answers_to = waits_as ∙ (takes d row due).1
 
     others_same : (came : GotData) → OthersFare controls s (told_then came)
-    others_same came = subst (λ (r : Queue). OthersFare controls s r) (sym (none_entered row came d q due)) (λ o x other there. I.fares o x there)
+    others_same came = subst (λ (r : Queue). OthersFare controls s r) (sym (none_entered child row came d q due)) (λ o x other there. I.fares o x there)
+
+    bounces_same : (came : GotData) → BouncesAreQueued controls (told_then came).books
+    bounces_same came = subst (λ (r : Queue). BouncesAreQueued controls r.books) (sym (none_entered child row came d q due)) I.bounces
 
     lost_then : (came : GotData) → (came ≡ got.End) ⊎ (came ≡ got.Failed) → Between (told_then came) (awaits (next came)) (link_in s).given (link_in s).answers
-    lost_then came none = subst (λ (r : Queue). Between r (awaits (next came)) (link_in s).given (link_in s).answers) (sym (none_entered row came d q due))
+    lost_then came none = subst (λ (r : Queue). Between r (awaits (next came)) (link_in s).given (link_in s).answers) (sym (none_entered child row came d q due))
         (errands_at controls s.now q (lives_in (s.actors (codes "clean"))) (lives_in (s.actors (codes "clean"))) (link_in s) (λ h. h) I.errands (awaits (next came)) (link_in s).place (link_in s).given
         (link_in s).answers (inl (lost d row own.read came due none)) refl refl refl)
 
-    took_answer : (came : GotData) → ComesOf s name (needs.Take port.Clean) came wrote → IsTold controls s.now q row came d → Inv controls (then_state (needs.Take port.Clean) came)
+    took_answer : (came : GotData) → ComesOf s name (needs.Take port.Clean) came wrote → IsTold controls s.now child q row came d → Inv controls (then_state (needs.Take port.Clean) came)
     took_answer (got.Took bytes) comes told =
         let rest = comes.1.0 in
-        took port.Clean (got.Took bytes) due told (others_same (got.Took bytes))
+        took port.Clean (got.Took bytes) due told (bounces_same (got.Took bytes)) (others_same (got.Took bytes))
         (subst (λ (t : List ℕ). Between (told_then (got.Took bytes)) (awaits (next (got.Took bytes))) (link_in s).given t) (sym (ap (drop (length bytes)) comes.1.1 ∙ drop_at bytes rest (length bytes) refl))
         (answered_errands controls s.now q (told_then (got.Took bytes)) (lives_in (s.actors (codes "clean"))) (lives_in (s.actors (codes "clean"))) (link_in s) I.errands (takes d row due).0 answers_to
         bytes rest comes.1.1 comes.0 (awaits (next (got.Took bytes))) (is_free (needs.Take port.Clean) (got.Took bytes) due tt)))
-    took_answer got.End comes told = took port.Clean got.End due told (others_same got.End) (lost_then got.End (inl refl))
-    took_answer got.Failed comes told = took port.Clean got.Failed due told (others_same got.Failed) (lost_then got.Failed (inr refl))
+    took_answer got.End comes told = took port.Clean got.End due told (bounces_same got.End) (others_same got.End) (lost_then got.End (inl refl))
+    took_answer got.Failed comes told = took port.Clean got.Failed due told (bounces_same got.Failed) (others_same got.Failed) (lost_then got.Failed (inr refl))
     took_answer came comes told = absurd comes
 
     answered : (came : GotData) → ComesOf s name (needs.Take port.Clean) came wrote → Inv controls (then_state (needs.Take port.Clean) came)
     answered came comes = took_answer came comes
-        (told_by_link controls s.now q (lives_in (s.actors (codes "clean"))) (link_in s) I.errands (takes d row due).0 answers_to row d (s.pipework.pipes name port.Clean) came waits_as refl comes)
+        (told_by_link controls s.now q (lives_in (s.actors (codes "clean"))) (link_in s) I.errands (takes d row due).0 answers_to child row d (s.pipework.pipes name port.Clean) came waits_as refl comes due)
+
+  -- The start of an injector, which may fail
+
+  pub starting : (asked : ChildData) (came : GotData) → due_at row d ≡ needs.Start asked → NoTenantMore s.pipework (pipes_then (needs.Start asked) came)
+      → IsSameLink s.pipework (pipes_then (needs.Start asked) came) → Inv controls (then_state (needs.Start asked) came)
+  starting asked came due slots same =
+      sent_keeps controls s I q began past (event (needs.Start asked) came ∷ past) (pipes_then (needs.Start asked) came) is I.sound I.bounces same_controls (λ o x other there. I.fares o x there)
+      (record {
+        stands = sender_keeps.starts controls s.now q name d own.read own.ready asked came soon moment fares.stands due;
+        control = controls_are_read.rest q name d own.read own.ready came (subst IsOnLink (sym due) tt);
+        texts = texts_keep.goes_on controls s.now q name d own.read own.ready came soon moment fares.stands fares.texts;
+      })
+      slots (fed_when (then_state (needs.Start asked) came) (needs.Start asked) came due tt) (idle_then q (needs.Start asked) came due tt tt same)
+
+  bounce_failed : (room : ℕ) (came : GotData) → due_at row d ≡ needs.Start (child_kinds.Bounce room) → ComesOf s name (needs.Start (child_kinds.Bounce room)) came wrote
+      → Inv controls (then_state (needs.Start (child_kinds.Bounce room)) came)
+  bounce_failed room got.Failed due comes = starting (child_kinds.Bounce room) got.Failed due (λ b e t there. there) (record { given = refl; answers = refl })
+  bounce_failed room got.Memory due comes = starting (child_kinds.Bounce room) got.Memory due (λ b e t there. there) (record { given = refl; answers = refl })
+  bounce_failed room came due comes = absurd comes
 
   -- By what is due
 
-  by_due : (due : NeedData) (came : GotData) → due_at row d ≡ due → StartsNone due → ComesOf s name due came wrote → Inv controls (then_state due came)
-  by_due (needs.File call) (got.Answered told) e none comes = called call told e comes.0 comes.1
-  by_due (needs.File call) came e none comes = absurd comes
-  by_due (needs.Give port.Clean bytes) came e none comes = gave_command bytes came e comes
-  by_due (needs.Give to bytes) came e none comes = gave_other to bytes came e tt tt
-  by_due (needs.Take port.Clean) came e none comes = answered e came comes
-  by_due (needs.Take from) came e none comes = took_other from came e tt tt
-  by_due (needs.Start asked) came e none comes = absurd none
-  by_due (needs.Command text) came e none comes = absurd none
-  by_due needs.Wait came e none comes = absurd comes
-  by_due (needs.Ended status) came e none comes = absurd comes
+  by_due : (due : NeedData) (came : GotData) → due_at row d ≡ due → ComesOf s name due came wrote → Inv controls (then_state due came)
+  by_due (needs.File call) (got.Answered told) e comes = called call told e comes.0 comes.1
+  by_due (needs.File call) came e comes = absurd comes
+  by_due (needs.Give port.Clean bytes) came e comes = gave_command bytes came e comes
+  by_due (needs.Give to bytes) came e comes = gave_other to bytes came e tt tt comes
+  by_due (needs.Take port.Clean) came e comes = answered e came comes
+  by_due (needs.Take (port.Status slot)) came e comes = took_other (port.Status slot) came e tt tt (taken_has controls s I name refl wrote (port.Status slot) came tt comes)
+      (child_queued controls s I name refl wrote (port.Status slot) came tt comes)
+  by_due (needs.Take from) came e comes = took_other from came e tt tt (taken_has controls s I name refl wrote from came tt comes)
+      (child_queued controls s I name refl wrote from came tt comes)
+  by_due (needs.Start asked) came e comes =
+      let w = starts_of d row asked e in
+      subst (λ (x : ChildData). due_at row d ≡ needs.Start x → ComesOf s name (needs.Start x) came wrote → Inv controls (then_state (needs.Start x) came)) (sym w.asked_is)
+      (bounce_failed d.bounce.room came) e comes
+  by_due (needs.Command text) came e comes = absurd (runs_none d row text e)
+  by_due needs.Wait came e comes = absurd comes
+  by_due (needs.Ended status) came e comes = absurd comes
 
   sender_event : due_at row d ≡ own.due → ComesOf s name own.due own.came wrote → Inv controls (then_state own.due own.came)
-  sender_event due comes = by_due own.due own.came due (subst StartsNone due (starts_none d row)) comes
+  sender_event due comes = by_due own.due own.came due comes
 
 by_program : (controls : Controls) (s : State) (I : Inv controls s) (a : List ℕ) (wrote : ℕ) (program : Program) (past : List Own) (life : Life) (own : Own) → IsSender program
     → IsNamed a program → life ≡ Alive → s.actors a ≡ Some (record { program = program; past = past; life = life }) → own.read ≤ s.now → next_of program past own.read own.ready ≡ own.due

@@ -15,6 +15,7 @@ use Rattle.errand_law.proofs.Links.{asks_keep, idle_is, losses_keep, none_waits}
 use Rattle.queue_clean.specs.declared.command.Command.{Command}
 use Rattle.queue_clean.specs.declared.command.Command.TheVariants.{Todo}
 use Rattle.queue_clean.specs.Commands.{message_of}
+use Rattle.queue_law.specs.Books.{Child as Bouncer}
 use Rattle.queue_law.specs.Numbers.{Queue}
 use Rattle.queue_law.specs.Rests.{IsClosed}
 use Rattle.queue_law.proofs.Tests.{text_cases}
@@ -30,6 +31,7 @@ use Rattle.sender_law.specs.Stands.{StandsAt}
 use Rattle.sender_law.specs.Waits.{IsFree, IsGive, IsPassGive, awaits_at, awaits_in}
 use Rattle.sender_law.specs.Whole.{IsTold}
 use Rattle.sender_law.proofs.Awaits.{waits}
+use Rattle.sender_law.proofs.NoteDue.{return_takes}
 use Rattle.sender_law.proofs.Passing.{passes_give}
 use Rattle.sender_law.proofs.Points.{chores_stand}
 use Rattle.todo_pass.specs.declared.row.Why.TheVariants as left
@@ -172,10 +174,13 @@ module _ (controls : Controls) (now : ℕ) (q : Queue) (lives : Bool) (x : Link)
       let y = subst (λ (c : GotData). Yields pipe c) (plus_came came done) yields in
       (answers_of E.waits command (43 ∷ []) y.1.0 x E.errand is (sym same ∙ y.1.1) y.0).well refl
 
-  pub told_by_link : (row : Row) (d : Desk) (pipe : Pipe) (came : GotData) → x.awaits ≡ awaits_at row d.pass → pipe.bytes ≡ x.answers → Yields pipe came → IsTold controls now q row came d
-  told_by_link at.InTodo d pipe came same bytes yields = λ done.
+  pub told_by_link : (child : Option Bouncer) (row : Row) (d : Desk) (pipe : Pipe) (came : GotData) → x.awaits ≡ awaits_at row d.pass → pipe.bytes ≡ x.answers → Yields pipe came
+      → due_at row d ≡ needs.Take port.Clean → IsTold controls now child q row came d
+  told_by_link child at.InTodo d pipe came same bytes yields due = λ done.
       E.told d.pass.n (same ∙ pass_awaits d.pass.row d.pass.n command (sym same ∙ is)) (well_came pipe came bytes yields done)
-  told_by_link row d pipe came same bytes yields = tt
+  told_by_link child (at.Finish finish.Return n) d pipe came same bytes yields due = absurd (return_takes d.bounce.row d.bounce due)
+  told_by_link child (at.Finish row n) d pipe came same bytes yields due = tt
+  told_by_link child row d pipe came same bytes yields due = tt
 
 -- At the rows of its table
 
@@ -212,7 +217,7 @@ module _ (controls : Controls) (now : ℕ) (q : Queue) (a : List ℕ) (d : Desk)
   pub given_rests : (row : Row) → StandsAt controls now q a row d → (command : Command) → IsGive row d.pass command → RestsFor controls now q command
   given_rests at.InTodo w command is = pass_rests d.pass.row refl w.rests.1.1 command is
   given_rests (at.Finish finish.Give n) w command is =
-      subst (λ (c : Command). RestsFor controls now q c) (sym is) (chores_stand.finish_gives controls now q a n d.book.messages.known w.rests.1)
+      subst (λ (c : Command). RestsFor controls now q c) (sym is) (chores_stand.finish_gives controls now q a n d.book.messages.known d.bounce w.rests.1)
   given_rests (at.Sweep (sweep.Give split n)) w command is =
       subst (λ (c : Command). RestsFor controls now q c) (sym is) (chores_stand.sweep_gives controls now q a split n d.book.messages.known w.rests.1)
   given_rests row w command is = absurd is

@@ -1,16 +1,18 @@
 -- What the sender's steps, each of which concerns one closed number at most, leave of the other actors.
-use Rattle.std.proofs.Common.{◌≡◌, ◌≢◌, ℕ, List, Option, Some, subst, codes}
+use Rattle.std.proofs.Common.{◌≡◌, ◌≢◌, ℕ, List, true, Option, Some, ◌∙◌, subst, codes}
 use Rattle.address_rules.specs.declared.controls.Controls.{Controls}
 use Rattle.call_fs.specs.declared.past.Own.{Own}
 use Rattle.queue_clean.specs.Table.{place_after}
 use Rattle.spawner_parts.specs.declared.row.Row.{Row as SpawnRow}
 use Rattle.spawner_parts.specs.declared.row.Row.TheVariants as spawn
 use Rattle.remote_spawn.specs.Table.{place_after as spawn_after}
+use Rattle.queue_law.specs.Books.{Books, Injection, IsInjected, IsLater}
 use Rattle.queue_law.specs.Cleaners.{IsBeside}
 use Rattle.queue_law.specs.Numbers.{NamesSuit, Queue, Sound}
 use Rattle.queue_law.specs.Rests.{IsClosed, Spares, SparesNames}
 use Rattle.queue_law.specs.Steps.{Elsewhere}
-use Rattle.queue_law.proofs.Frame.{injector_frame}
+use Rattle.queue_law.proofs.Frame.{injector_frame, still_there}
+use Rattle.queue_law.proofs.Growth.{grown_on}
 use Rattle.queue_law.proofs.RestIsKept.{rest_is_kept}
 use Rattle.sender_law.specs.Takings.{LeadsThrough}
 use Rattle.sender_law.specs.Takings.LeadsThrough.{Goes, Stays}
@@ -57,3 +59,26 @@ others_fare_on controls now o other program past life named idle q r (Stays z) G
 others_fare_on controls now o other program past life named idle q r (Goes x y z n closed leads through) G F =
     others_fare_on controls now o other program past life named idle y z through leads.sound
     (others_fare controls now (Some n) x y leads.elsewhere G.suits (some_closed now x n closed) o other program past life named idle F)
+
+-- What was accepted stays so
+
+later_still : (b : Books) (i j : Injection) → IsLater i j → (k : Injection) × IsInjected b k × IsLater j k → (k : Injection) × IsInjected b k × IsLater i k
+later_still b i j l w = (
+  w.0,
+  w.1,
+  record {
+    number_is = w.2.number_is ∙ l.number_is;
+    actor_is = w.2.actor_is ∙ l.actor_is;
+    args_are = w.2.args_are ∙ l.args_are;
+    accepted_is = w.2.accepted_is ∙ l.accepted_is;
+    grown = grown_on i.ledger j.ledger w.0.ledger l.grown w.2.grown;
+  },
+)
+
+-- through all that a taking enters
+pub through : (controls : Controls) (now : ℕ) (a : List ℕ) (q r : Queue) → LeadsThrough controls now a q r → (i : Injection) → IsInjected q.books i → i.accepted ≡ true
+    → (j : Injection) × IsInjected r.books j × IsLater i j
+through controls now a q r (Stays z) i h accepted = still_there z.books i h
+through controls now a q r (Goes x y z n closed leads rest) i h accepted =
+    let w = leads.elsewhere.accepted i h accepted in
+    later_still z.books i w.0 w.2 (through controls now a y z rest w.0 w.1 (w.2.accepted_is ∙ accepted))

@@ -1,5 +1,5 @@
 -- What the sender's givings and takings leave of the two pipes to and from its cleaner, and of the slots.
-use Rattle.std.proofs.Common.{◌≡◌, ◌≢◌, ℕ, ◌==◌, List, Bool, true, false, ◌&&◌, Option, Some, None, refl, ap, bytes_eq, codes, if◌then◌else◌}
+use Rattle.std.proofs.Common.{◌≡◌, ◌≢◌, ℕ, ◌==◌, List, Bool, true, false, ◌&&◌, Option, Some, None, refl, sym, ap, bytes_eq, codes, ⊎_elim, if◌then◌else◌}
 use Rattle.std.specs.Prelude.{take}
 use Rattle.call_fs.specs.declared.past.GotData.{GotData}
 use Rattle.call_fs.specs.declared.past.GotData.TheVariants as got
@@ -8,7 +8,12 @@ use Rattle.call_fs.specs.declared.program.Port.{Port}
 use Rattle.call_fs.specs.declared.program.Port.TheVariants as port
 use Rattle.world_pipes.specs.Pipework.{Mouth, Pipe, Pipework, Slot, Tenant, child_output, closed, given, gives, input_of, is_by, is_port, mouth, pipework_after, put_pipe, taken}
 use Rattle.world_pipes.specs.Pipework.Tenant.{Runs, Remote}
-use Rattle.world_law.proofs.Moved.{IsSameLink, RunsNone}
+use Rattle.queue_law.proofs.Tests.{text_cases}
+use Rattle.world_law.proofs.Moved.{IsSameLink}
+
+-- no program more runs in a slot
+abbrev pub NoTenantMore : Pipework → Pipework → Type 0
+NoTenantMore before w = (a : List ℕ) (d : ℕ) (t : Tenant) → w.programs a d ≡ Some t → before.programs a d ≡ Some t
 
 -- any port but that to the cleaner
 abbrev pub IsOther : Port → Type 0
@@ -32,13 +37,12 @@ clean_away : (p : Port) → IsOther p → is_port port.Clean p ≡ false
 clean_away port.Clean it = absurd it
 clean_away p it = refl
 
-module _ (w : Pipework) (none : RunsNone w) where
-  -- nothing that a child takes in goes anywhere, since no actor runs in a slot
-  no_input : (o : Option Tenant) → ((b : List ℕ) → o ≢ Some (Runs b)) → input_of o ≡ None
-  no_input None lacks = refl
-  no_input (Some (Runs b)) lacks = absurd (lacks b refl)
-  no_input (Some (Remote t)) lacks = refl
+-- another actor's pipe
+else_by : (t u : Bool) (x y : Pipe) → t ≡ false → (if t && u then x else y) ≡ y
+else_by true u x y e = absurd (cc)
+else_by false u x y e = refl
 
+module _ (w : Pipework) (apart : (a : List ℕ) (d : ℕ) (b : List ℕ) → w.programs a d ≡ Some (Runs b) → b ≢ codes "clean") where
   -- what a child gives is taken by a port of a slot
   slot_away : (t : Bool) (parent : List ℕ) (number : ℕ) (p : Port) → is_port p (port.Program number) ≡ false → IsAway (if t then Some (mouth parent (port.Program number)) else None) p
   slot_away true parent number p off = off
@@ -64,12 +68,22 @@ module _ (w : Pipework) (none : RunsNone w) where
         given = ap (λ (x : Pipe). x.bytes) (away_same w.pipes to (given bytes) (codes "clean") port.Input (child_away (w.slots (codes "sender")) port.Input (λ n. refl)));
         answers = ap (λ (x : Pipe). x.bytes) (away_same w.pipes to (given bytes) (codes "sender") port.Clean (child_away (w.slots (codes "sender")) port.Clean (λ n. refl)));
       }
-  given_same (port.Program d) bytes it =
-      let far : input_of (w.programs (codes "sender") d) ≡ None = no_input (w.programs (codes "sender") d) (none (codes "sender") d) in
-      record {
-        given = ap (λ (to : Option Mouth). (put_pipe w.pipes to (λ pipe. closed (given bytes pipe)) (codes "clean") port.Input).bytes) far;
-        answers = ap (λ (to : Option Mouth). (put_pipe w.pipes to (λ pipe. closed (given bytes pipe)) (codes "sender") port.Clean).bytes) far;
-      }
+  given_same (port.Program d) bytes it = by (w.programs (codes "sender") d) refl where
+    change : Pipe → Pipe
+    change = λ pipe. closed (given bytes pipe)
+
+    -- the input of a child isn't that of the cleaner
+    not_clean : (b : List ℕ) → b ≢ codes "clean" → bytes_eq (codes "clean") b ≡ false
+    not_clean b other = ⊎_elim (λ same. absurd (other (sym same.0))) (λ apart. apart.1) (text_cases (codes "clean") b)
+
+    by : (o : Option Tenant) → w.programs (codes "sender") d ≡ o → IsSameLink w (record { pipes = put_pipe w.pipes (input_of o) change; programs = w.programs; slots = w.slots })
+    by None e = record { given = refl; answers = refl }
+    by (Some (Remote t)) e = record { given = refl; answers = refl }
+    by (Some (Runs b)) e = record {
+      given = ap (λ (x : Pipe). x.bytes) (else_by (bytes_eq (codes "clean") b) (is_port port.Input port.Input) (change (w.pipes (codes "clean") port.Input)) (w.pipes (codes "clean") port.Input)
+          (not_clean b (apart (codes "sender") d b e)));
+      answers = ap (λ (x : Pipe). x.bytes) (off_by (bytes_eq (codes "sender") b) (is_port port.Clean port.Input) (change (w.pipes (codes "sender") port.Clean)) (w.pipes (codes "sender") port.Clean) refl);
+    }
 
   -- a giving by another port
   pub gives_same : (wrote : ℕ) (p : Port) (bytes : List ℕ) (came : GotData) → IsOther p → IsSameLink w (pipework_after w (codes "sender") (needs.Give p bytes) came wrote)
@@ -85,11 +99,12 @@ module _ (w : Pipework) (none : RunsNone w) where
   }
   takes_same wrote p came it = record { given = refl; answers = refl }
 
-  put_none : (t : Bool) (a : List ℕ) (d : ℕ) (b : List ℕ) → (if t then None else w.programs a d) ≢ Some (Runs b)
-  put_none true a d b is = absurd (cc)
-  put_none false a d b is = none a d b is
+  put_slots : (t : Bool) (o : Option Tenant) (x : Tenant) → (if t then None else o) ≡ Some x → o ≡ Some x
+  put_slots true o x is = absurd (cc)
+  put_slots false o x is = is
 
-  pub takes_none : (wrote : ℕ) (p : Port) (came : GotData) → RunsNone (pipework_after w (codes "sender") (needs.Take p) came wrote)
-  takes_none wrote (port.Status d) (got.Ended status) = λ b e. put_none (bytes_eq b (codes "sender") && (e == d)) b e
-  takes_none wrote (port.Status d) got.Crashed = λ b e. put_none (bytes_eq b (codes "sender") && (e == d)) b e
-  takes_none wrote p came = none
+  -- a taking frees a slot at most
+  pub takes_slots : (wrote : ℕ) (p : Port) (came : GotData) → NoTenantMore w (pipework_after w (codes "sender") (needs.Take p) came wrote)
+  takes_slots wrote (port.Status d) (got.Ended status) a e t is = put_slots (bytes_eq a (codes "sender") && (e == d)) (w.programs a e) t is
+  takes_slots wrote (port.Status d) got.Crashed a e t is = put_slots (bytes_eq a (codes "sender") && (e == d)) (w.programs a e) t is
+  takes_slots wrote p came a e t is = is

@@ -1,22 +1,24 @@
 -- An injector starts, and a generation.
-use Rattle.std.proofs.Common.{◌≡◌, ◌≢◌, ℕ, List, Bool, true, false, Option, Some, None, refl, sym, ap, ◌∙◌, subst, ⊎_elim, codes, if◌then◌else◌}
+use Rattle.std.specs.Prelude.{Contains}
+use Rattle.std.proofs.Common.{◌≡◌, inl, ℕ, List, Bool, true, false, Option, Some, None, refl, sym, ap, ◌∙◌, subst, ⊎_elim, codes, if◌then◌else◌}
 use Rattle.address_rules.specs.declared.controls.Controls.{Controls}
 use Rattle.call_fs.specs.Maps.{put_at}
 use Rattle.queue_law.proofs.Injectors.{injector_start}
 use Rattle.sender_law.proofs.Asking.{texts_keep}
 use Rattle.sender_law.proofs.Begins.{begins as sender_begins}
 use Rattle.sender_law.proofs.ControlsRead.{controls_are_read}
+use Rattle.actor_names.specs.MailNames.{members}
 use Rattle.world_pipes.specs.Pipework.{Tenant, is_member}
-use Rattle.world_pipes.specs.Pipework.Tenant.{Runs}
+use Rattle.world_pipes.specs.Pipework.Tenant.{Remote, Runs}
 use Rattle.world_events.specs.declared.event.Program.{Program}
 use Rattle.world_events.specs.declared.event.Program.TheVariants.{Injector, Cleaner, Sender, LocalSpawner, RemoteSpawner}
 use Rattle.mail_world.specs.History.{Actor, State, newborn, happens, MayRun, IsSender, IsCleaner, IsLocalSpawner, IsRemoteSpawner}
 use Rattle.mail_world.specs.History.Event.{Start, Generation}
 use Rattle.mail_world.specs.Untouched.{queue}
-use Rattle.mail_world.proofs.Members.{four_other, member_cases, whether, with_four}
+use Rattle.mail_world.proofs.Members.{contained_member, four_new, four_other, member_cases, whether, with_four}
 use Rattle.world_law.specs.Crew.{IsNamed}
 use Rattle.world_law.specs.Fares.{FaresBy}
-use Rattle.world_law.specs.Inv.{Inv}
+use Rattle.world_law.specs.Inv.{Inv, IsTenantOf}
 use Rattle.world_law.specs.Laws.{GenerationsKeep, StartsKeep}
 use Rattle.world_law.proofs.Begins.{none_asked}
 use Rattle.world_law.proofs.Moved.{IsSeenAs, moved_keeps}
@@ -27,19 +29,14 @@ started_runs : (controls : Controls) (s : State) (I : Inv controls s) (a : List 
     → Inv controls (happens s (Start a program))
 started_runs controls s I a (Injector args) new runs =
     moved_keeps controls s I a (newborn (Injector args)) s.pipework tt (injector_start s.now (queue s I.role) a args)
-    (subst (λ (o : Option Actor). IsSeenAs o (newborn (Injector args))) (sym new) (record { awaits = refl; place = refl; lives = λ h. absurd (cc) }))
-    (record { given = refl; answers = refl }) I.tenants
+    (subst (λ (o : Option Actor). IsSeenAs o (newborn (Injector args))) (sym new) (record { awaits = refl; place = refl; lives = λ h. absurd (cc); goes = λ it. it; quiet = λ it. it }))
+    (record { given = refl; answers = refl }) (λ b d t h. inl h)
 started_runs controls s I a other new runs = absurd runs
 
 pub starts_keep : StartsKeep
 starts_keep a program controls s I may = started_runs controls s I a program may.new may.runs
 
 -- Four start together
-
-unless_member : (programs : List ℕ → ℕ → Option Tenant) → ((a : List ℕ) (d : ℕ) (b : List ℕ) → programs a d ≢ Some (Runs b)) → (t : Bool) (a : List ℕ) (d : ℕ) (b : List ℕ)
-    → (if t then None else programs a d) ≢ Some (Runs b)
-unless_member programs none true a d b is = absurd (cc)
-unless_member programs none false a d b is = none a d b is
 
 module _ (controls : Controls) (s : State) (I : Inv controls s) (first second third last : ℕ) where
   abbrev four : List ℕ → Option Actor
@@ -67,12 +64,28 @@ module _ (controls : Controls) (s : State) (I : Inv controls s) (first second th
           let same : x ≡ y = (let v = sym is ∙ (sym (ap four e) ∙ h) in cc) in
           subst (λ (b : List ℕ). P b y) (sym e) (subst (P name) same own)
 
+  -- only members ran programs, and their slots are free now
+  ran_in_member : (b : List ℕ) (d : ℕ) (t : Tenant) → is_member b ≡ false → IsTenantOf s b d t → ⊥
+  ran_in_member b d (Runs c) other h = let v : true ≡ false = sym (ap is_member h.parent_is) ∙ other in absurd (cc)
+  ran_in_member b d (Remote reported) other h = let v : true ≡ false = sym (ap is_member h) ∙ other in absurd (cc)
+
+  nobody_runs : (member : Bool) (b : List ℕ) (d : ℕ) (t : Tenant) → is_member b ≡ member → (if member then None else s.pipework.programs b d) ≡ Some t → ⊥
+  nobody_runs true b d t e is = absurd (cc)
+  nobody_runs false b d t e is = ran_in_member b d t e (I.tenants b d t is)
+
+  each_is_there : (a : List ℕ) → Contains members a → four a ≡ None → ⊥
+  each_is_there a member gone =
+      let w = four_new s.actors (Sender first) (Cleaner second) (LocalSpawner third) (RemoteSpawner last) a (contained_member a member) in
+      let some : ◌≡◌ {A = Option Actor} (Some (newborn w.0)) None = sym w.1 ∙ gone in
+      absurd (cc)
+
   generation_keeps : Inv controls (happens s (Generation (Sender first) (Cleaner second) (LocalSpawner third) (RemoteSpawner last)))
   unfolding put_at
   generation_keeps = record {
     role = I.role;
     moment = I.moment;
     sound = I.sound;
+    bounces = I.bounces;
     crew = each_member (λ o y. IsNamed o y.program) refl refl refl refl I.crew;
     fares = each_member (λ o y. FaresBy controls s.now (queue s I.role) o y.program y.past y.life)
         (record {
@@ -83,7 +96,9 @@ module _ (controls : Controls) (s : State) (I : Inv controls s) (first second th
         tt tt tt I.fares;
     control = I.control;
     old = I.old;
-    tenants = λ b d. unless_member s.pipework.programs I.tenants (is_member b) b d;
+    crewed = λ x there it a member gone. each_is_there a member gone;
+    tenants = λ b d t is. absurd (nobody_runs (is_member b) b d t refl is);
+    child = tt;
     errands = record {
       waits = None;
       errand = none_asked;

@@ -1,5 +1,5 @@
 -- A step of one actor that spares each closed number: what it leaves of all the others.
-use Rattle.std.proofs.Common.{◌≡◌, ◌≢◌, ℕ, List, Option, Some, None, refl, sym, ap, ◌∙◌, subst, codes}
+use Rattle.std.proofs.Common.{◌≡◌, ◌≢◌, inl, ℕ, List, Option, Some, None, refl, sym, ap, ◌∙◌, subst, codes}
 use Rattle.address_rules.specs.declared.controls.Controls.{Controls}
 use Rattle.call_fs.specs.declared.past.Own.{Own}
 use Rattle.call_fs.specs.Maps.{put_at}
@@ -29,7 +29,7 @@ use Rattle.queue_law.proofs.RestIsKept.{rest_is_kept}
 use Rattle.sender_law.specs.ControlFiles.{LeavesControls}
 use Rattle.sender_law.specs.InTodo.{IsExpected, PassGoesOn, TodoStands}
 use Rattle.sender_law.specs.LeftAlone.{LeavesPass, LeavesRow}
-use Rattle.sender_law.specs.Rows.{RowStands}
+use Rattle.sender_law.specs.Rows.{RowStands, Works, works}
 use Rattle.sender_law.specs.Stands.{SenderStands, SparesSorted}
 use Rattle.sender_law.specs.Waits.{awaits_at, awaits_in as awaits_in_pass}
 use Rattle.sender_law.proofs.Asking.{texts_keep}
@@ -38,14 +38,16 @@ use Rattle.sender_law.proofs.ControlsStay.{controls_stay}
 use Rattle.sender_law.proofs.LeftAlone.{senders_are_left_alone}
 use Rattle.world_events.specs.declared.event.Program.{Program}
 use Rattle.world_events.specs.declared.event.Program.TheVariants.{Injector, Cleaner, Sender, LocalSpawner, RemoteSpawner}
-use Rattle.mail_world.specs.History.{Actor, Life, State}
+use Rattle.mail_world.specs.History.{Actor, IsSender, Life, State}
 use Rattle.mail_world.specs.History.Life.{Alive, Over, Stopped}
 use Rattle.mail_world.specs.Untouched.{queue}
+use Rattle.world_law.specs.Bounces.{BouncesAreQueued}
 use Rattle.world_law.specs.Crew.{IsNamed, awaits_in, is_alive, is_well, link_in, lives_in}
 use Rattle.world_law.specs.Fares.{FaresBy, SpawnerHolds}
 use Rattle.world_law.specs.Inv.{ErrandsRest, Inv}
 use Rattle.world_law.proofs.Gone.{errands_spared}
 use Rattle.world_law.proofs.Moved.{IsSeenAs, each_put, put_errands}
+use Rattle.world_law.proofs.Tenants.{GoesOn, one_child, one_crewed, one_keeps, quiet_child, tenants_kept}
 
 -- What it leaves a sender at its row
 
@@ -78,9 +80,9 @@ module _ (controls : Controls) (now : ℕ) (q r : Queue) (a : List ℕ) (S : Spa
   answer_closed : (p : Pass) → ((n : ℕ) → awaits_at at.InTodo p ≡ Answer (Todo n) → IsClosed now q n) → p.row ≡ todo.Answer → IsClosed now q p.n
   answer_closed p asked e = asked p.n (ap (λ row. awaits_in_pass row p.n) e)
 
-  row_left : (row : Row) (b : Book) (s : Slots) (p : Pass) → RowStands controls now q a row b s p → ((n : ℕ) → awaits_at row p ≡ Answer (Todo n) → IsClosed now q n)
-      → LeavesRow row p None q r
-  row_left at.InTodo b s p h asked = pass_left p.row p refl h.1.1 (answer_closed p asked)
+  row_left : (row : Row) (b : Book) (s : Slots) (p : Works) → RowStands controls now q a row b s p → ((n : ℕ) → awaits_at row p.pass ≡ Answer (Todo n) → IsClosed now q n)
+      → LeavesRow row p.pass None q r
+  row_left at.InTodo b s p h asked = pass_left p.pass.row p.pass refl h.1.1 (answer_closed p.pass asked)
   row_left (at.Finish finish.Give n) b s p h asked = no_number n
   row_left (at.Sweep row) b s p h asked = λ n is. no_number n
   row_left row b s p h asked = tt
@@ -92,7 +94,7 @@ stepped s a r y = record { disk = r.disk; holder = r.holder; now = s.now; actors
 -- Each of the others, after a step that spares all closed numbers but the one in k
 
 module _ (controls : Controls) (s : State) (I : Inv controls s) (a : List ℕ) (r : Queue) (m k : Option ℕ) (E : Elsewhere s.now a m (queue s I.role) r)
-    (S : Spares s.now k (queue s I.role) r) (SS : SparesSorted (queue s I.role) r) (C : LeavesControls (queue s I.role) r) (G : Sound controls r) where
+    (S : Spares s.now k (queue s I.role) r) (SS : SparesSorted (queue s I.role) r) (C : LeavesControls (queue s I.role) r) (G : Sound controls r) (B : BouncesAreQueued controls r.books) where
   abbrev before : Queue
   before = queue s I.role
 
@@ -130,18 +132,21 @@ module _ (controls : Controls) (s : State) (I : Inv controls s) (a : List ℕ) (
   fares_other o other cleaner sender (RemoteSpawner began) past (Over status) is F = tt
   fares_other o other cleaner sender (RemoteSpawner began) past Stopped is F = tt
 
-  pub led_keeps : ((o : List ℕ) → o ≢ a → LeavesCleaner o) → ((o : List ℕ) → o ≢ a → LeavesSender o) → (y : Actor) → IsNamed a y.program
+  pub led_keeps : ((o : List ℕ) → o ≢ a → LeavesCleaner o) → ((o : List ℕ) → o ≢ a → LeavesSender o) → (y : Actor) → IsNamed a y.program → GoesOn (s.actors a) y.program → (IsSender y.program → ⊥)
       → FaresBy controls s.now r a y.program y.past y.life → ErrandsRest controls (stepped s a r y) r.role → Inv controls (stepped s a r y)
-  led_keeps cleaners senders y named F errands = record {
+  led_keeps cleaners senders y named goes quiet F errands = record {
     role = r.role;
     moment = I.moment;
     sound = G;
+    bounces = B;
     crew = each_put s.actors a y (λ o z. IsNamed o z.program) named (λ o z _ is. I.crew o z is);
     fares = each_put s.actors a y (λ o z. FaresBy controls s.now r o z.program z.past z.life) F
         (λ o z other is. fares_other o other (cleaners o other) (senders o other) z.program z.past z.life is (I.fares o z is));
     control = controls_stay.said controls (queue s I.role) r C I.control;
     old = C.old;
-    tenants = I.tenants;
+    crewed = one_crewed s.actors a y goes I.crewed;
+    tenants = tenants_kept s (stepped s a r y) (one_keeps s.actors a y goes) (λ b d t h. inl h) I.tenants;
+    child = one_child s (stepped s a r y) (one_keeps s.actors a y goes) (λ b d t h. inl h) I.tenants a y (quiet_child (stepped s a r y) y.program y.past y.life quiet) I.child;
     errands = errands;
   }
 
@@ -149,7 +154,7 @@ module _ (controls : Controls) (s : State) (I : Inv controls s) (a : List ℕ) (
 
 module _ (controls : Controls) (s : State) (I : Inv controls s) (a : List ℕ) (r : Queue) (m : Option ℕ) (E : Elsewhere s.now a m (queue s I.role) r)
     (S : Spares s.now None (queue s I.role) r) (N : SparesNames (queue s I.role) r) (SS : SparesSorted (queue s I.role) r) (C : LeavesControls (queue s I.role) r)
-    (G : Sound controls r) where
+    (G : Sound controls r) (B : BouncesAreQueued controls r.books) where
   abbrev here : Queue
   here = queue s I.role
 
@@ -171,8 +176,8 @@ module _ (controls : Controls) (s : State) (I : Inv controls s) (a : List ℕ) (
   pub stepped_keeps : (y : Actor) → IsNamed a y.program → IsSeenAs (s.actors a) y → FaresBy controls s.now r a y.program y.past y.life
       → Inv controls (stepped s a r y)
   stepped_keeps y named seen F =
-      led_keeps controls s I a r m None E S SS C G
+      led_keeps controls s I a r m None E S SS C G B
       (λ o other began past is. rest_is_kept.spared controls s.now None here r S N (place_after past) (beside_none (place_after past)))
       (λ o other began past is h.
-      let d = desk_after None past in row_left controls s.now here r o S d.row d.book d.slots d.pass h.rests (asked_closed o began past is))
-      y named F (stepped_errands y seen)
+      let d = desk_after None past in row_left controls s.now here r o S d.row d.book d.slots (works d) h.rests (asked_closed o began past is))
+      y named seen.goes seen.quiet F (stepped_errands y seen)

@@ -48,7 +48,8 @@ pub record Safe (controls : Controls) (s : State) : Type 0 where
       → IsSynced (s.disk.files i) (entered q.args)
   -- what was accepted is valid
   pub valid : (q : Injection) → IsInjected s.books q → q.accepted ≡ true → IsValid q.args
-  -- each recipient of each accepted injection is pending, in todo or in its channel file, or was reported delivered
+  -- Each recipient of each accepted injection is accounted for: it is pending, in todo or in its channel file; or it was reported delivered; or it
+  -- failed, and then its note is held in the bounce file, or a bounce with it was accepted, or notes of a double bounce were dropped.
   pub accounted : (q : Injection) → IsInjected s.books q → q.accepted ≡ true → (r : Recipient q.args) → Accounted controls s.disk s.books q r
   -- an injector's Ok link to todo accepts its injection, however it ends
   pub queued : (a : List ℕ) (x : Actor) → s.actors a ≡ Some x → IsBooked s.books a x.program x.past

@@ -71,7 +71,7 @@ abbrev pub SendersKeep : Type 0
 SendersKeep = (a : List ℕ) (own : Own) (wrote : ℕ) (controls : Controls) (s : State) → Inv controls s → (may : MayDo s a own wrote)
     → IsSender may.actor.program → Inv controls (happens s (Act a own wrote))
 
--- No program starts an actor yet, so the start of a child never comes.
+-- The start of a child: only a sender starts one, the injector of a bounce.
 abbrev pub ChildrenKeep : Type 0
 ChildrenKeep = (parent : List ℕ) (own : Own) (a : List ℕ) (program : Program) → IsKeptBy (Child parent own a program)
 

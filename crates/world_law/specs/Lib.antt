@@ -2,6 +2,8 @@
 pub mod Crew
 -- what each actor has
 pub mod Fares
+-- the bounces in ledgers, and the recipients that they name
+pub mod Bounces
 -- the invariant
 pub mod Inv
 -- what is claimed of each state, and the headline

@@ -1,4 +1,5 @@
 // Laws of the whole system. Each is the contract of a function that does nothing.
+ghost use Rattle.world_law.specs.Bounces.{BouncesAreAccepted, ReturnedRecipientsAreNamed};
 ghost use Rattle.world_law.specs.Headline.{AttemptsAreSound, Headline, SafeWithoutGenerations, WorldsAreSafe};
 ghost use Rattle.world_law.specs.Leaves.{EventsLeave};
 ghost use Rattle.world_law.specs.Laws.{Always, ChildrenKeep, CleanersKeep, EndsKeep, GenerationsKeep, HaltsKeep, InjectorsKeep, InvBegins, InvIsSafe, LocalsKeep, MomentsKeep, RemotesKeep, ReportsKeep, SendersKeep, StartsKeep, StopsKeep};
@@ -66,7 +67,7 @@ pub fn senders_keep()
     ensures { SendersKeep }
 {}
 
-/// No program starts an actor yet.
+/// So does each start of a child, which is the injector of a bounce that the sender starts.
 pub fn children_keep()
     ensures { ChildrenKeep }
 {}
@@ -105,4 +106,15 @@ pub fn attempts_are_sound()
 /// A command is under way at a living cleaner only where its number rests.
 pub fn commands_rest()
     ensures { CommandsRest }
+{}
+
+/// Each bounce that a sender entered in the ledger of a message was accepted: its injector has an accepted injection, which is that of the
+/// bounce of the message with the notes that the ledger tells.
+pub fn bounces_are_accepted()
+    ensures { BouncesAreAccepted }
+{}
+
+/// The name of each recipient that is accounted for as returned stands in a bounce that was accepted, often enough.
+pub fn returned_recipients_are_named()
+    ensures { ReturnedRecipientsAreNamed }
 {}

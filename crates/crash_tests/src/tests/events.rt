@@ -41,10 +41,23 @@ pub const DEFERRED: Base = Base {
     later: "halt keep\nmoment 734401\n",
 };
 
+/// One mail, whose delivery fails for good: the failure is noted, the recipient is marked, and its channel file goes.
+pub const FAILED: Base = Base {
+    script: "trace\nmail a a@x b@y : hi%0A\nrun a\nsender\nturn\nturn\nturn\nreport 0 D settled\nrun rspawn\n\
+        step sender\nstep sender\nstep sender\nstep sender\nstep sender\n\
+        step sender\nstep sender\nstep sender\nstep sender\nstep sender\n",
+    put_in_b: "",
+    fate_of_b: "",
+    later: "halt keep\nmoment 129601\n",
+};
+
 /// What comes after each stop, and once more after the second one: a new generation does what is left to do. It tries each
 /// recipient that isn't done at once, also one that was deferred just before, since a generation doesn't know when a message
 /// was tried by another.
 pub const GENERATION: &str = "sender\nsettle K\nshow\n";
+
+/// The same if each delivery fails.
+pub const FAILING_GENERATION: &str = "sender\nsettle D\nshow\n";
 
 /// The second mail need not be put in once it is there.
 pub const PUT_IN: [Stage; 1] = [("b start", "")];
@@ -63,6 +76,7 @@ pub fn push_line(script: &mut String, event: &str) -> Result<(), Memory> {
         "sender start" => script.push_str("sender\n"),
         "rspawn report 0 K" => script.push_str("report 0 K settled\n"),
         "rspawn report 0 Z" => script.push_str("report 0 Z settled\n"),
+        "rspawn report 0 D" => script.push_str("report 0 D settled\n"),
         "world moment 604800" => script.push_str("moment 604800\n"),
         _ => push_step(script, event),
     }
@@ -94,7 +108,7 @@ fn is_made_line_by_line(rt: &HostRuntime, script: &str) -> Result<bool, Memory> 
 
 #[test]
 fn the_events_of_a_script_are_made_line_by_line(rt: HostRuntime) -> Result<(), Fail> {
-    for base in &[ONE, TWO, DEFERRED] {
+    for base in &[ONE, TWO, DEFERRED, FAILED] {
         assert!(rt; is_made_line_by_line(&rt, base.script)?, "{}", base.script);
     }
     Ok(())

@@ -1,6 +1,8 @@
 // A machine stop after each event. Afterwards a new generation does what is left to do, at the same moment; then the machine
 // stops once more, and another generation does the same when what is left alone is old enough to be removed.
-use super::events::{Base, DEFERRED, GENERATION, ONE, PUT_IN, TWO, events_of, push_line};
+use super::events::{
+    Base, DEFERRED, FAILED, FAILING_GENERATION, GENERATION, ONE, PUT_IN, TWO, events_of, push_line,
+};
 use super::playing::prints;
 use super::stages::{Stage, Stages};
 use mail_bytes::Memory;
@@ -50,13 +52,53 @@ const MAIL_B: [Stage; 3] = [
     ("b end 0", "b 0\nb.1 delivered\n"),
 ];
 
+/// What comes of mails after a machine stop.
+#[derive(Clone, Copy)]
+struct Outcome {
+    /// The lines of a new generation.
+    generation: &'static str,
+    /// What is left for good if no time passes, and what is left even then.
+    left: &'static [Stage],
+    kept: &'static [Stage],
+    /// What comes of the first mail.
+    mail_a: &'static [Stage],
+}
+
+/// They are delivered.
+const DELIVERED: Outcome = Outcome {
+    generation: GENERATION,
+    left: &LEFT,
+    kept: &[],
+    mail_a: &MAIL_A,
+};
+
+/// The failure of the one mail is noted once it is accepted. As long as a world starts no injector of a bounce it stays so.
+const NOTED: Outcome = Outcome {
+    generation: FAILING_GENERATION,
+    left: &[
+        ("a create pid/", "pid 1\n"),
+        ("a link pid/", "pid 1\n1 S2\n"),
+        ("a unlink pid/", "pid 0\n1 S2\n"),
+        ("a create intd/", "pid 0\n1 S3\n"),
+        ("a link intd/", "pid 0\n1 S5\n"),
+    ],
+    kept: &[("a link intd/", "1 S5\n")],
+    mail_a: &[
+        ("a start", "a stopped\n"),
+        ("a link intd/", "a stopped\na.1 noted\n"),
+        ("a end 0", "a 0\na.1 noted\n"),
+    ],
+};
+
 /// How far the events have come: what makes them, what a machine stop leaves, what comes of the mails, and the lines that put
 /// in the second mail after it.
 #[derive(Drop)]
 struct Course {
     base: Base,
+    generation: &'static str,
     script: String,
     left: Stages,
+    kept: Stages,
     mail_a: Stages,
     mail_b: Stages,
     put_in: Stages,
@@ -64,12 +106,14 @@ struct Course {
 
 impl Course {
     /// No event has come. The second mail is put in at the end if there is one.
-    fn new(rt: &HostRuntime, base: Base) -> Self {
+    fn new(rt: &HostRuntime, base: Base, outcome: Outcome) -> Self {
         Course {
             base,
+            generation: outcome.generation,
             script: String::new(rt.alloc()),
-            left: Stages::new("pid 0\n", &LEFT),
-            mail_a: Stages::new("", &MAIL_A),
+            left: Stages::new("pid 0\n", outcome.left),
+            kept: Stages::new("", outcome.kept),
+            mail_a: Stages::new("", outcome.mail_a),
             mail_b: Stages::new(base.fate_of_b, &MAIL_B),
             put_in: Stages::new(base.put_in_b, &PUT_IN),
         }
@@ -78,6 +122,7 @@ impl Course {
     /// An event comes.
     fn see(&mut self, event: &str) -> Result<(), Memory> {
         self.left.see(event);
+        self.kept.see(event);
         self.mail_a.see(event);
         self.mail_b.see(event);
         self.put_in.see(event);
@@ -89,15 +134,17 @@ impl Course {
         let script = self.script.as_str();
         let put_in = self.put_in.now();
         let later = self.base.later;
-        format!(in rt.alloc(); "{script}{halt}\n{put_in}{GENERATION}{later}{GENERATION}")
+        let generation = self.generation;
+        format!(in rt.alloc(); "{script}{halt}\n{put_in}{generation}{later}{generation}")
     }
 
     /// What that script prints.
     fn printed(&self, rt: &HostRuntime) -> Result<String, Memory> {
         let left = self.left.now();
+        let kept = self.kept.now();
         let a = self.mail_a.now();
         let b = self.mail_b.now();
-        format!(in rt.alloc(); "{left}{a}{b}pid 0\n{a}{b}")
+        format!(in rt.alloc(); "{left}{a}{b}pid 0\n{kept}{a}{b}")
     }
 
     /// Whether that script prints that.
@@ -109,8 +156,14 @@ impl Course {
 }
 
 /// Before which event something else is printed first; nothing if before none, nor at the end.
-fn first_wrong(rt: &HostRuntime, events: &str, base: Base, halt: &str) -> Result<String, Memory> {
-    let mut course = Course::new(rt, base);
+fn first_wrong(
+    rt: &HostRuntime,
+    events: &str,
+    base: Base,
+    outcome: Outcome,
+    halt: &str,
+) -> Result<String, Memory> {
+    let mut course = Course::new(rt, base, outcome);
     for event in events.lines() {
         if !course.is_as_expected(rt, halt)? {
             return String::from_str(rt.alloc(), event);
@@ -128,7 +181,7 @@ fn a_machine_stop_after_any_event_of_a_mail_loses_no_accepted_one(
     let events = events_of(&rt, ONE)?;
     for halt in &HALTS {
         assert_eq!(rt;
-            first_wrong(&rt, &events, ONE, halt)?.as_str(),
+            first_wrong(&rt, &events, ONE, DELIVERED, halt)?.as_str(),
             "",
             "{halt}"
         );
@@ -143,7 +196,7 @@ fn a_machine_stop_after_any_event_of_two_mails_loses_no_accepted_one(
     let events = events_of(&rt, TWO)?;
     for halt in &HALTS {
         assert_eq!(rt;
-            first_wrong(&rt, &events, TWO, halt)?.as_str(),
+            first_wrong(&rt, &events, TWO, DELIVERED, halt)?.as_str(),
             "",
             "{halt}"
         );
@@ -158,7 +211,22 @@ fn a_machine_stop_after_any_event_of_a_deferred_mail_loses_no_accepted_one(
     let events = events_of(&rt, DEFERRED)?;
     for halt in &HALTS {
         assert_eq!(rt;
-            first_wrong(&rt, &events, DEFERRED, halt)?.as_str(),
+            first_wrong(&rt, &events, DEFERRED, DELIVERED, halt)?.as_str(),
+            "",
+            "{halt}"
+        );
+    }
+    Ok(())
+}
+
+#[test]
+fn a_machine_stop_after_any_event_of_a_failed_delivery_loses_no_note(
+    rt: HostRuntime,
+) -> Result<(), Fail> {
+    let events = events_of(&rt, FAILED)?;
+    for halt in &HALTS {
+        assert_eq!(rt;
+            first_wrong(&rt, &events, FAILED, NOTED, halt)?.as_str(),
             "",
             "{halt}"
         );

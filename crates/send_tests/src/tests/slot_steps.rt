@@ -3,7 +3,7 @@
 use Channel::{Local, Remote};
 use envelope_records::records;
 use mail_bytes::ByteText;
-use send_jobs::{Attempt, Channel, Job, MAX_SLOTS, Mark, Slots, retry_at};
+use send_jobs::{Attempt, Channel, Failure, Job, MAX_SLOTS, Mark, Slots, retry_at};
 use std::alloc::Global;
 
 /// An attempt that went out: its message, its place, whether its pass is dying, its delivery and its address.
@@ -113,8 +113,10 @@ fn reports(slots: &mut Slots, channel: Channel, slot: u8, row: Option<Sent>) -> 
 }
 
 /// The text of a note, if it has one.
-fn note_of(alloc: Global, note: Option<&[u8]>) -> Option<ByteText> {
-    ByteText::from_slice(alloc, note?).ok()
+fn note_of(alloc: Global, note: Option<&[u8]>) -> Option<Failure> {
+    let report = ByteText::from_slice(alloc, note?).ok()?;
+    let is_late = false;
+    Some(Failure { report, is_late })
 }
 
 /// A report of this slot leads to a mark.
@@ -131,10 +133,10 @@ fn owes(alloc: Global, slots: &mut Slots, channel: Channel, slot: u8, note: Opti
 }
 
 /// Whether the note is that of the row, or neither has one.
-fn is_note(found: &Option<ByteText>, row: Option<&[u8]>) -> bool {
+fn is_note(found: &Option<Failure>, row: Option<&[u8]>) -> bool {
     match (found, row) {
         (None, None) => true,
-        (Some(text), Some(note)) => text.is(note),
+        (Some(failure), Some(note)) => failure.report.is(note) && !failure.is_late,
         _ => false,
     }
 }

@@ -4,8 +4,12 @@ use Rattle.std.specs.BTreeMap.{get}
 use Rattle.scenario.specs.declared.fates.Fates.{Fates}
 use Rattle.scenario.specs.declared.fates.Spot.{Spot as KeptSpot}
 use Rattle.scenario.specs.declared.fates.Tenure.{Tenure}
-use Rattle.scenario.proofs.Lives.{enters_at, enters_nowhere, enters_one}
+use Rattle.scenario.proofs.Lives.{enters_at, enters_nowhere}
+use Rattle.scenario.proofs.Takings.{delivery_enters, note_enters}
 use Rattle.scenario.proofs.fates.Fates.enter_mark.Goals as goal
+
+pub returns-then-is_some : goal.returns-then-is_some
+returns-then-is_some c = λ books h. note_enters c.args.self.now books c.args.channel c.args.mark.now (search rules) h
 
 pub returns-in_ok-push : goal.returns-in_ok-push
 returns-in_ok-push c = λ books h.
@@ -16,7 +20,7 @@ returns-in_ok-push c = λ books h.
     let now : Tenure = record { number = was.number; mail = was.mail; delivered = c.push.new.self } in
     let new : Fates = record { living = c.get_mut.follows.lender now; over = old.over } in
     let there : get nat_cmp old.living n ≡ Some was = search rules in
-    enters_one old new books n s
+    delivery_enters old new books c.args.channel c.args.mark.now (search rules)
     (enters_at old new n s was now there ((c.get_mut.follows.holds now).3 (search rules)) (refl, refl, c.in_ok-push.ensures.items) refl)
     h
 
@@ -28,4 +32,4 @@ returns-in_default c = λ books h.
     let new : Fates = record { living = c.get_mut.follows.lender-at-none; over = old.over } in
     let stays = c.get_mut.follows.holds-at-none in
     let there : get nat_cmp old.living n ≡ None = search rules in
-    enters_one old new books n s (enters_nowhere old new n s there (λ k. ap (λ m. get nat_cmp m k) stays) refl) h
+    delivery_enters old new books c.args.channel c.args.mark.now (search rules) (enters_nowhere old new n s there (λ k. ap (λ m. get nat_cmp m k) stays) refl) h

@@ -7,10 +7,10 @@ use Rattle.scenario.proofs.fates.Fates.take_from.Goals as goal
 pub returns-clause-books : goal.returns-clause-books
 returns-clause-books c =
     on_ok_weaker c.enter.result
-    (λ enters past books takes due stands h.
+    (λ enters child past books takes due stands h.
     let old = c.args.sender.now in
     let new = c.go_on.new.sender in
     subst (AreFates c.enter.new.self)
-    (taking_is past c.args.own.now c.args.channel books old new c.len-before.result c.marks-2.result.now due takes stands (c.in_ok-go_on.ensures past due stands) (search rules) (search rules))
+    (taking_is child past c.args.own.now c.args.channel books old new c.len-before.result c.marks-2.result.now due takes stands (c.in_ok-go_on.ensures past due stands) (search rules) (search rules))
     (enters books h))
     c.enter.ensures

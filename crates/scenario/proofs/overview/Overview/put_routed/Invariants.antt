@@ -1,10 +1,12 @@
 use Rattle.std.proofs.Common.{◌≡◌, ◌++◌, map, take}
 use Rattle.queue_law.specs.Books.{Books}
 use Rattle.scenario.specs.Fates.{AreFates, IsUsed}
-use Rattle.scenario.specs.Shown.{recipient_lines, word_of}
+use Rattle.crash_fs.specs.Crash.{crash_disk}
+use Rattle.disk_numbers.specs.Records.{AreNoted}
+use Rattle.scenario.specs.Shown.{lasting, recipient_lines, word_of}
 use Rattle.scenario.specs.Viewed.{view_at}
 use Rattle.scenario.proofs.overview.Overview.put_routed.Given as goal
 
 abbrev pub invariant-loop-index : goal.invariant-loop-index
-invariant-loop-index l = (books : Books) → AreFates l.self.fates.now books → IsUsed l.number
+invariant-loop-index l = (books : Books) → AreFates l.self.fates.now books → IsUsed l.number → AreNoted (crash_disk l.self.disk.now) (lasting books l.mail l.number) l.noted
     → l.text.items ≡ l.initial.text.items ++ recipient_lines l.mail 1 (map (word_of (view_at l.self books) l.mail l.number) (take l.index l.routes))

@@ -1,0 +1,2 @@
+-- what is printed of recipients
+pub mod Printed

@@ -1,0 +1,325 @@
+-- The bounces in ledgers, as the books change.
+use Rattle.std.proofs.Common.{◌≡◌, ◌≢◌, ◌⊎◌, inl, inr, ℕ, List, [], ◌∷◌, ◌++◌, Bool, true, false, Option, Some, None, option_map, option_to_list, refl, sym, ap, ◌∙◌, subst, ⊎_elim, bytes_eq, if◌then◌else◌}
+use Rattle.address_rules.specs.declared.controls.Controls.{Controls}
+use Rattle.bounce_record.specs.declared.note_row.NoteRow.{NoteRow}
+use Rattle.bounce_record.specs.declared.note_row.NoteRow.TheVariants as written
+use Rattle.bounce_record.specs.declared.return_row.ReturnRow.{ReturnRow}
+use Rattle.bounce_record.specs.declared.return_row.ReturnRow.TheVariants as back
+use Rattle.call_fs.proofs.Maps.{put_cases}
+use Rattle.call_fs.specs.declared.calls.Answer.{Answer}
+use Rattle.call_fs.specs.declared.calls.Answer.TheVariants.{Done}
+use Rattle.call_fs.specs.declared.calls.CallData.{CallData}
+use Rattle.call_fs.specs.declared.calls.CallData.TheVariants.{Link}
+use Rattle.call_fs.specs.declared.past.GotData.{GotData}
+use Rattle.call_fs.specs.declared.past.GotData.TheVariants as got
+use Rattle.call_fs.specs.Disk.{Among}
+use Rattle.call_fs.specs.Maps.{put}
+use Rattle.queue_inject.specs.declared.injection.Arguments.{Arguments}
+use Rattle.queue_law.proofs.Looks.{mapped_some}
+use Rattle.queue_law.specs.Books.{Books, Child, HasQueued, Injection, IsInjected, IsLater, accept, begun, booked, booked_all, booked_on, entered_in, line_said, linked, notes_read, with_line}
+use Rattle.queue_law.specs.Ledgers.{Bounced, Ledger, Line, line_in}
+use Rattle.queue_law.specs.Ledgers.Line.{Delivers, Drops, Fails, Notes, Reads, Returns}
+use Rattle.queue_paths.specs.Names.{Name, parse, path}
+use Rattle.queue_paths.specs.Names.Name.{Of}
+use Rattle.queue_paths.specs.Names.Part.{Intd, Mess, Todo}
+use Rattle.send_core.specs.Booked.{booked_at, if_done, if_ok, marked_at, noted_at, reported_all, reported_by, reported_if, reported_when, returned_at}
+use Rattle.send_core.specs.declared.desk.Desk.{Desk}
+use Rattle.send_core.specs.declared.row.MarkRow.{MarkRow}
+use Rattle.send_core.specs.declared.row.MarkRow.TheVariants as mark
+use Rattle.send_core.specs.declared.row.Marked.{Marked}
+use Rattle.send_core.specs.declared.row.Row.{Row}
+use Rattle.send_core.specs.declared.row.Row.TheVariants as at
+use Rattle.send_core.specs.Desk.{link, told, with_reader}
+use Rattle.send_jobs.specs.Bookings.{Booking}
+use Rattle.send_jobs.specs.Bookings.Booking.{Dropped, Noted, ReadNotes, Reported, Returned}
+use Rattle.send_jobs.specs.declared.attempts.Attempt.{Attempt}
+use Rattle.send_jobs.specs.declared.channels.Channel.{Channel}
+use Rattle.send_jobs.specs.Failures.{is_final}
+use Rattle.send_jobs.specs.Sending.{lane}
+use Rattle.send_jobs.specs.Slots.{attempt_in}
+use Rattle.send_steps.specs.declared.reply.Way.{Way}
+use Rattle.send_steps.specs.declared.reply.Way.TheVariants as way
+use Rattle.send_steps.specs.declared.rows.FinishRow.{FinishRow}
+use Rattle.send_steps.specs.declared.rows.FinishRow.TheVariants as finish
+use Rattle.send_steps.specs.Replies.{said}
+use Rattle.spawn_protocol.specs.declared.report.Report.{Report}
+use Rattle.spawn_protocol.specs.Report.{counted, read_on}
+use Rattle.std.proofs.lemmas.Bool.Decides.{eqb_tells}
+use Rattle.std.specs.Prelude.{◌==◌}
+use Rattle.world_law.specs.Bounces.{BouncesAreQueued, IsBounceOf, IsKept, IsReturned}
+
+-- a bounce in the ledger of some message with these arguments
+abbrev HasBounce : Books → Arguments → Bounced → Type 0
+HasBounce b of x = (i : Injection) × IsKept b i × (i.args ≡ of) × Among x i.ledger.bounced
+
+-- what was accepted stays so
+abbrev pub KeepsAccepted : Books → Books → Type 0
+KeepsAccepted b c = (i : Injection) → IsInjected b i → i.accepted ≡ true → (j : Injection) × IsInjected c j × IsLater i j
+
+queued_on : (b c : Books) → KeepsAccepted b c → (a : List ℕ) (args : Arguments) → HasQueued b a args → HasQueued c a args
+queued_on b c keeps a args h =
+    let w = keeps h.0 h.1 h.4 in
+    (w.0, w.1, w.2.actor_is ∙ h.2, w.2.args_are ∙ h.3, w.2.accepted_is ∙ h.4)
+
+-- what is known of a bounce of the books
+kept_returned : (controls : Controls) (b : Books) → BouncesAreQueued controls b → (of : Arguments) (x : Bounced) → HasBounce b of x → HasQueued b x.actor x.args × IsBounceOf controls of x.notes x.args
+kept_returned controls b B of x h =
+    let w = B h.0 h.1 x h.3 in (w.accepted, subst (λ (z : Arguments). IsBounceOf controls z x.notes x.args) h.2 w.carries)
+
+put_some : (living : ℕ → Option Injection) (k n : ℕ) (o : Option Injection) (i : Injection) → put living k o n ≡ Some i → (o ≡ Some i) ⊎ (living n ≡ Some i)
+put_some living k n o i is = ⊎_elim
+    (λ (c : (n ≡ k) × (put living k o n ≡ o)). inl (sym c.1 ∙ is))
+    (λ (c : (n ≢ k) × (put living k o n ≡ living n)). inr (sym c.1 ∙ is))
+    (put_cases living k o n)
+
+-- A call of an injector
+
+begun_none : (a : List ℕ) (args : Arguments) (n : ℕ) (i : Injection) (x : Bounced) → ◌≡◌ {A = Option Injection} (Some (begun a args n)) (Some i) → Among x i.ledger.bounced → ⊥
+begun_none a args n i x e h = let same : i ≡ begun a args n = cc in subst (λ (j : Injection). Among x j.ledger.bounced) same h
+
+accepted_ledger : (a : List ℕ) (o : Option Injection) (i : Injection) → accept a o ≡ Some i → (j : Injection) × (o ≡ Some j) × (i.args ≡ j.args) × (i.ledger ≡ j.ledger)
+accepted_ledger a None i e = absurd (cc)
+accepted_ledger a (Some j) i e = let w = by (bytes_eq j.actor a) e in (j, refl, w.0, w.1)
+  where
+    by : (t : Bool) → (if t then Some (record j { accepted = true }) else Some j) ≡ Some i → (i.args ≡ j.args) × (i.ledger ≡ j.ledger)
+    by true is = let same : i ≡ record j { accepted = true } = cc in (ap (λ (k : Injection). k.args) same, ap (λ (k : Injection). k.ledger) same)
+    by false is = let same : i ≡ j = cc in (ap (λ (k : Injection). k.args) same, ap (λ (k : Injection). k.ledger) same)
+
+among_option : (o : Option Injection) (i : Injection) → Among i (option_to_list o) → o ≡ Some i
+among_option None i h = absurd h
+among_option (Some j) i h = ⊎_elim (λ (same : i ≡ j). ap Some (sym same)) (λ (none : ⊥). absurd none) h
+
+among_append : (i : Injection) (xs ys : List Injection) → Among i (xs ++ ys) → Among i xs ⊎ Among i ys
+among_append i [] ys h = inr h
+among_append i (y ∷ xs) ys h = ⊎_elim
+    (λ (e : i ≡ y). inl (inl e))
+    (λ (w : Among i (xs ++ ys)). ⊎_elim (λ (v : Among i xs). inl (inr v)) (λ (v : Among i ys). inr v) (among_append i xs ys w))
+    h
+
+module _ (b : Books) (a : List ℕ) (args of : Arguments) where
+  begun_bounces : (n : ℕ) (x : Bounced) → HasBounce (record { living = put b.living n (Some (begun a args n)); over = option_to_list (b.living n) ++ b.over }) of x → HasBounce b of x
+  begun_bounces n x h = ⊎_elim
+      (λ (w : (k : ℕ) × (put b.living n (Some (begun a args n)) k ≡ Some h.0)). ⊎_elim
+      (λ (new : Some (begun a args n) ≡ Some h.0). absurd (begun_none a args n h.0 x new h.3))
+      (λ (old : b.living w.0 ≡ Some h.0). (h.0, inl (w.0, old), h.2, h.3))
+      (put_some b.living n w.0 (Some (begun a args n)) h.0 w.1))
+      (λ (w : Among h.0 (option_to_list (b.living n) ++ b.over)). ⊎_elim
+      (λ (v : Among h.0 (option_to_list (b.living n))). (h.0, inl (n, among_option (b.living n) h.0 v), h.2, h.3))
+      (λ (v : Among h.0 b.over). (h.0, inr v, h.2, h.3))
+      (among_append h.0 (option_to_list (b.living n)) b.over w))
+      h.1
+
+  accepted_bounces : (n : ℕ) (x : Bounced) → HasBounce (record { living = put b.living n (accept a (b.living n)); over = b.over }) of x → HasBounce b of x
+  accepted_bounces n x h = ⊎_elim
+      (λ (w : (k : ℕ) × (put b.living n (accept a (b.living n)) k ≡ Some h.0)). ⊎_elim
+      (λ (new : accept a (b.living n) ≡ Some h.0).
+      let j = accepted_ledger a (b.living n) h.0 new in (j.0, inl (n, j.1), sym j.2 ∙ h.2, subst (λ (l : Ledger). Among x l.bounced) j.3 h.3))
+      (λ (old : b.living w.0 ≡ Some h.0). (h.0, inl (w.0, old), h.2, h.3))
+      (put_some b.living n w.0 (accept a (b.living n)) h.0 w.1))
+      (λ (w : Among h.0 b.over). (h.0, inr w, h.2, h.3))
+      h.1
+
+  if_bounces : (t : Bool) (c : Books) (x : Bounced) → (HasBounce c of x → HasBounce b of x) → HasBounce (if t then c else b) of x → HasBounce b of x
+  if_bounces true c x back h = back h
+  if_bounces false c x back h = h
+
+  linked_bounces : (old : List ℕ) (name : Option Name) (x : Bounced) → HasBounce (linked b a args old name) of x → HasBounce b of x
+  linked_bounces old (Some (Of Mess n)) x h = begun_bounces n x h
+  linked_bounces old (Some (Of Todo n)) x h =
+      if_bounces (bytes_eq old (path (Of Intd n))) (record { living = put b.living n (accept a (b.living n)); over = b.over }) x (accepted_bounces n x) h
+  linked_bounces old name x h = h
+
+  call_bounces : (call : CallData) (answer : Answer) (x : Bounced) → HasBounce (booked b a args call answer) of x → HasBounce b of x
+  call_bounces (Link old new) Done x h = linked_bounces old (parse new) x h
+  call_bounces call answer x h = h
+
+pub called_bounces : (controls : Controls) (b : Books) (a : List ℕ) (args : Arguments) (call : CallData) (answer : Answer) → KeepsAccepted b (booked b a args call answer)
+    → BouncesAreQueued controls b → BouncesAreQueued controls (booked b a args call answer)
+called_bounces controls b a args call answer keeps B i kept x h =
+    let w = kept_returned controls b B i.args x (call_bounces b a args i.args call answer x (i, kept, refl, h)) in
+    record { accepted = queued_on b (booked b a args call answer) keeps x.actor x.args w.0; carries = w.1 }
+
+-- What a sender enters
+
+abbrev IsLineOf : Line → Bounced → Type 0
+IsLineOf (Returns y) x = x ≡ y
+IsLineOf line x = ⊥
+
+line_bounced : (line : Line) (l : Ledger) (x : Bounced) → Among x (line_in line l).bounced → Among x l.bounced ⊎ IsLineOf line x
+line_bounced (Returns y) l x h = ⊎_elim (λ (e : x ≡ y). inr e) (λ (w : Among x l.bounced). inl w) h
+line_bounced (Delivers s) l x h = inl h
+line_bounced (Fails s) l x h = inl h
+line_bounced (Notes s) l x h = inl h
+line_bounced (Reads bytes) l x h = inl h
+line_bounced Drops l x h = inl h
+
+-- the message of that number has these arguments
+abbrev IsLiving : Books → ℕ → Arguments → Type 0
+IsLiving b n of = (i : Injection) × (b.living n ≡ Some i) × (i.args ≡ of)
+
+entered_bounces : (b : Books) (n : ℕ) (line : Line) (of : Arguments) (x : Bounced) → HasBounce (entered_in b n line) of x → HasBounce b of x ⊎ (IsLineOf line x × IsLiving b n of)
+entered_bounces b n line of x h = ⊎_elim
+    (λ (w : (k : ℕ) × (put b.living n (option_map (with_line line) (b.living n)) k ≡ Some h.0)). ⊎_elim
+    (λ (new : option_map (with_line line) (b.living n) ≡ Some h.0).
+    let j = mapped_some (with_line line) (b.living n) h.0 new in
+    let args : j.0.args ≡ of = ap (λ (i : Injection). i.args) j.2 ∙ h.2 in
+    ⊎_elim
+    (λ (old : Among x j.0.ledger.bounced). inl (j.0, inl (n, j.1), args, old))
+    (λ (it : IsLineOf line x). inr (it, (j.0, j.1, args)))
+    (line_bounced line j.0.ledger x (subst (λ (i : Injection). Among x i.ledger.bounced) (sym j.2) h.3)))
+    (λ (old : b.living w.0 ≡ Some h.0). inl (h.0, inl (w.0, old), h.2, h.3))
+    (put_some b.living n w.0 (option_map (with_line line) (b.living n)) h.0 w.1))
+    (λ (w : Among h.0 b.over). inl (h.0, inr w, h.2, h.3))
+    h.1
+
+-- the end of an injector of a bounce with 0 is among them
+abbrev IsReturn : Booking → Type 0
+IsReturn (Returned n) = Unit {0}
+IsReturn e = ⊥
+
+abbrev pub HasReturn : List Booking → Type 0
+HasReturn [] = ⊥
+HasReturn (e ∷ es) = IsReturn e ⊎ HasReturn es
+
+-- no bounce more
+no_line : (b : Books) (n : ℕ) (line : Line) (of : Arguments) (x : Bounced) → (IsLineOf line x → ⊥) → HasBounce (entered_in b n line) of x → HasBounce b of x
+no_line b n line of x none h =
+    ⊎_elim (λ (old : HasBounce b of x). old) (λ (it : IsLineOf line x × IsLiving b n of). absurd (none it.0)) (entered_bounces b n line of x h)
+
+said_none : (delivered : Bool) (c : Channel) (place : ℕ) (x : Bounced) → IsLineOf (line_said delivered (record { channel = c; place = place })) x → ⊥
+said_none true c place x h = h
+said_none false c place x h = h
+
+on_bounces : (child : Option Child) (e : Booking) (b : Books) (of : Arguments) (x : Bounced) → (IsReturn e → ⊥) → HasBounce (booked_on child e b) of x → HasBounce b of x
+on_bounces child (Reported delivered c n place) b of x none h =
+    no_line b n (line_said delivered (record { channel = c; place = place })) of x (said_none delivered c place x) h
+on_bounces child (Noted c n place) b of x none h = no_line b n (Notes (record { channel = c; place = place })) of x (λ it. it) h
+on_bounces child (ReadNotes n notes) b of x none h = no_line b n (Reads notes) of x (λ it. it) h
+on_bounces child (Dropped n) b of x none h = no_line b n Drops of x (λ it. it) h
+on_bounces child (Returned n) b of x none h = absurd (none tt)
+
+all_bounces : (child : Option Child) (es : List Booking) (b : Books) (of : Arguments) (x : Bounced) → (HasReturn es → ⊥) → HasBounce (booked_all child es b) of x → HasBounce b of x
+all_bounces child [] b of x none h = h
+all_bounces child (e ∷ es) b of x none h =
+    on_bounces child e b of x (λ it. none (inl it)) (all_bounces child es (booked_on child e b) of x (λ it. none (inr it)) h)
+
+-- The end of the child enters one.
+
+abbrev pub bounced : Child → List ℕ → Bounced
+bounced c notes = record { actor = c.actor; args = c.args; notes = notes }
+
+abbrev IsOfChild : Option Child → Books → ℕ → Arguments → Bounced → Type 0
+IsOfChild child b n of x = (c : Child) × (child ≡ Some c) × IsLiving b n of × (x ≡ bounced c (notes_read (b.living n)))
+
+returned_bounces : (child : Option Child) (b : Books) (n : ℕ) (of : Arguments) (x : Bounced) → HasBounce (booked_all child (Returned n ∷ []) b) of x → HasBounce b of x ⊎ IsOfChild child b n of x
+returned_bounces None b n of x h = inl h
+returned_bounces (Some c) b n of x h = ⊎_elim
+    (λ (old : HasBounce b of x). inl old)
+    (λ (it : (x ≡ bounced c (notes_read (b.living n))) × IsLiving b n of). inr (c, refl, it.1, it.0))
+    (entered_bounces b n (Returns (bounced c (notes_read (b.living n)))) of x h)
+
+-- Of what a sender enters nothing is a bounce, or it is one bounce alone: that of its child, which has queued it, of the message of that number
+-- with the notes that were read last.
+abbrev pub MayBook : Controls → Option Child → List Booking → Books → Type 0
+MayBook controls child es b = (HasReturn es → ⊥)
+    ⊎ ((n : ℕ) × (es ≡ Returned n ∷ []) × ((c : Child) → child ≡ Some c → (i : Injection) → b.living n ≡ Some i → IsReturned controls b i (bounced c (notes_read (b.living n)))))
+
+pub booked_bounces : (controls : Controls) (child : Option Child) (es : List Booking) (b : Books) → KeepsAccepted b (booked_all child es b) → MayBook controls child es b
+    → BouncesAreQueued controls b → BouncesAreQueued controls (booked_all child es b)
+booked_bounces controls child es b keeps may B i kept x h =
+    let it : HasQueued b x.actor x.args × IsBounceOf controls i.args x.notes x.args = ⊎_elim none one may in
+    record { accepted = queued_on b (booked_all child es b) keeps x.actor x.args it.0; carries = it.1 }
+  where
+    here : HasBounce (booked_all child es b) i.args x
+    here = (i, kept, refl, h)
+
+    none : (HasReturn es → ⊥) → HasQueued b x.actor x.args × IsBounceOf controls i.args x.notes x.args
+    none without = kept_returned controls b B i.args x (all_bounces child es b i.args x without here)
+
+    entered : (n : ℕ) → ((c : Child) → child ≡ Some c → (j : Injection) → b.living n ≡ Some j → IsReturned controls b j (bounced c (notes_read (b.living n))))
+        → IsOfChild child b n i.args x → HasQueued b x.actor x.args × IsBounceOf controls i.args x.notes x.args
+    entered n returns w =
+        let lives = w.2 in
+        let it = returns w.0 w.1 lives.0 lives.1 in
+        subst (λ (y : Bounced). HasQueued b y.actor y.args × IsBounceOf controls i.args y.notes y.args) (sym w.3)
+        (it.accepted, subst (λ (z : Arguments). IsBounceOf controls z (notes_read (b.living n)) w.0.args) lives.2 it.carries)
+
+    one : (n : ℕ) × (es ≡ Returned n ∷ []) × ((c : Child) → child ≡ Some c → (j : Injection) → b.living n ≡ Some j → IsReturned controls b j (bounced c (notes_read (b.living n))))
+        → HasQueued b x.actor x.args × IsBounceOf controls i.args x.notes x.args
+    one w = ⊎_elim
+        (λ (old : HasBounce b i.args x). kept_returned controls b B i.args x old)
+        (λ (new : IsOfChild child b w.0 i.args x). entered w.0 w.2 new)
+        (returned_bounces child b w.0 i.args x (subst (λ (z : List Booking). HasBounce (booked_all child z b) i.args x) w.1 here))
+
+-- It is entered only as that injector's end comes.
+
+if_none : (final delivered : Bool) (c : Channel) (a : Attempt) (later : List Booking) → (HasReturn later → ⊥) → HasReturn (reported_if final delivered c a later) → ⊥
+if_none true delivered c a later none h = ⊎_elim (λ (it : ⊥). it) (λ (w : HasReturn later). none w) h
+if_none false delivered c a later none h = none h
+
+by_none : (o : Option Attempt) (c : Channel) (r : Report) (later : List Booking) → (HasReturn later → ⊥) → HasReturn (reported_by o c r later) → ⊥
+by_none None c r later none h = none h
+by_none (Some a) c r later none h = if_none (is_final (counted r.letter) a.dying) (counted r.letter == 75) c a later none h
+
+all_none : (c : Channel) (rs : List Report) (d : Desk) → HasReturn (reported_all c rs d) → ⊥
+all_none c [] d h = h
+all_none c (r ∷ rs) d h = by_none (attempt_in (lane c d.slots).slots r.slot) c r (reported_all c rs (told c r d)) (all_none c rs (told c r d)) h
+
+when_none : (w : Way) (c : Channel) (bytes : List ℕ) (d : Desk) → HasReturn (reported_when w c bytes d) → ⊥
+when_none way.Fine c bytes d h = let it = read_on (link c d).reader bytes in all_none c it.0 (with_reader c it.1 d) h
+when_none w c bytes d h = h
+
+ok_none : (answer : Answer) (e : Booking) → (IsReturn e → ⊥) → HasReturn (if_ok answer e) → ⊥
+ok_none Done e none h = ⊎_elim (λ (it : IsReturn e). none it) (λ (it : ⊥). it) h
+ok_none answer e none h = h
+
+done_none : (came : GotData) (e : Booking) → (IsReturn e → ⊥) → HasReturn (if_done came e) → ⊥
+done_none (got.Answered told) e none h = ok_none told.answer e none h
+done_none came e none h = h
+
+noted_none : (row : NoteRow) (m : Marked) (came : GotData) → HasReturn (noted_at row m came) → ⊥
+noted_none (written.Sync fd) m came h = done_none came (Noted m.channel m.n m.place) (λ it. it) h
+noted_none row m came h = h
+
+marked_none : (row : MarkRow) (m : Marked) (note : NoteRow) (came : GotData) → HasReturn (marked_at row m note came) → ⊥
+marked_none mark.Noting m note came h = noted_none note m came h
+marked_none row m note came h = h
+
+-- the status is taken, and it is 0
+abbrev IsZero : ReturnRow → ℕ → List ℕ → GotData → Type 0
+IsZero row n notes came = (pid : ℕ) × (row ≡ back.Await pid) × (came ≡ got.Ended 0) × (returned_at row n notes came ≡ Returned n ∷ [])
+
+zero_alone : (pid n : ℕ) (notes : List ℕ) (came : GotData) → (HasReturn (returned_at (back.Await pid) n notes came) → ⊥) ⊎ IsZero (back.Await pid) n notes came
+zero_alone pid n notes (got.Ended status) = ⊎_elim
+    (λ (w : ((status == 0) ≡ true) × (status ≡ 0)). inr (pid, refl, ap got.Ended w.1, ap (λ (t : Bool). if t then Returned n ∷ [] else []) w.0))
+    (λ (w : ((status == 0) ≡ false) × (status ≢ 0)). inl (λ h. subst (λ (t : Bool). HasReturn (if t then Returned n ∷ [] else [])) w.0 h))
+    (eqb_tells status 0)
+zero_alone pid n notes came = inl (λ h. h)
+
+return_alone : (row : ReturnRow) (n : ℕ) (notes : List ℕ) (came : GotData) → (HasReturn (returned_at row n notes came) → ⊥) ⊎ IsZero row n notes came
+return_alone (back.CloseNotes fd) n notes came = inl (λ h. ⊎_elim (λ (it : ⊥). it) (λ (it : ⊥). it) h)
+return_alone (back.Await pid) n notes came = zero_alone pid n notes came
+return_alone back.Discard n notes came = inl (λ h. done_none came (Dropped n) (λ it. it) h)
+return_alone row n notes came = inl (λ h. h)
+
+-- A bounce is entered alone, as the status of its injector is taken, which is 0.
+pub record IsStatusTaken (row : Row) (came : GotData) (d : Desk) : Type 0 where
+  pub n : ℕ
+  pub pid : ℕ
+  pub row_is : row ≡ at.Finish finish.Return n
+  pub awaits : d.bounce.row ≡ back.Await pid
+  pub zero : came ≡ got.Ended 0
+  pub alone : booked_at row came d ≡ Returned n ∷ []
+
+finished_alone : (row : FinishRow) (n : ℕ) (came : GotData) (d : Desk) → (HasReturn (booked_at (at.Finish row n) came d) → ⊥) ⊎ IsStatusTaken (at.Finish row n) came d
+finished_alone finish.Return n came d = ⊎_elim
+    (λ (none : HasReturn (returned_at d.bounce.row n d.bounce.notes came) → ⊥). inl none)
+    (λ (w : IsZero d.bounce.row n d.bounce.notes came). inr (record { n = n; pid = w.0; row_is = refl; awaits = w.1; zero = w.2; alone = w.3 }))
+    (return_alone d.bounce.row n d.bounce.notes came)
+finished_alone row n came d = inl (λ h. h)
+
+pub returns_alone : (row : Row) (came : GotData) (d : Desk) → (HasReturn (booked_at row came d) → ⊥) ⊎ IsStatusTaken row came d
+returns_alone (at.TakeLink c) came d = inl (λ h. when_none (said came).way c (said came).bytes d h)
+returns_alone (at.Mark row m) came d = inl (λ h. marked_none row m d.note.row came h)
+returns_alone (at.Finish row n) came d = finished_alone row n came d
+returns_alone row came d = inl (λ h. h)
