@@ -10,11 +10,17 @@ use Rattle.mail_bytes.specs.Moments.{IsMoment}
 use Rattle.queue_inject.specs.declared.injection.Arguments.{Arguments}
 use Rattle.queue_law.specs.Accounts.{Accounted}
 use Rattle.queue_law.specs.Accounts.Accounted.{Returned}
+use Rattle.queue_law.specs.Books.{IsValid}
 use Rattle.queue_law.specs.Notes.{told_name}
 use Rattle.queue_law.specs.Numbers.{Queue}
+use Rattle.queue_law.specs.Routes.{lane_part}
+use Rattle.queue_law.proofs.Looks.{not_found}
+use Rattle.queue_paths.specs.Names.{path}
+use Rattle.queue_paths.specs.Names.Name.{Of}
 use Rattle.send_core.specs.Table.{desk_after, due_at, port_of, row_now}
 use Rattle.send_jobs.specs.declared.channels.Channel.{Channel}
 use Rattle.sender_law.specs.Control.{AreControls}
+use Rattle.sender_law.proofs.Arrive.{arrived}
 use Rattle.sender_law.proofs.Asking.{requests_are_texts}
 use Rattle.world_events.specs.declared.event.Event.{Event as Kept}
 use Rattle.world_events.specs.declared.event.Program.{Program}
@@ -25,12 +31,14 @@ use Rattle.mail_world.specs.History.Life.{Alive}
 use Rattle.mail_world.specs.Untouched.{queue}
 use Rattle.mail_world.specs.World.{IsHistory}
 use Rattle.mail_world.proofs.Waiting.{legal_before}
-use Rattle.world_law.specs.Bounces.{BouncesAreAccepted, IsBounceOf, IsByBounce, IsNamedInBounce, ReturnedRecipientsAreNamed}
+use Rattle.world_law.specs.Bounces.{BouncesAreAccepted, BouncesAreReadLast, IsAddressed, IsBounceOf, IsByBounce, IsNamedInBounce, ReturnedRecipientsAreNamed}
 use Rattle.world_law.specs.Fares.{FaresBy, SenderFares}
 use Rattle.world_law.specs.Headline.{AttemptsAreSound, EachSafe, Headline, IsAttempt, WorldsAreSafe}
 use Rattle.world_law.specs.Inv.{Inv}
 use Rattle.world_law.specs.Laws.{Always, IsKeptBy}
 use Rattle.world_law.proofs.Begins.{inv_begins}
+use Rattle.world_law.proofs.BounceEnvelopes.{bounce_addressed, not_double}
+use Rattle.world_law.proofs.BouncesLast.{channels_are_gone, opening}
 use Rattle.world_law.proofs.Children.{children_keep}
 use Rattle.world_law.proofs.Cleaning.{cleaners_keep}
 use Rattle.world_law.proofs.Gone.{ends_keep, stops_keep}
@@ -123,23 +131,50 @@ attempts_are_sound controls d a own wrote before has legal x is start program ch
     (attempted controls (after d before) (always controls d before has legal.0) a own wrote may start (ap (λ (y : Actor). y.program) same ∙ program) ch text given)
 
 pub bounces_are_accepted : BouncesAreAccepted
-bounces_are_accepted controls d before has legal i h = (always controls d before has legal).bounces i (⊎_elim
+bounces_are_accepted controls d before has legal i h x among =
+    let returned = (always controls d before has legal).bounces i (⊎_elim
     (λ (lives : (after d before).books.living i.number ≡ Some i). inl (i.number, lives))
     (λ (over : Among i (after d before).books.over). inr over)
-    h)
+    h) x among in
+    let valid = (headline controls d [] before has legal).valid returned.accepted.0 returned.accepted.1 returned.accepted.4 in
+    (returned, bounce_addressed controls has.no_nul i.args x.notes x.args (subst IsValid returned.accepted.3 valid) returned.carries)
 
 pub returned_recipients_are_named : ReturnedRecipientsAreNamed
 returned_recipients_are_named controls d before has legal i here r account says = by account says where
   by : (it : Accounted controls (after d before).disk (after d before).books i r) → IsByBounce it → IsNamedInBounce controls (after d before).books i (told_name controls r.address)
   by (Returned failed x bounced read named) says =
       let w = bounces_are_accepted controls d before has legal i here x bounced in
+      let it = subst (λ (z : Arguments). (carries : IsBounceOf controls i.args x.notes z) × IsAddressed carries.bounce z) (sym w.0.accepted.3) (w.0.carries, w.1) in
       record {
         notes = x.notes;
         read = read;
         named = named;
-        bounce = w.accepted.0;
-        injected = w.accepted.1;
-        accepted = w.accepted.4;
-        carries = subst (λ (z : Arguments). IsBounceOf controls i.args x.notes z) (sym w.accepted.3) w.carries;
+        bounce = w.0.accepted.0;
+        injected = w.0.accepted.1;
+        accepted = w.0.accepted.4;
+        carries = it.0;
+        addressed = it.1;
+        single = not_double controls i.args x.notes x.args w.0.carries;
       }
   by other says = absurd says
+
+-- Bounces are read last
+
+module _ (controls : Controls) (s : State) (I : Inv controls s) (a : List ℕ) (own : Own) (wrote : ℕ) (may : MayDo s a own wrote) (start : ℕ) (is : may.actor.program ≡ Sender start) where
+  read_last : (n : ℕ) → own.due ≡ opening n → (ch : Channel) → s.disk.names (path (Of (lane_part ch) n)) ≡ None
+  read_last n due ch =
+      let x = may.actor in
+      let q = queue s I.role in
+      let F = sender_fares controls s.now q a x.program x.past x.life start is may.reads.alive (I.fares a x may.reads.is) in
+      let d = desk_after None x.past in
+      let soon = may.reads.no_later in
+      let moment : IsMoment own.read = (let m = I.moment in omega (arith, m, soon)) in
+      let at_row = arrived controls s.now own.read q a soon moment d own.ready F.stands in
+      not_found q.disk.names q.disk.files (Of (lane_part ch) n)
+      (channels_are_gone controls s.now q a d n (row_now d own.read own.ready) at_row (due_of x.program x.past own.read own.ready start (opening n) is (may.due ∙ due)) ch)
+
+pub bounces_are_read_last : BouncesAreReadLast
+bounces_are_read_last controls d a own wrote before has legal x is start program n due ch =
+    let may = legal.1 in
+    let same : may.actor ≡ x = same_actor may.actor x (sym may.reads.is ∙ is) in
+    read_last controls (after d before) (always controls d before has legal.0) a own wrote may start (ap (λ (y : Actor). y.program) same ∙ program) n due ch

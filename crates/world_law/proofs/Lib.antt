@@ -10,8 +10,14 @@ pub mod Tenants
 pub mod Gone
 -- the bounces in ledgers
 pub mod Bounces
+-- texts that end at a mark
+pub mod Marks
 -- what a child is given
 pub mod Inputs
+-- what the envelope of a bounce is read as
+pub mod BounceEnvelopes
+-- when a bounce file is opened to be returned
+pub mod BouncesLast
 -- one actor that moves
 pub mod Moved
 -- the start of an injector and of a generation

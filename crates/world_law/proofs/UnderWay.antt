@@ -1,5 +1,5 @@
 -- A command is under way at a living cleaner only where its number rests.
-use Rattle.std.proofs.Common.{◌≡◌, ◌⊎◌, inl, inr, ℕ, List, true, Option, Some, None, refl, sym, subst, ⊎_elim, codes}
+use Rattle.std.proofs.Common.{◌≡◌, inl, inr, ℕ, List, true, Option, Some, None, refl, sym, subst, ⊎_elim, codes}
 use Rattle.address_rules.specs.declared.controls.Controls.{Controls}
 use Rattle.call_fs.specs.Disk.{Among}
 use Rattle.call_fs.specs.declared.past.Own.{Own}

@@ -1,5 +1,5 @@
 // Laws of the whole system. Each is the contract of a function that does nothing.
-ghost use Rattle.world_law.specs.Bounces.{BouncesAreAccepted, ReturnedRecipientsAreNamed};
+ghost use Rattle.world_law.specs.Bounces.{BouncesAreAccepted, BouncesAreReadLast, ReturnedRecipientsAreNamed};
 ghost use Rattle.world_law.specs.Headline.{AttemptsAreSound, Headline, SafeWithoutGenerations, WorldsAreSafe};
 ghost use Rattle.world_law.specs.Leaves.{EventsLeave};
 ghost use Rattle.world_law.specs.Laws.{Always, ChildrenKeep, CleanersKeep, EndsKeep, GenerationsKeep, HaltsKeep, InjectorsKeep, InvBegins, InvIsSafe, LocalsKeep, MomentsKeep, RemotesKeep, ReportsKeep, SendersKeep, StartsKeep, StopsKeep};
@@ -109,7 +109,7 @@ pub fn commands_rest()
 {}
 
 /// Each bounce that a sender entered in the ledger of a message was accepted: its injector has an accepted injection, which is that of the
-/// bounce of the message with the notes that the ledger tells.
+/// bounce of the message with the notes that the ledger tells, from its sender and to its recipient alone.
 pub fn bounces_are_accepted()
     ensures { BouncesAreAccepted }
 {}
@@ -117,4 +117,9 @@ pub fn bounces_are_accepted()
 /// The name of each recipient that is accounted for as returned stands in a bounce that was accepted, often enough.
 pub fn returned_recipients_are_named()
     ensures { ReturnedRecipientsAreNamed }
+{}
+
+/// A sender opens a bounce file to return what it holds only where no channel file of that message is left.
+pub fn bounces_are_read_last()
+    ensures { BouncesAreReadLast }
 {}

@@ -7,9 +7,10 @@ mod laws;
 mod worlds;
 
 pub use laws::{
-    always, attempts_are_sound, bounces_are_accepted, children_keep, cleaners_keep, commands_rest,
-    events_leave, halts_keep, headline, injectors_keep, inv_begins, inv_is_safe, locals_keep,
-    moments_keep, remotes_keep, reports_keep, returned_recipients_are_named,
-    safe_without_generations, senders_keep, starts_keep, stops_keep, worlds_are_safe,
+    always, attempts_are_sound, bounces_are_accepted, bounces_are_read_last, children_keep,
+    cleaners_keep, commands_rest, events_leave, halts_keep, headline, injectors_keep, inv_begins,
+    inv_is_safe, locals_keep, moments_keep, remotes_keep, reports_keep,
+    returned_recipients_are_named, safe_without_generations, senders_keep, starts_keep, stops_keep,
+    worlds_are_safe,
 };
 pub use worlds::each_world_is_safe;
