@@ -2,5 +2,6 @@
 mod events;
 mod halted;
 mod playing;
+mod returned;
 mod stages;
 mod stopped;

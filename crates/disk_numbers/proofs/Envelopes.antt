@@ -3,7 +3,6 @@ use Rattle.std.proofs.Common.{◌≡◌, ◌⊎◌, ℕ, ◌+◌, ◌<◌, ◌�
 use Rattle.std.specs.Prelude.{if◌then◌else◌}
 use Rattle.std.proofs.lemmas.List.{take_more, take_all, take-append-drop, take_min}
 use Rattle.mail_bytes.specs.Lists.{last_of}
-use Rattle.queue_inject.specs.declared.injection.Arguments.{Arguments}
 use Rattle.envelope_records.specs.declared.envelope.EnvFault.{EnvFault}
 use Rattle.envelope_records.specs.declared.envelope.EnvFault.TheVariants.{TooLong, Format}
 use Rattle.envelope_records.specs.declared.envelope.EnvStep.{EnvStep}
@@ -12,7 +11,8 @@ use Rattle.envelope_records.specs.Envelope.{Stage, Step, Reading, step, in_addre
 use Rattle.envelope_records.specs.Envelope.Stage.{Begin, InSender, Between, InRecipient}
 use Rattle.envelope_records.specs.Envelope.Step.{Goes, Ends, Fails}
 use Rattle.envelope_records.specs.Envelope.Reading.{Whole, Open, Broken}
-use Rattle.queue_inject.specs.Texts.{limit, recipients_read, recipients_of}
+use Rattle.queue_inject.specs.Texts.{limit, recipients_read}
+use Rattle.disk_numbers.specs.Routes.{recipients_in}
 use Rattle.envelope_records.proofs.Envelopes.{read_envelope-append}
 
 -- the recipients that have ended so far
@@ -141,8 +141,6 @@ pub held_none : (P : List (List ℕ) → Type 0) (bytes : List ℕ) (i : ℕ) �
 held_none P bytes i past h = ap (λ l. recipients_read (read_envelope l)) (sym (take_all i bytes past)) ∙ none_read P (read_envelope (take i bytes)) h
 
 -- the bytes within the limit
-pub recipients_within : (args : Arguments) (bytes : List ℕ) (k : ℕ) → bytes ≡ take k args.envelope → k ≡ min limit (length args.envelope)
-    → recipients_read (read_envelope bytes) ≡ recipients_of args
-unfolding recipients_of
-recipients_within args bytes k is within =
-    ap (λ l. recipients_read (read_envelope l)) (is ∙ ap (λ k. take k args.envelope) within ∙ take_min limit args.envelope)
+pub recipients_within : (envelope bytes : List ℕ) (k : ℕ) → bytes ≡ take k envelope → k ≡ min limit (length envelope) → recipients_read (read_envelope bytes) ≡ recipients_in envelope
+recipients_within envelope bytes k is within =
+    ap (λ l. recipients_read (read_envelope l)) (is ∙ ap (λ k. take k envelope) within ∙ take_min limit envelope)

@@ -1,10 +1,11 @@
 -- Where the record of each recipient of a mail stands once it is preprocessed.
-use Rattle.std.specs.Prelude.{◌≡◌, ℕ, List, [], ◌∷◌, ◌++◌}
+use Rattle.std.specs.Prelude.{◌≡◌, ℕ, List, [], ◌∷◌, ◌++◌, take}
 use Rattle.address_rules.specs.declared.controls.Controls.{Controls}
 use Rattle.address_rules.specs.Names.{stripped}
 use Rattle.address_rules.specs.Routes.{address_in, route_of}
 use Rattle.bounce_record.specs.Notes.{note_name}
-use Rattle.envelope_records.specs.Envelope.{record_of}
+use Rattle.envelope_records.specs.Envelope.{read_envelope, record_of}
+use Rattle.queue_inject.specs.Texts.{limit, recipients_read}
 use Rattle.queue_law.specs.Routes.{channel_of}
 use Rattle.send_jobs.specs.declared.channels.Channel.{Channel}
 use Rattle.todo_pass.specs.Places.{place_by}
@@ -26,6 +27,10 @@ routed_after controls earlier address =
 abbrev pub routes_after : Controls → List (List ℕ) → List (List ℕ) → List Routed
 routes_after controls earlier [] = []
 routes_after controls earlier (address ∷ later) = routed_after controls earlier address ∷ routes_after controls (earlier ++ address ∷ []) later
+
+-- the recipients of an envelope that can be accepted
+abbrev pub recipients_in : List ℕ → List (List ℕ)
+recipients_in envelope = recipients_read (read_envelope (take limit envelope))
 
 -- those of all recipients, in the order of the envelope
 abbrev pub routes_in : Controls → List (List ℕ) → List Routed

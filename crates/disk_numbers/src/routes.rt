@@ -1,14 +1,12 @@
 // Where the record of each recipient of a mail stands.
 ghost use Rattle.std.specs.Prelude.{◌≡◌, ◌++◌, ◌∷◌, [], List, ℕ, IfOk, OnOk, length};
 ghost use Rattle.envelope_records.specs.Envelope.{record_of};
-ghost use Rattle.queue_inject.specs.Texts.{recipients_of};
-ghost use Rattle.disk_numbers.specs.Routes.{AreLanes, put_there, routes_in};
+ghost use Rattle.disk_numbers.specs.Routes.{AreLanes, put_there, recipients_in, routes_in};
 
 use address_rules::{Controls, Route, rewrite, strip_prefix};
 use bounce_record::note_name;
 use envelope_records::{EnvStep, EnvelopeReader};
 use mail_bytes::{ByteText, Memory};
-use queue_inject::Arguments;
 use queue_limits::MOST_BYTES;
 use send_jobs::Channel;
 use std::alloc::Global;
@@ -26,17 +24,12 @@ pub struct Routed {
     pub name: ByteText,
 }
 
-/// Where the record of each recipient of a mail stands once it is preprocessed under these control files (INTERNALS, "How
-/// messages are preprocessed"), in the order of the envelope. A mail whose envelope doesn't end within the limit has no
-/// recipients.
-pub fn routes_of(
-    alloc: Global,
-    controls: &Controls,
-    arguments: &Arguments,
-) -> Result<Vec<Routed>, Memory>
-    ensures { IfOk result (λ routes. routes.items ≡ routes_in controls.now (recipients_of arguments.now)) }
+/// Where the record of each recipient of a mail with this envelope stands once it is preprocessed under these control files
+/// (INTERNALS, "How messages are preprocessed"), in the order of the envelope. A mail whose envelope doesn't end within the limit
+/// has no recipients.
+pub fn routes_of(alloc: Global, controls: &Controls, envelope: &[u8]) -> Result<Vec<Routed>, Memory>
+    ensures { IfOk result (λ routes. routes.items ≡ routes_in controls.now (recipients_in envelope.now)) }
 {
-    let envelope = arguments.envelope.as_slice();
     let read = &envelope[..MOST_BYTES.min(envelope.len())];
     let mut reader = EnvelopeReader::new();
     let mut lanes = Lanes::new(alloc);

@@ -23,14 +23,17 @@ use Rattle.mail_world.specs.History.{State, Actor, Life, next_of, start_of, acte
 use Rattle.mail_world.specs.History.Event.{Start}
 use Rattle.mail_world.specs.History.Life.{Alive, Over, Stopped}
 use Rattle.mail_world.specs.World.{span_of, ends, starts, starts_in}
-use Rattle.mail_world.specs.ByKind.{Follows}
+use Rattle.mail_world.specs.ByKind.{Follows, awaits_of}
 use Rattle.mail_world.specs.Wired.{seat}
-use Rattle.mail_world.specs.Inside.{event_of, RunsAt, unowed, StandsFor, span_by, IsMember, IsStranger, is_by}
+use Rattle.mail_world.specs.Readiness.{is_awaiting}
+use Rattle.world_events.specs.Inputs.{own_in}
+use Rattle.mail_world.specs.Inside.{event_of, RunsAt, unowed, StandsFor, span_by, life_by, IsMember, IsStranger, is_by}
+use Rattle.mail_world.proofs.Known.{IsPlain}
 use Rattle.mail_world.specs.Acting.{IsOwed}
 use Rattle.call_fs.proofs.Maps.{put_same, put_other, put_at_same, put_at_other}
 use Rattle.queue_law.proofs.Tests.{same_text, other_text}
 use Rattle.mail_world.proofs.Spans.{span_push, span_stays, span_begins, span_ends}
-use Rattle.mail_world.proofs.Crew.{ActsAlone, StartsAlone}
+use Rattle.mail_world.proofs.Crew.{ActsAlone, StartsAlone, life_same}
 use Rattle.mail_world.proofs.Lists.{get_last}
 
 -- the descriptors of others
@@ -98,8 +101,10 @@ kept_on a b (Some c) apart = elim (bytes_eq c a) as (λ t. bytes_eq c a ≡ t �
   | false ↦ λ e. refl
 ] refl
 
--- with this kept event that actor's life becomes this one
-pub record Finishes (a : List ℕ) (k : Kept) (life : Life) : Type 0 where
+-- with this kept event that actor's life becomes this one, and this is its exit status
+pub record Finishes (a : List ℕ) (k : Kept) (life : Life) (status : Option ℕ) : Type 0 where
+  pub plain : IsPlain k
+  pub lives : (at : ℕ) → life ≡ life_by (Some at) status
   pub happens : (s : State) → happens s (event_of k) ≡ finished s a life (s.actors a)
   pub none_starts : starts_in k ≡ 0
   pub nobody_starts : (b : List ℕ) → starts b k ≡ false
@@ -107,16 +112,16 @@ pub record Finishes (a : List ℕ) (k : Kept) (life : Life) : Type 0 where
   pub alone : (b : List ℕ) → b ≢ a → ends b k ≡ false
   pub dead : life ≢ Alive
 
-pub end_finishes : (a : List ℕ) (p : ℕ) (ready : Ready) (status : ℕ) → Finishes a (kept.End a p ready status) (Over status)
+pub end_finishes : (a : List ℕ) (p : ℕ) (ready : Ready) (status : ℕ) → Finishes a (kept.End a p ready status) (Over status) (Some status)
 end_finishes a p ready status =
-    record { happens = λ s. refl; none_starts = refl; nobody_starts = λ b. refl; mine = same_text a; alone = λ b apart. other_text a b (λ e. apart (sym e)); dead = λ e. cc }
+    record { plain = tt; lives = λ at. refl; happens = λ s. refl; none_starts = refl; nobody_starts = λ b. refl; mine = same_text a; alone = λ b apart. other_text a b (λ e. apart (sym e)); dead = λ e. cc }
 
-pub stop_finishes : (a : List ℕ) → Finishes a (kept.Stop a) Stopped
-stop_finishes a = record { happens = λ s. refl; none_starts = refl; nobody_starts = λ b. refl; mine = same_text a; alone = λ b apart. other_text a b (λ e. apart (sym e)); dead = λ e. cc }
+pub stop_finishes : (a : List ℕ) → Finishes a (kept.Stop a) Stopped None
+stop_finishes a = record { plain = tt; lives = λ at. refl; happens = λ s. refl; none_starts = refl; nobody_starts = λ b. refl; mine = same_text a; alone = λ b apart. other_text a b (λ e. apart (sym e)); dead = λ e. cc }
 
 -- and so is an end or a stop
-pub finish_alone : (s : State) (a : List ℕ) (x : Actor) (k : Kept) (life : Life) → Finishes a k life → ActsAlone a s (finished s a life (Some x)) k
-finish_alone s a x k life f = record {
+pub finish_alone : (s : State) (a : List ℕ) (x : Actor) (k : Kept) (life : Life) (status : Option ℕ) → Finishes a k life status → ActsAlone a s (finished s a life (Some x)) k
+finish_alone s a x k life status f = record {
   actors = λ b apart. put_at_other s.actors a _ b apart;
   holder = λ b apart fd was. kept_on a b (s.holder fd) apart ∙ was;
   no_start = λ b apart. f.nobody_starts b;
@@ -132,23 +137,25 @@ start_alone s a program = record {
 }
 
 -- the actor that did something
-pub own_member : (s : State) (events : List Kept) (p : ℕ) (x y : Held) (own : Own) (m : IsMember s events p x)
-    → x.ended ≡ None → y.name ≡ x.name → y.ended ≡ x.ended → own.read ≡ p
+pub own_member : (s t : State) (events : List Kept) (p : ℕ) (x y : Held) (own : Own) (k : Kept) (m : IsMember s events p x)
+    → own_in k ≡ Some own → starts x.name k ≡ false → ends x.name k ≡ false
+    → t.actors x.name ≡ Some (record { program = m.actor.program; past = own ∷ m.actor.past; life = m.actor.life })
+    → x.ended ≡ None → y.name ≡ x.name → y.ended ≡ x.ended → y.status ≡ x.status → awaits_of y.machine ≡ is_awaiting t x.name → own.read ≡ p
     → next_of m.actor.program m.actor.past own.read own.ready ≡ own.due → MayCome own.due own.came
     → StandsFor y m.actor.program (own ∷ m.actor.past) → ((at : ℕ) → y.owed ≡ Some at → IsOwed y own (length events) at)
-    → IsMember (acted s x.name own 0 (Some m.actor)) (events ++ kept.Act x.name own ∷ []) p y
-own_member s events p x y own m alive name ended read due may follows owes =
-    let k : Kept = kept.Act x.name own in
-    let t = acted s x.name own 0 (Some m.actor) in
+    → IsMember t (events ++ k ∷ []) p y
+own_member s t events p x y own k m mine no_start no_end now alive name ended status awaits read due may follows owes =
     record {
       actor = record { program = m.actor.program; past = own ∷ m.actor.past; life = m.actor.life };
-      is = ap t.actors name ∙ put_at_same s.actors x.name _;
+      is = ap t.actors name ∙ now;
       follows = λ e. follows;
       owes = λ e at is. let o = owes at is in record {
         own = own;
         before = m.actor.past;
         newest = refl;
-        there = ap (slice_get (events ++ k ∷ [])) o.here ∙ get_last events k ∙ ap (λ (a : List ℕ). Some (kept.Act a own)) (sym name);
+        event = k;
+        there = ap (slice_get (events ++ k ∷ [])) o.here ∙ get_last events k;
+        is = mine;
         read = o.read;
         found = o.found;
         looked = o.looked;
@@ -159,17 +166,18 @@ own_member s events p x y own m alive name ended read due may follows owes =
       runs = subst (λ (a : List ℕ). RunsAt (seat a) m.actor.program) (sym name) m.runs;
       run = (m.run, (due, may));
       in_order = omega (arith, read);
-      alive = λ e. m.alive alive;
-      spans = ap (λ (a : List ℕ). span_of a (reverse (events ++ k ∷ []))) name ∙ span_stays events k x.name refl refl ∙ m.spans ∙ ap span_by (sym ended);
+      life = m.life ∙ life_same x.ended y.ended x.status y.status ended status;
+      unended = λ e. status ∙ m.unended alive;
+      awaits = λ e. awaits ∙ sym (ap (is_awaiting t) name);
+      spans = ap (λ (a : List ℕ). span_of a (reverse (events ++ k ∷ []))) name ∙ span_stays events k x.name no_start no_end ∙ m.spans ∙ ap span_by (sym ended);
       closed = λ at e. let both : ◌≡◌ {A = Option ℕ} None (Some at) = sym (ended ∙ alive) ∙ e in absurd (cc);
-      dead = λ at e. let both : ◌≡◌ {A = Option ℕ} None (Some at) = sym (ended ∙ alive) ∙ e in absurd (cc);
     }
 
 -- the actor that ended or was stopped
-pub finish_member : (s : State) (events : List Kept) (p : ℕ) (x y : Held) (k : Kept) (life : Life) (m : IsMember s events p x) → Finishes x.name k life
-    → x.ended ≡ None → y.name ≡ x.name → y.ended ≡ Some (length events) → y.descriptors.items ≡ []
+pub finish_member : (s : State) (events : List Kept) (p : ℕ) (x y : Held) (k : Kept) (life : Life) (status : Option ℕ) (m : IsMember s events p x) → Finishes x.name k life status
+    → x.ended ≡ None → y.name ≡ x.name → y.ended ≡ Some (length events) → y.status ≡ status → y.descriptors.items ≡ []
     → IsMember (finished s x.name life (Some m.actor)) (events ++ k ∷ []) p y
-finish_member s events p x y k life m f alive name ended none =
+finish_member s events p x y k life status m f alive name ended status_is none =
     let t = finished s x.name life (Some m.actor) in
     record {
       actor = record { program = m.actor.program; past = m.actor.past; life = life };
@@ -179,18 +187,19 @@ finish_member s events p x y k life m f alive name ended none =
       runs = subst (λ (a : List ℕ). RunsAt (seat a) m.actor.program) (sym name) m.runs;
       run = m.run;
       in_order = m.in_order;
-      alive = λ e. let both : ◌≡◌ {A = Option ℕ} None (Some (length events)) = sym e ∙ ended in absurd (cc);
+      life = f.lives (length events) ∙ life_same (Some (length events)) y.ended status y.status ended status_is;
+      unended = λ e. let both : ◌≡◌ {A = Option ℕ} None (Some (length events)) = sym e ∙ ended in absurd (cc);
+      awaits = λ e. let both : ◌≡◌ {A = Option ℕ} None (Some (length events)) = sym e ∙ ended in absurd (cc);
       closed = λ at e. none;
-      dead = λ at e. f.dead;
       spans = ap (λ (a : List ℕ). span_of a (reverse (events ++ k ∷ []))) name ∙ span_push events k x.name
           ∙ span_ends x.name k (length events) (span_of x.name (reverse events)) (m.spans ∙ ap span_by alive) f.mine ∙ ap span_by (sym ended);
     }
 
 -- a new actor
 pub start_member : (s : State) (events : List Kept) (p : ℕ) (y : Held) (a : List ℕ) (program : Program) → RunsAt (seat a) program
-    → IsStranger s events a → y.name ≡ a → y.ended ≡ None → y.owed ≡ None → Follows y.machine program [] → start_of program ≡ p
+    → IsStranger s events a → y.name ≡ a → y.ended ≡ None → y.status ≡ None → y.owed ≡ None → Follows y.machine program [] → awaits_of y.machine ≡ is_awaiting s a → start_of program ≡ p
     → IsMember (happens s (Start a program)) (events ++ kept.Start a program ∷ []) p y
-start_member s events p y a program runs stranger name ended paid follows now =
+start_member s events p y a program runs stranger name ended status paid follows awaits now =
     let k : Kept = kept.Start a program in
     let t = happens s (Start a program) in
     record {
@@ -201,17 +210,19 @@ start_member s events p y a program runs stranger name ended paid follows now =
       runs = subst (λ (a : List ℕ). RunsAt (seat a) program) (sym name) runs;
       run = tt;
       closed = λ at e. let both : ◌≡◌ {A = Option ℕ} None (Some at) = sym ended ∙ e in absurd (cc);
-      dead = λ at e. let both : ◌≡◌ {A = Option ℕ} None (Some at) = sym ended ∙ e in absurd (cc);
       in_order = omega arith;
-      alive = λ e. refl;
+      life = sym (ap (λ (o : Option ℕ). life_by o y.status) ended);
+      unended = λ e. status;
+      awaits = λ e. awaits ∙ sym (ap (is_awaiting t) name);
       spans = ap (λ (a : List ℕ). span_of a (reverse (events ++ k ∷ []))) name ∙ span_push events k a
           ∙ span_begins a k (length events) (span_of a (reverse events)) stranger.unborn (same_text a) ∙ ap span_by (sym ended);
     }
 
 -- a machine that looked, and owes nothing, stands as before
 pub look_member : (s : State) (events : List Kept) (p : ℕ) (x y : Held) (m : IsMember s events p x)
-    → x.ended ≡ None → y.name ≡ x.name → y.ended ≡ x.ended → y.owed ≡ None → Follows y.machine m.actor.program m.actor.past → IsMember s events p y
-look_member s events p x y m alive name ended paid follows = record {
+    → x.ended ≡ None → y.name ≡ x.name → y.ended ≡ x.ended → y.status ≡ x.status → awaits_of y.machine ≡ awaits_of x.machine → y.owed ≡ None
+    → Follows y.machine m.actor.program m.actor.past → IsMember s events p y
+look_member s events p x y m alive name ended status awaits paid follows = record {
   actor = m.actor;
   is = ap s.actors name ∙ m.is;
   follows = λ e. subst (λ (o : Option ℕ). Follows y.machine m.actor.program (unowed o m.actor.past)) (sym paid) follows;
@@ -219,8 +230,9 @@ look_member s events p x y m alive name ended paid follows = record {
   runs = subst (λ (a : List ℕ). RunsAt (seat a) m.actor.program) (sym name) m.runs;
   run = m.run;
   in_order = m.in_order;
-  alive = λ e. m.alive (sym ended ∙ e);
+  life = m.life ∙ life_same x.ended y.ended x.status y.status ended status;
+  unended = λ e. status ∙ m.unended (sym ended ∙ e);
+  awaits = λ e. awaits ∙ m.awaits alive ∙ sym (ap (is_awaiting s) name);
   spans = ap (λ (a : List ℕ). span_of a (reverse events)) name ∙ m.spans ∙ ap span_by (sym ended);
   closed = λ at e. let both : ◌≡◌ {A = Option ℕ} None (Some at) = sym (ended ∙ alive) ∙ e in absurd (cc);
-  dead = λ at e. let both : ◌≡◌ {A = Option ℕ} None (Some at) = sym (ended ∙ alive) ∙ e in absurd (cc);
 }

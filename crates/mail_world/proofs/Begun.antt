@@ -7,35 +7,43 @@ use Rattle.world_events.specs.declared.event.Event.{Event as Kept}
 use Rattle.world_events.specs.declared.event.Event.TheVariants as kept
 use Rattle.world_events.specs.declared.event.Program.{Program}
 use Rattle.world_events.specs.declared.event.Program.TheVariants.{Injector, Cleaner, Sender, LocalSpawner, RemoteSpawner}
+use Rattle.call_fs.specs.declared.past.Own.{Own}
+use Rattle.call_fs.specs.declared.program.Port.TheVariants as port
 use Rattle.world_pipes.specs.declared.mouths.Mouths.{Mouths}
 use Rattle.mail_world.specs.declared.actor.Actor.{Actor as Held}
-use Rattle.mail_world.specs.Pipework.{is_member}
+use Rattle.mail_world.specs.declared.any_machine.AnyMachine.{AnyMachine}
+use Rattle.mail_world.specs.declared.any_machine.AnyMachine.TheVariants as machine
+use Rattle.mail_world.specs.Pipework.{Tenant, is_member}
+use Rattle.mail_world.specs.Pipework.Tenant.{Runs}
+use Rattle.mail_world.specs.Readiness.{is_awaiting}
 use Rattle.mail_world.specs.History.{Actor, State, MayRun, newborn, start_of, happens}
 use Rattle.mail_world.specs.History.Event.{Generation}
 use Rattle.mail_world.specs.History.Life.{Alive}
 use Rattle.mail_world.specs.World.{Span, span_of, span_after, starts, was_started, starts_in}
 use Rattle.mail_world.specs.World.Span.{Unborn, Lasting, OverAt}
-use Rattle.mail_world.specs.ByKind.{Follows}
+use Rattle.mail_world.specs.ByKind.{IsMail, Follows, awaits_of}
 use Rattle.std.specs.Prelude.{All}
 use Rattle.call_fs.specs.declared.program.Port.{Port}
 use Rattle.world_pipes.specs.Pipework.{fresh}
-use Rattle.mail_world.specs.Wired.{seat, pipe_in, tenant_in, kept_at, AreWired}
+use Rattle.mail_world.specs.Wired.{seat, pipe_in, tenant_in, kept_at}
 use Rattle.mail_world.specs.Crew.{IsNew, AreNew, IsFresh, AreFresh}
 use Rattle.mail_world.specs.Generations.{IsNoneAlive}
 use Rattle.call_fs.specs.Past.{held}
 use Rattle.std.proofs.Math.Bool.{or-false, or-true}
 use Rattle.std.proofs.lemmas.Bool.{lt-ltb, le-ltb, ltb-true}
 use Rattle.std.proofs.lemmas.List.Elements.{All-nil, All-cons, All-head, All-tail}
-use Rattle.mail_world.specs.Inside.{known, RunsAt, unowed, span_by, is_by, has, AreApart, Owns, place_by, among_all, IsMember, IsStranger, HasOpen, IsOpenTo, IsWorld, ArePiped}
-use Rattle.mail_world.proofs.Crew.{started_push, owes_still}
+use Rattle.mail_world.specs.Inside.{known, RunsAt, unowed, span_by, life_by, is_by, has, AreApart, Owns, place_by, among_all, HasBorneLast, IsMember, IsStranger, HasOpen, IsOpenTo, IsWorld, ArePiped}
+use Rattle.mail_world.proofs.Awaiting.{awaits_same, no_slot}
+use Rattle.mail_world.proofs.Crew.{started_push, owes_still, member_over}
 use Rattle.mail_world.proofs.Histories.{LeadsOn, generation_told, led_still}
+use Rattle.mail_world.proofs.Bounces.{bounce_begun}
 use Rattle.mail_world.proofs.Known.{known_push}
 use Rattle.mail_world.proofs.Lists.{get_drop, some_at}
 use Rattle.mail_world.proofs.Members.{whether, four_other, four_sender, four_clean, four_lspawn, four_rspawn}
 use Rattle.mail_world.proofs.Seats.{HasSeat, seat_some, seat_none, no_seat, by_seat}
 use Rattle.mail_world.proofs.Spans.{span_push, span_stays}
 use Rattle.mail_world.proofs.Piped.{whole_push}
-use Rattle.mail_world.proofs.Worlds.{on_told, one_pid, pid_push}
+use Rattle.mail_world.proofs.Worlds.{on_told, one_pid, pid_push, still_count}
 
 -- the members before, if there were any, live no more
 abbrev pub NoneLives : ℕ → List Held → Type 0
@@ -75,11 +83,20 @@ again a k n Unborn starts_it over = ap (λ (b : Bool). if b then Lasting else Un
 again a k n Lasting starts_it over = absurd (over refl)
 again a k n (OverAt at) starts_it over = ap (λ (b : Bool). if b then Lasting else OverAt at) starts_it
 
+-- whose machine is no injector awaits no input
+none_awaits : (m : AnyMachine) (program : Program) (past : List Own) → Follows m program past → (IsMail program → ⊥) → awaits_of m ≡ false
+none_awaits (machine.Mail injector) (Injector args) past follows other = absurd (other tt)
+none_awaits (machine.Mail injector) program past follows other = absurd follows
+none_awaits (machine.Clean cleaner) program past follows other = refl
+none_awaits (machine.Send sender) program past follows other = refl
+none_awaits (machine.Local spawner) program past follows other = refl
+none_awaits (machine.Remote spawner) program past follows other = refl
+
 -- a member that has just started
 new_member : (t : State) (events : List Kept) (p : ℕ) (x : Held) (name : List ℕ) (program : ℕ → Program) → IsNew x name program
-    → t.actors name ≡ Some (newborn (program p)) → RunsAt (seat name) (program p) → start_of (program p) ≡ p → is_member name ≡ true → span_of name (reverse events) ≢ Lasting
-    → IsMember t (events ++ kept.Generation p ∷ []) p x
-new_member t events p x name program new at runs start member over =
+    → t.actors name ≡ Some (newborn (program p)) → RunsAt (seat name) (program p) → (IsMail (program p) → ⊥) → start_of (program p) ≡ p → is_member name ≡ true
+    → t.pipework.slots name ≡ None → span_of name (reverse events) ≢ Lasting → IsMember t (events ++ kept.Generation p ∷ []) p x
+new_member t events p x name program new at runs other start member slot over =
     let k : Kept = kept.Generation p in
     record {
       actor = newborn (program p);
@@ -89,17 +106,18 @@ new_member t events p x name program new at runs start member over =
       runs = subst (λ (a : List ℕ). RunsAt (seat a) (program p)) (sym new.name_is) runs;
       run = tt;
       in_order = omega (arith, start);
-      alive = λ e. refl;
+      life = sym (ap (λ (o : Option ℕ). life_by o x.status) new.ended);
+      unended = λ e. new.status;
+      awaits = λ e. none_awaits x.machine (program p) [] (new.follows p) other ∙ sym (ap (is_awaiting t) new.name_is ∙ no_slot t name slot);
       spans = ap (λ (a : List ℕ). span_of a (reverse (events ++ k ∷ []))) new.name_is ∙ span_push events k name
           ∙ again name k (length events) (span_of name (reverse events)) member over ∙ ap span_by (sym new.ended);
       closed = λ at e. new.descriptors;
-      dead = λ at e. let both : ◌≡◌ {A = Option ℕ} None (Some at) = sym new.ended ∙ e in absurd (cc);
     }
 
 -- a mail, and who is neither, are as they were
-same_member : (s t : State) (events : List Kept) (p : ℕ) (x : Held) → is_member x.name ≡ false → t.actors x.name ≡ s.actors x.name → IsMember s events p x
-    → IsMember t (events ++ kept.Generation p ∷ []) p x
-same_member s t events p x other same m = record {
+same_member : (s t : State) (events : List Kept) (p : ℕ) (x : Held) → is_member x.name ≡ false → t.actors x.name ≡ s.actors x.name → is_awaiting t x.name ≡ is_awaiting s x.name
+    → IsMember s events p x → IsMember t (events ++ kept.Generation p ∷ []) p x
+same_member s t events p x other same awaits m = record {
   actor = m.actor;
   is = same ∙ m.is;
   follows = m.follows;
@@ -107,14 +125,15 @@ same_member s t events p x other same m = record {
   runs = m.runs;
   run = m.run;
   in_order = m.in_order;
-  alive = m.alive;
+  life = m.life;
+  unended = m.unended;
+  awaits = λ lives. m.awaits lives ∙ sym awaits;
   spans = span_stays events (kept.Generation p) x.name other refl ∙ m.spans;
   closed = m.closed;
-  dead = m.dead;
 }
 
 -- who has a seat doesn't start alone
-seated_apart : (i : ℕ) (program : Program) → RunsAt (Some i) program → MayRun program → ⊥
+pub seated_apart : (i : ℕ) (program : Program) → RunsAt (Some i) program → MayRun program → ⊥
 seated_apart zero (Injector args) runs alone = runs
 seated_apart (suc zero) (Injector args) runs alone = runs
 seated_apart (suc (suc zero)) (Injector args) runs alone = runs
@@ -127,10 +146,10 @@ record WasOver (s : State) (events : List Kept) (actors : List Held) (a : List �
   dead : (x : Actor) → s.actors a ≡ Some x → (x.life ≢ Alive) × (MayRun x.program → ⊥)
   holds : (d : Disk) → IsOpenTo d actors s → (fd : ℕ) → is_by a (s.holder fd) ≡ false
 
-was_over : (told : Option Disk) (places : List ℕ → Option ℕ) (crew : ℕ) (actors : List Held) (events : List Kept) (p n : ℕ)
-    → IsWorld told (among_all crew places) actors (known events) events p n → NoneLives crew actors → (crew ≡ 0) ⊎ (crew ≡ 4)
+was_over : (told : Option Disk) (places : List ℕ → Option ℕ) (crew : ℕ) (actors : List Held) (events : List Kept) (p n b : ℕ)
+    → IsWorld told (among_all crew places) actors (known events) events p n b → NoneLives crew actors → (crew ≡ 0) ⊎ (crew ≡ 4)
     → (a : List ℕ) → is_member a ≡ true → WasOver (known events) events actors a
-was_over told places crew actors events p n w none few a member = by_few few where
+was_over told places crew actors events p n b w none few a member = by_few few where
   s : State
   s = known events
 
@@ -160,7 +179,7 @@ was_over told places crew actors events p n w none few a member = by_few few whe
             let both : ◌≡◌ {A = Option Actor} (Some m.actor) (Some y) = sym m.is ∙ ap s.actors x.2 ∙ there in
             let same : m.actor ≡ y = cc in
             let runs : RunsAt (Some at.at) m.actor.program = subst (λ (o : Option ℕ). RunsAt o m.actor.program) (ap seat x.2 ∙ at.is) m.runs in
-            subst (λ (y : Actor). (y.life ≢ Alive) × (MayRun y.program → ⊥)) same (m.dead ended.0 ended.1, seated_apart at.at m.actor.program runs);
+            subst (λ (y : Actor). (y.life ≢ Alive) × (MayRun y.program → ⊥)) same (member_over s events p x.0 m ended.0 ended.1, seated_apart at.at m.actor.program runs);
         holds = λ d o fd. ap (λ (a : List ℕ). is_by a (s.holder fd)) (sym x.2) ∙ sym ((o.each at.at x.0 x.1).lists fd) ∙ ap (has fd) (m.closed ended.0 ended.1);
       }
 
@@ -170,10 +189,10 @@ was_over told places crew actors events p n w none few a member = by_few few whe
       let low : at.at < crew = omega (arith, four_crew, at.low) in
       over (here ∙ ap (λ (t : Bool). if t then Some at.at else None) (below at.at crew low)) low
 
-pub none_alive : (told : Option Disk) (places : List ℕ → Option ℕ) (crew : ℕ) (actors : List Held) (events : List Kept) (p n : ℕ)
-    → IsWorld told (among_all crew places) actors (known events) events p n → NoneLives crew actors → (crew ≡ 0) ⊎ (crew ≡ 4) → IsNoneAlive events
-none_alive told places crew actors events p n w none few =
-    let over = was_over told places crew actors events p n w none few in
+pub none_alive : (told : Option Disk) (places : List ℕ → Option ℕ) (crew : ℕ) (actors : List Held) (events : List Kept) (p n b : ℕ)
+    → IsWorld told (among_all crew places) actors (known events) events p n b → NoneLives crew actors → (crew ≡ 0) ⊎ (crew ≡ 4) → IsNoneAlive events
+none_alive told places crew actors events p n b w none few =
+    let over = was_over told places crew actors events p n b w none few in
     let P : List ℕ → Type 0 = λ (a : List ℕ). span_of a (reverse events) ≢ Lasting in
     All-cons P (codes "sender") (codes "clean" ∷ codes "lspawn" ∷ codes "rspawn" ∷ []) (over (codes "sender") refl).span
     (All-cons P (codes "clean") (codes "lspawn" ∷ codes "rspawn" ∷ []) (over (codes "clean") refl).span
@@ -181,11 +200,11 @@ none_alive told places crew actors events p n w none few =
     (All-cons P (codes "rspawn") [] (over (codes "rspawn") refl).span (All-nil P))))
 
 -- so a generation may start
-pub begun_leads_on : (told : Option Disk) (places : List ℕ → Option ℕ) (crew : ℕ) (actors : List Held) (events : List Kept) (p n : ℕ)
-    → IsWorld told (among_all crew places) actors (known events) events p n → NoneLives crew actors → (crew ≡ 0) ⊎ (crew ≡ 4)
+pub begun_leads_on : (told : Option Disk) (places : List ℕ → Option ℕ) (crew : ℕ) (actors : List Held) (events : List Kept) (p n b : ℕ)
+    → IsWorld told (among_all crew places) actors (known events) events p n b → NoneLives crew actors → (crew ≡ 0) ⊎ (crew ≡ 4)
     → LeadsOn told told events (events ++ kept.Generation p ∷ []) p p
-begun_leads_on told places crew actors events p n w none few =
-    generation_told told events p (λ a x member there. (was_over told places crew actors events p n w none few a member).dead x there)
+begun_leads_on told places crew actors events p n b w none few =
+    generation_told told events p (λ a x member there. (was_over told places crew actors events p n b w none few a member).dead x there)
 
 no_place : (crew : ℕ) (o : Option ℕ) → option_map (λ i. 4 + i) o ≡ None → option_map (λ i. crew + i) o ≡ None
 no_place crew None is = refl
@@ -199,9 +218,6 @@ same_some crew (Some i) = refl
 pub four_places : (places : List ℕ → Option ℕ) (a : List ℕ) (i : ℕ) → seat a ≡ Some i → i < 4 → among_all 4 places a ≡ Some i
 four_places places a i at low = place_of_member 4 places a i at ∙ ap (λ (t : Bool). if t then Some i else None) (below i 4 low)
 
-named_one : (x : Held) (name : List ℕ) (program : ℕ → Program) → IsNew x name program → IsSomeAnd (Some x) (λ x. x.name ≡ name)
-named_one x name program new = new.name_is
-
 -- what holds of each of the four and of each mail holds of all
 each_of : (P : ℕ → Held → Type 0) (a b c d : Held) (mails : List Held) → P 0 a → P 1 b → P 2 c → P 3 d → ((j : ℕ) (x : Held) → slice_get mails j ≡ Some x → P (4 + j) x)
     → (i : ℕ) (x : Held) → slice_get (a ∷ b ∷ c ∷ d ∷ mails) i ≡ Some x → P i x
@@ -211,6 +227,11 @@ each_of P a b c d mails pa pb pc pd rest (suc (suc zero)) x is = let same : c �
 each_of P a b c d mails pa pb pc pd rest (suc (suc (suc zero))) x is = let same : d ≡ x = cc in subst (P 3) same pd
 each_of P a b c d mails pa pb pc pd rest (suc (suc (suc (suc j)))) x is =
     let e : 4 + j ≡ suc (suc (suc (suc j))) = omega arith in subst (λ (n : ℕ). P n x) e (rest j x is)
+
+-- who is no member awaits its input, or not, as before
+begun_awaiting : (s : State) (p : ℕ) (a : List ℕ) → is_member a ≡ false → is_awaiting (happens s (Generation (Sender p) (Cleaner p) (LocalSpawner p) (RemoteSpawner p))) a ≡ is_awaiting s a
+begun_awaiting s p a other =
+    awaits_same s (happens s (Generation (Sender p) (Cleaner p) (LocalSpawner p) (RemoteSpawner p))) a refl (ap (λ (t : Bool). if t then fresh else s.pipework.pipes a port.Input) other)
 
 -- a new member has nothing open
 new_opens : (d : Disk) (t : State) (x : Held) (name : List ℕ) (program : ℕ → Program) (p : ℕ) → IsNew x name program → t.actors name ≡ Some (newborn (program p))
@@ -224,31 +245,35 @@ new_opens d t x name program p new at none = record {
       subst (λ (y : Actor). Owns d t.holder x.name (held y.past)) same (λ fd mode is. absurd (cc));
 }
 
-pub begun_keeps : (told : Option Disk) (places : List ℕ → Option ℕ) (crew : ℕ) (actors four : List Held) (events : List Kept) (p n q : ℕ)
-    → IsWorld told (among_all crew places) actors (known events) events p n → NoneLives crew actors → (crew ≡ 0) ⊎ (crew ≡ 4) → AreNew four → q ≡ min (n + 4) (2 ^ 32 - 1)
-    → IsWorld told (among_all 4 places) (four ++ drop crew actors) (known (events ++ kept.Generation p ∷ [])) (events ++ kept.Generation p ∷ []) p q
-begun_keeps told places crew actors four events p n q w none few new next =
-    subst (λ (l : List Held). IsWorld told (among_all 4 places) (l ++ mails) (known later) later p q) (sym new.are)
-    (subst (λ (s : State). IsWorld told (among_all 4 places) (new.sender ∷ new.clean ∷ new.lspawn ∷ new.rspawn ∷ mails) s later p q) (sym (known_push events k)) (record {
+pub begun_keeps : (told : Option Disk) (places : List ℕ → Option ℕ) (crew : ℕ) (actors four : List Held) (events : List Kept) (p n q b : ℕ)
+    → IsWorld told (among_all crew places) actors (known events) events p n b → NoneLives crew actors → (crew ≡ 0) ⊎ (crew ≡ 4) → ((a : List ℕ) → is_member a ≡ true → (known events).pipework.slots a ≡ None)
+    → AreNew four → q ≡ min (n + 4) (2 ^ 32 - 1)
+    → IsWorld told (among_all 4 places) (four ++ drop crew actors) (known (events ++ kept.Generation p ∷ [])) (events ++ kept.Generation p ∷ []) p q b
+begun_keeps told places crew actors four events p n q b w none few slots new next =
+    subst (λ (l : List Held). IsWorld told (among_all 4 places) (l ++ mails) (known later) later p q b) (sym new.are)
+    (subst (λ (s : State). IsWorld told (among_all 4 places) (new.sender ∷ new.clean ∷ new.lspawn ∷ new.rspawn ∷ mails) s later p q b) (sym (known_push events k tt)) (record {
       moment = w.moment;
       now = w.now;
       pid = one_pid n q (sum_by starts_in events) 4 w.pid next ∙ sym (pid_push events k);
+      count = w.count ∙ sym (still_count events k refl);
+      unborn = λ m more. bounce_begun crew places m (w.unborn m more);
       kept = record {
         placed = each_of (λ i (x : Held). among_all 4 places x.name ≡ Some i) new.sender new.clean new.lspawn new.rspawn mails
             (ap (among_all 4 places) new.sender_is.name_is) (ap (among_all 4 places) new.clean_is.name_is) (ap (among_all 4 places) new.lspawn_is.name_is) (ap (among_all 4 places) new.rspawn_is.name_is)
             (λ j x is. let at = mail j x is in place_of_mail 4 places x.name at.0 ∙ ap (option_map (λ i. 4 + i)) at.1);
         members = each_of (λ i (x : Held). IsMember t later p x) new.sender new.clean new.lspawn new.rspawn mails
-            (new_member t events p new.sender (codes "sender") Sender new.sender_is (four_sender s.actors (Sender p) (Cleaner p) (LocalSpawner p) (RemoteSpawner p)) tt refl refl (over (codes "sender") refl).span)
-            (new_member t events p new.clean (codes "clean") Cleaner new.clean_is (four_clean s.actors (Sender p) (Cleaner p) (LocalSpawner p) (RemoteSpawner p)) tt refl refl (over (codes "clean") refl).span)
-            (new_member t events p new.lspawn (codes "lspawn") LocalSpawner new.lspawn_is (four_lspawn s.actors (Sender p) (Cleaner p) (LocalSpawner p) (RemoteSpawner p)) tt refl refl (over (codes "lspawn") refl).span)
-            (new_member t events p new.rspawn (codes "rspawn") RemoteSpawner new.rspawn_is (four_rspawn s.actors (Sender p) (Cleaner p) (LocalSpawner p) (RemoteSpawner p)) tt refl refl (over (codes "rspawn") refl).span)
-            (λ j x is. let other = no_seat x.name (mail j x is).0 in same_member s t events p x other (four_other s.actors (Sender p) (Cleaner p) (LocalSpawner p) (RemoteSpawner p) x.name other) (w.kept.members (crew + j) x (old j x is)));
+            (new_member t events p new.sender (codes "sender") Sender new.sender_is (four_sender s.actors (Sender p) (Cleaner p) (LocalSpawner p) (RemoteSpawner p)) tt (λ mail. mail) refl refl (slots (codes "sender") refl) (over (codes "sender") refl).span)
+            (new_member t events p new.clean (codes "clean") Cleaner new.clean_is (four_clean s.actors (Sender p) (Cleaner p) (LocalSpawner p) (RemoteSpawner p)) tt (λ mail. mail) refl refl (slots (codes "clean") refl) (over (codes "clean") refl).span)
+            (new_member t events p new.lspawn (codes "lspawn") LocalSpawner new.lspawn_is (four_lspawn s.actors (Sender p) (Cleaner p) (LocalSpawner p) (RemoteSpawner p)) tt (λ mail. mail) refl refl (slots (codes "lspawn") refl) (over (codes "lspawn") refl).span)
+            (new_member t events p new.rspawn (codes "rspawn") RemoteSpawner new.rspawn_is (four_rspawn s.actors (Sender p) (Cleaner p) (LocalSpawner p) (RemoteSpawner p)) tt (λ mail. mail) refl refl (slots (codes "rspawn") refl) (over (codes "rspawn") refl).span)
+            (λ j x is. let other = no_seat x.name (mail j x is).0 in same_member s t events p x other (four_other s.actors (Sender p) (Cleaner p) (LocalSpawner p) (RemoteSpawner p) x.name other)
+            (begun_awaiting s p x.name other) (w.kept.members (crew + j) x (old j x is)));
         named = named;
         strangers = strangers;
         started = started;
       };
       opens = on_told told (λ d. IsOpenTo d actors s) (λ d. IsOpenTo d (new.sender ∷ new.clean ∷ new.lspawn ∷ new.rspawn ∷ mails) t) opens w.opens;
-      led = led_still told events later p p (begun_leads_on told places crew actors events p n w none few) w.led;
+      led = led_still told events later p p (begun_leads_on told places crew actors events p n b w none few) w.led;
     }))
   where
     s : State
@@ -267,7 +292,7 @@ begun_keeps told places crew actors four events p n q w none few new next =
     mails = drop crew actors
 
     over : (a : List ℕ) → is_member a ≡ true → WasOver s events actors a
-    over = was_over told places crew actors events p n w none few
+    over = was_over told places crew actors events p n b w none few
 
     old : (j : ℕ) (x : Held) → slice_get mails j ≡ Some x → slice_get actors (crew + j) ≡ Some x
     old j x is = sym (get_drop crew actors j) ∙ is
@@ -332,39 +357,66 @@ begun_keeps told places crew actors four events p n q w none few new next =
           });
     }
 
+-- the sender of the generation before is over
+pub sender_over : (told : Option Disk) (places : List ℕ → Option ℕ) (crew : ℕ) (actors : List Held) (events : List Kept) (p n b : ℕ)
+    → IsWorld told (among_all crew places) actors (known events) events p n b → NoneLives crew actors → (crew ≡ 0) ⊎ (crew ≡ 4)
+    → (x : Actor) → (known events).actors (codes "sender") ≡ Some x → x.life ≢ Alive
+sender_over told places crew actors events p n b w none few x is = ((was_over told places crew actors events p n b w none few (codes "sender") refl).dead x is).0
+
 -- the new pipes are those of the model
 pub begun_piped : (crew : ℕ) (mouths fresh_ones : List Mouths) (actors four : List Held) (events : List Kept) (p : ℕ)
-    → ArePiped crew mouths actors (known events) events → AreNew four → AreFresh fresh_ones
+    → ArePiped crew mouths actors (known events) events → ((x : Actor) → (known events).actors (codes "sender") ≡ Some x → x.life ≢ Alive) → AreNew four → AreFresh fresh_ones
     → ArePiped 4 fresh_ones (four ++ drop crew actors) (known (events ++ kept.Generation p ∷ [])) (events ++ kept.Generation p ∷ [])
-begun_piped crew mouths fresh_ones actors four events p piped new is_fresh = record {
-  wired = subst (AreWired fresh_ones) (sym (ap (λ (s : State). s.pipework) (known_push events (kept.Generation p)))) (record {
-    pipes = λ a q member. ap (λ (t : Bool). if t then fresh else (known events).pipework.pipes a q) member ∙ sym (fresh_pipe (kept_at (seat a) fresh_ones) q (fresh_at (seat a)));
-    programs = λ a d. ⊎_elim
-        (λ member. ap (λ (t : Bool). if t then None else (known events).pipework.programs a d) member ∙ sym (fresh_tenant (kept_at (seat a) fresh_ones) d (fresh_at (seat a))))
-        (λ other. ap (λ (t : Bool). if t then None else (known events).pipework.programs a d) other ∙ piped.wired.programs a d
-        ∙ ap (λ (o : Option ℕ). tenant_in (kept_at o mouths) d) (seat_none a other) ∙ sym (ap (λ (o : Option ℕ). tenant_in (kept_at o fresh_ones) d) (seat_none a other)))
-        (whether (is_member a));
-    none = piped.wired.none;
-  });
-  slots = λ i m at. (all_at fresh_ones i m is_fresh.each at).slots;
-  whole = whole_push events (kept.Generation p) piped.whole tt;
-  few = inr refl;
-  many = subst (λ (l : List Held). 4 ≤ length (l ++ drop crew actors)) (sym new.are) (omega arith);
-  seated = λ j z low at lives. is_fresh.many;
-} where
-  all_at : (xs : List Mouths) (i : ℕ) (m : Mouths) → All IsFresh xs → slice_get xs i ≡ Some m → IsFresh m
-  all_at [] i m all at = absurd cc
-  all_at (x ∷ xs) zero m all at = let same : x ≡ m = cc in subst IsFresh same (All-head IsFresh x xs all)
-  all_at (x ∷ xs) (suc i) m all at = all_at xs i m (All-tail IsFresh x xs all) at
+begun_piped crew mouths fresh_ones actors four events p piped over new is_fresh =
+    subst (λ (t : State). ArePiped 4 fresh_ones (four ++ drop crew actors) t (events ++ kept.Generation p ∷ [])) (sym (known_push events (kept.Generation p) tt)) (record {
+      wired = record {
+        pipes = λ a q member. ap (λ (t : Bool). if t then fresh else s.pipework.pipes a q) member ∙ sym (fresh_pipe (kept_at (seat a) fresh_ones) q (fresh_at (seat a)));
+        programs = λ a d. ⊎_elim
+            (λ member. ap (λ (t : Bool). if t then None else s.pipework.programs a d) member ∙ sym (fresh_tenant (kept_at (seat a) fresh_ones) d (fresh_at (seat a))))
+            (λ other. ap (λ (t : Bool). if t then None else s.pipework.programs a d) other ∙ piped.wired.programs a d
+            ∙ ap (λ (o : Option ℕ). tenant_in (kept_at o mouths) d) (seat_none a other) ∙ sym (ap (λ (o : Option ℕ). tenant_in (kept_at o fresh_ones) d) (seat_none a other)))
+            (whether (is_member a));
+        members = piped.wired.members;
+      };
+      slots = λ i m at. (all_at fresh_ones i m is_fresh.each at).slots;
+      one = λ i m d c at is. let both : ◌≡◌ {A = Option Tenant} None (Some (Runs c)) = sym ((all_at fresh_ones i m is_fresh.each at).tenants d) ∙ is in absurd (cc);
+      children = λ c is. let both : ◌≡◌ {A = Option Tenant} None (Some (Runs c)) = is in absurd (cc);
+      whole = whole_push events (kept.Generation p) piped.whole tt;
+      fresh = λ a unknown other. ap (λ (t : Bool). if t then fresh else s.pipework.pipes a port.Input) other
+          ∙ piped.fresh a (sym (four_other s.actors (Sender p) (Cleaner p) (LocalSpawner p) (RemoteSpawner p) a other) ∙ unknown) other;
+      fed = λ x is alive borne.
+          let both : ◌≡◌ {A = Option Actor} (Some (newborn (Sender p))) (Some x) = sym (four_sender s.actors (Sender p) (Cleaner p) (LocalSpawner p) (RemoteSpawner p)) ∙ is in
+          let same : newborn (Sender p) ≡ x = cc in
+          let none : HasBorneLast (newborn (Sender p)).past = subst (λ (x : Actor). HasBorneLast x.past) (sym same) borne in absurd none;
+      awaited = λ c is. ⊎_elim
+          (λ member. let both : false ≡ true = sym (no_slot t c (piped.wired.members c member)) ∙ is in absurd (cc))
+          (λ other. let was = piped.awaited c (sym (begun_awaiting s p c other) ∙ is) in absurd (over was.sender was.is was.alive))
+          (whether (is_member c));
+      most = let many = is_fresh.many in omega (arith, many);
+      few = inr refl;
+      many = subst (λ (l : List Held). 4 ≤ length (l ++ drop crew actors)) (sym new.are) (omega arith);
+      seated = λ j z low at lives. is_fresh.many;
+    })
+  where
+    s : State
+    s = known events
 
-  fresh_at : (o : Option ℕ) (m : Mouths) → kept_at o fresh_ones ≡ Some m → IsFresh m
-  fresh_at None m at = absurd (cc)
-  fresh_at (Some i) m at = all_at fresh_ones i m is_fresh.each at
+    t : State
+    t = happens s (Generation (Sender p) (Cleaner p) (LocalSpawner p) (RemoteSpawner p))
 
-  fresh_pipe : (o : Option Mouths) (q : Port) → ((m : Mouths) → o ≡ Some m → IsFresh m) → pipe_in o q ≡ fresh
-  fresh_pipe None q each = refl
-  fresh_pipe (Some m) q each = (each m refl).pipes q
+    all_at : (xs : List Mouths) (i : ℕ) (m : Mouths) → All IsFresh xs → slice_get xs i ≡ Some m → IsFresh m
+    all_at [] i m all at = absurd cc
+    all_at (x ∷ xs) zero m all at = let same : x ≡ m = cc in subst IsFresh same (All-head IsFresh x xs all)
+    all_at (x ∷ xs) (suc i) m all at = all_at xs i m (All-tail IsFresh x xs all) at
 
-  fresh_tenant : (o : Option Mouths) (d : ℕ) → ((m : Mouths) → o ≡ Some m → IsFresh m) → tenant_in o d ≡ None
-  fresh_tenant None d each = refl
-  fresh_tenant (Some m) d each = (each m refl).tenants d
+    fresh_at : (o : Option ℕ) (m : Mouths) → kept_at o fresh_ones ≡ Some m → IsFresh m
+    fresh_at None m at = absurd (cc)
+    fresh_at (Some i) m at = all_at fresh_ones i m is_fresh.each at
+
+    fresh_pipe : (o : Option Mouths) (q : Port) → ((m : Mouths) → o ≡ Some m → IsFresh m) → pipe_in o q ≡ fresh
+    fresh_pipe None q each = refl
+    fresh_pipe (Some m) q each = (each m refl).pipes q
+
+    fresh_tenant : (o : Option Mouths) (d : ℕ) → ((m : Mouths) → o ≡ Some m → IsFresh m) → tenant_in o d ≡ None
+    fresh_tenant None d each = refl
+    fresh_tenant (Some m) d each = (each m refl).tenants d

@@ -3,18 +3,26 @@ use Rattle.std.proofs.Common.{◌≡◌, ◌≢◌, ℕ, ◌-◌, ◌<◌, zero,
 use Rattle.std.specs.Prelude.{if◌then◌else◌}
 use Rattle.std.specs.List.{slice_get}
 use Rattle.std.specs.Option.{option_map}
-use Rattle.std.proofs.lemmas.List.{reverse-append, map-append, length-append, length-map}
+use Rattle.std.proofs.lemmas.List.{map-append, length-append, length-map}
 use Rattle.std.proofs.lemmas.Option.{slice_get-map, get_or_from_slice_get}
 use Rattle.call_fs.specs.declared.crash_file_system.Survival.{Survival}
+use Rattle.call_fs.specs.declared.past.Own.{Own}
 use Rattle.queue_inject.specs.declared.injection.Arguments.{Arguments}
+use Rattle.queue_inject.specs.declared.injection.InputEnd.TheVariants.{Whole}
 use Rattle.world_events.specs.declared.event.Event.{Event as Kept}
 use Rattle.world_events.specs.declared.event.Event.TheVariants as kept
+use Rattle.world_events.specs.declared.event.Program.{Program}
 use Rattle.world_events.specs.declared.event.Program.TheVariants.{Injector}
 use Rattle.mail_world.specs.declared.actor.Actor.{Actor as Held}
 use Rattle.world_events.specs.declared.books.Entry.{Entry}
 use Rattle.world_events.specs.declared.books.Life.TheVariants as told
 use Rattle.mail_world.specs.Acting.{AreCutOff}
+use Rattle.world_events.specs.Books.{fed_entry}
+use Rattle.world_events.specs.Inputs.{with_texts, start_with, with_inputs}
 use Rattle.mail_world.specs.Books.{new_entry, entered_by, acted_on, left_as, cut_off, noted, books_of, AreBooked}
+use Rattle.mail_world.specs.ByKind.{IsMail}
+use Rattle.mail_world.specs.Inside.{HasJustStarted}
+use Rattle.mail_world.proofs.Known.{IsPlain, inputs_push, inputs_fed, start_in}
 use Rattle.mail_world.proofs.Tests.{other_text}
 use Rattle.mail_world.proofs.Lists.{some_last, some_at}
 use Rattle.mail_world.proofs.Crew.{apart_by}
@@ -24,8 +32,9 @@ abbrev pub ArePlaced : (List ℕ → Option ℕ) → List Held → Type 0
 ArePlaced places actors = (i : ℕ) (x : Held) → slice_get actors i ≡ Some x → places x.name ≡ Some i
 
 -- one event more
-pub books_push : (events : List Kept) (k : Kept) → books_of (reverse (events ++ k ∷ [])) ≡ map (noted k) (books_of (reverse events)) ++ entered_by k
-books_push events k = ap books_of (reverse-append events (k ∷ []))
+pub books_push : (events : List Kept) (k : Kept) → IsPlain k
+    → books_of (with_inputs (reverse (events ++ k ∷ []))) ≡ map (noted k) (books_of (with_inputs (reverse events))) ++ entered_by k
+books_push events k plain = ap books_of (inputs_push events k plain)
 
 -- lists, item by item
 
@@ -83,6 +92,8 @@ noted_actor (kept.Start a program) e = refl
 noted_actor (kept.Act a own) e = if_named (bytes_eq a e.actor) e (acted_on own.due own.came e) refl
 noted_actor (kept.End a read ready status) e = if_named (bytes_eq a e.actor) e (left_as (told.Ended status) e) refl
 noted_actor (kept.Stop a) e = if_named (bytes_eq a e.actor) e (left_as told.Stopped e) refl
+noted_actor (kept.Child a own c program) e = refl
+noted_actor (kept.Feed a own c message envelope) e = refl
 noted_actor (kept.Generation start) e = refl
 noted_actor (kept.Report slot letter text) e = refl
 noted_actor (kept.Moment m) e = refl
@@ -94,6 +105,8 @@ IsOwnOf a (kept.Start b program) = ⊥
 IsOwnOf a (kept.Act b own) = b ≡ a
 IsOwnOf a (kept.End b read ready status) = b ≡ a
 IsOwnOf a (kept.Stop b) = b ≡ a
+IsOwnOf a (kept.Child b own c program) = ⊥
+IsOwnOf a (kept.Feed b own c message envelope) = ⊥
 IsOwnOf a (kept.Generation start) = ⊥
 IsOwnOf a (kept.Report slot letter text) = ⊥
 IsOwnOf a (kept.Moment m) = ⊥
@@ -107,6 +120,8 @@ noted_other (kept.End b read ready status) a e mine apart =
     ap (λ t. if t then left_as (told.Ended status) e else e) (other_text b e.actor (λ same. apart (sym same ∙ mine)))
 noted_other (kept.Stop b) a e mine apart =
     ap (λ t. if t then left_as told.Stopped e else e) (other_text b e.actor (λ same. apart (sym same ∙ mine)))
+noted_other (kept.Child b own c program) a e mine apart = absurd mine
+noted_other (kept.Feed b own c message envelope) a e mine apart = absurd mine
 noted_other (kept.Generation start) a e mine apart = absurd mine
 noted_other (kept.Report slot letter text) a e mine apart = absurd mine
 noted_other (kept.Moment m) a e mine apart = absurd mine
@@ -117,17 +132,31 @@ begins_none (kept.Start b program) a mine = absurd mine
 begins_none (kept.Act b own) a mine = refl
 begins_none (kept.End b read ready status) a mine = refl
 begins_none (kept.Stop b) a mine = refl
+begins_none (kept.Child b own c program) a mine = absurd mine
+begins_none (kept.Feed b own c message envelope) a mine = refl
 begins_none (kept.Generation start) a mine = refl
 begins_none (kept.Report slot letter text) a mine = refl
 begins_none (kept.Moment m) a mine = refl
 begins_none (kept.Halt how) a mine = refl
 
+own_plain : (k : Kept) (a : List ℕ) → IsOwnOf a k → IsPlain k
+own_plain (kept.Feed b own c message envelope) a mine = absurd mine
+own_plain (kept.Start b program) a mine = tt
+own_plain (kept.Act b own) a mine = tt
+own_plain (kept.Child b own c program) a mine = tt
+own_plain (kept.End b read ready status) a mine = tt
+own_plain (kept.Stop b) a mine = tt
+own_plain (kept.Generation start) a mine = tt
+own_plain (kept.Report slot letter text) a mine = tt
+own_plain (kept.Moment m) a mine = tt
+own_plain (kept.Halt how) a mine = tt
+
 -- the books after an event that begins no entry
-pub books_more : (entries : List Entry) (events : List Kept) (k : Kept) → entries ≡ books_of (reverse events) → entered_by k ≡ []
-    → map (noted k) entries ≡ books_of (reverse (events ++ k ∷ []))
-books_more entries events k are none =
-    ap (map (noted k)) are ∙ sym (append-nil (map (noted k) (books_of (reverse events))))
-    ∙ ap (λ l. map (noted k) (books_of (reverse events)) ++ l) (sym none) ∙ sym (books_push events k)
+pub books_more : (entries : List Entry) (events : List Kept) (k : Kept) → IsPlain k → entries ≡ books_of (with_inputs (reverse events)) → entered_by k ≡ []
+    → map (noted k) entries ≡ books_of (with_inputs (reverse (events ++ k ∷ [])))
+books_more entries events k plain are none =
+    let before = books_of (with_inputs (reverse events)) in
+    ap (map (noted k)) are ∙ sym (append-nil (map (noted k) before)) ∙ ap (λ l. map (noted k) before ++ l) (sym none) ∙ sym (books_push events k plain)
 
 -- one actor acts, ends or is stopped
 note_keeps : (places : List ℕ → Option ℕ) (actors : List Held) (events : List Kept) (p i : ℕ) (x y : Held) (entries : List Entry) (e : Entry) (k : Kept)
@@ -141,7 +170,7 @@ note_keeps places actors events p i x y entries e k crew booked is name mine at 
     let other : w.0.name ≢ x.name = apart_by places x.name w.0.name i j (crew i x is) (crew j w.0 w.1) apart in
     noted_other k x.name z mine (λ same. other (sym w.2 ∙ same)) in
     record {
-      are = set_is_map (noted k) entries i e at others ∙ books_more entries events k booked.are (begins_none k x.name mine);
+      are = set_is_map (noted k) entries i e at others ∙ books_more entries events k (own_plain k x.name mine) booked.are (begins_none k x.name mine);
       names = map_set_same actor entries i e (noted k e) at (noted_actor k e) ∙ booked.names ∙ sym (map_set_same named actors i x y is name);
     }
 
@@ -188,14 +217,14 @@ other_booked mails events later a entries k booked apart mine event =
       are = sym (map_still (noted k) entries (λ i e h.
           let w = paired (λ (e : Entry). e.actor) (λ (x : Held). x.name) entries mails i e booked.names h in
           noted_other k a e mine (λ same. apart i w.0 w.1 (sym w.2 ∙ same))))
-          ∙ books_more entries events k booked.are (begins_none k a mine);
+          ∙ books_more entries events k (own_plain k a mine) booked.are (begins_none k a mine);
       names = booked.names;
     })
 
 -- a generation started
 pub begun_booked : (mails : List Held) (events : List Kept) (p : ℕ) (entries : List Entry) → AreBooked entries mails events → AreBooked entries mails (events ++ kept.Generation p ∷ [])
 begun_booked mails events p entries booked = record {
-  are = sym (map_still (noted (kept.Generation p)) entries (λ i e h. refl)) ∙ books_more entries events (kept.Generation p) booked.are refl;
+  are = sym (map_still (noted (kept.Generation p)) entries (λ i e h. refl)) ∙ books_more entries events (kept.Generation p) tt booked.are refl;
   names = booked.names;
 }
 
@@ -203,7 +232,7 @@ begun_booked mails events p entries booked = record {
 pub report_booked : (mails : List Held) (events : List Kept) (slot letter : ℕ) (text : List ℕ) (entries : List Entry)
     → AreBooked entries mails events → AreBooked entries mails (events ++ kept.Report slot letter text ∷ [])
 report_booked mails events slot letter text entries booked = record {
-  are = sym (map_still (noted (kept.Report slot letter text)) entries (λ i e h. refl)) ∙ books_more entries events (kept.Report slot letter text) booked.are refl;
+  are = sym (map_still (noted (kept.Report slot letter text)) entries (λ i e h. refl)) ∙ books_more entries events (kept.Report slot letter text) tt booked.are refl;
   names = booked.names;
 }
 
@@ -219,7 +248,7 @@ look_booked actors events i x y entries booked is name = record {
 pub moment_booked : (actors : List Held) (events : List Kept) (m : ℕ) (entries : List Entry)
     → AreBooked entries actors events → AreBooked entries actors (events ++ kept.Moment m ∷ [])
 moment_booked actors events m entries booked = record {
-  are = sym (map_still (noted (kept.Moment m)) entries (λ i e h. refl)) ∙ books_more entries events (kept.Moment m) booked.are refl;
+  are = sym (map_still (noted (kept.Moment m)) entries (λ i e h. refl)) ∙ books_more entries events (kept.Moment m) tt booked.are refl;
   names = booked.names;
 }
 
@@ -228,24 +257,156 @@ pub halt_booked : (at : ℕ) (actors stood : List Held) (events : List Kept) (ho
     → AreBooked entries actors events → AreCutOff at actors stood
     → AreBooked (map (λ e. left_as (cut_off e.life) e) entries) stood (events ++ kept.Halt how ∷ [])
 halt_booked at actors stood events how entries booked cut = record {
-  are = books_more entries events (kept.Halt how) booked.are refl;
+  are = books_more entries events (kept.Halt how) tt booked.are refl;
   names = map_after (λ (e : Entry). left_as (cut_off e.life) e) (λ (e : Entry). e.actor) entries (λ e. refl) ∙ booked.names
       ∙ sym (map_alike (λ (x : Held). x.name) actors stood cut.many (λ i x y here there. (cut.each i x y here there).name));
 }
 
--- an actor started
-pub start_booked : (actors : List Held) (events : List Kept) (y : Held) (a : List ℕ) (args : Arguments) (entries : List Entry)
-    → AreBooked entries actors events → y.name ≡ a
-    → AreBooked (entries ++ new_entry a args ∷ []) (actors ++ y ∷ []) (events ++ kept.Start a (Injector args) ∷ [])
-start_booked actors events y a args entries booked name =
-    let k : Kept = kept.Start a (Injector args) in
+-- an actor started, with an event that leaves each entry as it was
+born_booked : (actors : List Held) (events : List Kept) (y : Held) (a : List ℕ) (args : Arguments) (entries : List Entry) (k : Kept)
+    → IsPlain k → entered_by k ≡ new_entry a args ∷ [] → ((e : Entry) → noted k e ≡ e) → AreBooked entries actors events → y.name ≡ a
+    → AreBooked (entries ++ new_entry a args ∷ []) (actors ++ y ∷ []) (events ++ k ∷ [])
+born_booked actors events y a args entries k plain enters still booked name =
     let actor : Entry → List ℕ = λ e. e.actor in
     let named : Held → List ℕ = λ x. x.name in
     record {
-      are = ap (λ (l : List Entry). l ++ new_entry a args ∷ []) (sym (map_still (noted k) entries (λ i e h. refl)) ∙ ap (map (noted k)) booked.are)
-          ∙ sym (books_push events k);
+      are = ap (λ (l : List Entry). l ++ new_entry a args ∷ []) (sym (map_still (noted k) entries (λ i e h. still e)) ∙ ap (map (noted k)) booked.are)
+          ∙ ap (λ (l : List Entry). map (noted k) (books_of (with_inputs (reverse events))) ++ l) (sym enters) ∙ sym (books_push events k plain);
       names = map-append actor entries (new_entry a args ∷ []) ∙ ap (λ (l : List (List ℕ)). l ++ a ∷ []) booked.names
           ∙ ap (λ (n : List ℕ). map named actors ++ n ∷ []) (sym name) ∙ sym (map-append named actors (y ∷ []));
+    }
+
+pub start_booked : (actors : List Held) (events : List Kept) (y : Held) (a : List ℕ) (args : Arguments) (entries : List Entry)
+    → AreBooked entries actors events → y.name ≡ a
+    → AreBooked (entries ++ new_entry a args ∷ []) (actors ++ y ∷ []) (events ++ kept.Start a (Injector args) ∷ [])
+start_booked actors events y a args entries booked name = born_booked actors events y a args entries (kept.Start a (Injector args)) tt refl (λ e. refl) booked name
+
+-- a child of a member started
+pub child_booked : (actors : List Held) (events : List Kept) (y : Held) (parent : List ℕ) (own : Own) (c : List ℕ) (args : Arguments) (entries : List Entry)
+    → AreBooked entries actors events → y.name ≡ c
+    → AreBooked (entries ++ new_entry c args ∷ []) (actors ++ y ∷ []) (events ++ kept.Child parent own c (Injector args) ∷ [])
+child_booked actors events y parent own c args entries booked name =
+    born_booked actors events y c args entries (kept.Child parent own c (Injector args)) tt refl (λ e. refl) booked name
+
+-- A child was given its input
+
+some_mapped : {X : Type 0} (f : X → X) (xs ys : List X) (n : ℕ) (x : X) → slice_get xs n ≡ Some x → slice_get (map f xs ++ ys) n ≡ Some (f x)
+some_mapped f [] ys n x is = absurd cc
+some_mapped f (z ∷ zs) ys zero x is = ap (option_map f) is
+some_mapped f (z ∷ zs) ys (suc n) x is = some_mapped f zs ys n x is
+
+set_mapped : {X : Type 0} (f : X → X) (xs ys : List X) (n : ℕ) (x y z : X) → slice_get xs n ≡ Some x → f y ≡ z → map f (set xs n y) ++ ys ≡ set (map f xs ++ ys) n z
+set_mapped f [] ys n x y z is same = absurd cc
+set_mapped f (w ∷ ws) ys zero x y z is same = ap (λ v. v ∷ map f ws ++ ys) same
+set_mapped f (w ∷ ws) ys (suc n) x y z is same = ap (λ vs. f w ∷ vs) (set_mapped f ws ys n x y z is same)
+
+set_last : {X : Type 0} (xs : List X) (x y : X) → xs ++ y ∷ [] ≡ set (xs ++ x ∷ []) (length xs) y
+set_last [] x y = refl
+set_last (z ∷ zs) x y = ap (λ vs. z ∷ vs) (set_last zs x y)
+
+fed_if : (t : Bool) (args : Arguments) (e f : Entry) → (if t then fed_entry args f else fed_entry args e) ≡ fed_entry args (if t then f else e)
+fed_if true args e f = refl
+fed_if false args e f = refl
+
+noted_fed : (k : Kept) (args : Arguments) (e : Entry) → noted k (fed_entry args e) ≡ fed_entry args (noted k e)
+noted_fed (kept.Start a program) args e = refl
+noted_fed (kept.Act a own) args e = fed_if (bytes_eq a e.actor) args e (acted_on own.due own.came e)
+noted_fed (kept.Child a own c program) args e = refl
+noted_fed (kept.Feed a own c message envelope) args e = refl
+noted_fed (kept.End a read ready status) args e = fed_if (bytes_eq a e.actor) args e (left_as (told.Ended status) e)
+noted_fed (kept.Stop a) args e = fed_if (bytes_eq a e.actor) args e (left_as told.Stopped e)
+noted_fed (kept.Generation start) args e = refl
+noted_fed (kept.Report slot letter text) args e = refl
+noted_fed (kept.Moment m) args e = refl
+noted_fed (kept.Halt how) args e = refl
+
+-- the books with that input differ in the entry of the child
+record AreFed (old new : List Entry) (n : ℕ) (c : List ℕ) (args : Arguments) : Type 0 where
+  entry : Entry
+  here : slice_get old n ≡ Some entry
+  named : entry.actor ≡ c
+  are : new ≡ set old n (fed_entry args entry)
+
+books_fed : (parent : List ℕ) (own : Own) (c : List ℕ) (args other : Arguments) (later before : List Kept) → args.pid ≡ other.pid
+    → AreFed (books_of (later ++ kept.Child parent own c (Injector args) ∷ before)) (books_of (later ++ kept.Child parent own c (Injector other) ∷ before))
+    (length (books_of before)) c other
+books_fed parent own c args other [] before pid =
+    let old = map (noted (kept.Child parent own c (Injector args))) (books_of before) in
+    let many : length old ≡ length (books_of before) = length-map (books_of before) (noted (kept.Child parent own c (Injector args))) in
+    let last = some_at (λ (z : Entry). z ≡ new_entry c args) (slice_get (old ++ new_entry c args ∷ []) (length old)) (some_last (λ (z : Entry). z ≡ new_entry c args) old (new_entry c args) refl) in
+    record {
+      entry = new_entry c args;
+      here = ap (slice_get (old ++ new_entry c args ∷ [])) (sym many) ∙ last.1 ∙ ap Some last.2;
+      named = refl;
+      are = ap (λ (pid : ℕ). old ++ (record (new_entry c other) { pid = pid }) ∷ []) (sym pid) ∙ set_last old (new_entry c args) (fed_entry other (new_entry c args))
+          ∙ ap (λ (n : ℕ). set (old ++ new_entry c args ∷ []) n (fed_entry other (new_entry c args))) many;
+    }
+books_fed parent own c args other (k ∷ later) before pid =
+    let rest = books_fed parent own c args other later before pid in
+    let old = books_of (later ++ kept.Child parent own c (Injector args) ∷ before) in
+    record {
+      entry = noted k rest.entry;
+      here = some_mapped (noted k) old (entered_by k) (length (books_of before)) rest.entry rest.here;
+      named = noted_actor k rest.entry ∙ rest.named;
+      are = ap (λ (l : List Entry). map (noted k) l ++ entered_by k) rest.are
+          ∙ set_mapped (noted k) old (entered_by k) (length (books_of before)) rest.entry (fed_entry other rest.entry) (fed_entry other (noted k rest.entry)) rest.here (noted_fed k other rest.entry);
+    }
+
+-- what an injector is started with, with these texts
+abbrev given_texts : List ℕ → List ℕ → Arguments → Arguments
+given_texts message envelope args = record args { message = message; message_end = Whole; envelope = envelope; envelope_end = Whole }
+
+fed_books : (message envelope : List ℕ) (parent : List ℕ) (own : Own) (c : List ℕ) (program : Program) (later before : List Kept) → IsMail program
+    → (args : Arguments) × (args.envelope ≡ envelope)
+    × AreFed (books_of (later ++ kept.Child parent own c program ∷ before)) (books_of (later ++ kept.Child parent own c (with_texts message envelope program) ∷ before)) (length (books_of before)) c args
+fed_books message envelope parent own c (Injector args) later before mail =
+    (given_texts message envelope args, refl, books_fed parent own c args (given_texts message envelope args) later before refl)
+fed_books message envelope parent own c other later before mail = absurd mail
+
+-- the books of the events with that input are those of the events with the giving, if its giver has no entry
+fed_more : (entries : List Entry) (events : List Kept) (a : List ℕ) (own : Own) (c message envelope : List ℕ)
+    → entries ≡ books_of (start_with c message envelope (with_inputs (reverse events))) → map (noted (kept.Act a own)) entries ≡ entries
+    → entries ≡ books_of (with_inputs (reverse (events ++ kept.Feed a own c message envelope ∷ [])))
+fed_more entries events a own c message envelope are still =
+    sym still ∙ ap (map (noted (kept.Act a own))) are ∙ sym (append-nil (map (noted (kept.Act a own)) (books_of (start_with c message envelope (with_inputs (reverse events))))))
+    ∙ ap books_of (sym (inputs_fed events a own c message envelope))
+
+-- what is kept then, by the place of the child
+fed_at : (places : List ℕ → Option ℕ) (actors : List Held) (i : ℕ) (x : Held) (entries now old new : List Entry) (n : ℕ) (c : List ℕ) (args : Arguments)
+    → AreFed old new n c args → ArePlaced places actors → entries ≡ old → map (λ (e : Entry). e.actor) entries ≡ map (λ (x : Held). x.name) actors → slice_get actors i ≡ Some x → x.name ≡ c
+    → ((e : Entry) → slice_get entries i ≡ Some e → now ≡ set entries i (fed_entry args e)) → (now ≡ new) × (map (λ (e : Entry). e.actor) now ≡ map (λ (x : Held). x.name) actors)
+fed_at places actors i x entries now old new n c args fed placed are names is name noted_it =
+    let actor : Entry → List ℕ = λ e. e.actor in
+    let named : Held → List ℕ = λ x. x.name in
+    let here : slice_get entries n ≡ Some fed.entry = ap (λ (l : List Entry). slice_get l n) are ∙ fed.here in
+    let w = paired actor named entries actors n fed.entry names here in
+    let both : ◌≡◌ {A = Option ℕ} (Some n) (Some i) = sym (placed n w.0 w.1) ∙ ap places (sym w.2 ∙ fed.named ∙ sym name) ∙ placed i x is in
+    let same : n ≡ i = cc in
+    let there : slice_get entries i ≡ Some fed.entry = ap (slice_get entries) (sym same) ∙ here in
+    let now_is : now ≡ set entries i (fed_entry args fed.entry) = noted_it fed.entry there in (
+      now_is ∙ ap (λ (i : ℕ). set entries i (fed_entry args fed.entry)) (sym same) ∙ ap (λ (l : List Entry). set l n (fed_entry args fed.entry)) are ∙ sym fed.are,
+      ap (map actor) now_is ∙ map_set_same actor entries i fed.entry (fed_entry args fed.entry) there refl ∙ names,
+    )
+
+-- a child of a member, which has this place, was given its input
+pub fed_booked : (places : List ℕ → Option ℕ) (actors : List Held) (events : List Kept) (i : ℕ) (x : Held) (entries now : List Entry) (a c message envelope : List ℕ) (own : Own) (just : HasJustStarted events a c)
+    → ArePlaced places actors → AreBooked entries actors events → ((j : ℕ) (z : Held) → slice_get actors j ≡ Some z → z.name ≢ a) → slice_get actors i ≡ Some x → x.name ≡ c → IsMail just.program
+    → ((e : Entry) (args : Arguments) → slice_get entries i ≡ Some e → args.envelope ≡ envelope → now ≡ set entries i (fed_entry args e))
+    → AreBooked now actors (events ++ kept.Feed a own c message envelope ∷ [])
+fed_booked places actors events i x entries now a c message envelope own just placed booked apart is name mail noted_it =
+    let old = just.later ++ kept.Child a just.own c just.program ∷ just.before in
+    let new = just.later ++ kept.Child a just.own c (with_texts message envelope just.program) ∷ just.before in
+    let fed = fed_books message envelope a just.own c just.program just.later just.before mail in
+    let at = fed_at places actors i x entries now (books_of old) (books_of new) (length (books_of just.before)) c fed.0 fed.2 placed
+    (subst (λ (l : List Kept). entries ≡ books_of l) just.are booked.are) booked.names is name (λ e there. noted_it e fed.0 there fed.1) in
+    let filled : start_with c message envelope (with_inputs (reverse events)) ≡ new =
+    subst (λ (l : List Kept). start_with c message envelope l ≡ new) (sym just.are) (start_in c message envelope a just.own just.program just.later just.before just.apart) in
+    record {
+      are = fed_more now events a own c message envelope (subst (λ (l : List Kept). now ≡ books_of l) (sym filled) at.0)
+          (map_still (noted (kept.Act a own)) now (λ j e h.
+          let v = paired (λ (e : Entry). e.actor) (λ (x : Held). x.name) now actors j e at.1 h in
+          noted_other (kept.Act a own) a e refl (λ mine. apart j v.0 v.1 (sym v.2 ∙ mine))));
+      names = at.1;
     }
 
 -- no actor yet

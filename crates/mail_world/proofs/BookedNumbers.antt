@@ -41,7 +41,7 @@ use Rattle.mail_world.specs.Books.{mess_number, number_by, newer, number_of, mai
 use Rattle.mail_world.proofs.Covered.{AreLone}
 use Rattle.mail_world.proofs.Kept.{runs_always}
 use Rattle.mail_world.proofs.Owns.{IsPass, by_act, may_read}
-use Rattle.mail_world.proofs.Programs.{passes_none}
+use Rattle.mail_world.proofs.Programs.{passes_none, program_starts_none}
 use Rattle.mail_world.proofs.Tests.{text_cases, same_text}
 
 -- an injection of these books
@@ -386,7 +386,12 @@ all_mailed d (k ∷ events) ((Start b program) ∷ h) told a x is =
     (new_mailed (mails_of h) b program) a x is
 all_mailed d (k ∷ events) ((Act b own wrote) ∷ h) told a x is =
     acted_run (IsMailed (mails_of h)) (after d h) b own wrote ((after d h).actors b) refl (all_mailed d events h told.1) a x is
-all_mailed d (k ∷ events) ((Child parent own b program) ∷ h) told a x is = absurd told.0
+all_mailed d (k ∷ events) ((Child parent own b program) ∷ h) told a x is =
+    let s = after d h in
+    put_run (IsMailed (mails_of h ++ mail_by b (injection_of program))) (acted s parent own 0 (s.actors parent)).actors b _
+    (λ a x is. more_mailed (mails_of h) (mail_by b (injection_of program)) a x.program
+    (acted_run (IsMailed (mails_of h)) s parent own 0 (s.actors parent) refl (all_mailed d events h told.1) a x is))
+    (new_mailed (mails_of h) b program) a x is
 all_mailed d (k ∷ events) ((Generation sender clean lspawn rspawn) ∷ h) told a x is =
     let are = told.0.2 in
     let s = after d h in
@@ -515,6 +520,12 @@ finished_same : (s : State) (b : List ℕ) (life : Life) (o : Option Actor) → 
 finished_same s b life None = refl
 finished_same s b life (Some x) = refl
 
+-- no program that starts alone starts another one
+pub bears_none : (d : Disk) (h : List Event) (parent : List ℕ) (own : Own) (b : List ℕ) (program : Program) → AreLone d (Child parent own b program ∷ h) → ⊥
+bears_none d h parent own b program legal =
+    let born = legal.1 in
+    program_starts_none born.actor.program born.actor.past own.read own.ready born.asked (runs_always d h legal.0 parent born.actor born.reads.is) (born.due ∙ born.starts)
+
 each_told : (d : Disk) (events : List Kept) (h : List Event) → AreLone d h → AllZip Tells events h → EachIn (after d h).books (IsTold h (after d h).actors)
 each_told d [] [] legal told q is = ⊎_elim (λ w. absurd (cc)) (λ w. absurd w) is
 each_told d [] (e ∷ h) legal told q is = absurd told
@@ -525,7 +536,7 @@ each_told d (k ∷ events) ((Start b program) ∷ h) legal told q is =
     (λ a run. start_kept HasBegun s.actors b _ a legal.1.new run) (each_told d events h legal.0 told.1) q is
 each_told d (k ∷ events) ((Act b own wrote) ∷ h) legal told q is =
     act_told d h b own wrote legal (all_mailed d events h told.1) (each_told d events h legal.0 told.1) q is
-each_told d (k ∷ events) ((Child parent own b program) ∷ h) legal told q is = absurd told.0
+each_told d (k ∷ events) ((Child parent own b program) ∷ h) legal told q is = absurd (bears_none d h parent own b program legal)
 each_told d (k ∷ events) ((Generation sender clean lspawn rspawn) ∷ h) legal told q is = absurd legal.1
 each_told d (k ∷ events) ((Report slot letter text) ∷ h) legal told q is =
     let s = after d h in

@@ -1,5 +1,5 @@
 -- The actors that a world keeps, as one event comes.
-use Rattle.std.proofs.Common.{◌≡◌, ◌≢◌, ℕ, ◌≤◌, ◌<◌, List, [], ◌∷◌, ◌++◌, length, set, false, ◌||◌, is_some, Option, Some, None, IsSomeAnd, refl, sym, ap, ◌∙◌, subst, ⊎_elim, arith, bytes_eq, reverse}
+use Rattle.std.proofs.Common.{◌≡◌, ◌≢◌, ℕ, zero, suc, ◌≤◌, ◌<◌, List, [], ◌∷◌, ◌++◌, length, set, false, ◌||◌, is_some, Option, Some, None, IsSomeAnd, refl, sym, ap, ◌∙◌, subst, ⊎_elim, arith, bytes_eq, reverse}
 use Rattle.std.proofs.Math.Bool.{or-false, or-true}
 use Rattle.std.proofs.lemmas.List.Folds.{list_any-append}
 use Rattle.std.proofs.lemmas.Option.{slice_get_within}
@@ -10,17 +10,47 @@ use Rattle.mail_world.specs.declared.actor.Actor.{Actor as Held}
 use Rattle.world_events.specs.declared.event.Event.{Event as Kept}
 use Rattle.world_events.specs.declared.event.Event.TheVariants as kept
 use Rattle.call_fs.specs.declared.crash_file_system.Survival.{Survival}
-use Rattle.mail_world.specs.History.{State, Actor, stopped}
+use Rattle.mail_world.specs.History.{State, Actor, stopped, cut_off}
+use Rattle.mail_world.specs.History.Life.{Alive}
 use Rattle.mail_world.specs.World.{span_after, span_of, ends, starts, was_started}
 use Rattle.call_fs.specs.declared.past.Own.{Own}
+use Rattle.world_events.specs.declared.event.Program.{Program}
 use Rattle.mail_world.specs.Wired.{seat}
-use Rattle.mail_world.specs.Inside.{RunsAt, Owes, span_by, IsMember, IsStranger, AreActors, is_by}
+use Rattle.mail_world.specs.ByKind.{Follows, awaits_of, present_of, found_of, looked_of, need_of, takes_of}
+use Rattle.call_fs.specs.Program.{IsWithin}
+use Rattle.mail_world.specs.Readiness.{is_awaiting}
+use Rattle.mail_world.specs.Inside.{RunsAt, unowed, Owes, span_by, life_by, IsMember, IsStranger, AreActors, is_by}
 use Rattle.mail_world.specs.Acting.{ended_by, IsCutOff, AreCutOff}
+use Rattle.mail_world.specs.Children.{IsCut}
 use Rattle.call_fs.proofs.Maps.{put_at_same, put_at_other}
 use Rattle.queue_law.proofs.Tests.{text_cases, same_text, other_text}
-use Rattle.mail_world.proofs.Halts.{never_alive}
-use Rattle.mail_world.proofs.Lists.{get_still, each_set, some_set, each_push, some_push, some_last, some_at, some_within}
+use Rattle.mail_world.proofs.Members.{whether}
+use Rattle.mail_world.proofs.Awaiting.{owes_none}
+use Rattle.mail_world.proofs.Lists.{get_still, get_set, each_set, some_set, each_push, some_push, some_last, some_at, some_within}
 use Rattle.mail_world.proofs.Spans.{span_push, span_stays}
+
+-- Who lives, by its end and its status
+
+pub life_same : (o q status other : Option ℕ) → q ≡ o → other ≡ status → life_by o status ≡ life_by q other
+life_same o q status other same status_is = ap (λ (o : Option ℕ). life_by o status) (sym same) ∙ ap (life_by q) (sym status_is)
+
+pub over_is : (at : ℕ) (status : Option ℕ) → life_by (Some at) status ≡ Alive → ⊥
+over_is at None is = cc
+over_is at (Some status) is = cc
+
+pub member_alive : (s : State) (events : List Kept) (p : ℕ) (x : Held) (m : IsMember s events p x) → x.ended ≡ None → m.actor.life ≡ Alive
+member_alive s events p x m lives = m.life ∙ ap (λ (o : Option ℕ). life_by o x.status) lives
+
+pub member_over : (s : State) (events : List Kept) (p : ℕ) (x : Held) (m : IsMember s events p x) (at : ℕ) → x.ended ≡ Some at → m.actor.life ≡ Alive → ⊥
+member_over s events p x m at ended alive = over_is at x.status (sym (ap (λ (o : Option ℕ). life_by o x.status) ended) ∙ sym m.life ∙ alive)
+
+-- another place is as it was
+get_other : {X : Type 0} (xs : List X) (i : ℕ) (y : X) (j : ℕ) (z : X) → j ≢ i → slice_get xs j ≡ Some z → slice_get (set xs i y) j ≡ Some z
+get_other [] i y j z other is = is
+get_other (v ∷ vs) zero y zero z other is = absurd (other refl)
+get_other (v ∷ vs) zero y (suc j) z other is = is
+get_other (v ∷ vs) (suc i) y zero z other is = is
+get_other (v ∷ vs) (suc i) y (suc j) z other is = get_other vs i y j z (λ e. other (ap suc e)) is
 
 -- an event leaves each actor but one as it was
 pub record ActsAlone (a : List ℕ) (s t : State) (k : Kept) : Type 0 where
@@ -38,7 +68,9 @@ owes_still x events k past at o = record {
   own = o.own;
   before = o.before;
   newest = o.newest;
-  there = get_still events k at _ o.there;
+  event = o.event;
+  there = get_still events k at o.event o.there;
+  is = o.is;
   read = o.read;
   found = o.found;
   looked = o.looked;
@@ -48,8 +80,9 @@ owes_still x events k past at o = record {
 }
 
 -- another actor
-pub other_member : (s t : State) (events : List Kept) (k : Kept) (p : ℕ) (a : List ℕ) (x : Held) → ActsAlone a s t k → x.name ≢ a → IsMember s events p x → IsMember t (events ++ k ∷ []) p x
-other_member s t events k p a x acts apart m = record {
+pub other_member : (s t : State) (events : List Kept) (k : Kept) (p : ℕ) (a : List ℕ) (x : Held) → ActsAlone a s t k → x.name ≢ a → IsMember s events p x
+    → (x.ended ≡ None → awaits_of x.machine ≡ is_awaiting t x.name) → IsMember t (events ++ k ∷ []) p x
+other_member s t events k p a x acts apart m awaits = record {
   actor = m.actor;
   is = acts.actors x.name apart ∙ m.is;
   follows = m.follows;
@@ -57,10 +90,51 @@ other_member s t events k p a x acts apart m = record {
   runs = m.runs;
   run = m.run;
   in_order = m.in_order;
-  alive = m.alive;
+  life = m.life;
+  unended = m.unended;
+  awaits = awaits;
   spans = span_stays events k x.name (acts.no_start x.name apart) (acts.no_end x.name apart) ∙ m.spans;
   closed = m.closed;
-  dead = m.dead;
+}
+
+-- one that is given no input any more
+cut_owes : (z w : Held) (events : List Kept) (program : Program) (past : List Own) (at : ℕ) → IsCut z w → Follows z.machine program (unowed z.owed past) → Owes z events past at → Owes w events past at
+cut_owes z w events program past at cut follows o = ⊎_elim
+    (λ awaits. absurd (owes_none z events program past (unowed z.owed past) at o follows awaits))
+    (λ none.
+    let same = cut.same none in record {
+      own = o.own;
+      before = o.before;
+      newest = o.newest;
+      event = o.event;
+      there = o.there;
+      is = o.is;
+      read = ap present_of same ∙ o.read;
+      found = ap found_of same ∙ o.found;
+      looked = ap looked_of same ∙ o.looked;
+      due = ap need_of same ∙ o.due;
+      kind = o.kind;
+      within = subst (λ (n : ℕ). IsWithin n o.own.came) (sym (ap takes_of same)) o.within;
+    })
+    (whether (awaits_of z.machine))
+
+pub cut_member : (s t : State) (events : List Kept) (k : Kept) (p : ℕ) (a : List ℕ) (z w : Held) → ActsAlone a s t k → z.name ≢ a → IsMember s events p z → IsCut z w
+    → is_awaiting t z.name ≡ false → IsMember t (events ++ k ∷ []) p w
+cut_member s t events k p a z w acts apart m cut none = record {
+  actor = m.actor;
+  is = ap t.actors cut.name ∙ acts.actors z.name apart ∙ m.is;
+  follows = λ e. subst (λ (o : Option ℕ). Follows w.machine m.actor.program (unowed o m.actor.past)) (sym cut.owed)
+      (cut.follows m.actor.program (unowed z.owed m.actor.past) (m.follows (sym cut.ended ∙ e)));
+  owes = λ e at is. owes_still w events k m.actor.past at (cut_owes z w events m.actor.program m.actor.past at cut (m.follows (sym cut.ended ∙ e)) (m.owes (sym cut.ended ∙ e) at (sym cut.owed ∙ is)));
+  runs = subst (λ (a : List ℕ). RunsAt (seat a) m.actor.program) (sym cut.name) m.runs;
+  run = m.run;
+  in_order = m.in_order;
+  life = m.life ∙ life_same z.ended w.ended z.status w.status cut.ended cut.status;
+  unended = λ e. cut.status ∙ m.unended (sym cut.ended ∙ e);
+  awaits = λ e. cut.awaits ∙ sym (ap (is_awaiting t) cut.name ∙ none);
+  spans = ap (λ (a : List ℕ). span_of a (reverse (events ++ k ∷ []))) cut.name
+      ∙ span_stays events k z.name (acts.no_start z.name apart) (acts.no_end z.name apart) ∙ m.spans ∙ ap span_by (sym cut.ended);
+  closed = λ at e. cut.descriptors ∙ m.closed at (sym cut.ended ∙ e);
 }
 
 pub other_stranger : (s t : State) (events : List Kept) (k : Kept) (a b : List ℕ) → ActsAlone a s t k → b ≢ a → IsStranger s events b → IsStranger t (events ++ k ∷ []) b
@@ -82,13 +156,38 @@ apart_none places a b i at other same =
 -- one actor acts
 pub crew_acts : (places : List ℕ → Option ℕ) (actors : List Held) (s t : State) (events : List Kept) (k : Kept) (p i : ℕ) (x y : Held)
     → AreActors places actors s events p → slice_get actors i ≡ Some x → y.name ≡ x.name → ActsAlone x.name s t k → ((a : List ℕ) → starts a k ≡ false)
-    → IsMember t (events ++ k ∷ []) p y → AreActors places (set actors i y) t (events ++ k ∷ []) p
-crew_acts places actors s t events k p i x y crew is same acts no_start new =
+    → ((b : List ℕ) → b ≢ x.name → is_awaiting t b ≡ is_awaiting s b) → IsMember t (events ++ k ∷ []) p y → AreActors places (set actors i y) t (events ++ k ∷ []) p
+crew_acts places actors s t events k p i x y crew is same acts no_start awaits new =
     let place = crew.placed i x is in record {
       placed = each_set (λ j (z : Held). places z.name ≡ Some j) actors i y (ap places same ∙ place) (λ j z apart h. crew.placed j z h);
       members = each_set (λ j (z : Held). IsMember t (events ++ k ∷ []) p z) actors i y new (λ j z apart h.
-          other_member s t events k p x.name z acts (apart_by places x.name z.name i j place (crew.placed j z h) apart) (crew.members j z h));
+          let other = apart_by places x.name z.name i j place (crew.placed j z h) apart in
+          let m = crew.members j z h in
+          other_member s t events k p x.name z acts other m (λ lives. m.awaits lives ∙ sym (awaits z.name other)));
       named = λ a j at. some_set (λ (z : Held). z.name ≡ a) actors i x y j is (λ e. same ∙ e) (crew.named a j at);
+      strangers = λ a none. other_stranger s t events k x.name a acts (apart_none places x.name a i place none) (crew.strangers a none);
+      started = λ a. started_push events k a ∙ ap (λ b. was_started events a || b) (no_start a) ∙ or-false (was_started events a) ∙ crew.started a;
+    }
+
+-- and another one is changed with that
+pub crew_leaves : (places : List ℕ → Option ℕ) (actors : List Held) (s t : State) (events : List Kept) (k : Kept) (p i c : ℕ) (x y z w : Held)
+    → AreActors places actors s events p → slice_get actors i ≡ Some x → slice_get actors c ≡ Some z → c ≢ i → y.name ≡ x.name → w.name ≡ z.name
+    → ActsAlone x.name s t k → ((a : List ℕ) → starts a k ≡ false)
+    → ((j : ℕ) (v : Held) → j ≢ c → slice_get actors j ≡ Some v → v.name ≢ x.name → v.ended ≡ None → awaits_of v.machine ≡ is_awaiting t v.name)
+    → IsMember t (events ++ k ∷ []) p y → IsMember t (events ++ k ∷ []) p w → AreActors places (set (set actors i y) c w) t (events ++ k ∷ []) p
+crew_leaves places actors s t events k p i c x y z w crew is there other same kept acts no_start awaits new cut =
+    let place = crew.placed i x is in
+    let mid = set actors i y in
+    let mid_is : slice_get mid c ≡ Some z = get_other actors i y c z other there in
+    record {
+      placed = each_set (λ j (v : Held). places v.name ≡ Some j) mid c w (ap places kept ∙ crew.placed c z there) (λ j v apart h.
+          each_set (λ j (v : Held). places v.name ≡ Some j) actors i y (ap places same ∙ place) (λ j v apart h. crew.placed j v h) j v h);
+      members = each_set (λ j (v : Held). IsMember t (events ++ k ∷ []) p v) mid c w cut (λ j v beside h. ⊎_elim
+          (λ f. subst (λ (v : Held). IsMember t (events ++ k ∷ []) p v) f.1 new)
+          (λ f. let far = apart_by places x.name v.name i j place (crew.placed j v f.1) f.0 in
+          other_member s t events k p x.name v acts far (crew.members j v f.1) (awaits j v beside f.1 far))
+          (get_set actors i y j v h));
+      named = λ a j at. some_set (λ (v : Held). v.name ≡ a) mid c z w j mid_is (λ e. kept ∙ e) (some_set (λ (v : Held). v.name ≡ a) actors i x y j is (λ e. same ∙ e) (crew.named a j at));
       strangers = λ a none. other_stranger s t events k x.name a acts (apart_none places x.name a i place none) (crew.strangers a none);
       started = λ a. started_push events k a ∙ ap (λ b. was_started events a || b) (no_start a) ∙ or-false (was_started events a) ∙ crew.started a;
     }
@@ -107,8 +206,8 @@ crew_looks places actors s events p i x y crew is same new = record {
 -- an event of no actor comes, and the present moment is a later one
 pub crew_waits : (places : List ℕ → Option ℕ) (actors : List Held) (s t : State) (events : List Kept) (k : Kept) (p q : ℕ) → p ≤ q
     → AreActors places actors s events p → t.actors ≡ s.actors → t.holder ≡ s.holder → ((a : List ℕ) → ends a k ≡ false) → ((a : List ℕ) → starts a k ≡ false)
-    → AreActors places actors t (events ++ k ∷ []) q
-crew_waits places actors s t events k p q later crew same holder no_end no_start = record {
+    → ((b : List ℕ) → is_awaiting t b ≡ is_awaiting s b) → AreActors places actors t (events ++ k ∷ []) q
+crew_waits places actors s t events k p q later crew same holder no_end no_start awaits = record {
   placed = crew.placed;
   members = λ i x is. let m = crew.members i x is in let order = m.in_order in record {
     actor = m.actor;
@@ -118,10 +217,11 @@ crew_waits places actors s t events k p q later crew same holder no_end no_start
     runs = m.runs;
     run = m.run;
     in_order = omega arith;
-    alive = m.alive;
+    life = m.life;
+    unended = m.unended;
+    awaits = λ lives. m.awaits lives ∙ sym (awaits x.name);
     spans = span_stays events k x.name (no_start x.name) (no_end x.name) ∙ m.spans;
     closed = m.closed;
-    dead = m.dead;
   };
   named = crew.named;
   strangers = λ a none. let m = crew.strangers a none in record {
@@ -154,6 +254,12 @@ span_cut : (a : List ℕ) (how : Survival) (n : ℕ) (o : Option ℕ) → span_a
 span_cut a how n None = refl
 span_cut a how n (Some at) = refl
 
+-- what a machine stop makes of a life
+cut_life : (n : ℕ) (o status : Option ℕ) → (o ≡ None → status ≡ None) → cut_off (life_by o status) ≡ life_by (ended_by n o) status
+cut_life n None status none = sym (ap (life_by (Some n)) (none refl))
+cut_life n (Some at) None none = refl
+cut_life n (Some at) (Some status) none = refl
+
 pub none_alive : (n : ℕ) (o : Option ℕ) → ended_by n o ≡ None → ⊥
 none_alive n None h = cc
 none_alive n (Some at) h = cc
@@ -167,11 +273,12 @@ halt_member s t events how p x y halted cut m = record {
   runs = subst (λ (a : List ℕ). RunsAt (seat a) m.actor.program) (sym cut.name) m.runs;
   run = m.run;
   in_order = m.in_order;
-  alive = λ e. absurd (none_alive (length events) x.ended (sym cut.ended ∙ e));
+  life = ap cut_off m.life ∙ cut_life (length events) x.ended x.status m.unended ∙ life_same (ended_by (length events) x.ended) y.ended x.status y.status cut.ended cut.status;
+  unended = λ e. absurd (none_alive (length events) x.ended (sym cut.ended ∙ e));
+  awaits = λ e. absurd (none_alive (length events) x.ended (sym cut.ended ∙ e));
   spans = ap (λ (a : List ℕ). span_of a (reverse (events ++ kept.Halt how ∷ []))) cut.name ∙ span_push events (kept.Halt how) x.name
       ∙ ap (span_after x.name (kept.Halt how) (length events)) m.spans ∙ span_cut x.name how (length events) x.ended ∙ ap span_by (sym cut.ended);
   closed = λ at e. cut.descriptors;
-  dead = λ at e. never_alive m.actor.life;
 }
 
 -- the machine stops
@@ -202,15 +309,16 @@ pub record StartsAlone (a : List ℕ) (s t : State) (k : Kept) : Type 0 where
 -- an actor starts
 pub crew_starts : (places : List ℕ → Option ℕ) (actors : List Held) (s t : State) (events : List Kept) (k : Kept) (p : ℕ) (a : List ℕ) (y : Held) (next : List ℕ → Option ℕ)
     → AreActors places actors s events p → places a ≡ None → ((b : List ℕ) → next b ≡ put_at places a (Some (length actors)) b) → y.name ≡ a → StartsAlone a s t k
-    → IsMember t (events ++ k ∷ []) p y → AreActors next (actors ++ y ∷ []) t (events ++ k ∷ []) p
-crew_starts places actors s t events k p a y next crew new put name starts_a member =
+    → ((b : List ℕ) → b ≢ a → is_awaiting t b ≡ is_awaiting s b) → IsMember t (events ++ k ∷ []) p y → AreActors next (actors ++ y ∷ []) t (events ++ k ∷ []) p
+crew_starts places actors s t events k p a y next crew new put name starts_a awaits member =
     let here : next a ≡ Some (length actors) = put a ∙ put_at_same places a (Some (length actors)) in
     let there : (b : List ℕ) → b ≢ a → next b ≡ places b = λ b apart. put b ∙ put_at_other places a (Some (length actors)) b apart in
     let old : (j : ℕ) (z : Held) → slice_get actors j ≡ Some z → z.name ≢ a = λ j z h. apart_some places a z.name j new (crew.placed j z h) in
     record {
       placed = each_push (λ j (z : Held). next z.name ≡ Some j) actors y (ap next name ∙ here) (λ j z h. there z.name (old j z h) ∙ crew.placed j z h);
       members = each_push (λ j (z : Held). IsMember t (events ++ k ∷ []) p z) actors y member (λ j z h.
-          other_member s t events k p a z acts (old j z h) (crew.members j z h));
+          let m = crew.members j z h in
+          other_member s t events k p a z acts (old j z h) m (λ lives. m.awaits lives ∙ sym (awaits z.name (old j z h))));
       named = λ b j at. ⊎_elim
           (λ f. let same : ◌≡◌ {A = Option ℕ} (Some j) (Some (length actors)) = sym at ∙ ap next f.0 ∙ here in
           let last : j ≡ length actors = cc in

@@ -1,5 +1,5 @@
 -- The first member that lives.
-use Rattle.std.proofs.Common.{◌≡◌, ◌≢◌, ◌⊎◌, ◌↔◌, Result, Ok, Err, inl, inr, ℕ, zero, suc, ◌+◌, ◌<◌, ◌≤◌, List, [], ◌∷◌, ◌++◌, length, map, reverse, Bool, true, false, Option, Some, None, refl, sym, ap, ◌∙◌, subst, ⊎_elim, codes, arith}
+use Rattle.std.proofs.Common.{◌≡◌, ◌≢◌, ◌⊎◌, ℕ, zero, suc, ◌+◌, ◌<◌, ◌≤◌, List, [], ◌∷◌, ◌++◌, length, map, reverse, Bool, true, false, Option, Some, None, refl, sym, ap, ◌∙◌, subst, ⊎_elim, codes, arith}
 use Rattle.std.specs.Prelude.{All, take, is_none, if◌then◌else◌}
 use Rattle.std.specs.List.{slice_get}
 use Rattle.std.proofs.lemmas.List.{map-append}
@@ -7,8 +7,6 @@ use Rattle.std.proofs.lemmas.List.Elements.{All-nil, All-cons, All-head, All-tai
 use Rattle.actor_names.specs.MailNames.{members}
 use Rattle.world_events.specs.declared.event.Event.{Event as Kept}
 use Rattle.mail_world.specs.declared.actor.Actor.{Actor as Held}
-use Rattle.mail_world.specs.declared.error.WorldError.{WorldError}
-use Rattle.mail_world.specs.declared.error.WorldError.TheVariants as why
 use Rattle.mail_world.specs.Pipework.{is_member}
 use Rattle.mail_world.specs.History.{State}
 use Rattle.mail_world.specs.World.{span_of}
@@ -129,19 +127,6 @@ first_alive places actors s events p a kept many first =
       none = none_before events before (x ∷ later) told first.6;
     })
 
-no_item : (xs : List Held) (x : Held) (ys : List Held) → ◌≡◌ {A = List Held} [] (xs ++ x ∷ ys) → ⊥
-no_item [] x ys e = absurd cc
-no_item (y ∷ xs) x ys e = absurd cc
-
--- so it is whether there are members or not
-pub first_told : (crew : ℕ) (places : List ℕ → Option ℕ) (actors : List Held) (s : State) (events : List Kept) (p : ℕ) (a : List ℕ) → AreActors (among_all crew places) actors s events p
-    → (crew ≡ 0) ⊎ (crew ≡ 4) → crew ≤ length actors → IsFirst (take crew actors) (Some a) → IsFirstAlive events a
-first_told crew places actors s events p a kept (inl none) many first =
-    let empty : ◌≡◌ {A = List Held} [] (first.0 ++ first.1 ∷ first.2) = sym (ap (λ (n : ℕ). take n actors) none) ∙ first.3 in absurd (no_item first.0 first.1 first.2 empty)
-first_told crew places actors s events p a kept (inr four) many first =
-    first_alive places actors s events p a (subst (λ (n : ℕ). AreActors (among_all n places) actors s events p) four kept)
-    (subst (λ (n : ℕ). n ≤ length actors) four many) (subst (λ (n : ℕ). IsFirst (take n actors) (Some a)) four first)
-
 no_middle : (before later : List Held) (x : Held) → [] ≡ before ++ x ∷ later → ⊥
 no_middle [] later x is = cc
 no_middle (y ∷ before) later x is = cc
@@ -189,24 +174,3 @@ pub lives_none : (crew : ℕ) (places : List ℕ → Option ℕ) (actors : List 
 lives_none crew places actors s events p kept none i x low is =
     let member = seat_member x.name i (seat_here crew places actors s events p i x kept low is) in
     lasts_not x.ended (λ e. of_member (λ b. span_of b (reverse events) ≢ Lasting) none x.name member ((kept.members i x is).spans ∙ e))
-
--- When a start is refused
-
-pub alive_exactly : {T : Type 0} (events : List Kept) (a : List ℕ) → IsFirstAlive events a
-    → (name : List ℕ) → (◌≡◌ {A = Result T WorldError} (Err (why.Alive a)) (Err (why.Alive name))) ↔ IsFirstAlive events name
-alive_exactly {T} events a first name = (
-  (λ e. let same : a ≡ name = cc in subst (IsFirstAlive events) same first),
-  (λ other. ap failed (one_first events a name first other)),
-) where
-  failed : List ℕ → Result T WorldError
-  failed n = Err (why.Alive n)
-
-pub not_alive : {T : Type 0} (r : Result T WorldError) (events : List Kept) → ((name : List ℕ) → r ≢ Err (why.Alive name)) → IsNoneAlive events
-    → (name : List ℕ) → (r ≡ Err (why.Alive name)) ↔ IsFirstAlive events name
-not_alive r events other none name = (λ e. absurd (other name e), λ first. absurd (none_first events name none first))
-
-pub memory_alive : {T : Type 0} (r : Result T WorldError) → r ≡ Err why.Memory → (name : List ℕ) → r ≢ Err (why.Alive name)
-memory_alive r is name e = let both = sym is ∙ e in absurd (cc)
-
-pub ok_alive : {T : Type 0} (x : T) → (name : List ℕ) → ◌≢◌ {A = Result T WorldError} (Ok x) (Err (why.Alive name))
-ok_alive x name e = absurd (cc)

@@ -1,21 +1,22 @@
 -- What an actor finds by the pipes that are kept is what it finds by the state.
 use Rattle.std.proofs.Common.{◌≡◌, ℕ, zero, suc, ◌+◌, ◌-◌, ◌<◌, ◌≤◌, List, [], ◌∷◌, length, Bool, true, false, not, Option, Some, None, refl, sym, ap, ◌∙◌, subst, arith}
-use Rattle.std.specs.Prelude.{if◌then◌else◌, nat_lt, position, option_map}
+use Rattle.std.specs.Prelude.{if◌then◌else◌, nat_lt, position}
 use Rattle.std.specs.List.{slice_get, range_with_len, prefix_len}
 use Rattle.std.proofs.lemmas.Bool.{lt-ltb, le-ltb, ltb-true, ltb-false}
 use Rattle.call_fs.specs.declared.program.Port.{Port}
 use Rattle.call_fs.specs.declared.program.Port.TheVariants as port
 use Rattle.call_fs.specs.declared.program.Ready.{Ready}
+use Rattle.call_fs.specs.declared.program.TheConstants.{INPUT_READY}
 use Rattle.world_events.specs.declared.event.Program.{Program}
 use Rattle.world_events.specs.declared.event.Program.TheVariants.{Injector, Cleaner, Sender, LocalSpawner, RemoteSpawner}
 use Rattle.world_pipes.specs.declared.mouths.Mouths.{Mouths}
 use Rattle.world_pipes.specs.declared.mouths.Slot.{Slot}
 use Rattle.world_pipes.specs.Mouths.{pipe_of, tenant_of, runs_in, is_remote, IsLowest}
-use Rattle.world_pipes.specs.Pipework.{Pipe, is_ready}
-use Rattle.world_pipes.specs.Pipework.Tenant.{Remote}
+use Rattle.world_pipes.specs.Pipework.{Pipe, Tenant, is_ready}
+use Rattle.world_pipes.specs.Pipework.Tenant.{Runs, Remote}
 use Rattle.mail_world.specs.History.{State}
-use Rattle.mail_world.specs.Readiness.{has_ended, lowest_ended, found_by}
-use Rattle.mail_world.specs.Wired.{seat, AreWired, HaveSlots}
+use Rattle.mail_world.specs.Readiness.{has_ended, lowest_ended, input_alone, is_awaiting, found_by}
+use Rattle.mail_world.specs.Wired.{seat, AreWired, HaveOneChild, HaveSlots}
 use Rattle.mail_world.specs.Inside.{RunsAt}
 use Rattle.mail_world.specs.ByKind.{IsMail}
 use Rattle.mail_world.specs.Crew.{FindsBy, IsFoundAt, input_of}
@@ -78,14 +79,12 @@ lowest_is t (Some low) few is =
 
 -- By the pipes
 
--- a program in a slot of a world has ended exactly if its report came
-pub ended_remote : (s : State) (o : Option Slot) → has_ended s (runs_in o) ≡ is_remote true (runs_in o)
-ended_remote s None = refl
-ended_remote s (Some slot) = by_report slot.reported where
-  by_report : (o : Option Bool) → has_ended s (option_map Remote o) ≡ is_remote true (option_map Remote o)
-  by_report None = refl
-  by_report (Some true) = refl
-  by_report (Some false) = refl
+-- a remote program in a slot has ended exactly if its report came
+pub ended_remote : (s : State) (o : Option Tenant) → ((c : List ℕ) → o ≡ Some (Runs c) → ⊥) → has_ended s o ≡ is_remote true o
+ended_remote s None none = refl
+ended_remote s (Some (Runs c)) none = absurd (none c refl)
+ended_remote s (Some (Remote true)) none = refl
+ended_remote s (Some (Remote false)) none = refl
 
 some_slot : (o : Option Slot) → is_remote true (runs_in o) ≡ true → (slot : Slot) × (o ≡ Some slot)
 some_slot None is = absurd cc
@@ -98,11 +97,11 @@ position_alike t u (x ∷ xs) same =
     ∙ ap (λ (n : ℕ). if not (u x) then 1 + n else 0) (position_alike t u xs same)
 
 lowest_found : (s : State) (mouths : List Mouths) (a : List ℕ) (i : ℕ) (m : Mouths) (child : Option ℕ) → AreWired mouths s.pipework → seat a ≡ Some i → slice_get mouths i ≡ Some m → length m.slots.items ≡ 256
-    → IsLowest (λ d. is_remote true (tenant_of m d)) 0 child → lowest_ended s a ≡ child
-lowest_found s mouths a i m child wired at is slots low =
+    → ((d : ℕ) (c : List ℕ) → tenant_of m d ≡ Some (Runs c) → ⊥) → IsLowest (λ d. is_remote true (tenant_of m d)) 0 child → lowest_ended s a ≡ child
+lowest_found s mouths a i m child wired at is slots alone low =
     ap (λ (p : ℕ). if nat_lt p (length (range_with_len 0 256)) then Some p else None)
     (position_alike (λ d. has_ended s (s.pipework.programs a d)) (λ d. is_remote true (tenant_of m d)) (range_with_len 0 256)
-    (λ d. ap (has_ended s) (own_tenant mouths s.pipework a i m wired at is d) ∙ ended_remote s (slice_get m.slots.items d)))
+    (λ d. ap (has_ended s) (own_tenant mouths s.pipework a i m wired at is d) ∙ ended_remote s (tenant_of m d) (alone d)))
     ∙ lowest_is (λ d. is_remote true (tenant_of m d)) child
     (λ d yes. let slot = some_slot (slice_get m.slots.items d) yes in subst (λ (n : ℕ). d < n) slots (slice_get_within m.slots.items d slot.0 slot.1)) low
 
@@ -114,13 +113,13 @@ three_links p q r a b c hp hq hr =
     ∙ ap (λ (q : Pipe). is_ready a ∷ is_ready q ∷ is_ready r ∷ false ∷ []) hq
     ∙ ap (λ (r : Pipe). is_ready a ∷ is_ready b ∷ is_ready r ∷ false ∷ []) hr
 
-pub found_is : (s : State) (mouths : List Mouths) (a : List ℕ) (at : Option ℕ) (program : Program) (ready : Ready) → AreWired mouths s.pipework → HaveSlots mouths → seat a ≡ at → RunsAt at program
-    → IsFoundAt mouths at ready → ready ≡ found_by s a program
-found_is s mouths a None program ready wired slots at runs found = by_program program runs where
+pub found_is : (s : State) (mouths : List Mouths) (a : List ℕ) (at : Option ℕ) (program : Program) (awaits : Bool) (ready : Ready) → AreWired mouths s.pipework → HaveSlots mouths
+    → HaveOneChild mouths → seat a ≡ at → RunsAt at program → awaits ≡ is_awaiting s a → IsFoundAt mouths at awaits ready → ready ≡ found_by s a program
+found_is s mouths a None program awaits ready wired slots one at runs same found = by_program program runs where
   by_program : (program : Program) → IsMail program → ready ≡ found_by s a program
-  by_program (Injector args) mail = found
+  by_program (Injector args) mail = found ∙ ap (λ (t : Bool). if t then input_alone false else INPUT_READY) same
   by_program other mail = absurd mail
-found_is s mouths a (Some i) program ready wired slots at runs found = by_member (some_at (λ m. FindsBy i m ready) (slice_get mouths i) found) where
+found_is s mouths a (Some i) program awaits ready wired slots one at runs same found = by_member (some_at (λ m. FindsBy i m ready) (slice_get mouths i) found) where
   by_member : (m : Mouths) × (slice_get mouths i ≡ Some m) × FindsBy i m ready → ready ≡ found_by s a program
   by_member found = by_seat i program runs at found.1 found.2 where
     m : Mouths
@@ -147,5 +146,6 @@ found_is s mouths a (Some i) program ready wired slots at runs found = by_member
     by_seat (suc (suc (suc j))) (RemoteSpawner start) runs at is finds =
         input (suc (suc (suc j))) at is finds.0 finds.2
         ∙ ap (λ (child : Option ℕ). record { links = is_ready (s.pipework.pipes a port.Input) ∷ false ∷ false ∷ false ∷ []; child = child })
-        (sym (lowest_found s mouths a (suc (suc (suc j))) m finds.0 wired at is (slots (suc (suc (suc j))) m is) finds.1))
+        (sym (lowest_found s mouths a (suc (suc (suc j))) m finds.0 wired at is (slots (suc (suc (suc j))) m is)
+        (λ d c runs. let first = (one (suc (suc (suc j))) m d c is runs).0 in absurd (omega (arith, first))) finds.1))
     by_seat (suc (suc (suc j))) other runs at is finds = absurd runs

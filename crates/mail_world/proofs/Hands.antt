@@ -1,5 +1,6 @@
 -- What the actors have open, as one of them makes a call, ends, or starts.
 use Rattle.std.proofs.Common.{◌≡◌, ◌≢◌, inl, inr, ℕ, List, [], ◌∷◌, ◌++◌, set, Bool, true, false, ◌||◌, ◌&&◌, not, if◌then◌else◌, Option, Some, None, IsSome, refl, sym, ap, ◌∙◌, subst, ⊎_elim, bytes_eq}
+use Rattle.std.proofs.Math.Path.{fun_ext}
 use Rattle.std.proofs.Math.Bool.{or-false, or-true}
 use Rattle.std.proofs.lemmas.Bool.Decides.{eqb_tells}
 use Rattle.std.specs.List.{slice_get}
@@ -21,11 +22,11 @@ use Rattle.mail_world.specs.History.{State, Actor, Life, stopped, acted, called,
 use Rattle.mail_world.specs.History.Event.{Start, Moment}
 use Rattle.mail_world.specs.History.Life.{Alive}
 use Rattle.mail_world.specs.Inside.{IsMember, AreActors, HasOpen, IsOpenTo, IsOwn, Owns, AreApart, has, is_by}
-use Rattle.mail_world.specs.Acting.{AreOpen, AreCutOff, open_after}
+use Rattle.mail_world.specs.Acting.{AreOpen, AreCutOff, open_after, shut}
 use Rattle.mail_world.proofs.Lists.{each_set, each_push}
 use Rattle.call_fs.proofs.Maps.{put_cases, put_same, put_other, put_at_same, put_at_other}
 use Rattle.queue_law.proofs.Tests.{same_text, other_text}
-use Rattle.mail_world.proofs.Descriptors.{has_push, apart_push, has_without, apart_without, all_open}
+use Rattle.mail_world.proofs.Descriptors.{has_push, apart_push, has_without, apart_without, all_open, with_opens}
 use Rattle.mail_world.proofs.Opens.{Opens, ClosesOwn, closes_own, own_stays, owns_after}
 use Rattle.mail_world.proofs.Crew.{Halted, apart_by, was_there}
 use Rattle.mail_world.proofs.Halts.{never_alive}
@@ -33,6 +34,14 @@ use Rattle.queue_law.proofs.Looks.{mapped_some}
 use Rattle.call_fs.specs.declared.past.Own.{Own}
 use Rattle.mail_world.proofs.Acts.{freed, kept_on}
 use Rattle.mail_world.proofs.Passes.{IsPassing}
+
+shut_one : (a : List ℕ) (o : Option (List ℕ)) (file : Option Open) → (if is_by a o then None else file) ≡ unless_by a o file
+shut_one a None file = refl
+shut_one a (Some b) file = refl
+
+-- to close what is listed is to close what is held
+pub shut_listed : (d : Disk) (a : List ℕ) (holder : ℕ → Option (List ℕ)) (fds : List Fd) → ((fd : ℕ) → has fd fds ≡ is_by a (holder fd)) → shut fds d ≡ shut_by a holder d
+shut_listed d a holder fds lists = ap (with_opens d) (fun_ext (λ q. ap (λ (b : Bool). if b then None else d.opens q) (lists q) ∙ shut_one a (holder q) (d.opens q)))
 
 -- what is held stays open
 held_stays : (d e : Disk) (h g : ℕ → Option (List ℕ)) (a : List ℕ) (c : CallData) (answer : Answer) → Opens d e h g a c answer

@@ -1,5 +1,6 @@
 -- What kept events tell is the same of each history that they tell, except the disk and the books.
-use Rattle.std.proofs.Common.{◌≡◌, ◌∙◌, ℕ, List, [], ◌∷◌, ◌++◌, Option, Some, None, refl, sym, ap, subst, map, reverse, codes}
+use Rattle.std.specs.Prelude.{All, if◌then◌else◌}
+use Rattle.std.proofs.Common.{◌≡◌, ◌≢◌, ◌∙◌, ℕ, suc, List, [], ◌∷◌, ◌++◌, Bool, true, false, Option, Some, None, refl, sym, ap, subst, ⊎_elim, arith, map, reverse, bytes_eq, codes}
 use Rattle.std.proofs.lemmas.List.{reverse-append}
 use Rattle.std.specs.List.{AllZip}
 use Rattle.std.specs.Option.{option_map}
@@ -11,18 +12,57 @@ use Rattle.call_fs.specs.declared.past.ChildData.{ChildData}
 use Rattle.call_fs.specs.declared.past.ChildData.TheVariants as child
 use Rattle.call_fs.specs.declared.past.GotData.{GotData}
 use Rattle.call_fs.specs.declared.past.GotData.TheVariants as got
-use Rattle.mail_world.specs.Pipework.{Pipework, pipework_after, without_writer, with_generation, with_report, no_pipework}
+use Rattle.mail_world.specs.Pipework.{Pipework, is_member, pipework_after, with_child, without_writer, with_generation, with_report, no_pipework}
 use Rattle.call_fs.specs.Disk.{Disk}
 use Rattle.call_fs.specs.Maps.{put_at}
+use Rattle.call_fs.proofs.Maps.{put_at_same, put_at_other}
+use Rattle.world_events.specs.Inputs.{with_texts, start_with, with_inputs}
 use Rattle.world_events.specs.declared.event.Event.{Event as Kept}
 use Rattle.world_events.specs.declared.event.Event.TheVariants as kept
 use Rattle.world_events.specs.declared.event.Program.{Program}
 use Rattle.world_events.specs.declared.event.Program.TheVariants.{Cleaner, Sender, LocalSpawner, RemoteSpawner}
-use Rattle.mail_world.specs.History.{Event, Actor, Life, State, newborn, stopped, happens, acted, finished, after, holder_after, unless_by, report_text}
+use Rattle.mail_world.specs.History.{Event, Actor, Life, State, newborn, stopped, cut_off, happens, acted, finished, begins, after, holder_after, unless_by, report_text, slot_by}
 use Rattle.mail_world.specs.History.Event.{Start, Act, Child, Generation, Report, End, Stop, Moment, Halt}
 use Rattle.mail_world.specs.World.{Tells, AreMembers}
 use Rattle.mail_world.specs.Wired.{GivesWhole, IsWholeGiving, AreWholeGivings}
-use Rattle.mail_world.specs.Inside.{event_of, nowhere, known}
+use Rattle.mail_world.specs.Inside.{IsApart, HasJustStarted, event_of, nowhere, known}
+use Rattle.mail_world.specs.Anew.{idle}
+use Rattle.mail_world.proofs.Members.{four_other}
+use Rattle.mail_world.proofs.Tests.{text_cases, same_text, other_text}
+
+-- What an event adds
+
+-- no giving to a child
+abbrev pub IsPlain : Kept → Type 0
+IsPlain (kept.Feed a own c message envelope) = ⊥
+IsPlain other = Unit {0}
+
+inputs_plain : (k : Kept) (ks : List Kept) → IsPlain k → with_inputs (k ∷ ks) ≡ k ∷ with_inputs ks
+inputs_plain (kept.Start a program) ks plain = refl
+inputs_plain (kept.Act a own) ks plain = refl
+inputs_plain (kept.Child a own c program) ks plain = refl
+inputs_plain (kept.Feed a own c message envelope) ks plain = absurd plain
+inputs_plain (kept.Generation start) ks plain = refl
+inputs_plain (kept.Report slot letter text) ks plain = refl
+inputs_plain (kept.End a read ready status) ks plain = refl
+inputs_plain (kept.Stop a) ks plain = refl
+inputs_plain (kept.Moment m) ks plain = refl
+inputs_plain (kept.Halt how) ks plain = refl
+
+-- one event more, the newest one
+pub inputs_push : (events : List Kept) (k : Kept) → IsPlain k → with_inputs (reverse (events ++ k ∷ [])) ≡ k ∷ with_inputs (reverse events)
+inputs_push events k plain = ap with_inputs (reverse-append events (k ∷ [])) ∙ inputs_plain k (reverse events) plain
+
+-- a giving to a child
+pub inputs_fed : (events : List Kept) (a : List ℕ) (own : Own) (c message envelope : List ℕ)
+    → with_inputs (reverse (events ++ kept.Feed a own c message envelope ∷ [])) ≡ kept.Act a own ∷ start_with c message envelope (with_inputs (reverse events))
+inputs_fed events a own c message envelope = ap with_inputs (reverse-append events (kept.Feed a own c message envelope ∷ []))
+
+-- what is known after one event more
+pub known_push : (events : List Kept) (k : Kept) → IsPlain k → known (events ++ k ∷ []) ≡ happens (known events) (event_of k)
+known_push events k plain = ap (λ (l : List Kept). after nowhere (map event_of l)) (inputs_push events k plain)
+
+-- Each history that they tell
 
 -- the same actors, holders and moment
 pub record AreAlike (s t : State) : Type 0 where
@@ -82,7 +122,11 @@ happens_alike s t k (Act a own wrote) told c =
     subst (λ (k : Kept). AreAlike (happens s (Act a own wrote)) (happens t (event_of k))) (sym told)
     (subst (λ (x : Option Actor). AreAlike (acted s a own wrote (s.actors a)) (acted t a own 0 x))
     (ap (λ (m : List ℕ → Option Actor). m a) c.actors) (acted_alike s t a own wrote 0 (s.actors a) c))
-happens_alike s t k (Child parent own a program) told c = absurd told
+happens_alike s t k (Child parent own a program) told c =
+    subst (λ (k : Kept). AreAlike (happens s (Child parent own a program)) (happens t (event_of k))) (sym told)
+    (let one = subst (λ (x : Option Actor). AreAlike (acted s parent own 0 (s.actors parent)) (acted t parent own 0 x))
+    (ap (λ (m : List ℕ → Option Actor). m parent) c.actors) (acted_alike s t parent own 0 0 (s.actors parent) c) in
+    record { holder = one.holder; now = one.now; actors = put_alike _ _ a _ one.actors })
 happens_alike s t k (Generation sender clean lspawn rspawn) told c =
     subst (λ (k : Kept). AreAlike (happens s (Generation sender clean lspawn rspawn)) (happens t (event_of k))) (sym told.1)
     (members_alike s t told.0 sender clean lspawn rspawn told.2 c)
@@ -111,38 +155,9 @@ told_alike d [] (e ∷ h) told = absurd told
 told_alike d (k ∷ events) [] told = absurd told
 told_alike d (k ∷ events) (e ∷ h) told = happens_alike (after d h) (after nowhere (map event_of events)) k e told.0 (told_alike d events h told.1)
 
--- a world starts no children yet
-acted_slots : (s : State) (b : List ℕ) (own : Own) (w : ℕ) (o : Option Actor) (a : List ℕ) → (acted s b own w o).pipework.slots a ≡ s.pipework.slots a
-acted_slots s b own w None a = refl
-acted_slots s b own w (Some x) a = refl
-
-finished_slots : (s : State) (b : List ℕ) (life : Life) (o : Option Actor) (a : List ℕ) → (finished s b life o).pipework.slots a ≡ s.pipework.slots a
-finished_slots s b life None a = refl
-finished_slots s b life (Some x) a = refl
-
-slots_told : (d : Disk) (events : List Kept) (h : List Event) → AllZip Tells events h → (a : List ℕ) → (after d h).pipework.slots a ≡ None
-slots_told d [] [] told a = refl
-slots_told d [] (e ∷ h) told a = absurd told
-slots_told d (k ∷ events) [] told a = absurd told
-slots_told d (k ∷ events) ((Start b program) ∷ h) told a = slots_told d events h told.1 a
-slots_told d (k ∷ events) ((Act b own wrote) ∷ h) told a =
-    acted_slots (after d h) b own wrote ((after d h).actors b) a ∙ slots_told d events h told.1 a
-slots_told d (k ∷ events) ((Child parent own b program) ∷ h) told a = absurd told.0
-slots_told d (k ∷ events) ((Generation sender clean lspawn rspawn) ∷ h) told a = slots_told d events h told.1 a
-slots_told d (k ∷ events) ((Report slot letter text) ∷ h) told a = slots_told d events h told.1 a
-slots_told d (k ∷ events) ((End b read ready status) ∷ h) told a =
-    finished_slots (after d h) b (Life.Over status) ((after d h).actors b) a ∙ slots_told d events h told.1 a
-slots_told d (k ∷ events) ((Stop b) ∷ h) told a =
-    finished_slots (after d h) b Life.Stopped ((after d h).actors b) a ∙ slots_told d events h told.1 a
-slots_told d (k ∷ events) ((Moment m) ∷ h) told a = slots_told d events h told.1 a
-slots_told d (k ∷ events) ((Halt how contents) ∷ h) told a = refl
-
-pub told_slots : (d : Disk) (events : List Kept) (h : List Event) → AllZip Tells (reverse events) h → (a : List ℕ) → (after d h).pipework.slots a ≡ None
-told_slots d events h told a = slots_told d (reverse events) h told a
-
 -- what is known is so after each history that is told
-pub after_known : (d : Disk) (events : List Kept) (h : List Event) → AllZip Tells (reverse events) h → AreAlike (after d h) (known events)
-after_known d events h told = told_alike d (reverse events) h told
+pub after_known : (d : Disk) (events : List Kept) (h : List Event) → AllZip Tells (with_inputs (reverse events)) h → AreAlike (after d h) (known events)
+after_known d events h told = told_alike d (with_inputs (reverse events)) h told
 
 -- The pipes and slots, if no giving failed: then no event hides how much was given.
 
@@ -204,7 +219,12 @@ happens_pipework s t k (Act a own wrote) told whole c same =
     subst (λ (k : Kept). (happens s (Act a own wrote)).pipework ≡ (happens t (event_of k)).pipework) (sym told)
     (subst (λ (x : Option Actor). (acted s a own wrote (s.actors a)).pipework ≡ (acted t a own 0 x).pipework)
     (ap (λ (m : List ℕ → Option Actor). m a) c.actors) (acted_pipework s t a own wrote 0 (s.actors a) gives same))
-happens_pipework s t k (Child parent own a program) told whole c same = absurd told
+happens_pipework s t k (Child parent own a program) told whole c same =
+    let gives = subst IsWholeGiving told whole in
+    subst (λ (k : Kept). (happens s (Child parent own a program)).pipework ≡ (happens t (event_of k)).pipework) (sym told)
+    (ap (λ (w : Pipework). with_child w parent (slot_by own.due) a)
+    (subst (λ (x : Option Actor). (acted s parent own 0 (s.actors parent)).pipework ≡ (acted t parent own 0 x).pipework)
+    (ap (λ (m : List ℕ → Option Actor). m parent) c.actors) (acted_pipework s t parent own 0 0 (s.actors parent) gives same)))
 happens_pipework s t k (Generation sender clean lspawn rspawn) told whole c same =
     subst (λ (k : Kept). (happens s (Generation sender clean lspawn rspawn)).pipework ≡ (happens t (event_of k)).pipework) (sym told.1) (ap with_generation same)
 happens_pipework s t k (Report slot letter text) told whole c same =
@@ -228,10 +248,244 @@ pipework_told d (k ∷ events) [] told whole = absurd told
 pipework_told d (k ∷ events) (e ∷ h) told whole =
     happens_pipework (after d h) (after nowhere (map event_of events)) k e told.0 whole.0 (told_alike d events h told.1) (pipework_told d events h told.1 whole.1)
 
--- what is known of the pipes and slots is so after each history that is told
-pub known_pipework : (d : Disk) (events : List Kept) (h : List Event) → AllZip Tells (reverse events) h → AreWholeGivings (reverse events) → (after d h).pipework ≡ (known events).pipework
-known_pipework d events h told whole = pipework_told d (reverse events) h told whole
+-- the givings are those that were kept
 
--- what is known after one event more
-pub known_push : (events : List Kept) (k : Kept) → known (events ++ k ∷ []) ≡ happens (known events) (event_of k)
-known_push events k = ap (λ (l : List Kept). after nowhere (map event_of l)) (reverse-append events (k ∷ []))
+whole_with : (c message envelope : List ℕ) (ks : List Kept) → AreWholeGivings ks → AreWholeGivings (start_with c message envelope ks)
+whole_with c message envelope [] whole = tt
+whole_with c message envelope ((kept.Child a own b program) ∷ ks) whole = by_name (bytes_eq b c) (whole_with c message envelope ks whole.1) where
+  by_name : (t : Bool) → AreWholeGivings (start_with c message envelope ks)
+      → AreWholeGivings (if t then (kept.Child a own b (with_texts message envelope program)) ∷ ks else (kept.Child a own b program ∷ start_with c message envelope ks))
+  by_name true rest = whole
+  by_name false rest = (whole.0, rest)
+whole_with c message envelope ((kept.Start a program) ∷ ks) whole = (whole.0, whole_with c message envelope ks whole.1)
+whole_with c message envelope ((kept.Act a own) ∷ ks) whole = (whole.0, whole_with c message envelope ks whole.1)
+whole_with c message envelope ((kept.Feed a own b text more) ∷ ks) whole = (whole.0, whole_with c message envelope ks whole.1)
+whole_with c message envelope ((kept.Generation start) ∷ ks) whole = (whole.0, whole_with c message envelope ks whole.1)
+whole_with c message envelope ((kept.Report slot letter text) ∷ ks) whole = (whole.0, whole_with c message envelope ks whole.1)
+whole_with c message envelope ((kept.End a read ready status) ∷ ks) whole = (whole.0, whole_with c message envelope ks whole.1)
+whole_with c message envelope ((kept.Stop a) ∷ ks) whole = (whole.0, whole_with c message envelope ks whole.1)
+whole_with c message envelope ((kept.Moment m) ∷ ks) whole = (whole.0, whole_with c message envelope ks whole.1)
+whole_with c message envelope ((kept.Halt how) ∷ ks) whole = (whole.0, whole_with c message envelope ks whole.1)
+
+whole_inputs : (ks : List Kept) → AreWholeGivings ks → AreWholeGivings (with_inputs ks)
+whole_inputs [] whole = tt
+whole_inputs ((kept.Feed a own c message envelope) ∷ ks) whole = (whole.0, whole_with c message envelope (with_inputs ks) (whole_inputs ks whole.1))
+whole_inputs ((kept.Child a own b program) ∷ ks) whole = (whole.0, whole_inputs ks whole.1)
+whole_inputs ((kept.Start a program) ∷ ks) whole = (whole.0, whole_inputs ks whole.1)
+whole_inputs ((kept.Act a own) ∷ ks) whole = (whole.0, whole_inputs ks whole.1)
+whole_inputs ((kept.Generation start) ∷ ks) whole = (whole.0, whole_inputs ks whole.1)
+whole_inputs ((kept.Report slot letter text) ∷ ks) whole = (whole.0, whole_inputs ks whole.1)
+whole_inputs ((kept.End a read ready status) ∷ ks) whole = (whole.0, whole_inputs ks whole.1)
+whole_inputs ((kept.Stop a) ∷ ks) whole = (whole.0, whole_inputs ks whole.1)
+whole_inputs ((kept.Moment m) ∷ ks) whole = (whole.0, whole_inputs ks whole.1)
+whole_inputs ((kept.Halt how) ∷ ks) whole = (whole.0, whole_inputs ks whole.1)
+
+-- what is known of the pipes and slots is so after each history that is told
+pub known_pipework : (d : Disk) (events : List Kept) (h : List Event) → AllZip Tells (with_inputs (reverse events)) h → AreWholeGivings (reverse events) → (after d h).pipework ≡ (known events).pipework
+known_pipework d events h told whole = pipework_told d (with_inputs (reverse events)) h told (whole_inputs (reverse events) whole)
+
+-- A child is given its input
+
+pub all_first : {X : Type 0} (P : X → Type 0) (x : X) (xs : List X) → All P (x ∷ xs) → P x
+all_first P x xs all = all 0 x (omega arith)
+
+pub all_rest : {X : Type 0} (P : X → Type 0) (x : X) (xs : List X) → All P (x ∷ xs) → All P xs
+all_rest P x xs all = λ k d within. all (suc k) d (omega arith)
+
+-- Two states are the same, but for the input of a child that has done nothing, and but for the disk and the books.
+pub record IsRefilled (c message envelope : List ℕ) (s t : State) : Type 0 where
+  pub holder : t.holder ≡ s.holder
+  pub now : t.now ≡ s.now
+  pub pipework : t.pipework ≡ s.pipework
+  pub others : (a : List ℕ) → a ≢ c → t.actors a ≡ s.actors a
+  pub program : Program
+  pub life : Life
+  pub was : s.actors c ≡ Some (idle program life)
+  pub is : t.actors c ≡ Some (idle (with_texts message envelope program) life)
+
+-- what two maps hold at a name, they hold there with the same new value at another name, or at this one
+pub both_put : (m n : List ℕ → Option Actor) (a : List ℕ) (v : Option Actor) (o : List ℕ) → m o ≡ n o → put_at m a v o ≡ put_at n a v o
+unfolding put_at
+both_put m n a v o e = ap (λ (x : Option Actor). if bytes_eq o a then v else x) e
+
+-- so it is with this program
+record IsRefilledAs (c : List ℕ) (program other : Program) (s t : State) : Type 0 where
+  holder : t.holder ≡ s.holder
+  now : t.now ≡ s.now
+  pipework : t.pipework ≡ s.pipework
+  others : (a : List ℕ) → a ≢ c → t.actors a ≡ s.actors a
+  life : Life
+  was : s.actors c ≡ Some (idle program life)
+  is : t.actors c ≡ Some (idle other life)
+
+module _ (c : List ℕ) (program other : Program) where
+  abbrev Refilled : State → State → Type 0
+  Refilled s t = IsRefilledAs c program other s t
+
+  acted_refilled : (s t : State) (a : List ℕ) (own : Own) (o : Option Actor) → a ≢ c → Refilled s t → Refilled (acted s a own 0 o) (acted t a own 0 o)
+  acted_refilled s t a own None apart r = r
+  acted_refilled s t a own (Some x) apart r = record {
+    holder = ap (λ (h : ℕ → Option (List ℕ)). holder_after h a own.due own.came) r.holder;
+    now = r.now;
+    pipework = ap (λ (w : Pipework). pipework_after w a own.due own.came 0) r.pipework;
+    others = λ o ne. both_put t.actors s.actors a _ o (r.others o ne);
+    life = r.life;
+    was = put_at_other s.actors a _ c (λ w. apart (sym w)) ∙ r.was;
+    is = put_at_other t.actors a _ c (λ w. apart (sym w)) ∙ r.is;
+  }
+
+  finished_refilled : (s t : State) (a : List ℕ) (life : Life) (o : Option Actor) → a ≢ c → Refilled s t → Refilled (finished s a life o) (finished t a life o)
+  finished_refilled s t a life None apart r = r
+  finished_refilled s t a life (Some x) apart r = record {
+    holder = freed_alike t.holder s.holder a r.holder;
+    now = r.now;
+    pipework = ap (λ (w : Pipework). without_writer w a) r.pipework;
+    others = λ o ne. both_put t.actors s.actors a _ o (r.others o ne);
+    life = r.life;
+    was = put_at_other s.actors a _ c (λ w. apart (sym w)) ∙ r.was;
+    is = put_at_other t.actors a _ c (λ w. apart (sym w)) ∙ r.is;
+  }
+
+  -- another actor's event
+  act_refilled : (s t : State) (a : List ℕ) (own : Own) → a ≢ c → Refilled s t → Refilled (acted s a own 0 (s.actors a)) (acted t a own 0 (t.actors a))
+  act_refilled s t a own apart r =
+      subst (λ (o : Option Actor). Refilled (acted s a own 0 (s.actors a)) (acted t a own 0 o)) (sym (r.others a apart)) (acted_refilled s t a own (s.actors a) apart r)
+
+  finish_refilled : (s t : State) (a : List ℕ) (life : Life) → a ≢ c → Refilled s t → Refilled (finished s a life (s.actors a)) (finished t a life (t.actors a))
+  finish_refilled s t a life apart r =
+      subst (λ (o : Option Actor). Refilled (finished s a life (s.actors a)) (finished t a life o)) (sym (r.others a apart)) (finished_refilled s t a life (s.actors a) apart r)
+
+  -- the child itself is stopped
+  stop_refilled : (s t : State) → Refilled s t → Refilled (finished s c Life.Stopped (s.actors c)) (finished t c Life.Stopped (t.actors c))
+  stop_refilled s t r =
+      subst (λ (o : Option Actor). Refilled (finished s c Life.Stopped o) (finished t c Life.Stopped (t.actors c))) (sym r.was)
+      (subst (λ (o : Option Actor). Refilled (finished s c Life.Stopped (Some (idle program r.life))) (finished t c Life.Stopped o)) (sym r.is) (record {
+        holder = freed_alike t.holder s.holder c r.holder;
+        now = r.now;
+        pipework = ap (λ (w : Pipework). without_writer w c) r.pipework;
+        others = λ o ne. put_at_other t.actors c _ o ne ∙ r.others o ne ∙ sym (put_at_other s.actors c _ o ne);
+        life = Life.Stopped;
+        was = put_at_same s.actors c _;
+        is = put_at_same t.actors c _;
+      }))
+
+  begins_refilled : (s t : State) (a : List ℕ) (began : Program) (v w : Pipework) → a ≢ c → w ≡ v → Refilled s t → Refilled (begins s a began v) (begins t a began w)
+  begins_refilled s t a began v w apart same r = record {
+    holder = r.holder;
+    now = r.now;
+    pipework = same;
+    others = λ o ne. both_put t.actors s.actors a _ o (r.others o ne);
+    life = r.life;
+    was = put_at_other s.actors a _ c (λ w. apart (sym w)) ∙ r.was;
+    is = put_at_other t.actors a _ c (λ w. apart (sym w)) ∙ r.is;
+  }
+
+  happens_refilled : (s t : State) (parent : List ℕ) (k : Kept) → IsApart parent c k → is_member c ≡ false → Refilled s t → Refilled (happens s (event_of k)) (happens t (event_of k))
+  happens_refilled s t parent (kept.Start a began) apart mail r = begins_refilled s t a began s.pipework t.pipework apart r.pipework r
+  happens_refilled s t parent (kept.Act a own) apart mail r = act_refilled s t a own apart.1 r
+  happens_refilled s t parent (kept.Child a own b began) apart mail r =
+      let one = act_refilled s t a own apart.1 r in
+      begins_refilled _ _ b began _ _ apart.2 (ap (λ (w : Pipework). with_child w a (slot_by own.due) b) one.pipework) one
+  happens_refilled s t parent (kept.Feed a own b text more) apart mail r = absurd apart
+  happens_refilled s t parent (kept.Generation start) apart mail r = record {
+    holder = r.holder;
+    now = r.now;
+    pipework = ap with_generation r.pipework;
+    others = λ o ne. both_put _ _ (codes "rspawn") _ o (both_put _ _ (codes "lspawn") _ o (both_put _ _ (codes "clean") _ o (both_put t.actors s.actors (codes "sender") _ o (r.others o ne))));
+    life = r.life;
+    was = four_other s.actors (Sender start) (Cleaner start) (LocalSpawner start) (RemoteSpawner start) c mail ∙ r.was;
+    is = four_other t.actors (Sender start) (Cleaner start) (LocalSpawner start) (RemoteSpawner start) c mail ∙ r.is;
+  }
+  happens_refilled s t parent (kept.Report slot letter text) apart mail r = record {
+    holder = r.holder;
+    now = r.now;
+    pipework = ap (λ (w : Pipework). with_report w slot (report_text letter text)) r.pipework;
+    others = r.others;
+    life = r.life;
+    was = r.was;
+    is = r.is;
+  }
+  happens_refilled s t parent (kept.End a read ready status) apart mail r = finish_refilled s t a (Life.Over status) apart.1 r
+  happens_refilled s t parent (kept.Stop a) apart mail r = ⊎_elim
+      (λ w. subst (λ (o : List ℕ). Refilled (finished s o Life.Stopped (s.actors o)) (finished t o Life.Stopped (t.actors o))) (sym w.0) (stop_refilled s t r))
+      (λ w. finish_refilled s t a Life.Stopped w.0 r)
+      (text_cases a c)
+  happens_refilled s t parent (kept.Moment m) apart mail r =
+      record { holder = r.holder; now = refl; pipework = r.pipework; others = r.others; life = r.life; was = r.was; is = r.is }
+  happens_refilled s t parent (kept.Halt how) apart mail r = record {
+    holder = refl;
+    now = r.now;
+    pipework = refl;
+    others = λ o ne. ap (option_map stopped) (r.others o ne);
+    life = cut_off r.life;
+    was = ap (option_map stopped) r.was;
+    is = ap (option_map stopped) r.is;
+  }
+
+  refilled : (parent : List ℕ) (own : Own) (later before : List Kept) → All (IsApart parent c) later → is_member c ≡ false
+      → Refilled (after nowhere (map event_of (later ++ kept.Child parent own c program ∷ before))) (after nowhere (map event_of (later ++ kept.Child parent own c other ∷ before)))
+  refilled parent own [] before apart mail = record {
+    holder = refl;
+    now = refl;
+    pipework = refl;
+    others = λ o ne. put_at_other _ c _ o ne ∙ sym (put_at_other _ c _ o ne);
+    life = Life.Alive;
+    was = put_at_same _ c _;
+    is = put_at_same _ c _;
+  }
+  refilled parent own (k ∷ later) before apart mail = happens_refilled _ _ parent k (all_first (IsApart parent c) k later apart) mail
+      (refilled parent own later before (all_rest (IsApart parent c) k later apart) mail)
+
+module _ (c message envelope : List ℕ) where
+  -- in the start of that child stand these texts then
+  past_by : (parent : List ℕ) (k : Kept) (ks : List Kept) → IsApart parent c k → start_with c message envelope (k ∷ ks) ≡ k ∷ start_with c message envelope ks
+  past_by parent (kept.Start a program) ks apart = refl
+  past_by parent (kept.Act a own) ks apart = refl
+  past_by parent (kept.Child a own b program) ks apart =
+      ap (λ (t : Bool). if t then (kept.Child a own b (with_texts message envelope program)) ∷ ks else (kept.Child a own b program ∷ start_with c message envelope ks)) (other_text b c apart.2)
+  past_by parent (kept.Feed a own b text more) ks apart = absurd apart
+  past_by parent (kept.Generation start) ks apart = refl
+  past_by parent (kept.Report slot letter text) ks apart = refl
+  past_by parent (kept.End a read ready status) ks apart = refl
+  past_by parent (kept.Stop a) ks apart = refl
+  past_by parent (kept.Moment m) ks apart = refl
+  past_by parent (kept.Halt how) ks apart = refl
+
+  pub start_in : (parent : List ℕ) (own : Own) (program : Program) (later before : List Kept) → All (IsApart parent c) later
+      → start_with c message envelope (later ++ kept.Child parent own c program ∷ before) ≡ later ++ kept.Child parent own c (with_texts message envelope program) ∷ before
+  start_in parent own program [] before apart =
+      ap (λ (t : Bool). if t then (kept.Child parent own c (with_texts message envelope program)) ∷ before else (kept.Child parent own c program ∷ start_with c message envelope before)) (same_text c)
+  start_in parent own program (k ∷ later) before apart =
+      past_by parent k (later ++ kept.Child parent own c program ∷ before) (all_first (IsApart parent c) k later apart)
+      ∙ ap (λ (l : List Kept). k ∷ l) (start_in parent own program later before (all_rest (IsApart parent c) k later apart))
+
+-- what is known then: the same as before, but for the input of the child, and the giving
+pub known_fed : (events : List Kept) (a c message envelope : List ℕ) (own : Own) → HasJustStarted events a c → is_member c ≡ false
+    → (t : State) × IsRefilled c message envelope (known events) t × (known (events ++ kept.Feed a own c message envelope ∷ []) ≡ happens t (Act a own 0))
+known_fed events a c message envelope own just mail =
+    let told : List Kept → State = λ l. after nowhere (map event_of l) in
+    let anew = with_texts message envelope just.program in
+    let filled = just.later ++ kept.Child a just.own c anew ∷ just.before in
+    let r = refilled c just.program anew a just.own just.later just.before just.apart mail in
+    let one : IsRefilled c message envelope (told (just.later ++ kept.Child a just.own c just.program ∷ just.before)) (told filled) = record {
+      holder = r.holder;
+      now = r.now;
+      pipework = r.pipework;
+      others = r.others;
+      program = just.program;
+      life = r.life;
+      was = r.was;
+      is = r.is;
+    } in (
+      told filled,
+      subst (λ (s : State). IsRefilled c message envelope s (told filled)) (sym (ap told just.are)) one,
+      ap told (inputs_fed events a own c message envelope)
+          ∙ ap (λ (l : List Kept). told (kept.Act a own ∷ l)) (ap (start_with c message envelope) just.are ∙ start_in c message envelope a just.own just.program just.later just.before just.apart),
+    )
+
+-- and until then the child runs the program of its start, and has done nothing
+pub just_idle : (events : List Kept) (a c : List ℕ) (just : HasJustStarted events a c) → is_member c ≡ false → (life : Life) × ((known events).actors c ≡ Some (idle just.program life))
+just_idle events a c just mail =
+    let told : List Kept → State = λ l. after nowhere (map event_of l) in
+    let r = refilled c just.program just.program a just.own just.later just.before just.apart mail in
+    (r.life, ap (λ (l : List Kept). (told l).actors c) just.are ∙ r.was)

@@ -14,9 +14,11 @@ pub mod Waiting
 -- what kept events tell, whatever the disk is
 pub mod Known
 -- what an event changes of the pipes that are kept
-pub mod Wires
-pub mod Feeds
+pub use Rattle.crew_pipes.proofs.Wires
+pub use Rattle.crew_pipes.proofs.Feeds
 pub mod Piped
+-- the child in the sender's slot
+pub mod Borne
 -- what an actor finds by its pipes
 pub mod Found
 -- a generation starts
@@ -33,25 +35,25 @@ pub mod Reported
 -- the first member that lives
 pub mod Firsts
 -- idle turns
-pub mod Idles
+pub mod Lasts
 -- what an actor passes on, and what it owes
 pub mod Passed
 -- a step, by all that a world keeps
 pub mod Steps
--- what an actor finds ready
-pub mod Readies
+-- what the world does for a sender and its child
+pub mod Served
 -- a history goes on with one event more
 pub mod Histories
 -- lists of open descriptors
-pub mod Descriptors
+pub use Rattle.open_files.proofs.Descriptors
 -- what calls open and close
 pub mod Opens
--- injectors that were told their whole input
+-- what machines stand for and need
 pub mod Machines
 -- the life of an actor
 pub mod Spans
 -- lists by their places
-pub mod Lists
+pub use Rattle.crew_pipes.proofs.Lists
 -- the actors that a world keeps
 pub mod Crew
 -- one actor calls, ends or starts
@@ -60,7 +62,11 @@ pub mod Acts
 pub mod Hands
 -- the names of members, and where they stand
 pub mod Members
-pub mod Seats
+pub use Rattle.crew_pipes.proofs.Seats
+-- who awaits its input
+pub mod Awaiting
+-- the child of a sender that is over
+pub mod Leaving
 -- what passes by pipes and slots
 pub mod Passes
 -- histories without generations
@@ -83,3 +89,17 @@ pub mod ModelBooks
 pub mod BookedNumbers
 -- who is accepted in them
 pub mod QueuedBooks
+-- a history with another input of a child
+pub mod Anew
+-- what a return does inside a sender: it starts an injector, gives it two texts, and takes its status
+pub mod ReturnSteps
+-- what a world keeps of its actors, as it does for the sender what concerns its child
+pub mod Serving
+-- the sender takes the status of its child
+pub mod Statuses
+-- the sender gives its child its whole input
+pub mod Feeding
+-- the sender starts the injector of a bounce
+pub mod Bearing
+-- the names of the injectors of bounces
+pub mod Bounces

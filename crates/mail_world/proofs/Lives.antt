@@ -1,12 +1,11 @@
 -- What kept events tell of who was started and who has ended, whatever history they tell.
-use Rattle.std.proofs.Common.{◌≡◌, ◌≢◌, ◌⊎◌, inl, inr, ℕ, ◌+◌, List, [], ◌∷◌, ◌++◌, length, Bool, true, false, ◌||◌, is_some, Option, Some, None, refl, sym, ap, ◌∙◌, subst, ⊎_elim, arith, bytes_eq, codes, reverse}
+use Rattle.std.proofs.Common.{◌≡◌, ◌≢◌, ◌⊎◌, inl, inr, ℕ, ◌+◌, List, [], ◌∷◌, length, Bool, true, false, ◌||◌, is_some, Option, Some, None, refl, sym, ap, ◌∙◌, subst, ⊎_elim, arith, bytes_eq, codes, reverse}
 use Rattle.std.proofs.Math.Bool.{or-false, or-true}
 use Rattle.std.proofs.lemmas.Grind.{reverse_onto}
-use Rattle.std.proofs.lemmas.List.{reverse-reverse}
-use Rattle.std.proofs.lemmas.List.Sums.{sum_by-append}
+use Rattle.std.proofs.lemmas.List.Folds.{list_any-append}
+use Rattle.std.proofs.lemmas.List.Sums.{sum_by-append, sum_by-cons}
 use Rattle.std.specs.Prelude.{if◌then◌else◌}
-use Rattle.std.specs.List.{sum_by}
-use Rattle.std.specs.List.{AllZip}
+use Rattle.std.specs.List.{sum_by, list_any, AllZip}
 use Rattle.std.specs.Option.{option_map}
 use Rattle.call_fs.specs.declared.past.Own.{Own}
 use Rattle.call_fs.specs.declared.crash_file_system.Survival.{Survival}
@@ -16,6 +15,7 @@ use Rattle.call_fs.proofs.Maps.{put_at_same, put_at_other}
 use Rattle.world_events.specs.declared.event.Event.{Event as Kept}
 use Rattle.world_events.specs.declared.event.Event.TheVariants as kept
 use Rattle.world_events.specs.declared.event.Program.{Program}
+use Rattle.world_events.specs.Inputs.{with_texts, start_with, with_inputs}
 use Rattle.mail_world.specs.Pipework.{is_member}
 use Rattle.mail_world.specs.History.{Event, Actor, Life, State, Allowed, Legal, newborn, stopped, acted, finished, started_by, happens, after}
 use Rattle.mail_world.specs.History.Event.{Start, Act, Child, Generation, Report, End, Stop, Moment, Halt}
@@ -24,22 +24,9 @@ use Rattle.mail_world.specs.World.{Tells, Span, span_after, span_of, EndsAt, sta
 use Rattle.mail_world.specs.World.Span.{Unborn, Lasting, OverAt}
 use Rattle.queue_law.proofs.Tests.{text_cases, same_text, other_text}
 use Rattle.mail_world.proofs.Owns.{may_read}
-use Rattle.mail_world.proofs.Crew.{started_push}
-use Rattle.mail_world.proofs.Spans.{span_still, span_begins, span_ends}
+use Rattle.mail_world.proofs.Spans.{span_still, span_begins, span_ends, span_inputs}
 use Rattle.mail_world.proofs.Halts.{never_alive}
 use Rattle.mail_world.proofs.Members.{whether, member_contained, four_other, four_new}
-
--- by induction over the kept events, the newest last
-along : (P : List Kept → List Event → Type 0) → P [] []
-    → ((events : List Kept) (h : List Event) (k : Kept) (e : Event) → Tells k e → P events h → P (events ++ k ∷ []) (e ∷ h))
-    → (events : List Kept) (h : List Event) → AllZip Tells (reverse events) h → P events h
-along P none more events h told = subst (λ (l : List Kept). P l h) (reverse-reverse events) (onto (reverse events) h told) where
-  onto : (newest : List Kept) (h : List Event) → AllZip Tells newest h → P (reverse newest) h
-  onto [] [] told = none
-  onto [] (e ∷ h) told = absurd told
-  onto (k ∷ newest) [] told = absurd told
-  onto (k ∷ newest) (e ∷ h) told =
-      subst (λ (l : List Kept). P l (e ∷ h)) (sym (reverse_onto newest k [])) (more (reverse newest) h k e told.0 (onto newest h told.1))
 
 -- who was started
 
@@ -104,7 +91,10 @@ happens_started s k (Start b program) a told =
 happens_started s k (Act b own w) a told =
     subst (λ (k : Kept). (is_some (s.actors a) || starts a k) ≡ is_some ((happens s (Act b own w)).actors a)) (sym told)
     (or-false (is_some (s.actors a)) ∙ sym (acted_there s b own w (s.actors b) a refl))
-happens_started s k (Child parent own b program) a told = absurd told
+happens_started s k (Child parent own b program) a told =
+    let t = acted s parent own 0 (s.actors parent) in
+    subst (λ (k : Kept). (is_some (s.actors a) || starts a k) ≡ is_some ((happens s (Child parent own b program)).actors a)) (sym told)
+    (ap (λ (t : Bool). t || bytes_eq b a) (sym (acted_there s parent own 0 (s.actors parent) a refl)) ∙ started_there t.actors b _ a)
 happens_started s k (Generation sender clean lspawn rspawn) a told =
     subst (λ (k : Kept). (is_some (s.actors a) || starts a k) ≡ is_some ((happens s (Generation sender clean lspawn rspawn)).actors a)) (sym told.1)
     (members_there s.actors sender clean lspawn rspawn a)
@@ -122,19 +112,55 @@ happens_started s k (Halt how contents) a told =
     subst (λ (k : Kept). (is_some (s.actors a) || starts a k) ≡ is_some (option_map stopped (s.actors a))) (sym told)
     (or-false (is_some (s.actors a)) ∙ sym (some_stopped (s.actors a)))
 
+-- in which order they are named doesn't matter
+
+or_turned : (a b : Bool) → (a || (b || false)) ≡ (b || a)
+or_turned true true = refl
+or_turned true false = refl
+or_turned false true = refl
+or_turned false false = refl
+
+any_turned : (p : Kept → Bool) (ks : List Kept) → list_any p (reverse ks) ≡ list_any p ks
+any_turned p [] = refl
+any_turned p (k ∷ ks) =
+    ap (list_any p) (reverse_onto ks k []) ∙ list_any-append p (reverse ks) (k ∷ []) ∙ ap (λ (t : Bool). t || (p k || false)) (any_turned p ks) ∙ or_turned (list_any p ks) (p k)
+
+-- nor which input stands in the start of a child
+
+started_with : (a c message envelope : List ℕ) (ks : List Kept) → list_any (starts a) (start_with c message envelope ks) ≡ list_any (starts a) ks
+started_with a c message envelope [] = refl
+started_with a c message envelope ((kept.Child d own b program) ∷ before) = by_test (bytes_eq b c) (started_with a c message envelope before) where
+  by_test : (t : Bool) → list_any (starts a) (start_with c message envelope before) ≡ list_any (starts a) before
+      → list_any (starts a) (if t then kept.Child d own b (with_texts message envelope program) ∷ before else (kept.Child d own b program ∷ start_with c message envelope before))
+      ≡ (bytes_eq b a || list_any (starts a) before)
+  by_test true rest = refl
+  by_test false rest = ap (λ (t : Bool). bytes_eq b a || t) rest
+started_with a c message envelope (k ∷ before) = ap (λ (t : Bool). starts a k || t) (started_with a c message envelope before)
+
+started_inputs : (a : List ℕ) (ks : List Kept) → list_any (starts a) (with_inputs ks) ≡ list_any (starts a) ks
+started_inputs a [] = refl
+started_inputs a ((kept.Feed b own c message envelope) ∷ before) = started_with a c message envelope (with_inputs before) ∙ started_inputs a before
+started_inputs a (k ∷ before) = ap (λ (t : Bool). starts a k || t) (started_inputs a before)
+
+newest_started : (d : Disk) (h : List Event) (newest : List Kept) (a : List ℕ) → AllZip Tells newest h → list_any (starts a) newest ≡ is_some ((after d h).actors a)
+newest_started d [] [] a told = refl
+newest_started d (e ∷ h) [] a told = absurd told
+newest_started d [] (k ∷ newest) a told = absurd told
+newest_started d (e ∷ h) (k ∷ newest) a told =
+    sym (or_turned (list_any (starts a) newest) (starts a k)) ∙ ap (λ (t : Bool). t || (starts a k || false)) (newest_started d h newest a told.1)
+    ∙ ap (λ (t : Bool). is_some ((after d h).actors a) || t) (or-false (starts a k)) ∙ happens_started (after d h) k e a told.0
+
 -- the actors that were started are those that there are
-pub started_is : (d : Disk) (h : List Event) (events : List Kept) (a : List ℕ) → AllZip Tells (reverse events) h → was_started events a ≡ is_some ((after d h).actors a)
+pub started_is : (d : Disk) (h : List Event) (events : List Kept) (a : List ℕ) → AllZip Tells (with_inputs (reverse events)) h → was_started events a ≡ is_some ((after d h).actors a)
 started_is d h events a told =
-    along (λ events h. was_started events a ≡ is_some ((after d h).actors a)) refl
-    (λ events h k e one was. started_push events k a ∙ ap (λ b. b || starts a k) was ∙ happens_started (after d h) k e a one)
-    events h told
+    sym (any_turned (starts a) events) ∙ sym (started_inputs a (reverse events)) ∙ newest_started d h (with_inputs (reverse events)) a told
 
 -- how many were started
 
 starts_alike : (k : Kept) (e : Event) → Tells k e → starts_in k ≡ started_by e
 starts_alike k (Start a program) told = ap starts_in told
 starts_alike k (Act a own w) told = ap starts_in told
-starts_alike k (Child parent own a program) told = absurd told
+starts_alike k (Child parent own a program) told = ap starts_in told
 starts_alike k (Generation sender clean lspawn rspawn) told = ap starts_in told.1
 starts_alike k (Report slot letter text) told = ap starts_in told
 starts_alike k (End a read ready status) told = ap starts_in told
@@ -142,17 +168,48 @@ starts_alike k (Stop a) told = ap starts_in told
 starts_alike k (Moment m) told = ap starts_in told
 starts_alike k (Halt how contents) told = ap starts_in told
 
-one_more : (m n b c : ℕ) → m ≡ n → b ≡ c → m + (0 + b) ≡ (0 + c) + n
-one_more m n b c same alike = omega (arith, same, alike)
+more_started : (k : Kept) (ks ls : List Kept) → sum_by starts_in ks ≡ sum_by starts_in ls → sum_by starts_in (k ∷ ks) ≡ sum_by starts_in (k ∷ ls)
+more_started k ks ls same = sum_by-cons starts_in k ks ∙ ap (λ (n : ℕ). starts_in k + n) same ∙ sym (sum_by-cons starts_in k ls)
 
-pub starts_is : (h : List Event) (events : List Kept) → AllZip Tells (reverse events) h → sum_by starts_in events ≡ sum_by started_by h
-starts_is h events told =
-    along (λ events h. sum_by starts_in events ≡ sum_by started_by h) refl
-    (λ events h k e one was.
-    sum_by-append starts_in events (k ∷ [])
-    ∙ one_more (sum_by starts_in events) (sum_by started_by h) (starts_in k) (started_by e) was (starts_alike k e one)
-    ∙ sym (sum_by-append started_by (e ∷ []) h))
-    events h told
+count_turned : (ks : List Kept) → sum_by starts_in (reverse ks) ≡ sum_by starts_in ks
+count_turned [] = refl
+count_turned (k ∷ ks) =
+    let one = sum_by-append starts_in (reverse ks) (k ∷ []) in
+    let last = sum_by-cons starts_in k [] in
+    let rest = count_turned ks in
+    let all = sum_by-cons starts_in k ks in
+    ap (sum_by starts_in) (reverse_onto ks k []) ∙ omega (arith, one, last, rest, all)
+
+count_with : (c message envelope : List ℕ) (ks : List Kept) → sum_by starts_in (start_with c message envelope ks) ≡ sum_by starts_in ks
+count_with c message envelope [] = refl
+count_with c message envelope ((kept.Child d own b program) ∷ before) = by_test (bytes_eq b c) (count_with c message envelope before) where
+  by_test : (t : Bool) → sum_by starts_in (start_with c message envelope before) ≡ sum_by starts_in before
+      → sum_by starts_in (if t then kept.Child d own b (with_texts message envelope program) ∷ before else (kept.Child d own b program ∷ start_with c message envelope before))
+      ≡ sum_by starts_in (kept.Child d own b program ∷ before)
+  by_test true rest = sum_by-cons starts_in (kept.Child d own b (with_texts message envelope program)) before ∙ sym (sum_by-cons starts_in (kept.Child d own b program) before)
+  by_test false rest = more_started (kept.Child d own b program) (start_with c message envelope before) before rest
+count_with c message envelope (k ∷ before) = more_started k (start_with c message envelope before) before (count_with c message envelope before)
+
+count_inputs : (ks : List Kept) → sum_by starts_in (with_inputs ks) ≡ sum_by starts_in ks
+count_inputs [] = refl
+count_inputs ((kept.Feed b own c message envelope) ∷ before) =
+    let fed = sum_by-cons starts_in (kept.Feed b own c message envelope) before in
+    let given = sum_by-cons starts_in (kept.Act b own) (start_with c message envelope (with_inputs before)) in
+    let with = count_with c message envelope (with_inputs before) in
+    let rest = count_inputs before in
+    omega (arith, fed, given, with, rest)
+count_inputs (k ∷ before) = more_started k (with_inputs before) before (count_inputs before)
+
+newest_starts : (h : List Event) (newest : List Kept) → AllZip Tells newest h → sum_by starts_in newest ≡ sum_by started_by h
+newest_starts [] [] told = refl
+newest_starts (e ∷ h) [] told = absurd told
+newest_starts [] (k ∷ newest) told = absurd told
+newest_starts (e ∷ h) (k ∷ newest) told =
+    let one = starts_alike k e told.0 in
+    let rest = newest_starts h newest told.1 in
+    let fed = sum_by-cons starts_in k newest in
+    let more = sum_by-cons started_by e h in
+    omega (arith, one, rest, fed, more)
 
 -- who has ended
 
@@ -209,6 +266,17 @@ again_suits a k n Lasting None program starts_it over was = absurd was
 again_suits a k n Lasting (Some x) program starts_it over was = absurd (over x refl was)
 again_suits a k n (OverAt at) o program starts_it over was = subst (λ (s : Span). Suits s (Some (newborn program))) (sym (ap (λ (b : Bool). if b then Lasting else OverAt at) starts_it)) refl
 
+-- an actor that did something lives on, or not, as before
+acted_suits : (s : State) (b : List ℕ) (own : Own) (w : ℕ) (x : Actor) (a : List ℕ) (span : Span) → s.actors b ≡ Some x → Suits span (s.actors a)
+    → Suits span ((acted s b own w (s.actors b)).actors a)
+acted_suits s b own w x a span is was =
+    let y : Option Actor = Some (record { program = x.program; past = own ∷ x.past; life = x.life }) in
+    subst (λ (o : Option Actor). Suits span ((acted s b own w o).actors a)) (sym is)
+    (⊎_elim
+    (λ f. subst (Suits span) (sym (ap (put_at s.actors b y) f.0 ∙ put_at_same s.actors b y)) (same_suits span x _ refl (subst (Suits span) (ap s.actors f.0 ∙ is) was)))
+    (λ f. subst (Suits span) (sym (put_at_other s.actors b y a f.0)) was)
+    (text_cases a b))
+
 -- one event more
 happens_suits : (s : State) (n : ℕ) (k : Kept) (e : Event) (a : List ℕ) (span : Span) → Tells k e → Allowed s e → Suits span (s.actors a)
     → Suits (span_after a k n span) ((happens s e).actors a)
@@ -221,12 +289,16 @@ happens_suits s n k (Start b program) a span told allowed was =
 happens_suits s n k (Act b own w) a span told allowed was =
     let one : Kept = kept.Act b own in
     let reads = may_read s b w own allowed in
-    let is = reads.1.is in
     subst (λ (k : Kept). Suits (span_after a k n span) ((happens s (Act b own w)).actors a)) (sym told)
-    (subst (λ (o : Option Actor). Suits (span_after a one n span) ((acted s b own w o).actors a)) (sym is)
-    (suits_put s.actors b _ a one n span (λ f. refl) (λ f. refl)
-    (λ same. suits_still a one n span _ refl refl (same_suits span reads.0 _ refl (subst (Suits span) (ap s.actors same ∙ is) was))) was))
-happens_suits s n k (Child parent own b program) a span told allowed was = absurd told
+    (suits_still a one n span _ refl refl (acted_suits s b own w reads.0 a span reads.1.is was))
+happens_suits s n k (Child parent own b program) a span told allowed was =
+    let one : Kept = kept.Child parent own b program in
+    let t = acted s parent own 0 (s.actors parent) in
+    subst (λ (k : Kept). Suits (span_after a k n span) ((happens s (Child parent own b program)).actors a)) (sym told)
+    (suits_put t.actors b _ a one n span (λ f. other_text b a (λ e. f (sym e))) (λ f. refl)
+    (λ same. start_suits a one n span _ (ap (λ (c : List ℕ). bytes_eq c a) (sym same) ∙ same_text a) refl
+    (subst (Suits span) (ap s.actors same ∙ allowed.new) was))
+    (acted_suits s parent own 0 allowed.actor a span allowed.reads.is was))
 happens_suits s n k (Generation sender clean lspawn rspawn) a span told allowed was =
     subst (λ (k : Kept). Suits (span_after a k n span) ((happens s (Generation sender clean lspawn rspawn)).actors a)) (sym told.1)
     (⊎_elim
@@ -258,15 +330,18 @@ happens_suits s n k (Moment m) a span told allowed was =
 happens_suits s n k (Halt how contents) a span told allowed was =
     subst (λ (k : Kept). Suits (span_after a k n span) (option_map stopped (s.actors a))) (sym told) (halt_suits a how n span (s.actors a) was)
 
-pub suits : (d : Disk) (newest : List Kept) (h : List Event) → Legal d h → AllZip Tells newest h → (a : List ℕ) → Suits (span_of a newest) ((after d h).actors a)
-suits d [] [] legal told a = tt
-suits d [] (e ∷ h) legal told a = absurd told
-suits d (k ∷ newest) [] legal told a = absurd told
-suits d (k ∷ newest) (e ∷ h) legal told a =
-    happens_suits (after d h) (length newest) k e a (span_of a newest) told.0 legal.1 (suits d newest h legal.0 told.1 a)
+newest_suits : (d : Disk) (newest : List Kept) (h : List Event) → Legal d h → AllZip Tells newest h → (a : List ℕ) → Suits (span_of a newest) ((after d h).actors a)
+newest_suits d [] [] legal told a = tt
+newest_suits d [] (e ∷ h) legal told a = absurd told
+newest_suits d (k ∷ newest) [] legal told a = absurd told
+newest_suits d (k ∷ newest) (e ∷ h) legal told a =
+    happens_suits (after d h) (length newest) k e a (span_of a newest) told.0 legal.1 (newest_suits d newest h legal.0 told.1 a)
+
+pub suits : (d : Disk) (newest : List Kept) (h : List Event) → Legal d h → AllZip Tells (with_inputs newest) h → (a : List ℕ) → Suits (span_of a newest) ((after d h).actors a)
+suits d newest h legal told a = subst (λ (s : Span). Suits s ((after d h).actors a)) (span_inputs a newest) (newest_suits d (with_inputs newest) h legal told a)
 
 -- an actor whose end or stop was kept lives no more
-pub ended_is : (d : Disk) (h : List Event) (events : List Kept) (a : List ℕ) (at : ℕ) → Legal d h → AllZip Tells (reverse events) h → EndsAt events a at
+pub ended_is : (d : Disk) (h : List Event) (events : List Kept) (a : List ℕ) (at : ℕ) → Legal d h → AllZip Tells (with_inputs (reverse events)) h → EndsAt events a at
     → (x : Actor) × ((after d h).actors a ≡ Some x) × (x.life ≢ Alive)
 ended_is d h events a at legal told ends =
     by_actor ((after d h).actors a) (subst (λ (s : Span). Suits s ((after d h).actors a)) ends (suits d (reverse events) h legal told a)) where
@@ -275,7 +350,7 @@ ended_is d h events a at legal told ends =
       by_actor (Some x) m = (x, refl, m)
 
 -- and no other one is: it lives, or its end or stop was kept
-pub lives_or_ended : (d : Disk) (h : List Event) (events : List Kept) (a : List ℕ) (x : Actor) → Legal d h → AllZip Tells (reverse events) h → (after d h).actors a ≡ Some x
+pub lives_or_ended : (d : Disk) (h : List Event) (events : List Kept) (a : List ℕ) (x : Actor) → Legal d h → AllZip Tells (with_inputs (reverse events)) h → (after d h).actors a ≡ Some x
     → (x.life ≡ Alive) ⊎ ((at : ℕ) × EndsAt events a at)
 lives_or_ended d h events a x legal told is =
     by_span (span_of a (reverse events)) refl (subst (Suits (span_of a (reverse events))) is (suits d (reverse events) h legal told a)) where

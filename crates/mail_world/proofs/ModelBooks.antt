@@ -12,6 +12,8 @@ use Rattle.call_fs.specs.declared.calls.Told.{Told}
 use Rattle.call_fs.specs.declared.program.Ready.{Ready}
 use Rattle.call_fs.specs.Disk.{Disk}
 use Rattle.call_fs.specs.Maps.{put_at}
+use Rattle.call_fs.specs.declared.past.ChildData.{ChildData}
+use Rattle.call_fs.specs.declared.past.ChildData.TheVariants as child
 use Rattle.call_fs.specs.declared.past.NeedData.{NeedData}
 use Rattle.call_fs.specs.declared.past.NeedData.TheVariants as needs
 use Rattle.call_fs.specs.declared.past.GotData.{GotData}
@@ -33,11 +35,11 @@ use Rattle.world_events.specs.declared.event.Program.TheVariants.{Injector}
 use Rattle.world_events.specs.declared.books.Entry.{Entry}
 use Rattle.world_events.specs.declared.books.Life.{Life as ToldLife}
 use Rattle.world_events.specs.declared.books.Life.TheVariants as left
-use Rattle.mail_world.specs.History.{Event, Actor, Life, State, MayRun, MayBegin, newborn, next_of, stopped, cut_off as ends_as, acted, finished, happens, after, Legal}
+use Rattle.mail_world.specs.History.{Event, Actor, Life, State, MayRun, MayBegin, IsProgramOf, newborn, next_of, stopped, cut_off as ends_as, acted, finished, happens, after, Legal}
 use Rattle.mail_world.specs.History.Event.{Start, Act, Child, Generation, Report, End, Stop, Moment, Halt}
 use Rattle.mail_world.specs.History.Life.{Alive, Over, Stopped}
 use Rattle.mail_world.specs.Pipework.{is_member}
-use Rattle.mail_world.specs.World.{Tells}
+use Rattle.mail_world.specs.World.{Tells, with_inputs}
 use Rattle.mail_world.specs.ByKind.{injection_of}
 use Rattle.mail_world.specs.Books.{entry_by, entered_by, queues, queues_by, number_by, newer, acted_on, cut_off, noted, books_of, is_to_todo, is_accepting, is_accepting_by, is_accepted, number_of, mail_by, mails_of, told_life, life_in, entry_in, books_in, BooksAreTheModels}
 use Rattle.mail_world.proofs.Members.{whether, member_contained, if_its, with_four, four_other}
@@ -210,6 +212,14 @@ new_there : (t : State) (a : List ℕ) (o : Option Arguments) → RunsAlone (t.a
 new_there t a None h = tt
 new_there t a (Some args) h = (h, tt)
 
+-- a child was asked for, and starts alone
+child_runs : (asked : ChildData) (pid : ℕ) (program : Program) → IsProgramOf asked pid program → MayRun program
+child_runs asked pid (Injector args) is = tt
+child_runs (child.Bounce room) pid program is = absurd is
+child_runs (child.Forward uid room) pid program is = absurd is
+child_runs (child.Local slot words uid) pid program is = absurd is
+child_runs (child.Remote slot domain sender recipient) pid program is = absurd is
+
 pub mails_there : (d : Disk) (events : List Kept) (h : List Event) → Legal d h → AllZip Tells events h → AreThere (after d h) (mails_of h)
 mails_there d [] [] legal told = tt
 mails_there d [] (e ∷ h) legal told = absurd told
@@ -223,7 +233,14 @@ mails_there d (k ∷ events) ((Start b program) ∷ h) legal told =
 mails_there d (k ∷ events) ((Act b own wrote) ∷ h) legal told =
     let s = after d h in
     all_there s (happens s (Act b own wrote)) (mails_of h) (λ a there. alone_acted s b own wrote (s.actors b) a refl there) (mails_there d events h legal.0 told.1)
-mails_there d (k ∷ events) ((Child parent own b program) ∷ h) legal told = absurd told.0
+mails_there d (k ∷ events) ((Child parent own b program) ∷ h) legal told =
+    let s = after d h in
+    let u = acted s parent own 0 (s.actors parent) in
+    let t = happens s (Child parent own b program) in
+    let runs = child_runs legal.1.asked legal.1.pid program legal.1.is in
+    both_there t (mails_of h) (mail_by b (injection_of program))
+    (all_there s t (mails_of h) (λ a there. alone_put u.actors b (newborn program) a (λ same. runs) (alone_acted s parent own 0 (s.actors parent) a refl there)) (mails_there d events h legal.0 told.1))
+    (new_there t b (injection_of program) (subst RunsAlone (sym (put_at_same u.actors b (Some (newborn program)))) runs))
 mails_there d (k ∷ events) ((Generation sender clean lspawn rspawn) ∷ h) legal told =
     let s = after d h in
     all_there s (happens s (Generation sender clean lspawn rspawn)) (mails_of h)
@@ -265,7 +282,11 @@ quiet d (k ∷ events) ((Act b own wrote) ∷ h) legal told a none =
       before.0 ∙ ap (λ c. (c && is_accepting_by own.due own.came) || is_accepted a h) (sym apart),
       before.1 ∙ ap (λ c. newer (if c then number_by own.due own.came else None) (number_of a h)) (sym apart),
     )
-quiet d (k ∷ events) ((Child parent own b program) ∷ h) legal told a none = absurd told.0
+quiet d (k ∷ events) ((Child parent own b program) ∷ h) legal told a none =
+    let s = after d h in
+    let u = acted s parent own 0 (s.actors parent) in
+    quiet d events h legal.0 told.1 a
+    (none_before (s.actors a) ((happens s (Child parent own b program)).actors a) (λ there. some_put u.actors b _ a (inr (some_acted s parent own 0 (s.actors parent) a there))) none)
 quiet d (k ∷ events) ((Generation sender clean lspawn rspawn) ∷ h) legal told a none =
     let s = after d h in
     quiet d events h legal.0 told.1 a
@@ -314,6 +335,14 @@ act_life s b own wrote (Some x) a is = ⊎_elim
     (λ w. ap life_in (sym w.1))
     (put_at_cases s.actors b (Some (record { program = x.program; past = own ∷ x.past; life = x.life })) a)
 
+-- who isn't there isn't after the event of another one
+acted_new : (s : State) (b : List ℕ) (own : Own) (wrote : ℕ) (o : Option Actor) (a : List ℕ) → s.actors b ≡ o → s.actors a ≡ None → (acted s b own wrote o).actors a ≡ None
+acted_new s b own wrote None a is none = none
+acted_new s b own wrote (Some x) a is none = ⊎_elim
+    (λ w. let both : ◌≡◌ {A = Option Actor} None (Some x) = sym none ∙ ap s.actors w.0 ∙ is in absurd (cc))
+    (λ w. w.1 ∙ none)
+    (put_at_cases s.actors b (Some (record { program = x.program; past = own ∷ x.past; life = x.life })) a)
+
 over_life : (s : State) (b : List ℕ) (life : Life) (o : Option Actor) (a : List ℕ) → IsSome o
     → (if bytes_eq b a then told_life life else life_in (s.actors a)) ≡ life_in ((finished s b life o).actors a)
 over_life s b life None a there = absurd cc
@@ -360,22 +389,18 @@ begun_entry t h a (Some args) quiet_so alive =
     (ap (λ n. made (a, args) n false left.Alive) quiet_so.1 ∙ ap (λ c. made (a, args) (number_of a h) c left.Alive) quiet_so.0
     ∙ ap (λ life. made (a, args) (number_of a h) (is_accepted a h) life) alive)
 
-start_books : (k : Kept) (b : List ℕ) (program : Program) (books : List Entry) (s : State) (h : List Event) → k ≡ kept.Start b program → s.actors b ≡ None → (false ≡ is_accepted b h) × ◌≡◌ {A = Option ℕ} None (number_of b h)
+start_books : (k own : Kept) (b : List ℕ) (program : Program) (books : List Entry) (s t : State) (h now : List Event) → k ≡ own → entered_by own ≡ entry_by b (injection_of program)
+    → ((mail : List ℕ × Arguments) → IsThere s mail → noted own (entry_in s h mail) ≡ entry_in t now mail)
+    → (false ≡ is_accepted b now) × ◌≡◌ {A = Option ℕ} None (number_of b now) → left.Alive ≡ life_in (t.actors b)
     → books ≡ map (entry_in s h) (mails_of h) → AreThere s (mails_of h)
-    → map (noted k) books ++ entered_by k ≡ map (entry_in (happens s (Start b program)) (Start b program ∷ h)) (mails_of h ++ mail_by b (injection_of program))
-start_books k b program books s h is new accepts before there =
-    let own : Kept = kept.Start b program in
-    let t = happens s (Start b program) in
-    let now : List Event = Start b program ∷ h in
+    → map (noted k) books ++ entered_by k ≡ map (entry_in t now) (mails_of h ++ mail_by b (injection_of program))
+start_books k own b program books s t h now is enters still accepts alive before there =
     let u = entry_in t now in
-    let old : map (noted own) books ≡ map u (mails_of h) =
-    ap (map (noted own)) before
-    ∙ turned (noted own) (entry_in s h) u s (mails_of h) there
-    (λ mail here. ap (λ life. made mail (number_of mail.0 h) (is_accepted mail.0 h) life) (start_life s.actors b _ mail.0 new (alone_is (s.actors mail.0) here))) in
+    let old : map (noted own) books ≡ map u (mails_of h) = ap (map (noted own)) before ∙ turned (noted own) (entry_in s h) u s (mails_of h) there still in
     ap (λ (k : Kept). map (noted k) books ++ entered_by k) is
+    ∙ ap (λ (l : List Entry). map (noted own) books ++ l) enters
     ∙ ap (λ (l : List Entry). l ++ entry_by b (injection_of program)) old
-    ∙ ap (λ (l : List Entry). map u (mails_of h) ++ l)
-    (begun_entry t now b (injection_of program) accepts (ap life_in (sym (put_at_same s.actors b _))))
+    ∙ ap (λ (l : List Entry). map u (mails_of h) ++ l) (begun_entry t now b (injection_of program) accepts alive)
     ∙ sym (map-append u (mails_of h) (mail_by b (injection_of program)))
 
 told_so : (d : Disk) (events : List Kept) (h : List Event) → Legal d h → AllZip Tells events h → books_of events ≡ books_in d h
@@ -384,8 +409,9 @@ told_so d [] (e ∷ h) legal told = absurd told
 told_so d (k ∷ events) [] legal told = absurd told
 told_so d (k ∷ events) ((Start b program) ∷ h) legal told =
     let s = after d h in
-    start_books k b program (books_of events) s h told.0 legal.1.new
-    (quiet d events h legal.0 told.1 b legal.1.new)
+    start_books k (kept.Start b program) b program (books_of events) s (happens s (Start b program)) h (Start b program ∷ h) told.0 refl
+    (λ mail there. ap (λ life. made mail (number_of mail.0 h) (is_accepted mail.0 h) life) (start_life s.actors b _ mail.0 legal.1.new (alone_is (s.actors mail.0) there)))
+    (quiet d events h legal.0 told.1 b legal.1.new) (ap life_in (sym (put_at_same s.actors b _)))
     (told_so d events h legal.0 told.1) (mails_there d events h legal.0 told.1)
 told_so d (k ∷ events) ((Act b own wrote) ∷ h) legal told =
     let s = after d h in
@@ -401,7 +427,15 @@ told_so d (k ∷ events) ((Act b own wrote) ∷ h) legal told =
     ∙ ap (λ t. made mail number (t || is_accepted mail.0 h) (life_in (s.actors mail.0)))
     (sym (if_its b mail.0 (is_accepting_by own.due own.came) (queues_by own.due own.came) (λ same. agrees (subst (λ a. RunsAlone (s.actors a)) (sym same) there))))
     ∙ ap (λ life. made mail number ((bytes_eq b mail.0 && is_accepting_by own.due own.came) || is_accepted mail.0 h) life) (act_life s b own wrote (s.actors b) mail.0 refl))
-told_so d (k ∷ events) ((Child parent own b program) ∷ h) legal told = absurd told.0
+told_so d (k ∷ events) ((Child parent own b program) ∷ h) legal told =
+    let s = after d h in
+    let u = acted s parent own 0 (s.actors parent) in
+    start_books k (kept.Child parent own b program) b program (books_of events) s (happens s (Child parent own b program)) h (Child parent own b program ∷ h) told.0 refl
+    (λ mail there. ap (λ life. made mail (number_of mail.0 h) (is_accepted mail.0 h) life)
+    (act_life s parent own 0 (s.actors parent) mail.0 refl
+    ∙ start_life u.actors b _ mail.0 (acted_new s parent own 0 (s.actors parent) b refl legal.1.new) (some_acted s parent own 0 (s.actors parent) mail.0 (alone_is (s.actors mail.0) there))))
+    (quiet d events h legal.0 told.1 b legal.1.new) (ap life_in (sym (put_at_same u.actors b _)))
+    (told_so d events h legal.0 told.1) (mails_there d events h legal.0 told.1)
 told_so d (k ∷ events) ((Generation sender clean lspawn rspawn) ∷ h) legal told =
     let s = after d h in
     let e : Event = Generation sender clean lspawn rspawn in
@@ -437,4 +471,4 @@ told_so d (k ∷ events) ((Halt how contents) ∷ h) legal told =
     (λ mail there. ap (λ life. made mail (number_of mail.0 h) (is_accepted mail.0 h) life) (halt_life (s.actors mail.0) (alone_is (s.actors mail.0) there)))
 
 pub books_told : BooksAreTheModels
-books_told d events h legal told = told_so d (reverse events) h legal told
+books_told d events h legal told = told_so d (with_inputs (reverse events)) h legal told

@@ -72,6 +72,7 @@ pub is_seated : (crew : ℕ) (places : List ℕ → Option ℕ) (mouths : List M
 is_seated crew places mouths actors s events p place x kept piped is lives = record {
   is = seat_at_place crew places x.name place (kept.placed place x is);
   slots = piped.slots;
+  one = piped.one;
   many = λ i at. piped.seated place x (some_seat place crew i at) is lives;
 }
 

@@ -1,7 +1,6 @@
 -- What an actor passes on or takes over, and what it owes: its machine is told, or will be.
-use Rattle.std.proofs.Common.{◌≡◌, inr, ℕ, List, [], ◌∷◌, ◌++◌, Bool, true, false, Option, Some, None, Result, Ok, Err, refl, sym, ap, ◌∙◌, subst}
+use Rattle.std.proofs.Common.{◌≡◌, inr, ℕ, List, [], ◌∷◌, ◌++◌, Bool, true, Option, Some, None, Result, Ok, Err, refl, sym, ap, ◌∙◌, subst}
 use Rattle.std.specs.Prelude.{IfOk, IfSome, IsNone}
-use Rattle.std.specs.List.{slice_get}
 use Rattle.call_fs.specs.Disk.{Disk}
 use Rattle.call_fs.specs.declared.past.GotData.{GotData}
 use Rattle.call_fs.specs.declared.past.NeedData.{NeedData}
@@ -18,12 +17,12 @@ use Rattle.mail_world.specs.declared.actor.Actor.{Actor as Held}
 use Rattle.mail_world.specs.declared.any_machine.AnyMachine.{AnyMachine}
 use Rattle.mail_world.specs.declared.world.Did.{Did}
 use Rattle.mail_world.specs.History.{next_of}
-use Rattle.mail_world.specs.ByKind.{Follows, present_of, found_of, looked_of, need_of, takes_of, with_own, own_of}
+use Rattle.mail_world.specs.ByKind.{Follows, present_of, found_of, looked_of, need_of, takes_of, awaits_of, with_own, own_of}
 use Rattle.mail_world.specs.Generations.{idled_in, idled_of}
 use Rattle.mail_world.specs.Inside.{StandsFor, Owes, unowed}
 use Rattle.mail_world.specs.Acting.{IsNoAct, BringsNone, MakesOf, Exchanges, HasDone, HasIdled, HasLooked, HasStepped, HasPassedOn, HasGiven, HasActed}
 use Rattle.mail_world.proofs.Feeds.{wires_of, are_wired}
-use Rattle.mail_world.proofs.Idles.{same_last}
+use Rattle.mail_world.proofs.Lasts.{same_last}
 use Rattle.mail_world.proofs.Machines.{own_is}
 use Rattle.mail_world.proofs.Passes.{passing, brings_kind, brings_within}
 
@@ -45,8 +44,8 @@ still_made (Some d) now (needs.Command bytes) came none = refl
 still_made (Some d) now needs.Wait came none = refl
 still_made (Some d) now (needs.Ended status) came none = absurd none
 
--- a machine that looked, to which this is due
-pub record IsAsked (x y : Held) (now : ℕ) (ready : Ready) (due : NeedData) : Type 0 where
+-- an actor whose machine looked, to which this is due
+pub record HasAsked (x y : Held) (now : ℕ) (ready : Ready) (due : NeedData) : Type 0 where
   pub next : (program : Program) (past : List Own) → Follows x.machine program past → next_of program past now ready ≡ due
   pub follows : (program : Program) (past : List Own) → Follows x.machine program past → Follows y.machine program past
   pub present : present_of y.machine ≡ now
@@ -54,13 +53,15 @@ pub record IsAsked (x y : Held) (now : ℕ) (ready : Ready) (due : NeedData) : T
   pub looked : looked_of y.machine ≡ true
   pub need : need_of y.machine ≡ due
   pub takes : takes_of y.machine ≡ takes_of x.machine
+  pub awaits : awaits_of y.machine ≡ awaits_of x.machine
   pub name : y.name ≡ x.name
   pub descriptors : y.descriptors.items ≡ x.descriptors.items
   pub ended : y.ended ≡ x.ended
+  pub status : y.status ≡ x.status
   pub owed : y.owed ≡ x.owed
 
 module _ (told : Option Disk) (wires wired : List Mouths) (pid : ℕ) (x y z : Held) (before now_kept : List Kept) (now : ℕ) (ready : Ready) (due : NeedData)
-    (asked : IsAsked x y now ready due) (none : IsNoAct due) where
+    (asked : HasAsked x y now ready due) (none : IsNoAct due) where
   passed_on : HasPassedOn wires wired pid y z before now_kept now ready due → HasDone told told wires wired pid x z before now_kept now ready
   passed_on given =
       let own : Own = record { read = now; ready = ready; due = due; came = given.came } in
@@ -91,10 +92,20 @@ module _ (told : Option Disk) (wires wired : List Mouths) (pid : ℕ) (x y z : H
         name = given.name ∙ asked.name;
         descriptors = given.descriptors ∙ asked.descriptors ∙ sym ((passing due given.came none).opened x.descriptors.items);
         ended = given.ended ∙ asked.ended;
+        status = given.status ∙ asked.status;
+        awaits = given.awaits ∙ asked.awaits;
       }
 
   pub asked_looked : HasLooked x y
-  asked_looked = record { follows = asked.follows; name = asked.name; descriptors = asked.descriptors; ended = asked.ended; owed = asked.owed }
+  asked_looked = record {
+    follows = asked.follows;
+    name = asked.name;
+    descriptors = asked.descriptors;
+    ended = asked.ended;
+    status = asked.status;
+    awaits = asked.awaits;
+    owed = asked.owed;
+  }
 
   pub passed_steps : (did : Option Did) → HasGiven did wires wired pid y z before now_kept now ready due → (IsNone did → z ≡ y) → IfSome did (λ d. d.ended ≡ None)
       → HasStepped did told told wires wired pid x z before now_kept now ready
@@ -118,19 +129,6 @@ module _ (told : Option Disk) (wires wired : List Mouths) (pid : ℕ) (x y z : H
   passed_result n q r (Ok did) given waits at = passed_steps did given (λ none_did. (waits none_did).0) (lasts_in n did at)
   passed_result n q r (Err e) given waits at = tt
 
-  -- whether an idle turn ended is told by the machine that looked
-  pub passed_idle : (idle : Bool) → HasIdled idle y before now_kept → HasIdled idle x before now_kept
-  passed_idle idle by k event program past f = by k event program past (asked.follows program past f)
-
-  idle_some : (did : Option Did) → IfSome did (λ d. HasIdled d.idle y before now_kept) → IfSome did (λ d. HasIdled d.idle x before now_kept)
-  idle_some None idled = tt
-  idle_some (Some d) idled = passed_idle d.idle idled
-
-  pub passed_idles : {E : Type 0} (result : Result (Option Did) E) → IfOk result (λ did. IfSome did (λ d. HasIdled d.idle y before now_kept))
-      → IfOk result (λ did. IfSome did (λ d. HasIdled d.idle x before now_kept))
-  passed_idles (Ok did) idled = idle_some did idled
-  passed_idles (Err e) idled = tt
-
 own_same : (m : AnyMachine) (own : Own) → present_of m ≡ own.read → found_of m ≡ own.ready → need_of m ≡ own.due → own_of m own.came ≡ own
 own_same m own read ready due =
     ap (λ (read : ℕ). record { read = read; ready = found_of m; due = need_of m; came = own.came }) read
@@ -147,20 +145,7 @@ told_idle x m own idle before now_kept follows read ready due idles event k is p
     idles program past (follows program past f) ∙ ap (idled_in program past) (own_same m own read ready due)
     ∙ ap (idled_of program past) (same_last before (kept.Act x.name own) k (sym event ∙ is))
 
--- an end ends none
-pub end_idle : (x : Held) (now status : ℕ) (ready : Ready) (before now_kept : List Kept) → now_kept ≡ before ++ kept.End x.name now ready status ∷ [] → HasIdled false x before now_kept
-end_idle x now status ready before now_kept event k is program past f =
-    ap (idled_of program past) (same_last before (kept.End x.name now ready status) k (sym event ∙ is))
-
 -- What is owed
-
--- that event, and what may be handed in of it
-pub owed_own : (x : Held) (events : List Kept) (past : List Own) (at : ℕ) (a : List ℕ) (own : Own) → Owes x events past at → slice_get events at ≡ Some (kept.Act a own)
-    → (o : Owes x events past at) × (o.own ≡ own)
-owed_own x events past at a own o there =
-    let both : ◌≡◌ {A = Option Kept} (Some (kept.Act x.name o.own)) (Some (kept.Act a own)) = sym o.there ∙ there in
-    let same : o.own ≡ own = cc in
-    (o, same)
 
 -- once it is paid, the machine has taken in the whole past
 pub paid_stands : (x : Held) (n : AnyMachine) (events : List Kept) (past : List Own) (at : ℕ) (program : Program) (own : Own) → x.owed ≡ Some at → (o : Owes x events past at) → o.own ≡ own

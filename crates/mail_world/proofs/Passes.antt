@@ -1,6 +1,7 @@
 -- What passes between programs by pipes and slots: it concerns no disk and no descriptor.
 use Rattle.std.proofs.Common.{◌≡◌, inr, ℕ, zero, suc, ◌≤◌, List, [], ◌∷◌, length, Bool, true, false, Option, Some, None, refl, sym, ap, ◌∙◌, subst, arith}
-use Rattle.std.specs.Prelude.{◌==◌, if◌then◌else◌, take, drop}
+use Rattle.std.specs.Prelude.{◌==◌, if◌then◌else◌, is_some, take, drop}
+use Rattle.std.specs.List.{slice_get}
 use Rattle.std.proofs.lemmas.List.{take-append-drop, length-take}
 use Rattle.std.proofs.lemmas.Bool.{eqb-true}
 use Rattle.call_fs.specs.declared.calls.Fd.{Fd}
@@ -18,8 +19,12 @@ use Rattle.call_fs.specs.Program.{IsKind, IsWithin}
 use Rattle.world_pipes.specs.Pipework.{Pipe, Pipework, Tenant, Yields}
 use Rattle.world_pipes.specs.Pipework.Tenant.{Runs, Remote}
 use Rattle.world_pipes.specs.Pipes.{offered}
+use Rattle.mail_world.proofs.Awaiting.{GivesToNone}
 use Rattle.mail_world.specs.History.{State, disk_after, holder_after, ComesOf, TenantEnds, IsFed}
-use Rattle.mail_world.specs.Acting.{IsNoAct, Brings, opened_by}
+use Rattle.world_pipes.specs.declared.mouths.Mouths.{Mouths}
+use Rattle.world_pipes.specs.Mouths.{actor_of}
+use Rattle.mail_world.specs.Wired.{seat, tenant_in, kept_at, AreWired, HaveOneChild}
+use Rattle.mail_world.specs.Acting.{IsAct, IsNoAct, Brings, GivesNoActor, is_of_child, has_actor, opened_by}
 
 -- nothing but pipes and slots changes
 pub record IsPassing (due : NeedData) (came : GotData) : Type 0 where
@@ -61,9 +66,73 @@ yields_by false n pipe came some many is =
 pub offered_yields : (n : ℕ) (pipe : Pipe) (came : GotData) → 1 ≤ n → offered n pipe ≡ Some came → Yields pipe came
 offered_yields n pipe came many is = yields_by (length pipe.bytes == 0) n pipe came refl many is
 
--- no actor runs in a slot
-abbrev pub NoActorRuns : Pipework → Type 0
-NoActorRuns w = (a : List ℕ) (d : ℕ) (b : List ℕ) → w.programs a d ≡ Some (Runs b) → ⊥
+-- to who makes calls and ends alone, nothing else is due than to wait
+pub only_waits : (due : NeedData) → IsAct due → IsNoAct due → due ≡ needs.Wait
+only_waits (needs.File c) act none = absurd none
+only_waits (needs.Take port) act none = absurd act
+only_waits (needs.Give port bytes) act none = absurd act
+only_waits (needs.Start asked) act none = absurd act
+only_waits (needs.Command bytes) act none = absurd act
+only_waits needs.Wait act none = refl
+only_waits (needs.Ended status) act none = absurd none
+
+-- Nothing is given to an actor in a slot, unless what is due is a child's.
+
+nobody_there : (mouths : List Mouths) (i : ℕ) (has : Bool) (d : ℕ) (bytes c : List ℕ) → HaveOneChild mouths → has ≡ has_actor mouths
+    → is_of_child (Some i) has (needs.Give (port.Program d) bytes) ≡ false → tenant_in (slice_get mouths i) d ≡ Some (Runs c) → ⊥
+nobody_there mouths i has d bytes c one child none runs = by_mouth (slice_get mouths i) refl runs where
+  by_slot : (i d : ℕ) → i ≡ 0 → d ≡ 0 → is_of_child (Some i) has (needs.Give (port.Program d) bytes) ≡ false → tenant_in (slice_get mouths i) d ≡ Some (Runs c) → ⊥
+  by_slot zero zero first slot none runs =
+      let some : has_actor mouths ≡ true = ap (λ (o : Option Tenant). is_some (actor_of o)) runs in
+      let both : has ≡ true = child ∙ some in cc
+  by_slot zero (suc d) first slot none runs = absurd (omega (arith, slot))
+  by_slot (suc i) d first slot none runs = absurd (omega (arith, first))
+
+  by_mouth : (m : Option Mouths) → slice_get mouths i ≡ m → tenant_in m d ≡ Some (Runs c) → ⊥
+  by_mouth None is there = cc
+  by_mouth (Some m) is there = let so = one i m d c is there in by_slot i d so.0 so.1 none runs
+
+pub gives_no_actor : (mouths : List Mouths) (i : ℕ) (has : Bool) (due : NeedData) → HaveOneChild mouths → has ≡ has_actor mouths → is_of_child (Some i) has due ≡ false
+    → GivesNoActor mouths i due
+gives_no_actor mouths i has (needs.Give (port.Program d) bytes) one child none = λ c runs. nobody_there mouths i has d bytes c one child none runs
+gives_no_actor mouths i has (needs.Give port.Input bytes) one child none = tt
+gives_no_actor mouths i has (needs.Give port.Output bytes) one child none = tt
+gives_no_actor mouths i has (needs.Give port.Clean bytes) one child none = tt
+gives_no_actor mouths i has (needs.Give port.Lspawn bytes) one child none = tt
+gives_no_actor mouths i has (needs.Give port.Rspawn bytes) one child none = tt
+gives_no_actor mouths i has (needs.Give port.Todo bytes) one child none = tt
+gives_no_actor mouths i has (needs.Give (port.Status d) bytes) one child none = tt
+gives_no_actor mouths i has (needs.File c) one child none = tt
+gives_no_actor mouths i has (needs.Take port) one child none = tt
+gives_no_actor mouths i has (needs.Start asked) one child none = tt
+gives_no_actor mouths i has (needs.Command bytes) one child none = tt
+gives_no_actor mouths i has needs.Wait one child none = tt
+gives_no_actor mouths i has (needs.Ended status) one child none = tt
+
+-- nor in the model
+nobody_in : (mouths : List Mouths) (w : Pipework) (a : List ℕ) (at : Option ℕ) (has : Bool) (d : ℕ) (bytes c : List ℕ) → AreWired mouths w → HaveOneChild mouths → seat a ≡ at → has ≡ has_actor mouths
+    → is_of_child at has (needs.Give (port.Program d) bytes) ≡ false → w.programs a d ≡ Some (Runs c) → ⊥
+nobody_in mouths w a None has d bytes c wired one at child none runs =
+    let gone : ◌≡◌ {A = Option Tenant} None (Some (Runs c)) = sym (wired.programs a d ∙ ap (λ (o : Option ℕ). tenant_in (kept_at o mouths) d) at) ∙ runs in cc
+nobody_in mouths w a (Some i) has d bytes c wired one at child none runs =
+    nobody_there mouths i has d bytes c one child none (sym (wired.programs a d ∙ ap (λ (o : Option ℕ). tenant_in (kept_at o mouths) d) at) ∙ runs)
+
+pub gives_to_none : (mouths : List Mouths) (w : Pipework) (a : List ℕ) (at : Option ℕ) (has : Bool) (due : NeedData) → AreWired mouths w → HaveOneChild mouths → seat a ≡ at → has ≡ has_actor mouths
+    → is_of_child at has due ≡ false → GivesToNone w a due
+gives_to_none mouths w a at has (needs.Give (port.Program d) bytes) wired one seated child none = λ c runs. nobody_in mouths w a at has d bytes c wired one seated child none runs
+gives_to_none mouths w a at has (needs.Give port.Input bytes) wired one seated child none = tt
+gives_to_none mouths w a at has (needs.Give port.Output bytes) wired one seated child none = tt
+gives_to_none mouths w a at has (needs.Give port.Clean bytes) wired one seated child none = tt
+gives_to_none mouths w a at has (needs.Give port.Lspawn bytes) wired one seated child none = tt
+gives_to_none mouths w a at has (needs.Give port.Rspawn bytes) wired one seated child none = tt
+gives_to_none mouths w a at has (needs.Give port.Todo bytes) wired one seated child none = tt
+gives_to_none mouths w a at has (needs.Give (port.Status d) bytes) wired one seated child none = tt
+gives_to_none mouths w a at has (needs.File c) wired one seated child none = tt
+gives_to_none mouths w a at has (needs.Take port) wired one seated child none = tt
+gives_to_none mouths w a at has (needs.Start asked) wired one seated child none = tt
+gives_to_none mouths w a at has (needs.Command bytes) wired one seated child none = tt
+gives_to_none mouths w a at has needs.Wait wired one seated child none = tt
+gives_to_none mouths w a at has (needs.Ended status) wired one seated child none = tt
 
 fed_by : (s : State) (o : Option Tenant) (bytes : List ℕ) → ((b : List ℕ) → o ≡ Some (Runs b) → ⊥) → IsFed s o bytes
 fed_by s None bytes none = tt
@@ -71,7 +140,7 @@ fed_by s (Some (Runs b)) bytes none = absurd (none b refl)
 fed_by s (Some (Remote reported)) bytes none = tt
 
 -- so what comes by them may come, in any state with these pipes and slots
-pub comes_of : (s : State) (w : Pipework) (pid most : ℕ) (a : List ℕ) (due : NeedData) (came : GotData) → s.pipework ≡ w → NoActorRuns w → 1 ≤ most
+pub comes_of : (s : State) (w : Pipework) (pid most : ℕ) (a : List ℕ) (due : NeedData) (came : GotData) → s.pipework ≡ w → GivesToNone w a due → 1 ≤ most
     → Brings w pid most a due came → ComesOf s a due came 0
 comes_of s w pid most a (needs.File c) came same none many brings = absurd brings
 comes_of s w pid most a (needs.Take (port.Status d)) came same none many brings =
@@ -83,16 +152,16 @@ comes_of s w pid most a (needs.Take port.Lspawn) came same none many brings = of
 comes_of s w pid most a (needs.Take port.Rspawn) came same none many brings = offered_yields most (s.pipework.pipes a port.Rspawn) came many (ap (λ (w : Pipework). offered most (w.pipes a port.Rspawn)) same ∙ brings)
 comes_of s w pid most a (needs.Take port.Todo) came same none many brings = offered_yields most (s.pipework.pipes a port.Todo) came many (ap (λ (w : Pipework). offered most (w.pipes a port.Todo)) same ∙ brings)
 comes_of s w pid most a (needs.Take (port.Program d)) came same none many brings = offered_yields most (s.pipework.pipes a (port.Program d)) came many (ap (λ (w : Pipework). offered most (w.pipes a (port.Program d))) same ∙ brings)
-comes_of s w pid most a (needs.Give q bytes) came same none many brings = subst (λ (came : GotData). ComesOf s a (needs.Give q bytes) came 0) (sym brings) (given_by q) where
-  given_by : (q : Port) → ComesOf s a (needs.Give q bytes) got.Gave 0
-  given_by (port.Program d) = fed_by s (s.pipework.programs a d) bytes (λ b is. none a d b (ap (λ (w : Pipework). w.programs a d) (sym same) ∙ is))
-  given_by port.Input = tt
-  given_by port.Output = tt
-  given_by port.Clean = tt
-  given_by port.Lspawn = tt
-  given_by port.Rspawn = tt
-  given_by port.Todo = tt
-  given_by (port.Status d) = tt
+comes_of s w pid most a (needs.Give q bytes) came same none many brings = subst (λ (came : GotData). ComesOf s a (needs.Give q bytes) came 0) (sym brings) (given_by q none) where
+  given_by : (q : Port) → GivesToNone w a (needs.Give q bytes) → ComesOf s a (needs.Give q bytes) got.Gave 0
+  given_by (port.Program d) none = fed_by s (s.pipework.programs a d) bytes (λ b is. none b (ap (λ (w : Pipework). w.programs a d) (sym same) ∙ is))
+  given_by port.Input none = tt
+  given_by port.Output none = tt
+  given_by port.Clean none = tt
+  given_by port.Lspawn none = tt
+  given_by port.Rspawn none = tt
+  given_by port.Todo none = tt
+  given_by (port.Status d) none = tt
 comes_of s w pid most a (needs.Start (child.Bounce room)) came same none many brings = subst (λ (came : GotData). ComesOf s a (needs.Start (child.Bounce room)) came 0) (sym brings) tt
 comes_of s w pid most a (needs.Start (child.Forward uid room)) came same none many brings = subst (λ (came : GotData). ComesOf s a (needs.Start (child.Forward uid room)) came 0) (sym brings) tt
 comes_of s w pid most a (needs.Start (child.Local slot words uid)) came same none many brings = subst (λ (came : GotData). ComesOf s a (needs.Start (child.Local slot words uid)) came 0) (sym brings) tt

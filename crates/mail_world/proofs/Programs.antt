@@ -1,9 +1,11 @@
 -- What each program of the world keeps to. A new program is one case of each of these.
-use Rattle.std.proofs.Common.{◌≡◌, ◌≢◌, ◌⊎◌, inl, inr, ℕ, ◌+◌, ◌≤◌, List, [], ◌∷◌, true, false, Option, Some, None, refl, sym, ap, subst}
+use Rattle.std.proofs.Common.{◌≡◌, ◌≢◌, ◌⊎◌, inl, inr, ℕ, ◌+◌, ◌≤◌, List, [], ◌∷◌, Bool, true, false, not, ◌&&◌, Option, Some, None, refl, sym, ap, subst}
+use Rattle.std.specs.Prelude.{is_some, if◌then◌else◌}
 use Rattle.address_rules.specs.declared.controls.Controls.{Controls}
 use Rattle.call_fs.specs.declared.calls.CallData.{CallData}
 use Rattle.call_fs.specs.declared.calls.Answer.{Answer}
 use Rattle.call_fs.specs.declared.calls.Told.{Told}
+use Rattle.call_fs.specs.declared.program.Port.TheVariants as port
 use Rattle.call_fs.specs.declared.program.Ready.{Ready}
 use Rattle.call_fs.specs.declared.past.ChildData.{ChildData}
 use Rattle.call_fs.specs.declared.past.NeedData.{NeedData}
@@ -13,10 +15,10 @@ use Rattle.call_fs.specs.Apply.{effect, Fits}
 use Rattle.call_fs.specs.Disk.{Disk, Open}
 use Rattle.call_fs.specs.Past.{IsRunBy, UsesHeld, held}
 use Rattle.queue_inject.specs.declared.row.Row.TheVariants as at
-use Rattle.queue_inject.specs.Table.{row_after}
+use Rattle.queue_inject.specs.Table.{row_after, has_input}
 use Rattle.queue_inject.proofs.Holds.{holds_what_it_uses}
 use Rattle.mail_world.specs.Acting.{IsAct}
-use Rattle.queue_inject.proofs.Acts.{IsAlone, next_act, next_alone}
+use Rattle.queue_inject.proofs.Acts.{IsAlone, next_alone}
 use Rattle.queue_clean.proofs.Demands.{asks, needs_none}
 use Rattle.send_core.proofs.Holds.{uses as sends_held}
 use Rattle.no_mailbox.specs.Table.{place_after, row_now}
@@ -26,15 +28,15 @@ use Rattle.world_events.specs.declared.event.Program.{Program}
 use Rattle.world_events.specs.declared.event.Program.TheVariants.{Injector, Cleaner, Sender, LocalSpawner, RemoteSpawner}
 use Rattle.mail_world.specs.declared.any_machine.AnyMachine.{AnyMachine}
 use Rattle.mail_world.specs.declared.any_machine.AnyMachine.TheVariants.{Mail, Clean, Send, Local, Remote}
-use Rattle.mail_world.specs.Pipework.{Slot}
-use Rattle.mail_world.specs.History.{Actor, Life, State, InputIsFound, FindsInputAlone, MayFind, MayRun, next_of, latest, own_call, booked_by, held_by, cut_off}
+use Rattle.mail_world.specs.Pipework.{Slot, Pipework, is_ready}
+use Rattle.mail_world.specs.History.{Life, State, InputIsFound, FindsInputAlone, MayFind, MayRun, next_of, latest, own_call, booked_by, held_by, cut_off}
 use Rattle.mail_world.specs.History.Life.{Alive, Over}
 use Rattle.mail_world.specs.Waiting.{IsBooked}
-use Rattle.mail_world.specs.Readiness.{found_by, found_at, found_in}
+use Rattle.mail_world.specs.Readiness.{input_alone, is_awaiting, found_by}
 use Rattle.mail_world.specs.World.{most_of}
 use Rattle.call_fs.specs.declared.file_system.TheConstants.{PIECE}
-use Rattle.mail_world.specs.declared.mailer.Mailer.{Mailer}
-use Rattle.mail_world.specs.ByKind.{IsMail, CanFind, takes_of, Leaves, Follows, Mails, Cleans, Sends, Answers, Spawns}
+use Rattle.fed_injector.specs.declared.fed.FedInjector.{FedInjector}
+use Rattle.mail_world.specs.ByKind.{IsMail, takes_of, Leaves, Follows, Mails, Cleans, Sends, Answers, Spawns}
 use Rattle.queue_clean.specs.Machine.{Machine as Cleaning}
 use Rattle.send_core.specs.Stands.{Machine as Sending}
 use Rattle.no_mailbox.specs.declared.machine.NoMailbox.{NoMailbox}
@@ -61,47 +63,43 @@ program_uses (Sender start) past now ready run = sends_held None past now ready 
 program_uses (LocalSpawner start) past now ready run = answers_none (held past) (row_now (place_after past) ready) (place_after past)
 program_uses (RemoteSpawner start) past now ready run = spawns_held tt past now ready run
 
--- it may be told that anything is ready
-pub machine_finds : (m : AnyMachine) (ready : Ready) → CanFind m ready
-machine_finds (Mail mailer) ready = tt
-machine_finds (Clean cleaner) ready = tt
-machine_finds (Send sender) ready = tt
-machine_finds (Local spawner) ready = tt
-machine_finds (Remote spawner) ready = tt
-
 -- that of a mail is one that a history may start
 pub mail_runs : (program : Program) → IsMail program → MayRun program
 mail_runs (Injector args) mail = tt
 mail_runs other mail = absurd mail
 
--- its input is ready, so that it never waits
-pub program_acts : (s : State) (a : List ℕ) (program : Program) → IsMail program → (past : List Own) (now : ℕ) → IsAct (next_of program past now (found_by s a program))
-program_acts s a (Injector args) mail past now = next_act args past now INPUT_READY refl
-program_acts s a other mail past now = absurd mail
+-- it takes, gives and starts nothing
+pub program_acts : (program : Program) → IsMail program → (past : List Own) (now : ℕ) (ready : Ready) → IsAct (next_of program past now ready)
+program_acts (Injector args) mail past now ready = next_alone args past now ready
+program_acts other mail past now ready = absurd mail
 
--- and nothing else is ready to it
-pub program_alone : (s : State) (a : List ℕ) (program : Program) → IsMail program → FindsInputAlone (found_by s a program)
-program_alone s a (Injector args) mail = (refl, refl)
-program_alone s a other mail = absurd mail
+-- what lies in its pipes, and which of its programs has ended, each program may find; an injector that is a child finds its input only
+-- if something lies there
+input_only : (t : Bool) → FindsInputAlone (if t then input_alone false else INPUT_READY)
+input_only true = (refl, refl)
+input_only false = (refl, refl)
 
-pub found_alone : (s : State) (a : List ℕ) (x : Actor) → s.actors a ≡ Some x → IsMail x.program → FindsInputAlone (found_in s a)
-found_alone s a x is mail = subst FindsInputAlone (sym (ap (found_at s a) is)) (program_alone s a x.program mail)
+lies_if_found : (lies : Bool) → has_input (if true && not lies then input_alone false else INPUT_READY) ≡ true → lies ≡ true
+lies_if_found true found = refl
+lies_if_found false found = absurd cc
 
--- what lies in its pipes, and which of its programs has ended, each program may find, if it is no child
-pub found_finds : (s t : State) (a : List ℕ) (program : Program) (past : List Own) → s.pipework.slots a ≡ None → MayFind s a program past (found_by t a program)
-found_finds s t a (Injector args) past none = ((refl, refl), subst (λ (slot : Option Slot). InputIsFound s.pipework a slot past INPUT_READY) (sym none) tt)
-found_finds s t a (Cleaner start) past none = (refl, refl)
-found_finds s t a (Sender start) past none = (_, _, _, refl, refl)
-found_finds s t a (LocalSpawner start) past none = (refl, refl)
-found_finds s t a (RemoteSpawner start) past none = refl
+input_found : (w : Pipework) (a : List ℕ) (o : Option Slot) (past : List Own)
+    → InputIsFound w a o past (if is_some o && not (is_ready (w.pipes a port.Input)) then input_alone false else INPUT_READY)
+input_found w a None past = tt
+input_found w a (Some slot) past = inr (λ found. lies_if_found (is_ready (w.pipes a port.Input)) found)
 
--- each injector finds the same
-pub mail_found : (s : State) (a : List ℕ) (program : Program) → MayRun program → found_by s a program ≡ INPUT_READY
-mail_found s a (Injector args) runs = refl
-mail_found s a other runs = absurd runs
+pub found_finds : (s t : State) (a : List ℕ) (program : Program) (past : List Own) → t.pipework ≡ s.pipework → MayFind t a program past (found_by s a program)
+found_finds s t a (Injector args) past same = (
+  input_only (is_awaiting s a),
+  subst (λ (w : Pipework). InputIsFound w a (w.slots a) past (found_by s a (Injector args))) (sym same) (input_found s.pipework a (s.pipework.slots a) past),
+)
+found_finds s t a (Cleaner start) past same = (refl, refl)
+found_finds s t a (Sender start) past same = (_, _, _, refl, refl)
+found_finds s t a (LocalSpawner start) past same = (refl, refl)
+found_finds s t a (RemoteSpawner start) past same = refl
 
 -- how many bytes a machine may be handed is how many its program takes at once, if it takes any
-mail_takes : (m : Mailer) (program : Program) (past : List Own) → Mails m program past → IsMail program
+mail_takes : (m : FedInjector) (program : Program) (past : List Own) → Mails m program past → IsMail program
 mail_takes m (Injector args) past f = tt
 mail_takes m other past f = absurd f
 
@@ -122,7 +120,7 @@ remote_takes m (RemoteSpawner start) past f = refl
 remote_takes m other past f = absurd f
 
 pub machine_takes : (m : AnyMachine) (program : Program) (past : List Own) → Follows m program past → IsMail program ⊎ (takes_of m ≡ most_of program)
-machine_takes (Mail mailer) program past f = inl (mail_takes mailer program past f)
+machine_takes (Mail injector) program past f = inl (mail_takes injector program past f)
 machine_takes (Clean cleaner) program past f = inr (clean_takes cleaner program past f)
 machine_takes (Send sender) program past f = inr (send_takes sender program past f)
 machine_takes (Local spawner) program past f = inr (local_takes spawner program past f)
@@ -132,13 +130,6 @@ machine_takes (Remote spawner) program past f = inr (remote_takes spawner progra
 pub program_starts_none : (program : Program) (past : List Own) (now : ℕ) (ready : Ready) (asked : ChildData) → MayRun program → next_of program past now ready ≡ needs.Start asked → ⊥
 program_starts_none (Injector args) past now ready asked runs is = subst IsAlone is (next_alone args past now ready)
 program_starts_none other past now ready asked runs is = absurd runs
-
--- one that is no child may find its input ready, which stands in its start
-pub program_finds : (s : State) (a : List ℕ) (program : Program) → IsMail program → (past : List Own) (ready : Ready) → s.pipework.slots a ≡ None → FindsInputAlone ready
-    → MayFind s a program past ready
-program_finds s a (Injector args) mail past ready none alone =
-    (alone, subst (λ (slot : Option Slot). InputIsFound s.pipework a slot past ready) (sym none) tt)
-program_finds s a other mail past ready none alone = absurd mail
 
 -- How it fares
 

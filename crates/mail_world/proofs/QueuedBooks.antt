@@ -35,9 +35,9 @@ use Rattle.queue_law.specs.Books.{Child as Bouncer}
 use Rattle.mail_world.specs.History.Event.{Start, Act, Child, Generation, Report, End, Stop, Moment, Halt}
 use Rattle.mail_world.specs.History.Life.{Over, Stopped}
 use Rattle.mail_world.specs.Waiting.{IsBooked, HasQueued}
-use Rattle.mail_world.specs.World.{Tells}
+use Rattle.mail_world.specs.World.{Tells, with_inputs}
 use Rattle.mail_world.specs.Books.{is_to_todo, is_accepting, is_accepting_by, is_accepted, AcceptedAreBooked}
-use Rattle.mail_world.proofs.BookedNumbers.{IsIn, among_option, injections_told}
+use Rattle.mail_world.proofs.BookedNumbers.{IsIn, among_option, bears_none, injections_told}
 use Rattle.mail_world.proofs.Covered.{AreLone, covered}
 use Rattle.mail_world.proofs.Kept.{books_always, runs_always}
 use Rattle.mail_world.proofs.Owns.{IsPass, by_act, may_read}
@@ -174,7 +174,7 @@ linked_told d (k ∷ events) ((Act b own wrote) ∷ h) legal told q is agreed =
     λ q is agreed. ap (λ c. (bytes_eq b q.actor && t) || c) (linked_told d events h legal.0 told.1 q is agreed) ∙ or-true (bytes_eq b q.actor && t) in
     let mine : t ≡ true → said b ≡ true = λ e. ap (λ c. (c && t) || is_accepted b h) (same_text b) ∙ ap (λ c. c || is_accepted b h) e in
     subst (λ (o : Option Actor). AreLinked (acted s b own wrote o).books said) (sym reads.1.is) (on reads.0 reads.1.is said before mine) q is agreed
-linked_told d (k ∷ events) ((Child parent own b program) ∷ h) legal told q is agreed = absurd told.0
+linked_told d (k ∷ events) ((Child parent own b program) ∷ h) legal told q is agreed = absurd (bears_none d h parent own b program legal)
 linked_told d (k ∷ events) ((Generation sender clean lspawn rspawn) ∷ h) legal told q is agreed = linked_told d events h legal.0 told.1 q is agreed
 linked_told d (k ∷ events) ((Report slot letter text) ∷ h) legal told q is agreed = linked_told d events h legal.0 told.1 q is agreed
 linked_told d (k ∷ events) ((End b read ready status) ∷ h) legal told q is agreed =
@@ -330,7 +330,7 @@ row_told d (k ∷ events) ((Act b own wrote) ∷ h) legal told a agreed =
     own legal.1 in
     subst (λ (o : Option Actor). HasRow ((acted s b own wrote o).actors a)) (sym reads.1.is)
     (act_row s b own wrote reads.0 (is_accepting_by own.due own.came) (is_accepted a h) a reads.1.is (on reads.0 reads.1.is) (row_told d events h legal.0 told.1 a) agreed)
-row_told d (k ∷ events) ((Child parent own b program) ∷ h) legal told a agreed = absurd told.0
+row_told d (k ∷ events) ((Child parent own b program) ∷ h) legal told a agreed = absurd (bears_none d h parent own b program legal)
 row_told d (k ∷ events) ((Generation sender clean lspawn rspawn) ∷ h) legal told a agreed = absurd legal.1
 row_told d (k ∷ events) ((Report slot letter text) ∷ h) legal told a agreed = row_told d events h legal.0 told.1 a agreed
 row_told d (k ∷ events) ((End b read ready status) ∷ h) legal told a agreed =
@@ -357,8 +357,8 @@ pub accepted_booked : AcceptedAreBooked
 accepted_booked d events h legal none told =
     let lone = covered d h legal none in (
       λ a. (
-        λ agreed. row_booked (after d h) a ((after d h).actors a) (books_always d h lone a) refl (row_told d (reverse events) h lone told a agreed),
-        λ w. booked_row d (reverse events) h lone told a w,
+        λ agreed. row_booked (after d h) a ((after d h).actors a) (books_always d h lone a) refl (row_told d (with_inputs (reverse events)) h lone told a agreed),
+        λ w. booked_row d (with_inputs (reverse events)) h lone told a w,
       ),
-      λ q is. injections_told d (reverse events) h lone told q (⊎_elim (λ l. inl (q.number, l)) (λ o. inr o) is),
+      λ q is. injections_told d (with_inputs (reverse events)) h lone told q (⊎_elim (λ l. inl (q.number, l)) (λ o. inr o) is),
     )

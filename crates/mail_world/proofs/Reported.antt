@@ -1,6 +1,6 @@
 -- The report of a remote program comes.
-use Rattle.std.proofs.Common.{◌≡◌, ◌≢◌, ◌⊎◌, ◌↔◌, Result, Ok, Err, inl, inr, ℕ, zero, suc, ◌+◌, ◌<◌, ◌≤◌, List, [], ◌∷◌, ◌++◌, length, set, Bool, true, false, not, ◌&&◌, Option, Some, None, refl, sym, ap, ◌∙◌, subst, arith, codes}
-use Rattle.std.specs.Prelude.{if◌then◌else◌, nat_lt, take, is_none}
+use Rattle.std.proofs.Common.{◌≡◌, ◌≢◌, ◌⊎◌, ◌↔◌, Result, Ok, Err, inl, inr, ℕ, zero, suc, ◌+◌, ◌<◌, ◌≤◌, List, [], ◌∷◌, ◌++◌, length, set, Bool, true, false, not, ◌&&◌, Option, Some, None, refl, sym, ap, ◌∙◌, subst, ⊎_elim, arith, bytes_eq, codes}
+use Rattle.std.specs.Prelude.{if◌then◌else◌, ◌==◌, nat_lt, take, is_none}
 use Rattle.std.specs.List.{slice_get, range_with_len, prefix_len}
 use Rattle.std.proofs.lemmas.Bool.{ltb-false, le-ltb}
 use Rattle.std.proofs.lemmas.List.{length-set}
@@ -11,7 +11,7 @@ use Rattle.world_events.specs.declared.event.Event.{Event as Kept}
 use Rattle.world_events.specs.declared.event.Event.TheVariants as kept
 use Rattle.world_pipes.specs.declared.mouths.Mouths.{Mouths}
 use Rattle.world_pipes.specs.declared.mouths.Slot.{Slot}
-use Rattle.world_pipes.specs.Mouths.{runs_in, is_remote, IsLowest}
+use Rattle.world_pipes.specs.Mouths.{runs_in, tenant_of, is_remote, IsLowest}
 use Rattle.world_pipes.specs.Pipework.{Pipe, Tenant, closed, given}
 use Rattle.world_pipes.specs.Pipework.Tenant.{Runs, Remote}
 use Rattle.mail_world.specs.declared.actor.Actor.{Actor as Held}
@@ -20,35 +20,35 @@ use Rattle.mail_world.specs.declared.error.WorldError.TheVariants as why
 use Rattle.mail_world.specs.History.{Actor, Life, State, MayReport, IsLiving, report_text, happens}
 use Rattle.mail_world.specs.History.Event.{Report}
 use Rattle.mail_world.specs.History.Life.{Alive, Over, Stopped}
-use Rattle.mail_world.specs.Wired.{tenant_in, AreWired, HaveSlots}
+use Rattle.mail_world.specs.Wired.{tenant_in, HaveSlots}
 use Rattle.call_fs.specs.Past.{held}
 use Rattle.mail_world.specs.Acting.{AreAsBefore}
 use Rattle.mail_world.specs.Crew.{lasts, HasReport}
 use Rattle.mail_world.specs.Generations.{lives_in, is_unreported, lowest_unreported}
-use Rattle.mail_world.specs.Inside.{known, among_all, is_by, Owns, IsMember, AreActors, IsOpenTo, IsWorld, ArePiped}
+use Rattle.mail_world.specs.Inside.{known, among_all, life_by, is_by, Owns, IsMember, AreActors, IsOpenTo, IsWorld, ArePiped}
+use Rattle.mail_world.proofs.Awaiting.{report_awaits}
+use Rattle.mail_world.proofs.Borne.{one_kept, feed_push}
 use Rattle.mail_world.proofs.Crew.{crew_waits}
 use Rattle.mail_world.proofs.Feeds.{slots_set}
 use Rattle.mail_world.proofs.Found.{lowest_is}
 use Rattle.mail_world.proofs.Histories.{LeadsOn, led_still}
 use Rattle.mail_world.proofs.Known.{known_push}
-use Rattle.mail_world.proofs.Lists.{some_at}
+use Rattle.mail_world.proofs.Lists.{some_at, get_set}
 use Rattle.mail_world.proofs.Piped.{whole_push}
 use Rattle.mail_world.proofs.Wires.{wired_both}
-use Rattle.mail_world.proofs.Worlds.{on_told, still_pid, pid_push}
+use Rattle.mail_world.proofs.Worlds.{on_told, still_pid, pid_push, still_count}
 
 -- Whether the remote spawner lives
 
 -- what lives in the state lives in the list
 alive_in : (s : State) (events : List Kept) (p : ℕ) (x : Held) → IsMember s events p x → lives_in (s.actors x.name) ≡ is_none x.ended
-alive_in s events p x m = ap lives_in m.is ∙ by_end x.ended refl where
-  of_life : (life : Life) → life ≢ Alive → lives_in (Some (record { program = m.actor.program; past = m.actor.past; life = life })) ≡ false
-  of_life Alive dead = absurd (dead refl)
-  of_life (Over status) dead = refl
-  of_life Stopped dead = refl
-
-  by_end : (o : Option ℕ) → x.ended ≡ o → lives_in (Some m.actor) ≡ is_none x.ended
-  by_end None at = ap (λ (life : Life). lives_in (Some (record { program = m.actor.program; past = m.actor.past; life = life }))) (m.alive at) ∙ sym (ap is_none at)
-  by_end (Some i) at = of_life m.actor.life (m.dead i at) ∙ sym (ap is_none at)
+alive_in s events p x m =
+    ap lives_in m.is ∙ ap (λ (life : Life). lives_in (Some (record { program = m.actor.program; past = m.actor.past; life = life }))) m.life ∙ by_end x.ended x.status
+  where
+    by_end : (ended status : Option ℕ) → lives_in (Some (record { program = m.actor.program; past = m.actor.past; life = life_by ended status })) ≡ is_none ended
+    by_end None status = refl
+    by_end (Some at) None = refl
+    by_end (Some at) (Some status) = refl
 
 take_at : {X : Type 0} (n i : ℕ) (xs : List X) → i < n → slice_get (take n xs) i ≡ slice_get xs i
 take_at zero i xs low = absurd (omega arith)
@@ -204,49 +204,84 @@ report_opens d actors s t holder same o = record {
   };
 }
 
-pub report_keeps : (told : Option Disk) (places : List ℕ → Option ℕ) (actors : List Held) (events : List Kept) (p n slot letter : ℕ) (text : List ℕ)
-    → IsWorld told places actors (known events) events p n → LeadsOn told told events (events ++ kept.Report slot letter text ∷ []) p p
-    → IsWorld told places actors (known (events ++ kept.Report slot letter text ∷ [])) (events ++ kept.Report slot letter text ∷ []) p n
-report_keeps told places actors events p n slot letter text w leads =
+pub report_keeps : (told : Option Disk) (places : List ℕ → Option ℕ) (actors : List Held) (events : List Kept) (p n b slot letter : ℕ) (text : List ℕ)
+    → IsWorld told places actors (known events) events p n b → LeadsOn told told events (events ++ kept.Report slot letter text ∷ []) p p
+    → IsWorld told places actors (known (events ++ kept.Report slot letter text ∷ [])) (events ++ kept.Report slot letter text ∷ []) p n b
+report_keeps told places actors events p n b slot letter text w leads =
     let s = known events in
     let k = kept.Report slot letter text in
     let t = happens s (Report slot letter text) in
-    subst (λ (s : State). IsWorld told places actors s (events ++ k ∷ []) p n) (sym (known_push events k)) (record {
+    subst (λ (s : State). IsWorld told places actors s (events ++ k ∷ []) p n b) (sym (known_push events k tt)) (record {
       moment = w.moment;
       now = w.now;
       pid = w.pid ∙ sym (pid_push events k ∙ still_pid events k refl);
-      kept = crew_waits places actors s t events k p p (omega arith) w.kept refl refl (λ a. refl) (λ a. refl);
+      count = w.count ∙ sym (still_count events k refl);
+      unborn = w.unborn;
+      kept = crew_waits places actors s t events k p p (omega arith) w.kept refl refl (λ a. refl) (λ a. refl) (report_awaits s slot letter text);
       opens = on_told told (λ d. IsOpenTo d actors s) (λ d. IsOpenTo d actors t) (λ d o. report_opens d actors s t refl refl o) w.opens;
       led = led_still told events (events ++ k ∷ []) p p leads w.led;
     })
+
+-- an actor in a slot ran there before the report
+ran_there : (t : Bool) (o : Option Tenant) (c : List ℕ) → (if t then Some (Remote true) else o) ≡ Some (Runs c) → o ≡ Some (Runs c)
+ran_there true o c is = absurd cc
+ran_there false o c is = is
+
+-- a program's output is no input
+no_input : (t : Bool) (pipe other : Pipe) → (if t && false then other else pipe) ≡ pipe
+no_input true pipe other = refl
+no_input false pipe other = refl
 
 pub report_piped : (crew : ℕ) (mouths : List Mouths) (actors : List Held) (events : List Kept) (m n : Mouths) (slot letter : ℕ) (text : List ℕ)
     → ArePiped crew mouths actors (known events) events → slice_get mouths 3 ≡ Some m → HasReport m n slot (report_text letter text)
     → ArePiped crew (set mouths 3 n) actors (known (events ++ kept.Report slot letter text ∷ [])) (events ++ kept.Report slot letter text ∷ [])
 report_piped crew mouths actors events m n slot letter text piped is now =
+    let s = known events in
     let k = kept.Report slot letter text in
-    record {
-      wired = subst (AreWired (set mouths 3 n)) (sym (ap (λ (s : State). s.pipework) (known_push events k)))
-          (wired_both mouths (codes "rspawn") 3 m n refl is (known events).pipework (port.Program slot) (λ (pipe : Pipe). closed (given (report_text letter text) pipe)) slot (Some (Remote true))
-          now.pipes now.tenants piped.wired);
+    let t = happens s (Report slot letter text) in
+    subst (λ (t : State). ArePiped crew (set mouths 3 n) actors t (events ++ k ∷ [])) (sym (known_push events k tt)) (record {
+      wired = wired_both mouths (codes "rspawn") 3 m n refl is s.pipework (port.Program slot) (λ (pipe : Pipe). closed (given (report_text letter text) pipe)) slot (Some (Remote true))
+          now.pipes now.tenants piped.wired;
       slots = slots_set mouths 3 m n is now.slots piped.slots;
+      one = λ i z d c at runs. ⊎_elim
+          (λ (f : (i ≡ 3) × (n ≡ z)).
+          let here : tenant_of n d ≡ Some (Runs c) = ap (λ (z : Mouths). tenant_of z d) f.1 ∙ runs in
+          let third : 3 ≡ 0 = (piped.one 3 m d c is (ran_there (d == slot) (tenant_of m d) c (sym (now.tenants d) ∙ here))).0 in absurd (omega (arith, third)))
+          (λ f. piped.one i z d c f.1 runs)
+          (get_set mouths 3 n i z at);
+      children = λ c runs. piped.children c runs;
       whole = whole_push events k piped.whole tt;
+      fresh = λ a unknown other. no_input (bytes_eq a (codes "rspawn")) (s.pipework.pipes a port.Input) _ ∙ piped.fresh a unknown other;
+      fed = λ x there alive borne. feed_push s t events k tt (λ c runs awaiting. tt) refl (λ c awaits. report_awaits s slot letter text c ∙ awaits) (piped.fed x there alive borne);
+      awaited = λ c awaits.
+          let was = piped.awaited c (sym (report_awaits s slot letter text c) ∙ awaits) in
+          record { runs = was.runs; sender = was.sender; is = was.is; alive = was.alive; borne = was.borne };
+      most = subst (λ (many : ℕ). many ≤ crew) (sym (length-set mouths 3 n)) piped.most;
       few = piped.few;
       many = piped.many;
       seated = λ j z low at lives. length-set mouths 3 n ∙ piped.seated j z low at lives;
-    }
+    })
 
 -- after a lack of memory the pipes are as they were, with room perhaps
 pub same_piped : (crew : ℕ) (mouths later : List Mouths) (actors : List Held) (s : State) (events : List Kept) → ArePiped crew mouths actors s events → AreAsBefore mouths later
     → ArePiped crew later actors s events
-same_piped crew mouths later actors s events piped same = record {
-  wired = same.wired s.pipework piped.wired;
-  slots = same.slots piped.slots;
-  whole = piped.whole;
-  few = piped.few;
-  many = piped.many;
-  seated = λ j z low at lives. same.many ∙ piped.seated j z low at lives;
-}
+same_piped crew mouths later actors s events piped same =
+    let wired = same.wired s.pipework piped.wired in
+    let most = subst (λ (many : ℕ). many ≤ crew) (sym same.many) piped.most in
+    record {
+      wired = wired;
+      slots = same.slots piped.slots;
+      one = one_kept mouths later s.pipework s.pipework piped.wired wired piped.one (λ a d c runs. runs) crew most piped.few;
+      children = piped.children;
+      whole = piped.whole;
+      fresh = piped.fresh;
+      fed = piped.fed;
+      awaited = piped.awaited;
+      most = most;
+      few = piped.few;
+      many = piped.many;
+      seated = λ j z low at lives. same.many ∙ piped.seated j z low at lives;
+    }
 
 -- When a report is refused
 

@@ -26,13 +26,13 @@ use Rattle.mail_world.specs.History.{Event, Actor, Life, State, Injection, after
 use Rattle.mail_world.specs.History.Event.{Start, Act, Child, Generation, Report, End, Stop, Moment, Halt}
 use Rattle.mail_world.specs.History.Life.{Alive, Over, Stopped}
 use Rattle.mail_world.specs.Waiting.{IsInjected, HasQueued, HasNoGeneration}
-use Rattle.mail_world.specs.World.{Tells}
+use Rattle.mail_world.specs.World.{Tells, with_inputs}
 -- the books by the events that a world kept
 pub use Rattle.world_events.specs.Books.{entries_of, HasPlace, new_entry, entry_by, entered_by, queues, queues_by, mess_number, linked_number, number_by, newer, acted_on, left_as, cut_off, noted, books_of}
 
 -- what a world's books keep: the entry of each actor at its place, as its events tell it
 pub record AreBooked (entries : List Entry) (actors : List Held) (events : List Kept) : Type 0 where
-  pub are : entries ≡ books_of (reverse events)
+  pub are : entries ≡ books_of (with_inputs (reverse events))
   pub names : map (λ e. e.actor) entries ≡ map (λ x. x.name) actors
 
 -- By a history
@@ -122,7 +122,8 @@ books_in d h = map (entry_in (after d h) h) (mails_of h)
 -- The books of a world are those of each legal history that its events tell.
 abbrev pub BooksAreTheModels : Type 0
 BooksAreTheModels =
-    (d : Disk) (events : List Kept) (h : List Event) → Legal d h → AllZip Tells (reverse events) h → books_of (reverse events) ≡ books_in d h
+    (d : Disk) (events : List Kept) (h : List Event) → Legal d h → AllZip Tells (with_inputs (reverse events)) h
+    → books_of (with_inputs (reverse events)) ≡ books_in d h
 
 -- An injection of the state's books is of one of the mails that were started, and has the number that these books tell of it.
 pub record IsOfMail (h : List Event) (q : Injection) : Type 0 where
@@ -134,6 +135,6 @@ pub record IsOfMail (h : List Event) (q : Injection) : Type 0 where
 -- in which no generation was started.
 abbrev pub AcceptedAreBooked : Type 0
 AcceptedAreBooked =
-    (d : Disk) (events : List Kept) (h : List Event) → Legal d h → HasNoGeneration h → AllZip Tells (reverse events) h
+    (d : Disk) (events : List Kept) (h : List Event) → Legal d h → HasNoGeneration h → AllZip Tells (with_inputs (reverse events)) h
     → ((a : List ℕ) → (is_accepted a h ≡ true) ↔ ((args : Arguments) × HasQueued (after d h).books a args))
     × ((q : Injection) → IsInjected (after d h).books q → IsOfMail h q)

@@ -71,11 +71,15 @@ idled_by (Some x) own = idled_in x.program x.past own
 -- whether this event of an actor with this program and past ended one
 abbrev pub idled_of : Program → List Own → Kept → Bool
 idled_of program past (kept.Act a own) = idled_in program past own
+idled_of program past (kept.Child a own c started) = idled_in program past own
+idled_of program past (kept.Feed a own c message envelope) = idled_in program past own
 idled_of program past other = false
 
 -- whether this event ended an idle turn of a sender, after what was known before it
 abbrev pub has_idled : State → Kept → Bool
 has_idled s (kept.Act a own) = idled_by (s.actors a) own
+has_idled s (kept.Child a own c program) = idled_by (s.actors a) own
+has_idled s (kept.Feed a own c message envelope) = idled_by (s.actors a) own
 has_idled s other = false
 
 -- Turns
@@ -83,6 +87,7 @@ has_idled s other = false
 -- the actors that an event starts, in order
 abbrev pub started_in : Kept → List (List ℕ)
 started_in (kept.Start a program) = a ∷ []
+started_in (kept.Child a own c program) = c ∷ []
 started_in (kept.Generation start) = members
 started_in other = []
 

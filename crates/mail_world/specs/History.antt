@@ -11,7 +11,6 @@ use Rattle.call_fs.specs.declared.crash_file_system.Survival.{Survival}
 use Rattle.call_fs.specs.Maps.{put_at}
 use Rattle.call_fs.specs.Disk.{Disk, IsSynced}
 use Rattle.mail_bytes.specs.Moments.{IsMoment}
-use Rattle.mail_bytes.specs.Netstring.{head}
 use Rattle.call_fs.specs.Apply.{effect, Fits, IsReadBy}
 use Rattle.call_fs.specs.Survival.{AllSurvive, halted}
 use Rattle.call_fs.specs.declared.past.ChildData.{ChildData}
@@ -41,6 +40,9 @@ use Rattle.world_events.specs.declared.event.Program.TheVariants.{Injector, Clea
 use Rattle.actor_names.specs.MailNames.{members}
 use Rattle.mail_world.specs.Pipework.{Pipework, Tenant, Slot, is_ready, Yields, no_pipework, slot_of, pipework_after, with_child, without_writer, with_generation, with_report}
 use Rattle.mail_world.specs.Pipework.Tenant.{Runs, Remote}
+-- a text as a netstring, and the output of a remote program that its report stands for
+pub use Rattle.fed_injector.specs.Texts.{netstring}
+pub use Rattle.world_pipes.specs.Mouths.{report_text}
 -- whether an actor's event started a program
 pub use Rattle.world_events.specs.Starting.{starts_program}
 -- the injections of the books
@@ -233,10 +235,6 @@ slot_by due = 0
 abbrev pub bears : State → List ℕ → Own → List ℕ → Program → State
 bears s parent own a program = begins s a program (with_child s.pipework parent (slot_by own.due) a)
 
--- the output of a remote program that its report stands for
-abbrev pub report_text : ℕ → List ℕ → List ℕ
-report_text letter text = codes "r" ++ (0 ∷ letter ∷ text ++ (0 ∷ []))
-
 -- the state after one event more
 abbrev pub happens : State → Event → State
 happens s (Start a program) = begins s a program s.pipework
@@ -337,10 +335,6 @@ abbrev pub TenantEnds : State → Option Tenant → GotData → Type 0
 TenantEnds s (Some (Runs a)) came = (x : Actor) × (s.actors a ≡ Some x) × IsStatusOf x.life came
 TenantEnds s (Some (Remote true)) came = came ≡ Ended 0
 TenantEnds s other came = ⊥
-
--- a text as a netstring: its length, `:`, the text and `,`
-abbrev pub netstring : List ℕ → List ℕ
-netstring text = head (length text) ++ (text ++ 44 ∷ [])
 
 -- these bytes are the whole input of a child: of an injector its message and its envelope, each as a netstring
 abbrev pub IsInputOf : Program → List ℕ → Type 0

@@ -1,7 +1,6 @@
 -- What the fields of a world mean, and what they keep.
-use Rattle.std.specs.Prelude.{◌≡◌, ◌≢◌, ◌⊎◌, ℕ, zero, suc, ◌+◌, ◌≤◌, ◌<◌, ◌==◌, List, [], ◌∷◌, length, reverse, drop, count_by, nat_lt, Bool, true, false, if◌then◌else◌, option_map, Option, Some, None, IsSome, IsSomeAnd, is_some, is_none, bytes_eq}
-use Rattle.std.specs.List.{list_any, slice_get}
-use Rattle.call_fs.specs.declared.calls.Fd.{Fd}
+use Rattle.std.specs.Prelude.{◌≡◌, ◌≢◌, ◌⊎◌, ℕ, zero, suc, ◌+◌, ◌≤◌, ◌<◌, List, [], ◌∷◌, ◌++◌, All, codes, length, reverse, drop, count_by, nat_lt, Bool, true, false, if◌then◌else◌, option_map, Option, Some, None, IsSome, IsSomeAnd, is_some, is_none, bytes_eq}
+use Rattle.std.specs.List.{slice_get}
 use Rattle.call_fs.specs.Disk.{Disk}
 use Rattle.call_fs.specs.declared.modes.Mode.{Mode}
 use Rattle.mail_bytes.specs.Moments.{IsMoment}
@@ -9,17 +8,30 @@ use Rattle.mail_bytes.specs.Told.{OnTold}
 use Rattle.call_fs.specs.Past.{IsRunBy, held}
 use Rattle.world_events.specs.declared.event.Event.{Event as Kept}
 use Rattle.mail_world.specs.declared.actor.Actor.{Actor as Held}
+use Rattle.call_fs.specs.declared.past.ChildData.TheVariants as child
+use Rattle.call_fs.specs.declared.past.GotData.{GotData}
+use Rattle.call_fs.specs.declared.past.GotData.TheVariants.{Started}
+use Rattle.call_fs.specs.declared.past.NeedData.{NeedData}
+use Rattle.call_fs.specs.declared.past.NeedData.TheVariants as needs
 use Rattle.call_fs.specs.declared.past.Own.{Own}
 use Rattle.world_events.specs.declared.event.Event.TheVariants as kept
 use Rattle.world_events.specs.declared.event.Program.{Program}
 use Rattle.world_pipes.specs.declared.mouths.Mouths.{Mouths}
 use Rattle.call_fs.specs.Program.{IsKind, IsWithin}
-use Rattle.mail_world.specs.ByKind.{IsMail, Follows, present_of, found_of, looked_of, need_of, takes_of}
-use Rattle.mail_world.specs.History.{Event, Actor, State, latest, next_of, IsSender, IsCleaner, IsLocalSpawner, IsRemoteSpawner}
-use Rattle.mail_world.specs.Wired.{seat, AreWired, HaveSlots, AreWholeGivings}
-use Rattle.mail_world.specs.History.Life.{Alive}
-use Rattle.mail_world.specs.World.{Leads, Span, span_of, was_started, next_pid}
+use Rattle.call_fs.specs.declared.program.Port.TheVariants as port
+use Rattle.mail_world.specs.Pipework.{fresh, is_member}
+use Rattle.mail_world.specs.Pipework.Tenant.{Runs}
+use Rattle.mail_world.specs.ByKind.{IsMail, Follows, present_of, found_of, looked_of, need_of, takes_of, awaits_of}
+use Rattle.mail_world.specs.History.{Event, Actor, Life, State, latest, next_of, IsSender, IsCleaner, IsLocalSpawner, IsRemoteSpawner}
+use Rattle.mail_world.specs.Wired.{seat, AreWired, HaveSlots, HaveOneChild, AreWholeGivings}
+use Rattle.mail_world.specs.History.Life.{Alive, Over, Stopped}
+use Rattle.world_events.specs.Inputs.{own_in, with_inputs}
+use Rattle.mail_world.specs.Readiness.{is_awaiting}
+use Rattle.actor_names.specs.BounceNames.{bounce_name}
+use Rattle.mail_world.specs.World.{Leads, Span, span_of, was_started, next_pid, bounces_in}
 use Rattle.mail_world.specs.World.Span.{Unborn, Lasting, OverAt}
+-- lists of open descriptors
+pub use Rattle.open_files.specs.Opened.{has, AreApart}
 -- what kept events tell
 pub use Rattle.mail_world.specs.Known.{event_of, nowhere, known}
 
@@ -27,6 +39,12 @@ pub use Rattle.mail_world.specs.Known.{event_of, nowhere, known}
 abbrev pub span_by : Option ℕ → Span
 span_by None = Lasting
 span_by (Some at) = OverAt at
+
+-- the life of an actor that ended with this event and this exit status, was stopped with this event, or lasts
+abbrev pub life_by : Option ℕ → Option ℕ → Life
+life_by None status = Alive
+life_by (Some at) (Some status) = Over status
+life_by (Some at) None = Stopped
 
 -- which program runs at a seat, and at none
 abbrev pub RunsAt : Option ℕ → Program → Type 0
@@ -51,7 +69,9 @@ pub record Owes (x : Held) (events : List Kept) (past : List Own) (at : ℕ) : T
   pub own : Own
   pub before : List Own
   pub newest : past ≡ own ∷ before
-  pub there : slice_get events at ≡ Some (kept.Act x.name own)
+  pub event : Kept
+  pub there : slice_get events at ≡ Some event
+  pub is : own_in event ≡ Some own
   pub read : present_of x.machine ≡ own.read
   pub found : found_of x.machine ≡ own.ready
   pub looked : looked_of x.machine ≡ true
@@ -68,10 +88,11 @@ pub record IsMember (s : State) (events : List Kept) (present : ℕ) (x : Held) 
   pub runs : RunsAt (seat x.name) actor.program
   pub run : IsRunBy (next_of actor.program) actor.past
   pub in_order : latest actor.program actor.past ≤ present
-  pub alive : x.ended ≡ None → actor.life ≡ Alive
+  pub life : actor.life ≡ life_by x.ended x.status
+  pub unended : x.ended ≡ None → x.status ≡ None
+  pub awaits : x.ended ≡ None → awaits_of x.machine ≡ is_awaiting s x.name
   pub spans : span_of x.name (reverse events) ≡ span_by x.ended
   pub closed : (at : ℕ) → x.ended ≡ Some at → x.descriptors.items ≡ []
-  pub dead : (at : ℕ) → x.ended ≡ Some at → actor.life ≢ Alive
 
 -- it is that actor's
 abbrev pub is_by : List ℕ → Option (List ℕ) → Bool
@@ -91,15 +112,6 @@ pub record AreActors (places : List ℕ → Option ℕ) (actors : List Held) (s 
   pub named : (a : List ℕ) (i : ℕ) → places a ≡ Some i → IsSomeAnd (slice_get actors i) (λ x. x.name ≡ a)
   pub strangers : (a : List ℕ) → places a ≡ None → IsStranger s events a
   pub started : (a : List ℕ) → was_started events a ≡ is_some (places a)
-
--- the list has this descriptor
-abbrev pub has : ℕ → List Fd → Bool
-has fd fds = list_any (λ one. one.0 == fd) fds
-
--- each once
-abbrev pub AreApart : List Fd → Type 0
-AreApart [] = Unit {0}
-AreApart (fd ∷ fds) = (has fd.0 fds ≡ false) × AreApart fds
 
 -- that actor's, and open in this mode
 pub record IsOwn (d : Disk) (holder : ℕ → Option (List ℕ)) (a : List ℕ) (fd : ℕ) (mode : Mode) : Type 0 where
@@ -126,12 +138,14 @@ pub record IsOpenTo (d : Disk) (actors : List Held) (s : State) : Type 0 where
 abbrev pub IsLed : Disk → List Kept → ℕ → Type 0
 IsLed now events present = (opening : Disk) × (h : List Event) × Leads opening now events present h
 
--- What the fields of a world keep together: the disk, the places, the actors, the events with what they tell, the moment
--- and the next process number.
-pub record IsWorld (disk : Option Disk) (places : List ℕ → Option ℕ) (actors : List Held) (s : State) (events : List Kept) (present next : ℕ) : Type 0 where
+-- What the fields of a world keep together: the disk, the places, the actors, the events with what they tell, the moment, the next
+-- process number, and how many bounces were injected: no actor has the name of a later one.
+pub record IsWorld (disk : Option Disk) (places : List ℕ → Option ℕ) (actors : List Held) (s : State) (events : List Kept) (present next bounces : ℕ) : Type 0 where
   pub moment : IsMoment present
   pub now : s.now ≡ present
   pub pid : next ≡ next_pid events
+  pub count : bounces ≡ bounces_in events
+  pub unborn : (n : ℕ) → bounces < n → places (bounce_name n) ≡ None
   pub kept : AreActors places actors s events present
   pub opens : OnTold disk (λ d. IsOpenTo d actors s)
   pub led : OnTold disk (λ d. IsLed d events present)
@@ -144,11 +158,62 @@ place_by crew (Some i) at = if nat_lt i crew then Some i else None
 abbrev pub among_all : ℕ → (List ℕ → Option ℕ) → List ℕ → Option ℕ
 among_all crew places a = place_by crew (seat a) (places a)
 
--- What a world keeps of its pipes: those of the members, while one of them lives. No giving failed.
+-- an event that is neither an own event of this parent nor of its child, which it leaves as it began
+abbrev pub IsApart : List ℕ → List ℕ → Kept → Type 0
+IsApart parent c (kept.Start a program) = a ≢ c
+IsApart parent c (kept.Act a own) = (a ≢ parent) × (a ≢ c)
+IsApart parent c (kept.Child a own b program) = (a ≢ parent) × (a ≢ c) × (b ≢ c)
+IsApart parent c (kept.Feed a own b message envelope) = ⊥
+IsApart parent c (kept.End a read ready status) = (a ≢ parent) × (a ≢ c)
+IsApart parent c event = Unit {0}
+
+-- the newest event of that parent's own past is the start of this child, which has done nothing since then
+pub record HasJustStarted (events : List Kept) (parent c : List ℕ) : Type 0 where
+  pub later : List Kept
+  pub own : Own
+  pub program : Program
+  pub before : List Kept
+  pub are : with_inputs (reverse events) ≡ later ++ kept.Child parent own c program ∷ before
+  pub apart : All (IsApart parent c) later
+
+-- this starts the injector of a bounce
+abbrev pub IsBirth : NeedData → GotData → Type 0
+IsBirth (needs.Start (child.Bounce room)) (Started pid) = Unit {0}
+IsBirth due came = ⊥
+
+-- the newest event of a past started one
+abbrev pub HasBorneLast : List Own → Type 0
+HasBorneLast [] = ⊥
+HasBorneLast (own ∷ before) = IsBirth own.due own.came
+
+-- the sender's child awaits the input that the sender gives it next
+pub record MayFeed (s : State) (events : List Kept) : Type 0 where
+  pub child : List ℕ
+  pub runs : s.pipework.programs (codes "sender") 0 ≡ Some (Runs child)
+  pub awaiting : is_awaiting s child ≡ true
+  pub just : HasJustStarted events (codes "sender") child
+
+-- who awaits its input is the child that the living sender has just started
+pub record IsAwaited (s : State) (c : List ℕ) : Type 0 where
+  pub runs : s.pipework.programs (codes "sender") 0 ≡ Some (Runs c)
+  pub sender : Actor
+  pub is : s.actors (codes "sender") ≡ Some sender
+  pub alive : sender.life ≡ Alive
+  pub borne : HasBorneLast sender.past
+
+-- What a world keeps of its pipes: those of the members, while one of them lives. No giving failed. The child in the sender's slot is
+-- known, a sender that has just started one gives it its input before it does anything else, and nobody else awaits any.
 pub record ArePiped (crew : ℕ) (mouths : List Mouths) (actors : List Held) (s : State) (events : List Kept) : Type 0 where
   pub wired : AreWired mouths s.pipework
   pub slots : HaveSlots mouths
+  pub one : HaveOneChild mouths
+  pub children : (c : List ℕ) → s.pipework.programs (codes "sender") 0 ≡ Some (Runs c)
+      → IsSome (s.actors c) × (s.pipework.slots c ≡ Some (record { parent = codes "sender"; number = 0 }))
   pub whole : AreWholeGivings (reverse events)
+  pub fresh : (a : List ℕ) → s.actors a ≡ None → is_member a ≡ false → s.pipework.pipes a port.Input ≡ fresh
+  pub fed : (x : Actor) → s.actors (codes "sender") ≡ Some x → x.life ≡ Alive → HasBorneLast x.past → MayFeed s events
+  pub awaited : (c : List ℕ) → is_awaiting s c ≡ true → IsAwaited s c
+  pub most : length mouths ≤ crew
   pub few : (crew ≡ 0) ⊎ (crew ≡ 4)
   pub many : crew ≤ length actors
   pub seated : (i : ℕ) (x : Held) → i < crew → slice_get actors i ≡ Some x → x.ended ≡ None → length mouths ≡ 4

@@ -5,13 +5,16 @@ use Rattle.call_fs.specs.Apply.{empty_file}
 use Rattle.world_events.specs.declared.event.Event.{Event as Kept}
 use Rattle.world_events.specs.declared.event.Event.TheVariants as kept
 use Rattle.world_events.specs.declared.event.Program.TheVariants.{Cleaner, Sender, LocalSpawner, RemoteSpawner}
+use Rattle.world_events.specs.Inputs.{with_inputs}
 use Rattle.mail_world.specs.History.{Event, State, after}
-use Rattle.mail_world.specs.History.Event.{Start, Act, Generation, Report, End, Stop, Moment, Halt}
+use Rattle.mail_world.specs.History.Event.{Start, Act, Child, Generation, Report, End, Stop, Moment, Halt}
 
 -- A kept event, read as one whose failed write had written nothing, or that left nothing of any file.
 abbrev pub event_of : Kept → Event
 event_of (kept.Start a program) = Start a program
 event_of (kept.Act a own) = Act a own 0
+event_of (kept.Child a own c program) = Child a own c program
+event_of (kept.Feed a own c message envelope) = Act a own 0
 event_of (kept.Generation start) = Generation (Sender start) (Cleaner start) (LocalSpawner start) (RemoteSpawner start)
 event_of (kept.Report slot letter text) = Report slot letter text
 event_of (kept.End a read ready status) = End a read ready status
@@ -25,4 +28,4 @@ nowhere = record { dirs = []; names = λ _. None; files = λ _. empty_file 0; op
 
 -- What the kept events tell of the actors, of who holds each descriptor, and of the moment, whatever the disk is.
 abbrev pub known : List Kept → State
-known events = after nowhere (map event_of (reverse events))
+known events = after nowhere (map event_of (with_inputs (reverse events)))

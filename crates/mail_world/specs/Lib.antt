@@ -32,3 +32,7 @@ pub use Rattle.world_events.specs.Places
 pub mod Books
 -- who started, as it is kept
 pub mod Starts
+-- the child of a sender, as it is kept
+pub mod Children
+-- histories that are told anew, with another input of a child
+pub mod Anew

@@ -1,5 +1,5 @@
 -- What an actor of a world finds ready, by the state.
-use Rattle.std.specs.Prelude.{ℕ, List, [], ◌∷◌, Bool, true, false, Option, Some, None, position}
+use Rattle.std.specs.Prelude.{ℕ, List, [], ◌∷◌, Bool, true, false, Option, Some, None, position, not, ◌&&◌, if◌then◌else◌, is_some}
 use Rattle.std.specs.List.{range_with_len}
 use Rattle.call_fs.specs.declared.program.Port.{Port}
 use Rattle.call_fs.specs.declared.program.Port.TheVariants as port
@@ -7,14 +7,11 @@ use Rattle.call_fs.specs.declared.program.Ready.{Ready}
 use Rattle.call_fs.specs.declared.program.TheConstants.{INPUT_READY}
 use Rattle.world_events.specs.declared.event.Program.{Program}
 use Rattle.world_events.specs.declared.event.Program.TheVariants.{Injector, Cleaner, Sender, LocalSpawner, RemoteSpawner}
+pub use Rattle.crew_pipes.specs.Seating.{input_alone}
 use Rattle.mail_world.specs.Pipework.{Tenant, is_ready}
 use Rattle.mail_world.specs.Pipework.Tenant.{Runs, Remote}
 use Rattle.mail_world.specs.History.{Actor, Life, State}
 use Rattle.mail_world.specs.History.Life.{Alive, Over, Stopped}
-
--- its input alone, or nothing
-abbrev pub input_alone : Bool → Ready
-input_alone input = record { links = input ∷ false ∷ false ∷ false ∷ []; child = None }
 
 -- something lies in a pipe of that actor, or its writer is gone
 abbrev pub lies_ready : State → List ℕ → Port → Bool
@@ -39,10 +36,14 @@ has_ended s (Some (Remote reported)) = reported
 abbrev pub lowest_ended : State → List ℕ → Option ℕ
 lowest_ended s a = position (λ d. has_ended s (s.pipework.programs a d)) (range_with_len 0 256)
 
--- By the program that it runs: an injector, whose input stands in its start, finds it ready at any point; any other finds all
--- that lies in its pipes, and the remote spawner also which of its programs has ended.
+-- a child that was given nothing, and whose parent may still give it something
+abbrev pub is_awaiting : State → List ℕ → Bool
+is_awaiting s a = is_some (s.pipework.slots a) && not (lies_ready s a port.Input)
+
+-- By the program that it runs: an injector, whose input stands in its start, finds it ready at any point, but a child only once it was
+-- given or its parent is gone; any other finds all that lies in its pipes, and the remote spawner also which of its programs has ended.
 abbrev pub found_by : State → List ℕ → Program → Ready
-found_by s a (Injector args) = INPUT_READY
+found_by s a (Injector args) = if is_awaiting s a then input_alone false else INPUT_READY
 found_by s a (Cleaner start) = input_alone (lies_ready s a port.Input)
 found_by s a (Sender start) = record {
   links = lies_ready s a port.Clean ∷ lies_ready s a port.Lspawn ∷ lies_ready s a port.Rspawn ∷ false ∷ [];

@@ -1,49 +1,13 @@
--- The pipes that a world keeps, against those of the model.
-use Rattle.std.specs.Prelude.{◌≡◌, ℕ, List, [], ◌∷◌, length, true, if◌then◌else◌, Option, Some, None, bytes_eq, codes}
-use Rattle.std.specs.List.{slice_get}
-use Rattle.call_fs.specs.declared.program.Port.{Port}
+-- The pipes that a world keeps, and that no giving of one failed.
+use Rattle.std.specs.Prelude.{List, [], ◌∷◌}
 use Rattle.call_fs.specs.declared.past.GotData.{GotData}
 use Rattle.call_fs.specs.declared.past.GotData.TheVariants.{Failed}
 use Rattle.call_fs.specs.declared.past.NeedData.{NeedData}
 use Rattle.call_fs.specs.declared.past.NeedData.TheVariants.{Give}
 use Rattle.world_events.specs.declared.event.Event.{Event as Kept}
 use Rattle.world_events.specs.declared.event.Event.TheVariants as kept
-use Rattle.world_pipes.specs.declared.mouths.Mouths.{Mouths}
-use Rattle.world_pipes.specs.Mouths.{pipe_of, tenant_of}
-use Rattle.world_pipes.specs.Pipework.{Pipe, Pipework, Tenant, fresh, is_member}
-
--- the seat of a member, by its name: the sender's is the first
-abbrev pub seat : List ℕ → Option ℕ
-seat a = if bytes_eq a (codes "sender") then Some 0
-    else (if bytes_eq a (codes "clean") then Some 1
-    else (if bytes_eq a (codes "lspawn") then Some 2
-    else (if bytes_eq a (codes "rspawn") then Some 3
-    else None)))
-
--- what is kept at a seat; at no seat, and past the last one, nothing
-abbrev pub pipe_in : Option Mouths → Port → Pipe
-pipe_in None port = fresh
-pipe_in (Some m) port = pipe_of m port
-
-abbrev pub tenant_in : Option Mouths → ℕ → Option Tenant
-tenant_in None d = None
-tenant_in (Some m) d = tenant_of m d
-
-abbrev pub kept_at : Option ℕ → List Mouths → Option Mouths
-kept_at None mouths = None
-kept_at (Some i) mouths = slice_get mouths i
-
--- What lies in each pipe of a member in the model lies in the world's, and the same programs are in the slots. Nobody else takes
--- from a pipe.
-pub record AreWired (mouths : List Mouths) (w : Pipework) : Type 0 where
-  pub pipes : (a : List ℕ) (port : Port) → is_member a ≡ true → w.pipes a port ≡ pipe_in (kept_at (seat a) mouths) port
-  pub programs : (a : List ℕ) (d : ℕ) → w.programs a d ≡ tenant_in (kept_at (seat a) mouths) d
-  -- no program starts an actor yet
-  pub none : (a : List ℕ) → w.slots a ≡ None
-
--- each has 256 slots, as many as a slot has numbers
-abbrev pub HaveSlots : List Mouths → Type 0
-HaveSlots mouths = (i : ℕ) (m : Mouths) → slice_get mouths i ≡ Some m → length m.slots.items ≡ 256
+-- the pipes of the members, against those of the model
+pub use Rattle.crew_pipes.specs.Wired.{seat, pipe_in, tenant_in, kept_at, AreWired, HaveOneChild, HaveSlots}
 
 -- What failed was no giving: how much of one was given is told by nothing.
 
@@ -53,6 +17,8 @@ GivesWhole due came = Unit {0}
 
 abbrev pub IsWholeGiving : Kept → Type 0
 IsWholeGiving (kept.Act a own) = GivesWhole own.due own.came
+IsWholeGiving (kept.Child a own c program) = GivesWhole own.due own.came
+IsWholeGiving (kept.Feed a own c message envelope) = GivesWhole own.due own.came
 IsWholeGiving other = Unit {0}
 
 abbrev pub AreWholeGivings : List Kept → Type 0

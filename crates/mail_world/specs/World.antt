@@ -1,5 +1,5 @@
 -- A world: what it keeps of its history, and what is promised of that.
-use Rattle.std.specs.Prelude.{◌≡◌, ℕ, ◌+◌, ◌-◌, ◌^◌, min, List, [], ◌∷◌, ◌++◌, length, reverse, Bool, true, false, bytes_eq, if◌then◌else◌, Option, Some, None, IsSomeAnd}
+use Rattle.std.specs.Prelude.{◌≡◌, ℕ, ◌+◌, ◌-◌, ◌^◌, min, List, [], ◌∷◌, ◌++◌, length, reverse, ◌⊎◌, Bool, true, false, bytes_eq, if◌then◌else◌, Option, Some, None, IsSomeAnd, count_by}
 use Rattle.std.specs.List.{AllZip, list_any, sum_by}
 use Rattle.call_fs.specs.declared.calls.CallData.{CallData}
 use Rattle.call_fs.specs.declared.calls.Told.{Told}
@@ -8,6 +8,7 @@ use Rattle.call_fs.specs.declared.past.NeedData.{NeedData}
 use Rattle.call_fs.specs.declared.past.Own.{Own}
 use Rattle.call_fs.specs.declared.past.NeedData.TheVariants.{File, Take, Give, Command}
 use Rattle.call_fs.specs.declared.past.NeedData.TheVariants.{Start as StartOf}
+use Rattle.call_fs.specs.declared.past.ChildData.{ChildData}
 use Rattle.call_fs.specs.declared.past.ChildData.TheVariants as child
 use Rattle.call_fs.specs.declared.program.Port.TheVariants as port
 use Rattle.call_fs.specs.declared.file_system.TheConstants.{PIECE}
@@ -22,14 +23,19 @@ use Rattle.world_events.specs.declared.event.Event.TheVariants as kept
 use Rattle.world_events.specs.declared.event.Program.{Program}
 use Rattle.world_events.specs.declared.event.Program.TheVariants.{Injector, Cleaner, Sender, LocalSpawner, RemoteSpawner}
 use Rattle.world_pipes.specs.Pipes.{offered}
-use Rattle.mail_world.specs.Pipework.{is_member}
-use Rattle.mail_world.specs.History.{Event, Actor, State, own_call, TenantEnds, next_of, after, EachAllowed, Legal}
+use Rattle.mail_world.specs.Pipework.{Tenant, is_member}
+use Rattle.mail_world.specs.Pipework.Tenant.{Runs}
+use Rattle.actor_names.specs.BounceNames.{bounce_name}
+use Rattle.world_events.specs.Inputs.{bounce, with_texts}
+use Rattle.mail_world.specs.History.{Event, Actor, State, own_call, netstring, TenantEnds, next_of, after, EachAllowed, Legal}
 use Rattle.mail_world.specs.History.Event.{Start, Act, Child, Generation, Report, End, Stop, Moment, Halt}
 use Rattle.mail_world.specs.Known.{known}
 use Rattle.mail_world.specs.Readiness.{found_in}
 -- how many programs an event starts, and what the injector of a mail is started with
 pub use Rattle.world_events.specs.Starting.{starts_in}
 pub use Rattle.world_events.specs.Mails.{mail}
+-- the kept events with the input of each child in its start, where a history has it
+pub use Rattle.world_events.specs.Inputs.{with_inputs}
 
 -- an actor's file call, as it is kept
 abbrev pub kept_call : List ℕ → ℕ → Ready → CallData → Told → Kept
@@ -42,12 +48,12 @@ pub record AreMembers (start : ℕ) (sender clean lspawn rspawn : Program) : Typ
   pub lspawn_is : lspawn ≡ LocalSpawner start
   pub rspawn_is : rspawn ≡ RemoteSpawner start
 
--- A kept event tells an event: all of it but how much a failed write had written, which no program is told. A world makes no
--- children yet.
+-- A kept event tells an event: all of it but how much a failed write had written, which no program is told. A giving to a child is
+-- told by the event that `with_inputs` makes of it.
 abbrev pub Tells : Kept → Event → Type 0
 Tells event (Start a program) = event ≡ kept.Start a program
 Tells event (Act a own wrote) = event ≡ kept.Act a own
-Tells event (Child parent own a program) = ⊥
+Tells event (Child parent own a program) = event ≡ kept.Child parent own a program
 Tells event (Generation sender clean lspawn rspawn) = (start : ℕ) × (event ≡ kept.Generation start) × AreMembers start sender clean lspawn rspawn
 Tells event (Report slot letter text) = event ≡ kept.Report slot letter text
 Tells event (End a read ready status) = event ≡ kept.End a read ready status
@@ -73,10 +79,10 @@ AreByName d [] = Unit {0}
 AreByName d (event ∷ before) = AreByName d before × IsByName (after d before).disk event
 
 -- What led from one disk to another one, at this moment: a history of which each event might happen when it did, and
--- was kept by a world, the oldest first.
+-- was kept by a world, the oldest first. A world keeps the start of a child without the input that it is given later.
 pub record Leads (opening now : Disk) (events : List Kept) (present : ℕ) (h : List Event) : Type 0 where
   pub allowed : EachAllowed opening h
-  pub told : AllZip Tells (reverse events) h
+  pub told : AllZip Tells (with_inputs (reverse events)) h
   pub named : AreByName opening h
   pub disk : (after opening h).disk ≡ now
   pub moment : (after opening h).now ≡ present
@@ -85,7 +91,7 @@ pub record Leads (opening now : Disk) (events : List Kept) (present : ℕ) (h : 
 -- the world kept each event, the oldest first.
 pub record IsHistory (opening now : Disk) (events : List Kept) (present : ℕ) (h : List Event) : Type 0 where
   pub legal : Legal opening h
-  pub told : AllZip Tells (reverse events) h
+  pub told : AllZip Tells (with_inputs (reverse events)) h
   pub named : AreByName opening h
   pub disk : (after opening h).disk ≡ now
   pub moment : (after opening h).now ≡ present
@@ -101,14 +107,43 @@ pub record Seen (D : Type 0) : Type 0 where
 abbrev pub Happened : {D : Type 0} → (D → Option Disk) → Disk → Seen D → List Event → Type 0
 Happened tells opening w h = IsSomeAnd (tells w.disk) (λ now. IsHistory opening now w.events w.present h)
 
--- whatever happened in the old world, one event more happened in the new one
+-- the history, the newest event first, with these texts as the input in the start of that child
+abbrev pub begun_with : List ℕ → List ℕ → List ℕ → List Event → List Event
+begun_with c message envelope [] = []
+begun_with c message envelope ((Child parent own a program) ∷ before) =
+    if bytes_eq a c then (Child parent own a (with_texts message envelope program)) ∷ before
+    else (Child parent own a program ∷ begun_with c message envelope before)
+begun_with c message envelope (e ∷ before) = e ∷ begun_with c message envelope before
+
+-- an event gives a child its whole input, with which the child began in the later history
+pub record IsGivenBy (e : Event) (h later : List Event) : Type 0 where
+  pub parent : List ℕ
+  pub own : Own
+  pub slot : ℕ
+  pub child : List ℕ
+  pub message : List ℕ
+  pub envelope : List ℕ
+  pub is : e ≡ Act parent own 0
+  pub due : own.due ≡ Give (port.Program slot) (netstring message ++ netstring envelope)
+  pub came : own.came ≡ Gave
+  pub later_is : later ≡ begun_with child message envelope h
+
+-- what came before an event is what it was; but if the event gives a child its whole input, the child began with it
+abbrev pub IsBefore : Event → List Event → List Event → Type 0
+IsBefore e h later = (later ≡ h) ⊎ IsGivenBy e h later
+
+-- Whatever happened in the old world, one event more happened in the new one. In a history the whole input of a child stands in its
+-- start; so what happened before is told anew by an event that gives a child its input, and by no other.
 abbrev pub GoesOn : {D : Type 0} → (D → Option Disk) → Seen D → Seen D → Type 0
-GoesOn tells old new = (opening : Disk) (h : List Event) → Happened tells opening old h → (e : Event) × Happened tells opening new (e ∷ h)
+GoesOn tells old new = (opening : Disk) (h : List Event) → Happened tells opening old h
+    → (e : Event) × (later : List Event) × IsBefore e h later × Happened tells opening new (e ∷ later)
 
 -- a start of that actor, with its generation if it is a member
 abbrev pub starts : List ℕ → Kept → Bool
 starts a (kept.Start b program) = bytes_eq b a
 starts a (kept.Act b own) = false
+starts a (kept.Child b own c program) = bytes_eq c a
+starts a (kept.Feed b own c message envelope) = false
 starts a (kept.Generation start) = is_member a
 starts a (kept.Report slot letter text) = false
 starts a (kept.End b read ready status) = false
@@ -124,6 +159,8 @@ was_started events a = list_any (starts a) events
 abbrev pub ends : List ℕ → Kept → Bool
 ends a (kept.Start b program) = false
 ends a (kept.Act b own) = false
+ends a (kept.Child b own c program) = false
+ends a (kept.Feed b own c message envelope) = false
 ends a (kept.Generation start) = false
 ends a (kept.Report slot letter text) = false
 ends a (kept.End b read ready status) = bytes_eq b a
@@ -173,16 +210,21 @@ abbrev pub most_of : Program → ℕ
 most_of (Cleaner start) = PIECE
 most_of other = 18446744073709551615
 
+-- what comes of the start of a program: a remote one starts, and so does the injector of a bounce that a sender asks for; no other
+-- one does yet
+abbrev pub StartsWhole : Program → ℕ → ChildData → GotData → Type 0
+StartsWhole program pid (child.Remote slot domain sender recipient) came = came ≡ Started pid
+StartsWhole (Sender start) pid (child.Bounce room) came = came ≡ Started pid
+StartsWhole program pid asked came = came ≡ Failed
+
 -- What comes of what is due to an actor in a world whose next process number is this: of a file call an answer; of a taking all
--- that lies there; a giving goes well, and so does the start of a remote program. No other program is started yet, and no
--- command is run.
+-- that lies there; a giving goes well, and a program starts as `StartsWhole` says. No command is run.
 abbrev pub ComesWhole : State → ℕ → List ℕ → Program → NeedData → GotData → Type 0
 ComesWhole s pid a program (File call) came = (told : Told) × (came ≡ Answered told)
 ComesWhole s pid a program (Take (port.Status d)) came = TenantEnds s (s.pipework.programs a d) came
 ComesWhole s pid a program (Take port) came = offered (most_of program) (s.pipework.pipes a port) ≡ Some came
 ComesWhole s pid a program (Give port bytes) came = came ≡ Gave
-ComesWhole s pid a program (StartOf (child.Remote slot domain sender recipient)) came = came ≡ Started pid
-ComesWhole s pid a program (StartOf asked) came = came ≡ Failed
+ComesWhole s pid a program (StartOf asked) came = StartsWhole program pid asked came
 ComesWhole s pid a program (Command bytes) came = came ≡ Failed
 ComesWhole s pid a program due came = ⊥
 
@@ -196,11 +238,33 @@ pub record IsOwnOf (s : State) (pid present : ℕ) (a : List ℕ) (own : Own) : 
   pub due : next_of actor.program actor.past present (found_in s a) ≡ own.due
   pub came : ComesWhole s pid a actor.program own.due own.came
 
+-- how many injectors of bounces were started
+abbrev pub is_child : Kept → Bool
+is_child (kept.Child a own c program) = true
+is_child event = false
+
+abbrev pub bounces_in : List Kept → ℕ
+bounces_in events = count_by is_child events
+
+-- As what an event of an actor's past is kept: if so many bounces were injected before, the start of the next one has its name, and
+-- what was given to a child is kept as its message and its envelope.
+abbrev pub IsKeptGiving : Option Tenant → List ℕ → Own → List ℕ → Kept → Type 0
+IsKeptGiving (Some (Runs c)) a own bytes event =
+    (message envelope : List ℕ) × (bytes ≡ netstring message ++ netstring envelope) × (event ≡ kept.Feed a own c message envelope)
+IsKeptGiving other a own bytes event = event ≡ kept.Act a own
+
+abbrev pub IsKeptBy : State → ℕ → List ℕ → Own → NeedData → GotData → Kept → Type 0
+IsKeptBy s bounces a own (StartOf (child.Bounce room)) (Started pid) event =
+    event ≡ kept.Child a own (bounce_name (bounces + 1)) (Injector (bounce pid own.read))
+IsKeptBy s bounces a own (Give (port.Program d) bytes) Gave event = IsKeptGiving (s.pipework.programs a d) a own bytes event
+IsKeptBy s bounces a own due came event = event ≡ kept.Act a own
+
 -- A step of that actor appends one event: what it did, or the end that was told. It finds ready what the events so far
 -- tell.
 abbrev pub IsStep : {D : Type 0} → List ℕ → Option ℕ → Seen D → Seen D → Type 0
 IsStep a None old new =
-    (own : Own) × IsOwnOf (known old.events) (next_pid old.events) old.present a own × (new.events ≡ old.events ++ kept.Act a own ∷ [])
+    (own : Own) × (event : Kept) × IsOwnOf (known old.events) (next_pid old.events) old.present a own
+    × IsKeptBy (known old.events) (bounces_in old.events) a own own.due own.came event × (new.events ≡ old.events ++ event ∷ [])
 IsStep a (Some status) old new = new.events ≡ old.events ++ kept.End a old.present (found_in (known old.events) a) status ∷ []
 
 -- a stop of that actor appends one event, and the present moment stays
@@ -236,6 +300,8 @@ IsPlannedOwn due came old new disk disk_after = new ≡ old
 abbrev pub IsPlannedEvent : Kept → Option Plan → Option Plan → Option Disk → Option Disk → Type 0
 IsPlannedEvent (kept.Start a program) old new told told_after = new ≡ old
 IsPlannedEvent (kept.Act a own) old new disk disk_after = IsPlannedOwn own.due own.came old new disk disk_after
+IsPlannedEvent (kept.Child a own c program) old new told told_after = new ≡ old
+IsPlannedEvent (kept.Feed a own c message envelope) old new told told_after = new ≡ old
 IsPlannedEvent (kept.Generation start) old new told told_after = new ≡ old
 IsPlannedEvent (kept.Report slot letter text) old new told told_after = new ≡ old
 IsPlannedEvent (kept.End a read ready status) old new told told_after = new ≡ old

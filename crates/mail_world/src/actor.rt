@@ -1,29 +1,28 @@
 // One actor: its machine, and what it has open.
-ghost use Rattle.std.specs.Prelude.{◌≡◌, ◌++◌, ◌∷◌, ◌+◌, ◌<◌, ◌≢◌, [], List, ℕ, IfOk, IfSome, IsSome, IsNone, IsTrue, IsOk, OnOk, OnErr, Some, None, length, vec_len, vec_capacity};
-ghost use Rattle.call_fs.specs.Program.{IsKind, IsWithin, came_of};
-ghost use Rattle.call_fs.specs.declared.past.NeedData.TheVariants.{File};
+ghost use Rattle.std.specs.Prelude.{◌≡◌, ◌+◌, ◌<◌, [], List, ℕ, true, false, IfOk, IfSome, IsSome, IsNone, IsTrue, IsOk, OnOk, OnErr, Some, None, length, vec_len, vec_capacity};
+ghost use Rattle.call_fs.specs.Program.{IsKind, IsWithin};
+ghost use Rattle.call_fs.specs.declared.past.NeedData.TheVariants.{Wait};
 ghost use Rattle.mail_bytes.specs.Moments.{IsMoment};
 ghost use Rattle.mail_bytes.specs.Told.{OnTold, Meets};
 ghost use Rattle.call_fs.specs.declared.past.Own.{Own};
 ghost use Rattle.world_events.specs.declared.event.Program.{Program};
-ghost use Rattle.world_events.specs.declared.event.Program.TheVariants.{Injector as Injecting};
 ghost use Rattle.mail_world.specs.History.{next_of};
 ghost use Rattle.mail_world.specs.World.{GoesByPlan};
-ghost use Rattle.mail_world.specs.ByKind.{Follows, present_of, found_of, looked_of, need_of, takes_of, with_own, own_of, searches, HasGone};
-ghost use Rattle.mail_world.specs.Acting.{MayAct, IsSeated, IsNoAct, AreOpen, AreAsBefore, due_by, IsStated, IsReadAt, IsMade, IsUntouched, IsPlannedCame, IsCutOff, AreCutOff, HasStepped, HasGiven, HasLooked, HasIdled, IsFinished, opened_by, open_after, without, shut};
+ghost use Rattle.mail_world.specs.ByKind.{Follows, present_of, found_of, looked_of, need_of, takes_of, with_own, own_of, awaits_of, searches, HasGone, CanFind, IsAsked};
+ghost use Rattle.mail_world.specs.Acting.{MayAct, IsSeated, IsNoAct, AreOpen, AreAsBefore, due_by, IsStated, IsReadAt, IsMade, IsUntouched, IsPlannedCame, IsCutOff, AreCutOff, HasStepped, HasGiven, HasLooked, HasIdled, IsFinished, is_of_child, has_actor, GivesNoActor, status_of, shut};
 ghost use Rattle.mail_world.specs.Inside.{StandsFor, Owes};
 ghost use Rattle.mail_world.specs.Generations.{idled_in};
 ghost use Rattle.world_events.specs.declared.event.Event.TheVariants as kept;
 ghost use Rattle.mail_world.specs.Kept.{events_of, HasRoom};
 
 use crate::any_machine::AnyMachine;
-use crate::feeding::{exchange, shut_after};
 use crate::{ActorName, Did, Event, History};
 use call_fs::{
-    Answer, CallData, CallFs, Fd, Got, GotData, Machine, Need, NeedData, Own, PIECE, Ready, Told,
-    perform,
+    CallData, CallFs, Fd, GotData, Machine, Need, NeedData, Own, PIECE, Ready, Told, perform,
 };
+use crew_pipes::{exchange, is_of_child, shut_after};
 use mail_bytes::Memory;
+use open_files::{close_all, got_of, keep_open};
 use std::alloc::Global;
 use world_events::{kept_read, need_data, room_to_read};
 use world_pipes::Mouths;
@@ -39,6 +38,8 @@ pub struct Actor {
     pub descriptors: Vec<Fd>,
     /// The index of its end or stop in the history, if it has ended.
     pub ended: Option<u64>,
+    /// The exit status with which it ended by itself, if it did.
+    pub status: Option<u8>,
     /// The index of its newest event, if its machine couldn't take in yet what came of it.
     pub owed: Option<u64>,
 }
@@ -54,6 +55,8 @@ pub struct Setting {
     pub seat: Option<usize>,
     /// The next process number.
     pub pid: u32,
+    /// Whether it is the sender and has a child.
+    pub has_child: bool,
 }
 
 /// What came of asking a machine.
@@ -74,6 +77,7 @@ impl Actor {
         ensures machine { result.machine ≡ machine }
         ensures descriptors { result.descriptors.items ≡ [] }
         ensures ended { result.ended ≡ None }
+        ensures status { result.status ≡ None }
         ensures owed { result.owed ≡ None }
     {
         Actor {
@@ -81,6 +85,7 @@ impl Actor {
             machine,
             descriptors: Vec::new(alloc),
             ended: None,
+            status: None,
             owed: None,
         }
     }
@@ -89,7 +94,7 @@ impl Actor {
     /// descriptor, and for the bytes of a read, is made first. The condition: what is next may be made.
     fn ask<D: CallFs>(&mut self, alloc: Global, disk: &mut D, at: Setting) -> Result<Came, Memory>
         requires moment { IsMoment at.now }
-        requires may { MayAct (D.disk disk.old) self.old.machine at.seat at.now at.ready }
+        requires may { MayAct (D.disk disk.old) self.old.machine at.seat at.has_child at.now at.ready }
         ensures due { IfOk result (λ came. (program : Program) (past : List Own)
             → Follows self.old.machine program past → next_of program past at.now at.ready ≡ due_by came) }
         ensures read { IfOk result (λ came. IsReadAt came at.now at.ready) }
@@ -108,11 +113,13 @@ impl Actor {
         ensures need { IfOk result (λ came. need_of self.new.machine ≡ due_by came) }
         ensures stated { IfOk result (λ came. IsStated came) }
         ensures takes { takes_of self.new.machine ≡ takes_of self.old.machine }
+        ensures awaits { awaits_of self.new.machine ≡ awaits_of self.old.machine }
 
         // The rest stays.
         ensures name { self.new.name ≡ self.old.name }
         ensures descriptors { self.new.descriptors.items ≡ self.old.descriptors.items }
         ensures ended { self.new.ended ≡ self.old.ended }
+        ensures status { self.new.status ≡ self.old.status }
         ensures owed { self.new.owed ≡ self.old.owed }
         ensures err { OnErr result (disk.new ≡ disk.old) }
     {
@@ -137,10 +144,33 @@ impl Actor {
         }
     }
 
+    /// What of its child is due to it at this moment, with this ready, if that is due next: to start one, to give it its input, or to take
+    /// its status.
+    pub fn asks(&mut self, alloc: Global, at: Setting) -> Result<Option<NeedData>, Memory>
+        requires moment { IsMoment at.now }
+        requires found { CanFind self.old.machine at.ready }
+        ensures due { IfOk result (λ asked. IfSome asked (λ due. IsAsked self.new.machine at.now at.ready due)) }
+        ensures next { IfOk result (λ asked. IfSome asked (λ due. (program : Program) (past : List Own) → Follows self.old.machine program past
+            → next_of program past at.now at.ready ≡ due)) }
+        ensures of_child { IfOk result (λ asked. IfSome asked (λ due. is_of_child at.seat at.has_child due ≡ true)) }
+        ensures none { IfOk result (λ asked. IsNone asked → (program : Program) (past : List Own) → Follows self.old.machine program past
+            → is_of_child at.seat at.has_child (next_of program past at.now at.ready) ≡ false) }
+        ensures looked { HasLooked self.old self.new }
+    {
+        self.machine.look(at.now, at.ready);
+        let need = self.machine.need();
+        if is_of_child(at.seat, at.has_child, &need) {
+            Ok(Some(need_data(alloc, need)?))
+        } else {
+            Ok(None)
+        }
+    }
+
     /// One step: what is due, or its end, in which its descriptors are closed and what it gives to is shut; `None` if nothing of what
     /// is due can be done yet. From the call on only its machine takes memory: if that finds none, it owes the event. The
-    /// conditions: it owes none, what is due may be made, what it has open is open, there is room for the event, and it is a
-    /// member with pipes, or no member, to which a call or its end is due.
+    /// conditions: it owes none, what is due may be made, what it has open is open, there is room for the event, it is a member with
+    /// pipes, or no member, to which a call or its end is due or that waits, it is known whether a child runs, and nothing of a
+    /// child is due.
     pub fn act<D: CallFs>(
         &mut self,
         alloc: Global,
@@ -150,11 +180,12 @@ impl Actor {
         at: Setting,
     ) -> Result<Option<Did>, Memory>
         requires moment { IsMoment at.now }
-        requires may { MayAct (D.disk disk.old) self.old.machine at.seat at.now at.ready }
+        requires may { MayAct (D.disk disk.old) self.old.machine at.seat at.has_child at.now at.ready }
         requires paid { self.old.owed ≡ None }
         requires opens { OnTold (D.disk disk.old) (λ before. AreOpen before self.old.descriptors.items) }
         requires room { HasRoom history.old 1 }
         requires seat { IsSeated at.seat self.old.name mouths.old.items }
+        requires child { at.has_child ≡ has_actor mouths.old.items }
         ensures acted { IfOk result (λ did. HasStepped did (D.disk disk.old) (D.disk disk.new) mouths.old.items mouths.new.items at.pid
             self.old self.new (events_of history.old) (events_of history.new) at.now at.ready) }
         ensures plan { IfOk result (λ did. IsSome did → GoesByPlan D.plan D.disk disk.old disk.new
@@ -186,8 +217,8 @@ impl Actor {
                     ready: at.ready,
                     status,
                 });
-                self.end(disk, index);
-                shut_after(mouths, at.seat);
+                self.end(disk, index, Some(status));
+                shut_after(mouths, at.seat, self.name.as_slice());
                 Ok(Some(Did::new(index, Some(status), false)))
             }
             Came::Due(due) => self.pass(alloc, history, mouths, at, due),
@@ -195,7 +226,8 @@ impl Actor {
     }
 
     /// What is due and is no call: it passes something to another program, or takes it. The conditions: it has looked and owes no
-    /// event, this is due, it is a member with pipes, and there is room for the event.
+    /// event, this is due, it is a member with pipes, or waits, nothing is given to an actor in a slot, and there is room for the
+    /// event.
     fn pass(
         &mut self,
         alloc: Global,
@@ -211,7 +243,8 @@ impl Actor {
         requires due { need_of self.old.machine ≡ due }
         requires pass { IsNoAct due }
         requires seat { IsSeated at.seat self.old.name mouths.old.items }
-        requires member { at.seat ≢ None }
+        requires member { at.seat ≡ None → due ≡ Wait }
+        requires alone { (i : ℕ) → at.seat ≡ Some i → GivesNoActor mouths.old.items i due }
         requires room { HasRoom history.old 1 }
         ensures passed { IfOk result (λ did. HasGiven did mouths.old.items mouths.new.items at.pid
             self.old self.new (events_of history.old) (events_of history.new) at.now at.ready due) }
@@ -223,7 +256,9 @@ impl Actor {
         ensures same { OnErr result (history.new ≡ history.old) }
         ensures pipes { OnErr result (AreAsBefore mouths.old.items mouths.new.items) }
     {
-        let Some(seat) = at.seat else { unreachable!() };
+        let Some(seat) = at.seat else {
+            return Ok(None);
+        };
         let most = self.machine.taking_room();
         let Some(came) = exchange(alloc, mouths, seat, most, at.pid, &due)? else {
             return Ok(None);
@@ -245,7 +280,7 @@ impl Actor {
 
     /// Hands in what came of this event, which the history will have at this index, or owes it. Tells whether an idle turn of a
     /// sender ended. The conditions: it owes none, and this may be handed in.
-    fn take_in(&mut self, alloc: Global, own: &Own, index: u64) -> bool
+    pub fn take_in(&mut self, alloc: Global, own: &Own, index: u64) -> bool
         requires paid { self.old.owed ≡ None }
         requires looked { IsTrue (looked_of self.old.machine) }
         requires kind { IsKind (need_of self.old.machine) own.now.came }
@@ -255,9 +290,11 @@ impl Actor {
         ensures idle { (program : Program) (past : List Own) → Follows self.old.machine program past
             → result ≡ idled_in program past (own_of self.old.machine own.now.came) }
         ensures owes { (at : ℕ) → self.new.owed ≡ Some at → (at ≡ index) × (self.new.machine ≡ self.old.machine) }
+        ensures awaits { awaits_of self.new.machine ≡ awaits_of self.old.machine }
         ensures descriptors { self.new.descriptors.items ≡ self.old.descriptors.items }
         ensures name { self.new.name ≡ self.old.name }
         ensures ended { self.new.ended ≡ self.old.ended }
+        ensures status { self.new.status ≡ self.old.status }
     {
         let searching = self.machine.is_searching();
         match self.hand_in(alloc, own) {
@@ -277,15 +314,17 @@ impl Actor {
         ensures follows { OnOk result ((program : Program) (past : List Own)
             → ((at : ℕ) → self.old.owed ≡ Some at → Owes self.old (events_of history.now) past at)
             → StandsFor self.old program past → Follows self.new.machine program past) }
+        ensures awaits { OnOk result (awaits_of self.new.machine ≡ awaits_of self.old.machine) }
         ensures descriptors { self.new.descriptors.items ≡ self.old.descriptors.items }
         ensures name { self.new.name ≡ self.old.name }
         ensures ended { self.new.ended ≡ self.old.ended }
+        ensures status { self.new.status ≡ self.old.status }
         ensures err { OnErr result (self.new ≡ self.old) }
     {
         let Some(at) = self.owed else {
             return Ok(());
         };
-        let Event::Act { own, .. } = &history.events()[at as usize] else {
+        let Some(own) = history.events()[at as usize].own() else {
             unreachable!()
         };
         self.hand_in(alloc, own)?;
@@ -303,11 +342,13 @@ impl Actor {
         ensures follows { OnOk result ((program : Program) (past : List Own) → Follows self.old.machine program past
             → Follows self.new.machine program (with_own self.old.machine own.now.came past)) }
         ensures goes { OnOk result (HasGone self.old.machine own.now.came self.new.machine) }
+        ensures awaits { OnOk result (awaits_of self.new.machine ≡ awaits_of self.old.machine) }
         ensures memory { IsTrue (searches self.old.machine) → IsOk result }
         ensures err { OnErr result (self.new ≡ self.old) }
         ensures descriptors { self.new.descriptors.items ≡ self.old.descriptors.items }
         ensures name { self.new.name ≡ self.old.name }
         ensures ended { self.new.ended ≡ self.old.ended }
+        ensures status { self.new.status ≡ self.old.status }
         ensures owed { self.new.owed ≡ self.old.owed }
     {
         self.machine.done(alloc, got_of(&own.came))
@@ -325,7 +366,7 @@ impl Actor {
         requires opens { OnTold (D.disk disk.old) (λ before. AreOpen before self.old.descriptors.items) }
         requires room { HasRoom history.old 1 }
         requires seat { IsSeated seat self.old.name mouths.old.items }
-        ensures stopped { IsFinished (kept.Stop self.old.name) (D.disk disk.old) (D.disk disk.new) mouths.old.items mouths.new.items
+        ensures stopped { IsFinished (kept.Stop self.old.name) None (D.disk disk.old) (D.disk disk.new) mouths.old.items mouths.new.items
             self.old self.new (events_of history.old) (events_of history.new) }
         ensures plan { GoesByPlan D.plan D.disk disk.old disk.new
             (events_of history.old) (events_of history.new) }
@@ -335,22 +376,25 @@ impl Actor {
         history.put(Event::Stop {
             actor: self.name.copy(),
         });
-        self.end(disk, index);
-        shut_after(mouths, seat);
+        self.end(disk, index, None);
+        shut_after(mouths, seat, self.name.as_slice());
     }
 
-    /// It is over, with the event of this index, and its descriptors are closed. The condition: they are open.
-    fn end<D: CallFs>(&mut self, disk: &mut D, at: u64)
+    /// It is over, with the event of this index and this exit status, if it has one, and its descriptors are closed. The condition:
+    /// they are open.
+    fn end<D: CallFs>(&mut self, disk: &mut D, at: u64, status: Option<u8>)
         requires { OnTold (D.disk disk.old) (λ before. AreOpen before self.old.descriptors.items) }
         ensures closed { Meets (D.disk disk.old) (D.disk disk.new)
             (λ before after. after ≡ shut self.old.descriptors.items before) }
         ensures plan { D.plan disk.new ≡ D.plan disk.old }
         ensures descriptors { self.new.descriptors.items ≡ [] }
         ensures ended { self.new.ended ≡ Some at }
+        ensures status { self.new.status ≡ status }
         ensures name { self.new.name ≡ self.old.name }
         ensures machine { self.new.machine ≡ self.old.machine }
     {
         self.ended = Some(at);
+        self.status = status;
         self.owed = None;
         close_all(disk, &mut self.descriptors);
     }
@@ -367,85 +411,22 @@ impl Actor {
     }
 }
 
+/// What the status of this actor tells whose child it is, if it is over.
+pub fn status_of(actor: &Actor) -> Option<GotData>
+    ensures { result ≡ status_of actor.now.ended actor.now.status }
+{
+    match (actor.ended, actor.status) {
+        (None, _) => None,
+        (Some(_), Some(status)) => Some(GotData::Ended(status)),
+        (Some(_), None) => Some(GotData::Crashed),
+    }
+}
+
 /// The machine stopped, with the event of this index: all actors are over.
 pub fn cut_off_all(actors: &mut [Actor], index: u64)
     ensures { AreCutOff index actors.old actors.new }
 {
     for actor in actors.iter_mut() {
         actor.cut_off(index);
-    }
-}
-
-/// What came, as a machine is handed it.
-fn got_of(came: &GotData) -> Got<'_>
-    ensures { came_of result ≡ came.now }
-{
-    match came {
-        GotData::Answered(told) => Got::File(told.answer.copy(), told.bytes.as_slice()),
-        GotData::Took(bytes) => Got::Took(bytes.as_slice()),
-        GotData::End => Got::End,
-        GotData::Ended(status) => Got::Ended(*status),
-        GotData::Crashed => Got::Crashed,
-        GotData::Gave => Got::Gave,
-        GotData::Started { pid } => Got::Started { pid: *pid },
-        GotData::Failed => Got::Failed,
-        GotData::Memory => Got::Memory,
-    }
-}
-
-/// Keeps what an event opened, and drops what it closed. The condition: there is room for one more.
-fn keep_open(descriptors: &mut Vec<Fd>, own: &Own)
-    requires { vec_len descriptors.old < vec_capacity descriptors.old }
-    ensures { descriptors.new.items ≡ opened_by descriptors.old.items own.now.due own.now.came }
-{
-    match &own.due {
-        NeedData::File(call) => keep_came(descriptors, call, &own.came),
-        NeedData::Take(_) | NeedData::Give(..) | NeedData::Start(_) => {}
-        NeedData::Command(_) | NeedData::Wait | NeedData::Ended(_) => {}
-    }
-}
-
-/// Keeps what a call of which this came opened, and drops what it closed. The condition: there is room for one more.
-fn keep_came(descriptors: &mut Vec<Fd>, call: &CallData, came: &GotData)
-    requires { vec_len descriptors.old < vec_capacity descriptors.old }
-    ensures { descriptors.new.items ≡ opened_by descriptors.old.items (File call.now) came.now }
-{
-    match came {
-        GotData::Answered(told) => keep_answer(descriptors, call, &told.answer),
-        GotData::Took(_) | GotData::End | GotData::Gave => {}
-        GotData::Ended(_) | GotData::Crashed | GotData::Started { .. } => {}
-        GotData::Failed | GotData::Memory => {}
-    }
-}
-
-/// Keeps what a call with this answer opened, and drops what it closed. The condition: there is room for one more.
-fn keep_answer(descriptors: &mut Vec<Fd>, call: &CallData, answer: &Answer)
-    requires { vec_len descriptors.old < vec_capacity descriptors.old }
-    ensures { descriptors.new.items ≡ open_after descriptors.old.items call.now answer.now }
-{
-    match (call, answer) {
-        (_, Answer::Created(fd, _) | Answer::Opened(fd)) => descriptors.push(*fd).unwrap(),
-        (CallData::Close(fd), Answer::Done) => drop_out(descriptors, *fd),
-        _ => {}
-    }
-}
-
-/// Drops this descriptor from the list.
-fn drop_out(descriptors: &mut Vec<Fd>, fd: Fd)
-    ensures { descriptors.new.items ≡ without fd.0 descriptors.old.items }
-{
-    descriptors.retain(|one| one.0 != fd.0);
-}
-
-/// Closes each descriptor. The condition: each is open, and there once.
-fn close_all<D: CallFs>(disk: &mut D, descriptors: &mut Vec<Fd>)
-    requires { OnTold (D.disk disk.old) (λ before. AreOpen before descriptors.old.items) }
-    ensures closed { Meets (D.disk disk.old) (D.disk disk.new)
-        (λ before after. after ≡ shut descriptors.old.items before) }
-    ensures plan { D.plan disk.new ≡ D.plan disk.old }
-    ensures none { descriptors.new.items ≡ [] }
-{
-    while let Some(fd) = descriptors.pop() {
-        let _ = disk.close(fd);
     }
 }

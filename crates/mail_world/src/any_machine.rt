@@ -1,14 +1,14 @@
 // The machine of an actor.
-ghost use Rattle.std.specs.Prelude.{◌≡◌, ◌∷◌, List, ℕ, IsTrue, IsOk, OnOk, OnErr};
+ghost use Rattle.std.specs.Prelude.{◌≡◌, ◌∷◌, List, ℕ, false, IsTrue, IsOk, OnOk, OnErr};
 ghost use Rattle.call_fs.specs.declared.past.Own.{Own};
 ghost use Rattle.call_fs.specs.Program.{came_of, IsKind, IsWithin};
 ghost use Rattle.world_events.specs.declared.event.Program.{Program as Runs};
-ghost use Rattle.mail_world.specs.ByKind.{Follows, HasRoom, HasGone, looked_of, need_of, takes_of, with_own, searches, is_through};
+ghost use Rattle.mail_world.specs.ByKind.{Follows, HasRoom, HasGone, looked_of, need_of, takes_of, with_own, searches, is_through, awaits_of, IsGiven};
 
 use crate::Program;
-use crate::mailer::Mailer;
 use call_fs::{Got, Machine, Need, Ready};
-use mail_bytes::Memory;
+use fed_injector::FedInjector;
+use mail_bytes::{ByteText, Memory};
 use no_mailbox::NoMailbox;
 use queue_clean::Cleaner;
 use remote_spawn::RemoteSpawn;
@@ -18,8 +18,8 @@ use std::alloc::Global;
 /// A program of the world as a machine, with what the world keeps beside it: a case for each kind.
 #[derive(Drop)]
 pub enum AnyMachine {
-    /// The injector of a mail, and its input.
-    Mail(Mailer),
+    /// The injector of a mail or of a bounce, and its input.
+    Mail(FedInjector),
     /// A cleaner.
     Clean(Cleaner),
     /// A sender.
@@ -41,10 +41,11 @@ impl AnyMachine {
         ensures room { HasRoom self.old → IsOk result × HasRoom self.new }
         ensures goes { OnOk result (HasGone self.old (came_of got.entry) self.new) }
         ensures memory { IsTrue (searches self.old) → IsOk result }
+        ensures awaits { OnOk result (awaits_of self.new ≡ awaits_of self.old) }
         ensures err { OnErr result (self.new ≡ self.old) }
     {
         match self {
-            AnyMachine::Mail(mailer) => mailer.done(alloc, got),
+            AnyMachine::Mail(injector) => injector.done(alloc, got),
             AnyMachine::Clean(cleaner) => cleaner.done(got),
             AnyMachine::Send(sender) => sender.done(alloc, got),
             AnyMachine::Local(spawner) => spawner.done(alloc, got),
@@ -65,6 +66,41 @@ impl AnyMachine {
         }
     }
 
+    /// Whether it is an injector whose input isn't given yet, and may still be.
+    pub fn awaits(&self) -> bool
+        ensures { result ≡ awaits_of self.now }
+    {
+        match self {
+            AnyMachine::Mail(injector) => injector.awaits(),
+            AnyMachine::Clean(_) | AnyMachine::Send(_) => false,
+            AnyMachine::Local(_) | AnyMachine::Remote(_) => false,
+        }
+    }
+
+    /// It is given its input: this message and this envelope. Takes no memory. The condition: it awaits it.
+    pub fn give(&mut self, message: ByteText, envelope: ByteText)
+        requires { IsTrue (awaits_of self.old) }
+        ensures given { IsGiven message envelope self.old self.new }
+    {
+        match self {
+            AnyMachine::Mail(injector) => injector.give(message, envelope),
+            AnyMachine::Clean(_) | AnyMachine::Send(_) => {}
+            AnyMachine::Local(_) | AnyMachine::Remote(_) => {}
+        }
+    }
+
+    /// Nobody gives it any input any more. If it is an injector that still awaits it, its input has ended. Takes no memory.
+    pub fn cut(&mut self)
+        ensures stands { (program : Runs) (past : List Own) → Follows self.old program past → Follows self.new program past }
+        ensures over { awaits_of self.new ≡ false }
+    {
+        match self {
+            AnyMachine::Mail(injector) => injector.cut(),
+            AnyMachine::Clean(_) | AnyMachine::Send(_) => {}
+            AnyMachine::Local(_) | AnyMachine::Remote(_) => {}
+        }
+    }
+
     /// Whether it is a sender that stands between two turns, or has ended.
     pub fn is_through(&self) -> bool
         ensures { result ≡ is_through self.now }
@@ -78,9 +114,9 @@ impl AnyMachine {
 }
 
 impl Machine for AnyMachine {
-    ghost use Rattle.std.specs.Prelude.{None};
+    ghost use Rattle.std.specs.Prelude.{◌≡◌, None};
     ghost use Rattle.mail_world.specs.History.{next_of};
-    ghost use Rattle.mail_world.specs.ByKind.{present_of, found_of, looked_of, CanFind, need_of, takes_of, HasRoom, Follows};
+    ghost use Rattle.mail_world.specs.ByKind.{present_of, found_of, looked_of, CanFind, need_of, takes_of, HasRoom, Follows, awaits_of};
 
     type Arguments = Program;
 
@@ -102,11 +138,15 @@ impl Machine for AnyMachine {
 
     ghost next = { next_of };
 
+    ghost looks = { λ m _ _ n. awaits_of n ≡ awaits_of m };
+
+    ghost goes = { λ m _ n. awaits_of n ≡ awaits_of m };
+
     ghost stands = { Follows };
 
     fn look(&mut self, now: u64, ready: Ready) {
         match self {
-            AnyMachine::Mail(mailer) => mailer.look(now, ready),
+            AnyMachine::Mail(injector) => injector.look(now, ready),
             AnyMachine::Clean(cleaner) => cleaner.look(now, ready),
             AnyMachine::Send(sender) => sender.look(now, ready),
             AnyMachine::Local(spawner) => spawner.look(now, ready),
@@ -116,7 +156,7 @@ impl Machine for AnyMachine {
 
     fn need(&self) -> Need<'_> {
         match self {
-            AnyMachine::Mail(mailer) => mailer.need(),
+            AnyMachine::Mail(injector) => injector.need(),
             AnyMachine::Clean(cleaner) => cleaner.need(),
             AnyMachine::Send(sender) => sender.need(),
             AnyMachine::Local(spawner) => spawner.need(),
@@ -126,7 +166,7 @@ impl Machine for AnyMachine {
 
     fn taking_room(&self) -> usize {
         match self {
-            AnyMachine::Mail(mailer) => mailer.taking_room(),
+            AnyMachine::Mail(injector) => injector.taking_room(),
             AnyMachine::Clean(cleaner) => cleaner.taking_room(),
             AnyMachine::Send(sender) => sender.taking_room(),
             AnyMachine::Local(spawner) => spawner.taking_room(),

@@ -1,5 +1,6 @@
 //! Laws of histories. Each is the contract of a function that does nothing.
 ghost use Rattle.mail_world.specs.Books.{AcceptedAreBooked, BooksAreTheModels};
+ghost use Rattle.mail_world.specs.Anew.{HistoriesBeginAnew};
 ghost use Rattle.mail_world.specs.Waiting.{MailsWait};
 ghost use Rattle.mail_world.specs.Untouched.{EventsLeave};
 
@@ -23,4 +24,10 @@ pub fn accepted_are_booked()
 /// said after a machine stop, which closes each descriptor.
 pub fn events_leave()
     ensures { EventsLeave }
+{}
+
+/// In a history the input of a child may be another one, if since its start neither the child nor its parent did anything: each event
+/// might happen when it did all the same.
+pub fn histories_begin_anew()
+    ensures { HistoriesBeginAnew }
 {}

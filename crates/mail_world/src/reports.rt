@@ -1,18 +1,11 @@
 // The reports of remote programs, which run in the slots of the last of the four members.
-ghost use Rattle.std.specs.Prelude.{◌≡◌, ◌∷◌, ◌++◌, ◌==◌, ◌<◌, ◌&&◌, [], ℕ, true, false, Some, IfOk, OnOk, OnErr, length, if◌then◌else◌};
+ghost use Rattle.std.specs.Prelude.{◌≡◌, ◌<◌, ◌&&◌, true, false, length};
 ghost use Rattle.std.specs.List.{slice_get};
-ghost use Rattle.call_fs.specs.declared.program.Port.TheVariants.{Program};
-ghost use Rattle.world_pipes.specs.Pipework.{closed, given};
-ghost use Rattle.world_pipes.specs.Mouths.{is_remote, tenant_of, IsLowest};
-ghost use Rattle.mail_world.specs.History.{report_text};
+ghost use Rattle.world_pipes.specs.Mouths.{is_remote, IsLowest};
 ghost use Rattle.mail_world.specs.Wired.{tenant_in};
-ghost use Rattle.mail_world.specs.Acting.{IsSame};
-ghost use Rattle.mail_world.specs.Crew.{lasts, HasReport};
+ghost use Rattle.mail_world.specs.Crew.{lasts};
 
 use crate::actor::Actor;
-use call_fs::Port;
-use mail_bytes::Memory;
-use std::alloc::Global;
 use world_pipes::Mouths;
 
 /// The seat of the remote spawner.
@@ -47,36 +40,4 @@ pub fn first_unreported(crew: &[Actor], mouths: &[Mouths], from: u8) -> Option<u
     } else {
         None
     }
-}
-
-/// The remote program in this slot ends with the output that its report stands for. The condition: there is such a slot.
-pub fn put_report(
-    alloc: Global,
-    mouths: &mut Mouths,
-    slot: u8,
-    letter: u8,
-    text: &[u8],
-) -> Result<(), Memory>
-    requires { slot < length mouths.old.slots.items }
-    ensures ok { OnOk result (HasReport mouths.old mouths.new slot (report_text letter text.now)) }
-    ensures err { OnErr result (IsSame mouths.old mouths.new) }
-{
-    let output = output_of(alloc, letter, text)?;
-    let port = Port::Program(slot);
-    mouths.make_room(port, output.len())?;
-    mouths.give(port, &output);
-    mouths.close(port);
-    mouths.end(slot);
-    Ok(())
-}
-
-/// What a remote program with this report puts out.
-fn output_of(alloc: Global, letter: u8, text: &[u8]) -> Result<Vec<u8>, Memory>
-    ensures { IfOk result (λ output. output.items ≡ report_text letter text.now) }
-{
-    let mut output = Vec::from_slice(alloc, b"r\0")?;
-    output.push(letter)?;
-    output.extend_from_slice(text)?;
-    output.push(0)?;
-    Ok(output)
 }

@@ -1,5 +1,5 @@
 // The world: the disk, the actors, the history.
-ghost use Rattle.std.specs.Prelude.{◌≡◌, ◌≢◌, ◌∷◌, ◌++◌, ◌⊎◌, ◌↔◌, ◌-◌, ◌^◌, ◌<◌, ◌≤◌, [], List, ℕ, Some, None, true, false, length, reverse, set, option_map, codes, IsTrue, IsSomeAnd, IsOk, IfOk, IfErr, OnOk, OnErr};
+ghost use Rattle.std.specs.Prelude.{◌≡◌, ◌≢◌, ◌∷◌, ◌++◌, ◌⊎◌, ◌↔◌, ◌-◌, ◌^◌, ◌<◌, ◌≤◌, [], List, ℕ, Some, None, true, false, length, reverse, set, option_map, codes, IsTrue, IsNone, IsSomeAnd, IsOk, IfOk, IfErr, IfSome, OnOk, OnErr};
 ghost use Rattle.std.specs.List.{slice_get};
 ghost use Rattle.call_fs.specs.Disk.{Disk, IsUnused};
 ghost use Rattle.mail_bytes.specs.Moments.{IsMoment};
@@ -7,32 +7,42 @@ ghost use Rattle.mail_bytes.specs.Told.{OnTold, Meets};
 ghost use Rattle.call_fs.specs.Choices.{Halts};
 ghost use Rattle.call_fs.specs.Plan.{with_fault, with_pick};
 ghost use Rattle.mail_world.specs.History.{Opening, Legal, MayReport, Event as Happening};
-ghost use Rattle.mail_world.specs.Generations.{generation_world, reported_world, IsFirstAlive, IsNoneAlive, Waits, has_idled, next_living, lowest_unreported};
+ghost use Rattle.mail_world.specs.Generations.{generation_world, reported_world, IsFirstAlive, IsNoneAlive, Waits, has_idled, lives_in, next_living, lowest_unreported};
 ghost use Rattle.mail_world.specs.Inside.{among_all, known};
 ghost use Rattle.world_events.specs.declared.event.Event.{Event as Kept};
 ghost use Rattle.world_events.specs.declared.books.Entry.{Entry};
-ghost use Rattle.mail_world.specs.Kept.{events_of};
+ghost use Rattle.world_events.specs.Inputs.{with_inputs};
+ghost use Rattle.mail_world.specs.Kept.{events_of, HasRoom};
 ghost use Rattle.actor_names.specs.MailNames.{IsMailName};
-ghost use Rattle.mail_world.specs.World.{Leads, Happened, GoesOn, was_started, EndsAt, started_world, moment_world, IsStep, IsStop, GoesByPlan, IsHalt, GoesOnWith, IsAsBefore};
+ghost use Rattle.mail_world.specs.World.{Leads, Happened, GoesOn, was_started, EndsAt, next_pid, started_world, moment_world, IsStep, IsStop, GoesByPlan, IsHalt, GoesOnWith, IsAsBefore};
 ghost use Rattle.mail_world.specs.Acting.{IsNoLiving};
+ghost use Rattle.mail_world.specs.Children.{IsDueOfChild, IsStart, IsGive, IsTake, Serves};
+ghost use Rattle.mail_world.specs.Readiness.{found_in};
+ghost use Rattle.world_events.specs.declared.event.Program.{Program as Started};
 ghost use Rattle.mail_world.specs.Places.{place_of};
 ghost use Rattle.mail_world.specs.Books.{entries_of, books_of, books_in, noted};
 
-use crate::actor::{Actor, Setting, cut_off_all};
+use crate::actor::{Actor, Setting, cut_off_all, status_of};
 use crate::any_machine::AnyMachine;
-use crate::generation::{first_alive, members, named, pipes, ready_at, seat, seat_at};
+use crate::children::{
+    child_at, give_input, injector_at, leave, own_at, pay_sender, ready_to_feed, room_for_one,
+    room_of, take_in,
+};
+use crate::generation::{first_alive, members, named, seat_at};
 use crate::laws::books_are_the_models;
-use crate::mailer::Mailer;
-use crate::reports::{first_unreported, is_unreported, put_report};
+use crate::reports::{first_unreported, is_unreported};
 use crate::starts::Starts;
 use crate::{ActorName, Books, Event, History, Program, WorldError};
-use actor_names::is_mail_name;
-use call_fs::{CallFs, CrashFs, Survival, Taken};
+use actor_names::{bounce_name, is_mail_name};
+use call_fs::{CallFs, ChildData, CrashFs, GotData, NeedData, Port, Survival, Taken};
+use crew_pipes::{pipes, ready_at, seat};
+use fed_injector::FedInjector;
 use mail_bytes::{ByteText, Memory};
+use received_line::Invoked;
 use std::alloc::Global;
 use std::marker::Model;
-use world_events::{Places, mail_of, started_by};
-use world_pipes::Mouths;
+use world_events::{MAIL_USER, Places, bounce_of, mail_of, started_by};
+use world_pipes::{Mouths, put_report};
 
 /// The process number of the first actor.
 const FIRST_PID: u32 = 77;
@@ -62,12 +72,14 @@ impl Did {
 #[derive(Drop)]
 pub struct World<D: CallFs> {
     disk: D,
-    // the members of the generation first, in their order, if one was started; then the mails
+    // the members of the generation first, in their order, if one was started; then the injectors of mails and of bounces
     actors: Vec<Actor>,
     // how many members there are: none or four
     crew: usize,
-    // where each mail stands among the mails
+    // where each injector stands among the injectors
     places: Places,
+    // how many of them are of bounces
+    bounces: u64,
     // what each member takes from, while one of them may live
     mouths: Vec<Mouths>,
     books: Books,
@@ -93,7 +105,7 @@ impl<D: CallFs> Model for World<D> {
 
     ghost view = { λ w. record { disk = w.disk; events = w.history.events.items; present = w.present } };
 
-    ghost invariant = { λ w. IsWorld (D.disk w.disk) (among_all w.crew (place_of w.places)) w.actors.items (known w.history.events.items) w.history.events.items w.present w.next_pid × HasRoom w.history (living w.actors.items) × AreBooked (entries_of w.books) (drop w.crew w.actors.items) w.history.events.items × ArePiped w.crew w.mouths.items w.actors.items (known w.history.events.items) w.history.events.items × AreStarts w.starts w.crew (place_of w.places) (starts_of (reverse w.history.events.items)) };
+    ghost invariant = { λ w. IsWorld (D.disk w.disk) (among_all w.crew (place_of w.places)) w.actors.items (known w.history.events.items) w.history.events.items w.present w.next_pid w.bounces × HasRoom w.history (living w.actors.items) × AreBooked (entries_of w.books) (drop w.crew w.actors.items) w.history.events.items × ArePiped w.crew w.mouths.items w.actors.items (known w.history.events.items) w.history.events.items × AreStarts w.starts w.crew (place_of w.places) (starts_of (reverse w.history.events.items)) };
 }
 
 impl<D: CallFs> World<D> {
@@ -110,6 +122,7 @@ impl<D: CallFs> World<D> {
             actors: Vec::new(alloc),
             crew: 0,
             places: Places::new(alloc),
+            bounces: 0,
             mouths: Vec::new(alloc),
             books: Books::new(alloc),
             history: History::new(alloc),
@@ -140,7 +153,7 @@ impl<D: CallFs> World<D> {
     /// The books: what became of each injection, by its events so far. They say what each legal history says that
     /// `Happened` since an initial disk.
     pub fn books(&self) -> &Books
-        ensures events { entries_of result.now ≡ books_of (reverse self.now.events) }
+        ensures events { entries_of result.now ≡ books_of (with_inputs (reverse self.now.events)) }
         ensures models { (opening : Disk) (h : List Happening)
             → Happened D.disk opening self.now h → entries_of result.now ≡ books_in opening h }
     {
@@ -193,24 +206,28 @@ impl<D: CallFs> World<D> {
         ensures goes_on { OnOk result (GoesOn D.disk self.old self.new) }
         ensures err { OnErr result (self.new ≡ self.old) }
     {
-        let mailer = Mailer::new(alloc, self.next_pid, self.present, message, envelope)?;
-        let arguments = mail_of(alloc, self.next_pid, self.present, message, envelope)?;
-        self.actors.reserve(1)?;
-        self.books.make_room()?;
+        let (pid, start) = (self.next_pid, self.present);
+        let invoked = Invoked::Uid(MAIL_USER);
+        let mut injector = FedInjector::new(alloc, MAIL_USER, pid, invoked, start)?;
+        let arguments = mail_of(alloc, pid, start, message, envelope)?;
+        let message = ByteText::from_slice(alloc, message)?;
+        injector.give(message, ByteText::from_slice(alloc, envelope)?);
         // for its start, and for the stop of each actor, of this one too
         self.history.reserve(self.actors.len() + 2)?;
+        self.actors.reserve(1)?;
+        self.books.make_room()?;
         self.starts.make_room(1)?;
         self.places
             .add(alloc, name.as_slice(), self.actors.len() - self.crew)?;
-        let actor = Actor::new(alloc, name.copy(), AnyMachine::Mail(mailer));
+        let actor = Actor::new(alloc, name.copy(), AnyMachine::Mail(injector));
         self.actors.push(actor).unwrap();
         self.books.add(name, &arguments);
+        self.starts.add_mail(self.actors.len() - self.crew - 1);
         self.history.put(Event::Start {
             actor: name.copy(),
             program: Program::Injector(arguments),
         });
         self.next_pid = self.next_pid.saturating_add(1);
-        self.starts.add_mail(self.actors.len() - self.crew - 1);
         Ok(())
     }
 
@@ -286,14 +303,19 @@ impl<D: CallFs> World<D> {
         // for this event, and for the stop of each actor
         self.history.reserve(self.actors.len() + 1)?;
         let seat = seat_at(place, self.crew);
+        let child = child_at(&self.mouths, &self.places, self.crew);
         let acting = &mut self.actors[place];
         acting.pay(alloc, &self.history)?;
         let at = Setting {
             now: self.present,
-            ready: ready_at(&self.mouths, seat),
+            ready: ready_at(&self.mouths, seat, acting.machine.awaits()),
             seat,
             pid: self.next_pid,
+            has_child: child.is_some(),
         };
+        if let Some(due) = acting.asks(alloc, at)? {
+            return self.serve(alloc, due);
+        }
         let did = acting.act(
             alloc,
             &mut self.disk,
@@ -307,7 +329,144 @@ impl<D: CallFs> World<D> {
         let newest = self.history.newest();
         self.next_pid = self.next_pid.saturating_add(started_by(newest));
         note(&mut self.books, place, self.crew, newest);
+        leave(&mut self.actors, did.ended.is_some(), place, child);
         Ok(did)
+    }
+
+    /// What of its child is due to the sender. The condition: this is.
+    fn serve(&mut self, alloc: Global, due: NeedData) -> Result<Did, WorldError>
+        requires { IsDueOfChild self.old due }
+        ensures served { IfOk result (λ did. Serves D.disk self.old self.new did) }
+        ensures waits { (name : List ℕ) → result ≡ Err (WorldError.NotWaiting name)
+            → (name ≡ codes "sender") × Waits (known self.old.events) self.old.present (codes "sender") }
+        ensures others { IfErr result (λ why. (why ≡ WorldError.Memory) ⊎ (why ≡ WorldError.NotWaiting (codes "sender"))) }
+        ensures err { OnErr result (self.new ≡ self.old) }
+    {
+        match due {
+            NeedData::Start(_) => Ok(self.start_child(alloc, due)?),
+            NeedData::Give(..) => Ok(self.feed_child(alloc, due)?),
+            _ => match self.take_status(alloc, due)? {
+                Some(did) => Ok(did),
+                None => Err(WorldError::NotWaiting(named(b"sender"))),
+            },
+        }
+    }
+
+    /// What a step of the sender goes by. The condition: it lives.
+    fn setting(&self) -> Setting
+        requires { lives_in ((known self.now.events).actors (codes "sender")) ≡ true }
+        ensures now { result.now ≡ self.now.present }
+        ensures ready { result.ready ≡ found_in (known self.now.events) (codes "sender") }
+        ensures pid { result.pid ≡ next_pid self.now.events }
+    {
+        Setting {
+            now: self.present,
+            ready: ready_at(&self.mouths, Some(0), false),
+            seat: Some(0),
+            pid: self.next_pid,
+            has_child: true,
+        }
+    }
+
+    /// The sender starts the injector of a bounce, which awaits its input then. The condition: this is due.
+    fn start_child(&mut self, alloc: Global, due: NeedData) -> Result<Did, Memory>
+        requires due { IsDueOfChild self.old due }
+        requires start { IsStart due }
+        ensures served { IfOk result (λ did. Serves D.disk self.old self.new did) }
+        ensures err { OnErr result (self.new ≡ self.old) }
+    {
+        let room = room_of(due);
+        let at = self.setting();
+        let bounces = self.bounces + 1;
+        let place = self.actors.len() - self.crew;
+        room_for_one(&mut self.actors, &mut self.books, &mut self.starts)?;
+        // for this event, and for the stop of each actor, of this one too
+        let events = self.actors.len() + 2;
+        let sender = &mut self.actors[0];
+        pay_sender(alloc, &mut self.history, sender, events)?;
+        let injector = injector_at(alloc, &mut self.places, bounces, place, at)?;
+        let started = GotData::Started { pid: at.pid };
+        let own = own_at(at, NeedData::Start(ChildData::Bounce { room }), started);
+        let did = take_in(alloc, sender, &own, at, self.history.len());
+        let name = bounce_name(bounces);
+        let child = Actor::new(alloc, name.copy(), AnyMachine::Mail(injector));
+        self.actors.push(child).unwrap();
+        let arguments = bounce_of(alloc, at.pid, at.now);
+        self.books.add(&name, &arguments);
+        self.starts.add_mail(place);
+        self.mouths[0].start_actor(0, name.copy());
+        self.history.put(Event::Child {
+            actor: named(b"sender"),
+            own,
+            child: name,
+            program: Program::Injector(arguments),
+        });
+        self.next_pid = self.next_pid.saturating_add(1);
+        self.bounces = bounces;
+        Ok(did)
+    }
+
+    /// The sender gives its child its whole input; if that was stopped, it goes nowhere. The conditions: this is due, and there is a
+    /// child.
+    fn feed_child(&mut self, alloc: Global, due: NeedData) -> Result<Did, Memory>
+        requires due { IsDueOfChild self.old due }
+        requires give { IsGive due }
+        ensures served { IfOk result (λ did. Serves D.disk self.old self.new did) }
+        ensures err { OnErr result (self.new ≡ self.old) }
+    {
+        let at = self.setting();
+        let child = child_at(&self.mouths, &self.places, self.crew).unwrap();
+        // for this event, and for the stop of each actor
+        let room = self.actors.len() + 1;
+        let sender = &mut self.actors[0];
+        let (message, envelope, kept_message, kept_envelope) = ready_to_feed(
+            alloc,
+            &mut self.history,
+            sender,
+            room,
+            &due,
+        )?;
+        let own = own_at(at, due, GotData::Gave);
+        let did = take_in(alloc, sender, &own, at, self.history.len());
+        self.books.feed(child - self.crew, envelope.as_slice());
+        let fed = &mut self.actors[child];
+        let name = fed.name.copy();
+        give_input(fed, message, envelope);
+        self.history.put(Event::Feed {
+            actor: named(b"sender"),
+            own,
+            child: name,
+            message: kept_message,
+            envelope: kept_envelope,
+        });
+        Ok(did)
+    }
+
+    /// The sender takes the status of its child, if that is over. The conditions: this is due, and there is a child.
+    fn take_status(&mut self, alloc: Global, due: NeedData) -> Result<Option<Did>, Memory>
+        requires due { IsDueOfChild self.old due }
+        requires take { IsTake due }
+        ensures served { IfOk result (λ did. IfSome did (λ did. Serves D.disk self.old self.new did)) }
+        ensures waits { IfOk result (λ did. IsNone did → Waits (known self.old.events) self.old.present (codes "sender") × (self.new ≡ self.old)) }
+        ensures err { OnErr result (self.new ≡ self.old) }
+    {
+        drop(due);
+        let at = self.setting();
+        let child = child_at(&self.mouths, &self.places, self.crew).unwrap();
+        let Some(came) = status_of(&self.actors[child]) else {
+            return Ok(None);
+        };
+        let room = self.actors.len() + 1;
+        let sender = &mut self.actors[0];
+        pay_sender(alloc, &mut self.history, sender, room)?;
+        let own = own_at(at, NeedData::Take(Port::Status(0)), came);
+        let did = take_in(alloc, sender, &own, at, self.history.len());
+        self.mouths[0].free(0);
+        self.history.put(Event::Act {
+            actor: named(b"sender"),
+            own,
+        });
+        Ok(Some(did))
     }
 
     /// The remote program in a slot ends with 0, and with this output: `r`, NUL, the letter, the text, NUL. `NotWaiting`, with rspawn,
@@ -389,6 +548,7 @@ impl<D: CallFs> World<D> {
         ensures err { OnErr result (self.new ≡ self.old) }
     {
         let place = living(&self.places, self.crew, &self.actors, actor)?;
+        let child = child_at(&self.mouths, &self.places, self.crew);
         let stopped = &mut self.actors[place];
         stopped.stop(
             &mut self.disk,
@@ -397,6 +557,7 @@ impl<D: CallFs> World<D> {
             seat_at(place, self.crew),
         );
         note(&mut self.books, place, self.crew, self.history.newest());
+        leave(&mut self.actors, true, place, child);
         Ok(())
     }
 

@@ -13,6 +13,7 @@ use Rattle.world_law.proofs.Alone.{stays_safe}
 use Rattle.world_law.proofs.Histories.{headline}
 use Rattle.qmail_top.specs.SafePlays.{IsSafePrefixAtMost, PrintsSafely}
 use Rattle.qmail_top.specs.Command.{Counted, HasReason, status_of, IsReading, IsChecked}
+use Rattle.scenario.specs.Deeds.{history_of}
 use Rattle.scenario.specs.Text.{BeginsAtMost, IsPrefixAtMost, Prints, script_line, IsTakenText, PrintsBadLine}
 use Rattle.play_lines.proofs.Scripts.{no_refusal}
 use Rattle.scenario.proofs.WholePlays.{prefix_at_most}
@@ -90,7 +91,7 @@ safely script text prints =
       controls = has.0;
       has = has.1;
       safe = λ later before is. headline has.0 played.disk later before has.1 (subst (Legal played.disk) (sym is) played.legal);
-      alone = stays_safe played.disk played.history played.legal;
+      alone = stays_safe played.disk (history_of played.deeds) played.legal;
     }
 
 pub all_safely : (done : Type 0) (left old new : Option (List ℕ))

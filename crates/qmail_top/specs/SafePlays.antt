@@ -2,6 +2,7 @@
 use Rattle.std.specs.Prelude.{◌≡◌, ◌⊎◌, List, [], ℕ}
 use Rattle.address_rules.specs.declared.controls.Controls.{Controls}
 use Rattle.mail_world.specs.Waiting.{HasNoGeneration}
+use Rattle.scenario.specs.Deeds.{history_of}
 use Rattle.scenario.specs.Text.{IsPrefix, Prints}
 use Rattle.sender_law.specs.Control.{AreControls}
 use Rattle.world_law.specs.Headline.{EachSafe, StaysSafe}
@@ -12,8 +13,8 @@ pub record PrintsSafely (script text : List ℕ) : Type 0 where
   pub prints : Prints script text
   pub controls : Controls
   pub has : AreControls controls prints.played.disk
-  pub safe : EachSafe controls prints.played.disk prints.played.history
-  pub alone : HasNoGeneration prints.played.history → StaysSafe prints.played.disk prints.played.history
+  pub safe : EachSafe controls prints.played.disk (history_of prints.played.deeds)
+  pub alone : HasNoGeneration (history_of prints.played.deeds) → StaysSafe prints.played.disk (history_of prints.played.deeds)
 
 -- nothing, or a prefix of the text of the script with these bytes
 abbrev pub IsSafePrefixAtMost : List ℕ → List ℕ → Type 0

@@ -1,9 +1,11 @@
--- What a script's history keeps beside being legal: finitely many names, and what each living actor's past holds open.
-use Rattle.std.proofs.Common.{◌≡◌, ◌≢◌, ◌⊎◌, inl, inr, ⊎_elim, ℕ, zero, suc, ◌<◌, ◌≤◌, List, [], ◌∷◌, length, take, drop, All, Contains, Bool, true, false, ◌&&◌, if◌then◌else◌, bytes_eq, Option, Some, None, refl, sym, ap, ◌∙◌, subst, arith}
-use Rattle.std.specs.Prelude.{◌==◌, codes}
+-- What a play keeps beside being legal: finitely many names, what each living actor's past holds open, which program each actor runs, and that
+-- only a sender has an actor in a slot.
+use Rattle.std.proofs.Common.{◌≡◌, ◌≢◌, ◌⊎◌, inl, inr, ⊎_elim, ℕ, zero, suc, ◌+◌, ◌<◌, ◌≤◌, List, [], ◌∷◌, ◌++◌, length, take, drop, All, Contains, Bool, true, false, ◌&&◌, if◌then◌else◌, bytes_eq, Option, Some, None, refl, sym, ap, ◌∙◌, subst, arith}
+use Rattle.std.specs.Prelude.{◌==◌, codes, option_map}
+use Rattle.std.proofs.Math.Bool.{and-false}
 use Rattle.std.proofs.lemmas.Bool.{false≢true, eqb-true}
 use Rattle.std.proofs.lemmas.List.{take-append-drop}
-use Rattle.std.proofs.lemmas.List.Elements.{All-nil, All-cons, All-contains}
+use Rattle.std.proofs.lemmas.List.Elements.{All-nil, All-cons}
 use Rattle.call_fs.specs.declared.calls.CallData.{CallData}
 use Rattle.call_fs.specs.declared.calls.Told.{Told}
 use Rattle.call_fs.specs.declared.past.ChildData.TheVariants as child
@@ -12,54 +14,260 @@ use Rattle.call_fs.specs.declared.past.GotData.TheVariants.{Answered, Took, End 
 use Rattle.call_fs.specs.declared.past.NeedData.{NeedData}
 use Rattle.call_fs.specs.declared.past.NeedData.TheVariants as needs
 use Rattle.call_fs.specs.declared.past.Own.{Own}
+use Rattle.call_fs.specs.declared.crash_file_system.Survival.{Survival}
 use Rattle.call_fs.specs.declared.modes.Mode.{Mode}
 use Rattle.call_fs.specs.declared.program.Port.{Port}
 use Rattle.call_fs.specs.declared.program.Port.TheVariants as port
+use Rattle.call_fs.specs.declared.program.Ready.{Ready}
 use Rattle.call_fs.specs.Past.{IsRunBy, UsesHeld, held, held_by}
 use Rattle.call_fs.specs.Program.{IsTaken, MayCome}
 use Rattle.call_fs.specs.Disk.{Disk}
-use Rattle.mail_bytes.specs.Moments.{IsMoment}
 use Rattle.call_fs.specs.Apply.{Fits}
 use Rattle.call_fs.specs.Maps.{put_at}
 use Rattle.call_fs.proofs.Maps.{put_at_cases}
+use Rattle.actor_names.specs.BounceNames.{bounce_name}
 use Rattle.actor_names.specs.MailNames.{IsMailName, members}
+use Rattle.world_events.specs.Inputs.{bounce}
 use Rattle.world_events.specs.declared.event.Program.{Program}
 use Rattle.world_events.specs.declared.event.Program.TheVariants.{Injector, Cleaner, Sender, LocalSpawner, RemoteSpawner}
 use Rattle.world_pipes.specs.Pipes.{offered, end_of}
 use Rattle.mail_world.specs.Generations.{lives_in, is_unreported}
 use Rattle.mail_world.specs.World.{most_of}
-use Rattle.mail_world.specs.History.{Event, call_act, Actor, Life, State, Legal, MayRead, MayFind, MayRun, IsLiving, ComesOf, TenantEnds, IsFed, InputIsFound, next_of, latest, newborn, start_of, stopped, after, acted, begins, disk_after, holder_after, happens, called, finished, unless_by, shut_by}
-use Rattle.mail_world.specs.History.Event.{Start, Act, Report, End, Stop, Moment, Halt}
+use Rattle.mail_world.specs.History.{call_act, netstring, Actor, Life, State, MayRun, IsLiving, IsSender, IsStatusOf, ComesOf, TenantEnds, IsFed, next_of, latest, newborn, start_of, stopped, acted, begins, disk_after, holder_after, happens, called, finished, report_text, unless_by, shut_by}
+use Rattle.mail_world.specs.History.Event.{Act, Child, Report, End, Moment, Halt}
 use Rattle.mail_world.specs.History.Life.{Alive, Over, Stopped}
-use Rattle.mail_world.specs.Inside.{Owns}
+use Rattle.mail_world.specs.Inside.{Owns, RunsAt, IsBirth}
 use Rattle.mail_world.specs.Acting.{MayMake}
-use Rattle.mail_world.specs.Readiness.{found_by, found_at, found_in}
+use Rattle.mail_world.specs.Readiness.{found_in}
 use Rattle.mail_world.proofs.Opens.{opens_by, fits_answer, owns_backs, closes_own, own_stays, owns_after}
 use Rattle.mail_world.specs.ByKind.{IsMail}
-use Rattle.mail_world.specs.Pipework.{Pipe, Pipework, Slot, Tenant, Yields, is_member, put_program, programs_after, with_generation}
+use Rattle.mail_world.specs.Anew.{IsSameButInput, idle}
+use Rattle.mail_world.specs.Pipework.{Pipe, Pipework, Slot, Tenant, Yields, fresh, given, closed, is_member, is_writer, feeder, pipework_after, with_generation}
 use Rattle.mail_world.specs.Pipework.Tenant.{Runs, Remote}
-use Rattle.mail_world.proofs.Programs.{mail_runs, program_uses}
+use Rattle.mail_world.specs.Wired.{seat}
+use Rattle.mail_world.proofs.Anew.{none_put, runs_if, no_tenant, remote_tenant}
+use Rattle.mail_world.proofs.Awaiting.{GivesToNone, ran_before}
+use Rattle.mail_world.proofs.Begun.{seated_apart}
+use Rattle.mail_world.proofs.Members.{contained_member}
+use Rattle.mail_world.proofs.Seats.{seat_none, seat_some, same_seat}
+use Rattle.mail_world.proofs.Programs.{program_uses}
 use Rattle.mail_world.proofs.Worlds.{may_make}
 use Rattle.mail_world.proofs.Hands.{own_after}
-use Rattle.scenario.specs.Steps.{DoesNext, DoesAlive, DoesStep, StepsTo, next_pid, status_told, status_in, comes, own_by, does}
+use Rattle.queue_law.proofs.Tests.{text_cases}
+use Rattle.scenario.specs.Deeds.{Deed, next_pid, bounces_in, after}
+use Rattle.scenario.specs.Deeds.Deed.{Came, Fed}
+use Rattle.scenario.specs.Steps.{Gives, DoesNext, DoesAlive, DoesStep, StepsTo, status_told, status_of, status_in, starts_as, comes, own_by, event_by, does}
 use Rattle.scenario.specs.Steps.Outcome.{Happens}
-use Rattle.scenario.specs.Turns.{first_alive, generation_at, awaits_report}
+use Rattle.scenario.specs.Turns.{first_alive, generation_at}
 use Rattle.crash_fs.specs.Answers.{Answers, IsFinite}
 use Rattle.crash_fs.proofs.FiniteDisks.{finite_after, fewer_open, finite_halted}
-use Rattle.scenario.proofs.LastingFiles.{AreLasting, lasting_after, lasting_halted, halt_survives}
-use Rattle.call_fs.specs.declared.crash_file_system.Survival.{Survival}
+use Rattle.scenario.proofs.LastingFiles.{AreLasting, lasting_after, lasting_halted}
 use Rattle.call_fs.specs.Choices.{contents_by}
 use Rattle.call_fs.specs.Plan.{Plan}
 use Rattle.mail_world.proofs.Halts.{never_alive}
 use Rattle.mail_world.proofs.Looks.{mapped_some}
 
--- no program of a slot is an actor: nobody starts a child yet
-abbrev pub NoRuns : (List ℕ → ℕ → Option Tenant) → Type 0
-NoRuns programs = (a : List ℕ) (d : ℕ) (b : List ℕ) → programs a d ≡ Some (Runs b) → ⊥
+-- What a step of a living actor is
 
--- a member's name is no mail's
-abbrev pub IsApart : List ℕ → Actor → Type 0
-IsApart a x = Contains members a → MayRun x.program → ⊥
+-- a call with an answer
+abbrev pub HasCalled : Plan → State → List ℕ → Actor → Deed → Type 0
+HasCalled plan s a x deed =
+    (c : CallData) × (got : Told) × (next_of x.program x.past s.now (found_in s a) ≡ needs.File c)
+    × Answers plan s.disk c got × (deed ≡ Came (call_act a s.now (found_in s a) c got 0))
+
+-- its end
+abbrev pub HasEnded : State → List ℕ → Actor → Deed → Type 0
+HasEnded s a x deed =
+    (status : ℕ) × (next_of x.program x.past s.now (found_in s a) ≡ needs.Ended status)
+    × (deed ≡ Came (End a s.now (found_in s a) status))
+
+abbrev pub IsNoFile : NeedData → Type 0
+IsNoFile (needs.File call) = ⊥
+IsNoFile other = Unit {0}
+
+-- what comes of a taking, of a giving to no actor, or of the start of a remote program
+pub record HasPassed (s : State) (pid : ℕ) (a : List ℕ) (x : Actor) (deed : Deed) : Type 0 where
+  pub due : NeedData
+  pub came : GotData
+  pub no_file : IsNoFile due
+  pub next : next_of x.program x.past s.now (found_in s a) ≡ due
+  pub comes_so : comes s pid a x.program due ≡ Some came
+  pub no_birth : IsBirth due came → ⊥
+  pub to_none : GivesToNone s.pipework a due
+  pub is : deed ≡ Came (Act a (own_by s a due came) 0)
+
+-- the start of the injector of a bounce
+pub record HasBorne (s : State) (pid bounces : ℕ) (a : List ℕ) (x : Actor) (deed : Deed) : Type 0 where
+  pub room : ℕ
+  pub next : next_of x.program x.past s.now (found_in s a) ≡ needs.Start (child.Bounce room)
+  pub sends : IsSender x.program
+  pub is : deed ≡ Came (Child a (own_by s a (needs.Start (child.Bounce room)) (Started pid)) (bounce_name (bounces + 1)) (Injector (bounce pid s.now)))
+
+-- the whole input of one
+pub record HasFed (s : State) (a : List ℕ) (x : Actor) (deed : Deed) : Type 0 where
+  pub slot : ℕ
+  pub child : List ℕ
+  pub message : List ℕ
+  pub envelope : List ℕ
+  pub next : next_of x.program x.past s.now (found_in s a) ≡ needs.Give (port.Program slot) (netstring message ++ netstring envelope)
+  pub runs : s.pipework.programs a slot ≡ Some (Runs child)
+  pub is : deed ≡ Fed a (own_by s a (needs.Give (port.Program slot) (netstring message ++ netstring envelope)) Gave) child message envelope
+
+pub data HasDone (plan : Plan) (s : State) (pid bounces : ℕ) (a : List ℕ) (x : Actor) (deed : Deed) : Type 0 where
+  Calls : HasCalled plan s a x deed → HasDone plan s pid bounces a x deed
+  Finishes : HasEnded s a x deed → HasDone plan s pid bounces a x deed
+  Passes : HasPassed s pid a x deed → HasDone plan s pid bounces a x deed
+  Bears : HasBorne s pid bounces a x deed → HasDone plan s pid bounces a x deed
+  Feeds : HasFed s a x deed → HasDone plan s pid bounces a x deed
+
+pub record HasStepped (plan : Plan) (s : State) (pid bounces : ℕ) (a : List ℕ) (deed : Deed) : Type 0 where
+  pub actor : Actor
+  pub is : s.actors a ≡ Some actor
+  pub alive : actor.life ≡ Alive
+  pub did : HasDone plan s pid bounces a actor deed
+
+same_deed : (e f : Deed) → Happens e ≡ Happens f → e ≡ f
+same_deed e f h = cc
+
+-- the event of an actor that starts no injector
+own_event : (bounces : ℕ) (a : List ℕ) (own : Own) (due : NeedData) (came : GotData) → (IsBirth due came → ⊥) → event_by bounces a own due came ≡ Act a own 0
+own_event bounces a own (needs.Start (child.Bounce room)) (Started pid) none = absurd (none tt)
+own_event bounces a own due came none = refl
+
+passed : (s : State) (bounces : ℕ) (a : List ℕ) (due : NeedData) (c : Option GotData) (deed : Deed) → Happens deed ≡ does s bounces a due c
+    → (came : GotData) × (c ≡ Some came) × (deed ≡ Came (event_by bounces a (own_by s a due came) due came))
+passed s bounces a due None deed h = absurd (cc)
+passed s bounces a due (Some came) deed h = (came, refl, same_deed deed (Came (event_by bounces a (own_by s a due came) due came)) h)
+
+module _ (plan : Plan) (s : State) (pid bounces : ℕ) (a : List ℕ) (x : Actor) (deed : Deed) where
+  abbrev Done : Type 0
+  Done = HasDone plan s pid bounces a x deed
+
+  abbrev IsNext : NeedData → Type 0
+  IsNext due = next_of x.program x.past s.now (found_in s a) ≡ due
+
+  passes : (due : NeedData) → IsNoFile due → ((came : GotData) → IsBirth due came → ⊥) → GivesToNone s.pipework a due → IsNext due
+      → Happens deed ≡ does s bounces a due (comes s pid a x.program due) → Done
+  passes due unfiled unborn none next h =
+      let p = passed s bounces a due (comes s pid a x.program due) deed h in
+      Passes (record {
+        due = due;
+        came = p.0;
+        no_file = unfiled;
+        next = next;
+        comes_so = p.1;
+        no_birth = unborn p.0;
+        to_none = none;
+        is = p.2 ∙ ap Came (own_event bounces a (own_by s a due p.0) due p.0 (unborn p.0));
+      })
+
+  -- what is given to a slot
+  given_to : (d : ℕ) (bytes : List ℕ) (o : Option Tenant) → s.pipework.programs a d ≡ o → IsNext (needs.Give (port.Program d) bytes)
+      → Gives s a (own_by s a (needs.Give (port.Program d) bytes) Gave) bytes o (Happens deed) → Done
+  given_to d bytes None is next h =
+      Passes (record {
+        due = needs.Give (port.Program d) bytes;
+        came = Gave;
+        no_file = tt;
+        next = next;
+        comes_so = refl;
+        no_birth = λ w. w;
+        to_none = λ c runs. no_tenant c (sym is ∙ runs);
+        is = same_deed deed (Came (Act a (own_by s a (needs.Give (port.Program d) bytes) Gave) 0)) h;
+      })
+  given_to d bytes (Some (Remote reported)) is next h =
+      Passes (record {
+        due = needs.Give (port.Program d) bytes;
+        came = Gave;
+        no_file = tt;
+        next = next;
+        comes_so = refl;
+        no_birth = λ w. w;
+        to_none = λ c runs. remote_tenant reported c (sym is ∙ runs);
+        is = same_deed deed (Came (Act a (own_by s a (needs.Give (port.Program d) bytes) Gave) 0)) h;
+      })
+  given_to d bytes (Some (Runs c)) is next h =
+      Feeds (record {
+        slot = d;
+        child = c;
+        message = h.0;
+        envelope = h.1;
+        next = next ∙ ap (λ (t : List ℕ). needs.Give (port.Program d) t) h.2;
+        runs = is;
+        is = same_deed deed (Fed a (own_by s a (needs.Give (port.Program d) bytes) Gave) c h.0 h.1) h.3
+            ∙ ap (λ (t : List ℕ). Fed a (own_by s a (needs.Give (port.Program d) t) Gave) c h.0 h.1) h.2;
+      })
+
+  -- only a sender starts one
+  borne_by : (room : ℕ) (program : Program) → x.program ≡ program → IsNext (needs.Start (child.Bounce room))
+      → Happens deed ≡ does s bounces a (needs.Start (child.Bounce room)) (Some (starts_as pid program (child.Bounce room))) → Done
+  borne_by room (Sender start) is next h =
+      Bears (record {
+        room = room;
+        next = next;
+        sends = subst IsSender (sym is) tt;
+        is = same_deed deed (Came (Child a (own_by s a (needs.Start (child.Bounce room)) (Started pid)) (bounce_name (bounces + 1)) (Injector (bounce pid s.now)))) h;
+      })
+  borne_by room other is next h =
+      Passes (record {
+        due = needs.Start (child.Bounce room);
+        came = Failed;
+        no_file = tt;
+        next = next;
+        comes_so = ap (λ (program : Program). Some (starts_as pid program (child.Bounce room))) is;
+        no_birth = λ w. w;
+        to_none = tt;
+        is = same_deed deed (Came (Act a (own_by s a (needs.Start (child.Bounce room)) Failed) 0)) h;
+      })
+
+  stepped_due : (due : NeedData) → IsNext due → DoesNext plan s pid bounces a x.program due (Happens deed) → Done
+  stepped_due (needs.File c) next h = Calls (c, h.0, next, h.1, same_deed deed (Came (call_act a s.now (found_in s a) c h.0 0)) h.2)
+  stepped_due (needs.Ended status) next h = Finishes (status, next, same_deed deed (Came (End a s.now (found_in s a) status)) h)
+  stepped_due (needs.Take port) next h = passes (needs.Take port) tt (λ came w. w) tt next h
+  stepped_due (needs.Give (port.Program d) bytes) next h = given_to d bytes (s.pipework.programs a d) refl next h
+  stepped_due (needs.Give port.Input bytes) next h = passes (needs.Give port.Input bytes) tt (λ came w. w) tt next h
+  stepped_due (needs.Give port.Output bytes) next h = passes (needs.Give port.Output bytes) tt (λ came w. w) tt next h
+  stepped_due (needs.Give port.Clean bytes) next h = passes (needs.Give port.Clean bytes) tt (λ came w. w) tt next h
+  stepped_due (needs.Give port.Lspawn bytes) next h = passes (needs.Give port.Lspawn bytes) tt (λ came w. w) tt next h
+  stepped_due (needs.Give port.Rspawn bytes) next h = passes (needs.Give port.Rspawn bytes) tt (λ came w. w) tt next h
+  stepped_due (needs.Give port.Todo bytes) next h = passes (needs.Give port.Todo bytes) tt (λ came w. w) tt next h
+  stepped_due (needs.Give (port.Status d) bytes) next h = passes (needs.Give (port.Status d) bytes) tt (λ came w. w) tt next h
+  stepped_due (needs.Start (child.Bounce room)) next h = borne_by room x.program refl next h
+  stepped_due (needs.Start (child.Remote slot domain sender recipient)) next h = passes (needs.Start (child.Remote slot domain sender recipient)) tt (λ came w. w) tt next h
+  stepped_due (needs.Start (child.Forward uid room)) next h = passes (needs.Start (child.Forward uid room)) tt (λ came w. w) tt next h
+  stepped_due (needs.Start (child.Local slot words uid)) next h = passes (needs.Start (child.Local slot words uid)) tt (λ came w. w) tt next h
+  stepped_due (needs.Command bytes) next h = passes (needs.Command bytes) tt (λ came w. w) tt next h
+  stepped_due needs.Wait next h = passes needs.Wait tt (λ came w. w) tt next h
+
+stepped_life : (plan : Plan) (s : State) (pid bounces : ℕ) (a : List ℕ) (x : Actor) (life : Life) (deed : Deed) → s.actors a ≡ Some x → x.life ≡ life
+    → DoesAlive plan s pid bounces a x life (Happens deed) → HasStepped plan s pid bounces a deed
+stepped_life plan s pid bounces a x Alive deed is alive h = record {
+  actor = x;
+  is = is;
+  alive = alive;
+  did = stepped_due plan s pid bounces a x deed (next_of x.program x.past s.now (found_in s a)) refl h;
+}
+stepped_life plan s pid bounces a x (Over status) deed is over h = absurd (cc)
+stepped_life plan s pid bounces a x Stopped deed is over h = absurd (cc)
+
+stepped_by : (plan : Plan) (s : State) (pid bounces : ℕ) (a : List ℕ) (o : Option Actor) (deed : Deed) → s.actors a ≡ o → DoesStep plan s pid bounces a o (Happens deed)
+    → HasStepped plan s pid bounces a deed
+stepped_by plan s pid bounces a None deed is h = absurd (cc)
+stepped_by plan s pid bounces a (Some x) deed is h = stepped_life plan s pid bounces a x x.life deed is refl h
+
+pub has_stepped : (d : Disk) (h : List Deed) (plan : Plan) (a : List ℕ) (deed : Deed) → StepsTo d h plan a (Happens deed)
+    → HasStepped plan (after d h) (next_pid h) (bounces_in h) a deed
+has_stepped d h plan a deed step = stepped_by plan (after d h) (next_pid h) (bounces_in h) a ((after d h).actors a) deed refl step
+
+-- What is kept
+
+-- only a sender has an actor in a slot
+abbrev pub OnlySendersRun : (List ℕ → ℕ → Option Tenant) → Type 0
+OnlySendersRun programs = (a : List ℕ) (d : ℕ) (c : List ℕ) → programs a d ≡ Some (Runs c) → a ≡ codes "sender"
+
+-- who hasn't started is nobody's child, and was given nothing
+abbrev pub AreNew : (List ℕ → Option Actor) → Pipework → Type 0
+AreNew actors w = (b : List ℕ) → actors b ≡ None → is_member b ≡ false → (w.slots b ≡ None) × (w.pipes b port.Input ≡ fresh)
 
 pub record Carries (s : State) : Type 0 where
   pub finite : IsFinite s.disk
@@ -67,9 +275,9 @@ pub record Carries (s : State) : Type 0 where
   pub owns : (a : List ℕ) (x : Actor) → s.actors a ≡ Some x → x.life ≡ Alive → Owns s.disk s.holder a (held x.past)
   pub runs : (a : List ℕ) (x : Actor) → s.actors a ≡ Some x → IsRunBy (next_of x.program) x.past
   pub in_order : (a : List ℕ) (x : Actor) → s.actors a ≡ Some x → latest x.program x.past ≤ s.now
-  pub no_child : (a : List ℕ) → s.pipework.slots a ≡ None
-  pub no_runs : NoRuns s.pipework.programs
-  pub apart : (a : List ℕ) (x : Actor) → s.actors a ≡ Some x → IsApart a x
+  pub kinds : (a : List ℕ) (x : Actor) → s.actors a ≡ Some x → RunsAt (seat a) x.program
+  pub children : OnlySendersRun s.pipework.programs
+  pub new : AreNew s.actors s.pipework
 
 unless_was : {X : Type 0} (a : List ℕ) (o : Option (List ℕ)) (file : Option X) (x : X) → unless_by a o file ≡ Some x
     → file ≡ Some x
@@ -85,85 +293,8 @@ finite_shut : (a : List ℕ) (holder : ℕ → Option (List ℕ)) (d : Disk) →
 finite_shut a holder d f =
     fewer_open d (λ fd. unless_by a (holder fd) (d.opens fd)) (λ fd o is. unless_was a (holder fd) (d.opens fd) o is) f
 
--- A step of a living actor: a call with an answer, or its end.
-abbrev pub HasCalled : Plan → State → List ℕ → Actor → Event → Type 0
-HasCalled plan s a x e =
-    (c : CallData) × (got : Told) × (next_of x.program x.past s.now (found_in s a) ≡ needs.File c)
-    × Answers plan s.disk c got × (e ≡ call_act a s.now (found_in s a) c got 0)
-
-abbrev pub HasEnded : State → List ℕ → Actor → Event → Type 0
-HasEnded s a x e =
-    (status : ℕ) × (next_of x.program x.past s.now (found_in s a) ≡ needs.Ended status)
-    × (e ≡ End a s.now (found_in s a) status)
-
--- or what comes of a taking, a giving or the start of a remote program
-abbrev pub IsNoFile : NeedData → Type 0
-IsNoFile (needs.File call) = ⊥
-IsNoFile other = Unit {0}
-
-pub record HasPassed (s : State) (pid : ℕ) (a : List ℕ) (x : Actor) (e : Event) : Type 0 where
-  pub due : NeedData
-  pub came : GotData
-  pub no_file : IsNoFile due
-  pub next : next_of x.program x.past s.now (found_in s a) ≡ due
-  pub comes_so : comes s pid a x.program due ≡ Some came
-  pub event : e ≡ Act a (own_by s a due came) 0
-
-pub data HasDone (plan : Plan) (s : State) (pid : ℕ) (a : List ℕ) (x : Actor) (e : Event) : Type 0 where
-  Calls : HasCalled plan s a x e → HasDone plan s pid a x e
-  Finishes : HasEnded s a x e → HasDone plan s pid a x e
-  Passes : HasPassed s pid a x e → HasDone plan s pid a x e
-
-pub record HasStepped (plan : Plan) (s : State) (pid : ℕ) (a : List ℕ) (e : Event) : Type 0 where
-  pub actor : Actor
-  pub is : s.actors a ≡ Some actor
-  pub alive : actor.life ≡ Alive
-  pub did : HasDone plan s pid a actor e
-
-same_event : (e f : Event) → Happens e ≡ Happens f → e ≡ f
-same_event e f h = cc
-
-passed : (s : State) (a : List ℕ) (due : NeedData) (c : Option GotData) (e : Event) → Happens e ≡ does s a due c → (came : GotData) × (c ≡ Some came) × (e ≡ Act a (own_by s a due came) 0)
-passed s a due None e h = absurd (cc)
-passed s a due (Some came) e h = (came, refl, same_event e (Act a (own_by s a due came) 0) h)
-
-passes : (plan : Plan) (s : State) (pid : ℕ) (a : List ℕ) (x : Actor) (due : NeedData) (e : Event) → IsNoFile due → next_of x.program x.past s.now (found_in s a) ≡ due
-    → Happens e ≡ does s a due (comes s pid a x.program due) → HasDone plan s pid a x e
-passes plan s pid a x due e unfiled next h =
-    let p = passed s a due (comes s pid a x.program due) e h in
-    Passes (record { due = due; came = p.0; no_file = unfiled; next = next; comes_so = p.1; event = p.2 })
-
-stepped_due : (plan : Plan) (s : State) (pid : ℕ) (a : List ℕ) (x : Actor) (due : NeedData) (e : Event)
-    → next_of x.program x.past s.now (found_in s a) ≡ due → DoesNext plan s pid a x.program due (Happens e) → HasDone plan s pid a x e
-stepped_due plan s pid a x (needs.File c) e next h = Calls (c, h.0, next, h.1, same_event e _ h.2)
-stepped_due plan s pid a x (needs.Ended status) e next h = Finishes (status, next, same_event e _ h)
-stepped_due plan s pid a x (needs.Take port) e next h = passes plan s pid a x (needs.Take port) e tt next h
-stepped_due plan s pid a x (needs.Give port bytes) e next h = passes plan s pid a x (needs.Give port bytes) e tt next h
-stepped_due plan s pid a x (needs.Start child) e next h = passes plan s pid a x (needs.Start child) e tt next h
-stepped_due plan s pid a x (needs.Command bytes) e next h = passes plan s pid a x (needs.Command bytes) e tt next h
-stepped_due plan s pid a x needs.Wait e next h = passes plan s pid a x needs.Wait e tt next h
-
-stepped_life : (plan : Plan) (s : State) (pid : ℕ) (a : List ℕ) (x : Actor) (life : Life) (e : Event) → s.actors a ≡ Some x → x.life ≡ life
-    → DoesAlive plan s pid a x life (Happens e) → HasStepped plan s pid a e
-stepped_life plan s pid a x Alive e is alive h = record {
-  actor = x;
-  is = is;
-  alive = alive;
-  did = stepped_due plan s pid a x (next_of x.program x.past s.now (found_in s a)) e refl h;
-}
-stepped_life plan s pid a x (Over status) e is over h = absurd (cc)
-stepped_life plan s pid a x Stopped e is over h = absurd (cc)
-
-stepped_by : (plan : Plan) (s : State) (pid : ℕ) (a : List ℕ) (o : Option Actor) (e : Event) → s.actors a ≡ o → DoesStep plan s pid a o (Happens e)
-    → HasStepped plan s pid a e
-stepped_by plan s pid a None e is h = absurd (cc)
-stepped_by plan s pid a (Some x) e is h = stepped_life plan s pid a x x.life e is refl h
-
-pub has_stepped : (d : Disk) (h : List Event) (plan : Plan) (a : List ℕ) (e : Event) → StepsTo d h plan a (Happens e) → HasStepped plan (after d h) (next_pid h) a e
-has_stepped d h plan a e step = stepped_by plan (after d h) (next_pid h) a ((after d h).actors a) e refl step
-
 -- An actor that was put at a name, or another one.
-put_actor : (actors : List ℕ → Option Actor) (a b : List ℕ) (x y : Actor) → put_at actors a (Some x) b ≡ Some y
+pub put_actor : (actors : List ℕ → Option Actor) (a b : List ℕ) (x y : Actor) → put_at actors a (Some x) b ≡ Some y
     → ((b ≡ a) × (x ≡ y)) ⊎ ((b ≢ a) × (actors b ≡ Some y))
 put_actor actors a b x y is = ⊎_elim
     (λ h. inl (h.0, let both : ◌≡◌ {A = Option Actor} (Some x) (Some y) = sym h.1 ∙ is in cc))
@@ -192,7 +323,7 @@ module _ (s : State) (a : List ℕ) (x : Actor) (carries : Carries s) (is : s.ac
       may_make s.disk (held x.past) (next_of x.program x.past s.now (found_in s a))
       (owns_backs s.disk s.holder a (held x.past) (carries.owns a x is alive)) due_uses
 
-  called_carries : (c : CallData) (got : Told) → x.life ≡ Alive → next_of x.program x.past s.now (found_in s a) ≡ needs.File c
+  pub called_carries : (c : CallData) (got : Told) → x.life ≡ Alive → next_of x.program x.past s.now (found_in s a) ≡ needs.File c
       → Fits s.disk c got.answer 0 → Carries (called s a s.now (found_in s a) c got 0 (Some x))
   called_carries c got alive due fits =
       let t = called s a s.now (found_in s a) c got 0 (Some x) in
@@ -217,12 +348,18 @@ module _ (s : State) (a : List ℕ) (x : Actor) (carries : Carries s) (is : s.ac
         in_order = λ b y here. put_holds (λ (z : Actor). latest z.program z.past ≤ s.now) s.actors a b now y here
             (omega arith)
             (λ old. carries.in_order b y old);
-        no_child = carries.no_child;
-        no_runs = carries.no_runs;
-        apart = λ b y here. put_named IsApart s.actors a b now y here (carries.apart a x is) (carries.apart b y);
+        kinds = λ b y here. put_named (λ (q : List ℕ) (z : Actor). RunsAt (seat q) z.program) s.actors a b now y here (carries.kinds a x is) (carries.kinds b y);
+        children = carries.children;
+        new = λ b none. carries.new b (none_put s.actors a now b none);
       }
 
-finished_carries : (s : State) (a : List ℕ) (x : Actor) (life : Life) → life ≢ Alive → Carries s → s.actors a ≡ Some x
+-- who is nobody's child has no writer
+no_writer : (w : Pipework) (a b : List ℕ) → is_member b ≡ false → w.slots b ≡ None → is_writer a (feeder w b) ≡ false
+no_writer w a b named none =
+    ap (λ (t : Bool). is_writer a (if t then Some (codes "sender") else option_map (λ slot. slot.parent) (w.slots b))) named
+    ∙ ap (λ (o : Option Slot). is_writer a (option_map (λ slot. slot.parent) o)) none
+
+pub finished_carries : (s : State) (a : List ℕ) (x : Actor) (life : Life) → life ≢ Alive → Carries s → s.actors a ≡ Some x
     → Carries (finished s a life (Some x))
 finished_carries s a x life over carries is =
     let gone : Actor = record { program = x.program; past = x.past; life = life } in
@@ -239,32 +376,72 @@ finished_carries s a x life over carries is =
       in_order = λ b y here. put_holds (λ (z : Actor). latest z.program z.past ≤ s.now) s.actors a b gone y here
           (carries.in_order a x is)
           (λ old. carries.in_order b y old);
-      no_child = carries.no_child;
-      no_runs = carries.no_runs;
-      apart = λ b y here. put_named IsApart s.actors a b gone y here (carries.apart a x is) (carries.apart b y);
+      kinds = λ b y here. put_named (λ (q : List ℕ) (z : Actor). RunsAt (seat q) z.program) s.actors a b gone y here (carries.kinds a x is) (carries.kinds b y);
+      children = carries.children;
+      new = λ b none named.
+          let old = carries.new b (none_put s.actors a gone b none) named in
+          (old.0, ap (λ (t : Bool). if t then closed (s.pipework.pipes b port.Input) else s.pipework.pipes b port.Input) (no_writer s.pipework a b named old.0) ∙ old.1);
     }
 
-begins_carries : (s : State) (a : List ℕ) (program : Program) (pipework : Pipework) → start_of program ≤ s.now → ((b : List ℕ) → pipework.slots b ≡ None) → NoRuns pipework.programs
-    → IsApart a (newborn program) → Carries s → Carries (begins s a program pipework)
-begins_carries s a program pipework begun no_child no_runs apart carries =
-    let new : Actor = record { program = program; past = []; life = Alive } in
+pub begins_carries : (s : State) (a : List ℕ) (program : Program) (pipework : Pipework) → start_of program ≤ s.now → RunsAt (seat a) program → OnlySendersRun pipework.programs
+    → AreNew (put_at s.actors a (Some (newborn program))) pipework → Carries s → Carries (begins s a program pipework)
+begins_carries s a program pipework begun kind children new carries =
+    let one : Actor = record { program = program; past = []; life = Alive } in
     record {
       finite = carries.finite;
       lasting = carries.lasting;
       owns = λ b y here lives. ⊎_elim
           (λ h. subst (λ (z : Actor). Owns s.disk s.holder b (held z.past)) h.1 (λ fd mode at. absurd (cc)))
           (λ h. carries.owns b y h.1 lives)
-          (put_actor s.actors a b new y here);
-      runs = λ b y here. put_holds (λ (z : Actor). IsRunBy (next_of z.program) z.past) s.actors a b new y here
+          (put_actor s.actors a b one y here);
+      runs = λ b y here. put_holds (λ (z : Actor). IsRunBy (next_of z.program) z.past) s.actors a b one y here
           tt
           (λ old. carries.runs b y old);
-      in_order = λ b y here. put_holds (λ (z : Actor). latest z.program z.past ≤ s.now) s.actors a b new y here
+      in_order = λ b y here. put_holds (λ (z : Actor). latest z.program z.past ≤ s.now) s.actors a b one y here
           begun
           (λ old. carries.in_order b y old);
-      no_child = no_child;
-      no_runs = no_runs;
-      apart = λ b y here. put_named IsApart s.actors a b new y here apart (carries.apart b y);
+      kinds = λ b y here. put_named (λ (q : List ℕ) (z : Actor). RunsAt (seat q) z.program) s.actors a b one y here kind (carries.kinds b y);
+      children = children;
+      new = new;
     }
+
+-- with the same pipes
+pub starts_carries : (s : State) (a : List ℕ) (program : Program) → start_of program ≤ s.now → RunsAt (seat a) program → Carries s → Carries (begins s a program s.pipework)
+starts_carries s a program begun kind carries =
+    begins_carries s a program s.pipework begun kind carries.children (λ b none. carries.new b (none_put s.actors a (newborn program) b none)) carries
+
+-- A state in which one actor, who has done nothing, runs another injector
+
+begun_then : (p q : Program) (now : ℕ) → IsSameButInput p q → start_of p ≤ now → start_of q ≤ now
+begun_then (Injector args) (Injector other) now same begun = let at = same.start_is in omega (arith, at, begun)
+begun_then p q now same begun = absurd same
+
+module _ (s : State) (m : List ℕ → Option Actor) (c : List ℕ) (p q : Program) (life : Life) (same : IsSameButInput p q) (mail : IsMail q) (named : is_member c ≡ false)
+    (others : (a : List ℕ) → a ≢ c → m a ≡ s.actors a) (was : s.actors c ≡ Some (idle p life)) (is : m c ≡ Some (idle q life)) (carries : Carries s) where
+  -- what holds of that one, and of each other one, holds of each
+  holds_but : (P : List ℕ → Actor → Type 0) (b : List ℕ) (x : Actor) → m b ≡ Some x → P c (idle q life) → (s.actors b ≡ Some x → P b x) → P b x
+  holds_but P b x here mine old = ⊎_elim
+      (λ (h : (b ≡ c) × (bytes_eq b c ≡ true)).
+      let both : ◌≡◌ {A = Option Actor} (Some (idle q life)) (Some x) = sym is ∙ (sym (ap m h.0) ∙ here) in
+      let one : idle q life ≡ x = cc in
+      subst (λ (b : List ℕ). P b x) (sym h.0) (subst (P c) one mine))
+      (λ (h : (b ≢ c) × (bytes_eq b c ≡ false)). old (sym (others b h.0) ∙ here))
+      (text_cases b c)
+
+  pub other_carries : Carries (record { disk = s.disk; holder = s.holder; now = s.now; actors = m; books = s.books; pipework = s.pipework })
+  other_carries = record {
+    finite = carries.finite;
+    lasting = carries.lasting;
+    owns = λ b y here. holds_but (λ (b : List ℕ) (z : Actor). z.life ≡ Alive → Owns s.disk s.holder b (held z.past)) b y here (λ alive fd mode at. absurd (cc)) (carries.owns b y);
+    runs = λ b y here. holds_but (λ (b : List ℕ) (z : Actor). IsRunBy (next_of z.program) z.past) b y here tt (carries.runs b y);
+    in_order = λ b y here. holds_but (λ (b : List ℕ) (z : Actor). latest z.program z.past ≤ s.now) b y here (begun_then p q s.now same (carries.in_order c (idle p life) was)) (carries.in_order b y);
+    kinds = λ b y here. holds_but (λ (b : List ℕ) (z : Actor). RunsAt (seat b) z.program) b y here (subst (λ (o : Option ℕ). RunsAt o q) (sym (seat_none c named)) mail) (carries.kinds b y);
+    children = carries.children;
+    new = λ b none. carries.new b (⊎_elim
+        (λ (h : (b ≡ c) × (bytes_eq b c ≡ true)). let both : ◌≡◌ {A = Option Actor} None (Some (idle q life)) = sym none ∙ (ap m h.0 ∙ is) in absurd (cc))
+        (λ (h : (b ≢ c) × (bytes_eq b c ≡ false)). sym (others b h.0) ∙ none)
+        (text_cases b c));
+  }
 
 -- What comes of a taking, a giving or a start
 
@@ -315,57 +492,66 @@ pub record Comes (s : State) (a : List ℕ) (due : NeedData) (came : GotData) : 
   pub of : ComesOf s a due came 0
   pub may : MayCome due came
 
-status_life : (s : State) (slot : ℕ) (b : List ℕ) (x : Actor) (life : Life) (came : GotData) → x.life ≡ life → status_told life ≡ Some came → IsTaken (port.Status slot) came
-status_life s slot b x Alive came is e = absurd (cc)
-status_life s slot b x (Over status) came is e = let same : Ended status ≡ came = cc in subst (IsTaken (port.Status slot)) same tt
-status_life s slot b x Stopped came is e = let same : Crashed ≡ came = cc in subst (IsTaken (port.Status slot)) same tt
+status_life : (slot : ℕ) (life : Life) (came : GotData) → status_told life ≡ Some came → IsStatusOf life came × IsTaken (port.Status slot) came
+status_life slot Alive came e = absurd (cc)
+status_life slot (Over status) came e = let same : Ended status ≡ came = cc in (sym same, subst (IsTaken (port.Status slot)) same tt)
+status_life slot Stopped came e = let same : Crashed ≡ came = cc in (sym same, subst (IsTaken (port.Status slot)) same tt)
 
-status_comes : (s : State) (slot : ℕ) (o : Option Tenant) (came : GotData) → ((b : List ℕ) → o ≡ Some (Runs b) → ⊥) → status_in s o ≡ Some came → TenantEnds s o came × IsTaken (port.Status slot) came
-status_comes s slot None came none e = absurd (cc)
-status_comes s slot (Some (Runs b)) came none e = absurd (none b refl)
-status_comes s slot (Some (Remote true)) came none e = let same : Ended 0 ≡ came = cc in (sym same, subst (IsTaken (port.Status slot)) same tt)
-status_comes s slot (Some (Remote false)) came none e = absurd (cc)
+status_actor : (s : State) (slot : ℕ) (b : List ℕ) (o : Option Actor) (came : GotData) → s.actors b ≡ o → status_of o ≡ Some came → TenantEnds s (Some (Runs b)) came × IsTaken (port.Status slot) came
+status_actor s slot b None came is e = absurd (cc)
+status_actor s slot b (Some x) came is e = let o = status_life slot x.life came e in ((x, is, o.0), o.1)
+
+status_comes : (s : State) (slot : ℕ) (o : Option Tenant) (came : GotData) → status_in s o ≡ Some came → TenantEnds s o came × IsTaken (port.Status slot) came
+status_comes s slot None came e = absurd (cc)
+status_comes s slot (Some (Runs b)) came e = status_actor s slot b (s.actors b) came refl e
+status_comes s slot (Some (Remote true)) came e = let same : Ended 0 ≡ came = cc in (sym same, subst (IsTaken (port.Status slot)) same tt)
+status_comes s slot (Some (Remote false)) came e = absurd (cc)
 
 fed : (s : State) (o : Option Tenant) (bytes : List ℕ) → ((b : List ℕ) → o ≡ Some (Runs b) → ⊥) → IsFed s o bytes
 fed s None bytes none = tt
 fed s (Some (Runs b)) bytes none = absurd (none b refl)
 fed s (Some (Remote reported)) bytes none = tt
 
-module _ (s : State) (pid : ℕ) (a : List ℕ) (program : Program) (no_runs : NoRuns s.pipework.programs) where
+bounce_comes : (s : State) (pid : ℕ) (a : List ℕ) (program : Program) (room : ℕ) (came : GotData) → starts_as pid program (child.Bounce room) ≡ came → (IsBirth (needs.Start (child.Bounce room)) came → ⊥)
+    → Comes s a (needs.Start (child.Bounce room)) came
+bounce_comes s pid a (Sender start) room came e unborn = absurd (unborn (subst (IsBirth (needs.Start (child.Bounce room))) e tt))
+bounce_comes s pid a other room came e unborn = subst (Comes s a (needs.Start (child.Bounce room))) e (record { of = tt; may = tt })
+
+module _ (s : State) (pid : ℕ) (a : List ℕ) (program : Program) where
   took : (p : Port) (came : GotData) → offered (most_of program) (s.pipework.pipes a p) ≡ Some came → ((bytes : List ℕ) → IsTaken p (Took bytes)) → IsTaken p Ends
       → IsOffered p (s.pipework.pipes a p) came
   took p came e bytes ends = all_offered p (most_of program) (s.pipework.pipes a p) came (some_most program) e bytes ends
 
-  pub comes_may : (due : NeedData) (came : GotData) → comes s pid a program due ≡ Some came → Comes s a due came
-  comes_may (needs.Take port.Input) came e = let o = took port.Input came e (λ bytes. tt) tt in record { of = o.yields; may = o.taken }
-  comes_may (needs.Take port.Output) came e = let o = took port.Output came e (λ bytes. tt) tt in record { of = o.yields; may = o.taken }
-  comes_may (needs.Take port.Clean) came e = let o = took port.Clean came e (λ bytes. tt) tt in record { of = o.yields; may = o.taken }
-  comes_may (needs.Take port.Lspawn) came e = let o = took port.Lspawn came e (λ bytes. tt) tt in record { of = o.yields; may = o.taken }
-  comes_may (needs.Take port.Rspawn) came e = let o = took port.Rspawn came e (λ bytes. tt) tt in record { of = o.yields; may = o.taken }
-  comes_may (needs.Take port.Todo) came e = let o = took port.Todo came e (λ bytes. tt) tt in record { of = o.yields; may = o.taken }
-  comes_may (needs.Take (port.Program d)) came e = let o = took (port.Program d) came e (λ bytes. tt) tt in record { of = o.yields; may = o.taken }
-  comes_may (needs.Take (port.Status d)) came e =
-      let o = status_comes s d (s.pipework.programs a d) came (no_runs a d) e in record { of = inr o.0; may = o.1 }
-  comes_may (needs.Give (port.Program d) bytes) came e =
+  pub comes_may : (due : NeedData) (came : GotData) → comes s pid a program due ≡ Some came → (IsBirth due came → ⊥) → GivesToNone s.pipework a due → Comes s a due came
+  comes_may (needs.Take port.Input) came e unborn none = let o = took port.Input came e (λ bytes. tt) tt in record { of = o.yields; may = o.taken }
+  comes_may (needs.Take port.Output) came e unborn none = let o = took port.Output came e (λ bytes. tt) tt in record { of = o.yields; may = o.taken }
+  comes_may (needs.Take port.Clean) came e unborn none = let o = took port.Clean came e (λ bytes. tt) tt in record { of = o.yields; may = o.taken }
+  comes_may (needs.Take port.Lspawn) came e unborn none = let o = took port.Lspawn came e (λ bytes. tt) tt in record { of = o.yields; may = o.taken }
+  comes_may (needs.Take port.Rspawn) came e unborn none = let o = took port.Rspawn came e (λ bytes. tt) tt in record { of = o.yields; may = o.taken }
+  comes_may (needs.Take port.Todo) came e unborn none = let o = took port.Todo came e (λ bytes. tt) tt in record { of = o.yields; may = o.taken }
+  comes_may (needs.Take (port.Program d)) came e unborn none = let o = took (port.Program d) came e (λ bytes. tt) tt in record { of = o.yields; may = o.taken }
+  comes_may (needs.Take (port.Status d)) came e unborn none =
+      let o = status_comes s d (s.pipework.programs a d) came e in record { of = inr o.0; may = o.1 }
+  comes_may (needs.Give (port.Program d) bytes) came e unborn none =
       let same : Gave ≡ came = cc in
-      subst (Comes s a (needs.Give (port.Program d) bytes)) same (record { of = fed s (s.pipework.programs a d) bytes (no_runs a d); may = tt })
-  comes_may (needs.Give port.Input bytes) came e = let same : Gave ≡ came = cc in subst (Comes s a (needs.Give port.Input bytes)) same (record { of = tt; may = tt })
-  comes_may (needs.Give port.Output bytes) came e = let same : Gave ≡ came = cc in subst (Comes s a (needs.Give port.Output bytes)) same (record { of = tt; may = tt })
-  comes_may (needs.Give port.Clean bytes) came e = let same : Gave ≡ came = cc in subst (Comes s a (needs.Give port.Clean bytes)) same (record { of = tt; may = tt })
-  comes_may (needs.Give port.Lspawn bytes) came e = let same : Gave ≡ came = cc in subst (Comes s a (needs.Give port.Lspawn bytes)) same (record { of = tt; may = tt })
-  comes_may (needs.Give port.Rspawn bytes) came e = let same : Gave ≡ came = cc in subst (Comes s a (needs.Give port.Rspawn bytes)) same (record { of = tt; may = tt })
-  comes_may (needs.Give port.Todo bytes) came e = let same : Gave ≡ came = cc in subst (Comes s a (needs.Give port.Todo bytes)) same (record { of = tt; may = tt })
-  comes_may (needs.Give (port.Status d) bytes) came e = let same : Gave ≡ came = cc in subst (Comes s a (needs.Give (port.Status d) bytes)) same (record { of = tt; may = tt })
-  comes_may (needs.Start (child.Remote slot domain sender recipient)) came e =
+      subst (Comes s a (needs.Give (port.Program d) bytes)) same (record { of = fed s (s.pipework.programs a d) bytes none; may = tt })
+  comes_may (needs.Give port.Input bytes) came e unborn none = let same : Gave ≡ came = cc in subst (Comes s a (needs.Give port.Input bytes)) same (record { of = tt; may = tt })
+  comes_may (needs.Give port.Output bytes) came e unborn none = let same : Gave ≡ came = cc in subst (Comes s a (needs.Give port.Output bytes)) same (record { of = tt; may = tt })
+  comes_may (needs.Give port.Clean bytes) came e unborn none = let same : Gave ≡ came = cc in subst (Comes s a (needs.Give port.Clean bytes)) same (record { of = tt; may = tt })
+  comes_may (needs.Give port.Lspawn bytes) came e unborn none = let same : Gave ≡ came = cc in subst (Comes s a (needs.Give port.Lspawn bytes)) same (record { of = tt; may = tt })
+  comes_may (needs.Give port.Rspawn bytes) came e unborn none = let same : Gave ≡ came = cc in subst (Comes s a (needs.Give port.Rspawn bytes)) same (record { of = tt; may = tt })
+  comes_may (needs.Give port.Todo bytes) came e unborn none = let same : Gave ≡ came = cc in subst (Comes s a (needs.Give port.Todo bytes)) same (record { of = tt; may = tt })
+  comes_may (needs.Give (port.Status d) bytes) came e unborn none = let same : Gave ≡ came = cc in subst (Comes s a (needs.Give (port.Status d) bytes)) same (record { of = tt; may = tt })
+  comes_may (needs.Start (child.Remote slot domain sender recipient)) came e unborn none =
       let same : Started pid ≡ came = cc in
       subst (Comes s a (needs.Start (child.Remote slot domain sender recipient))) same (record { of = tt; may = tt })
-  comes_may (needs.Start (child.Bounce room)) came e = let same : Failed ≡ came = cc in subst (Comes s a (needs.Start (child.Bounce room))) same (record { of = tt; may = tt })
-  comes_may (needs.Start (child.Forward uid room)) came e = let same : Failed ≡ came = cc in subst (Comes s a (needs.Start (child.Forward uid room))) same (record { of = tt; may = tt })
-  comes_may (needs.Start (child.Local slot words uid)) came e = let same : Failed ≡ came = cc in subst (Comes s a (needs.Start (child.Local slot words uid))) same (record { of = tt; may = tt })
-  comes_may (needs.File call) came e = absurd (cc)
-  comes_may (needs.Command bytes) came e = let same : Failed ≡ came = cc in subst (Comes s a (needs.Command bytes)) same (record { of = tt; may = tt })
-  comes_may needs.Wait came e = absurd (cc)
-  comes_may (needs.Ended status) came e = absurd (cc)
+  comes_may (needs.Start (child.Bounce room)) came e unborn none = let same : starts_as pid program (child.Bounce room) ≡ came = cc in bounce_comes s pid a program room came same unborn
+  comes_may (needs.Start (child.Forward uid room)) came e unborn none = let same : Failed ≡ came = cc in subst (Comes s a (needs.Start (child.Forward uid room))) same (record { of = tt; may = tt })
+  comes_may (needs.Start (child.Local slot words uid)) came e unborn none = let same : Failed ≡ came = cc in subst (Comes s a (needs.Start (child.Local slot words uid))) same (record { of = tt; may = tt })
+  comes_may (needs.File call) came e unborn none = absurd (cc)
+  comes_may (needs.Command bytes) came e unborn none = let same : Failed ≡ came = cc in subst (Comes s a (needs.Command bytes)) same (record { of = tt; may = tt })
+  comes_may needs.Wait came e unborn none = absurd (cc)
+  comes_may (needs.Ended status) came e unborn none = absurd (cc)
 
 -- What it leaves
 
@@ -381,23 +567,13 @@ no_file_held : (before : ℕ → Option Mode) (due : NeedData) (came : GotData) 
 no_file_held before (needs.File call) came none = absurd none
 no_file_held before due came none = refl
 
-put_runs : (programs : List ℕ → ℕ → Option Tenant) (a : List ℕ) (d : ℕ) (tenant : Option Tenant) → NoRuns programs → ((b : List ℕ) → tenant ≡ Some (Runs b) → ⊥) → NoRuns (put_program programs a d tenant)
-put_runs programs a d tenant none other b e c is = by (bytes_eq b a && (e == d)) is
-  where
-    by : (t : Bool) → (if t then tenant else programs b e) ≡ Some (Runs c) → ⊥
-    by true is = other c is
-    by false is = none b e c is
-
-runs_after : (programs : List ℕ → ℕ → Option Tenant) (a : List ℕ) (due : NeedData) (came : GotData) → NoRuns programs → NoRuns (programs_after programs a due came)
-runs_after programs a (needs.Take (port.Status d)) (Ended status) none = put_runs programs a d None none (λ b e. absurd (cc))
-runs_after programs a (needs.Take (port.Status d)) Crashed none = put_runs programs a d None none (λ b e. absurd (cc))
-runs_after programs a (needs.Start (child.Remote slot domain sender recipient)) (Started pid) none = put_runs programs a slot (Some (Remote false)) none (λ b e. absurd (cc))
-runs_after programs a due came none = none
-
-passed_carries : (s : State) (a : List ℕ) (x : Actor) (due : NeedData) (came : GotData) → IsNoFile due → Carries s → s.actors a ≡ Some x → x.life ≡ Alive
-    → next_of x.program x.past s.now (found_in s a) ≡ due → MayCome due came → Carries (acted s a (own_by s a due came) 0 (Some x))
-passed_carries s a x due came unfiled carries is alive next may =
-    let own = own_by s a due came in
+-- an event of an actor that calls no file and leaves the input of who hasn't started
+pub passed_carries : (s : State) (a : List ℕ) (x : Actor) (ready : Ready) (due : NeedData) (came : GotData) → IsNoFile due → Carries s → s.actors a ≡ Some x → x.life ≡ Alive
+    → next_of x.program x.past s.now ready ≡ due → MayCome due came
+    → ((b : List ℕ) → s.actors b ≡ None → is_member b ≡ false → (pipework_after s.pipework a due came 0).pipes b port.Input ≡ s.pipework.pipes b port.Input)
+    → Carries (acted s a (record { read = s.now; ready = ready; due = due; came = came }) 0 (Some x))
+passed_carries s a x ready due came unfiled carries is alive next may still =
+    let own : Own = record { read = s.now; ready = ready; due = due; came = came } in
     let now : Actor = record { program = x.program; past = own ∷ x.past; life = x.life } in
     let t = acted s a own 0 (Some x) in
     let disk : t.disk ≡ s.disk = no_file_disk s.disk s.now due came 0 unfiled in
@@ -421,173 +597,105 @@ passed_carries s a x due came unfiled carries is alive next may =
       in_order = λ b y here. put_holds (λ (z : Actor). latest z.program z.past ≤ s.now) s.actors a b now y here
           (omega arith)
           (λ old. carries.in_order b y old);
-      no_child = carries.no_child;
-      no_runs = runs_after s.pipework.programs a due came carries.no_runs;
-      apart = λ b y here. put_named IsApart s.actors a b now y here (carries.apart a x is) (carries.apart b y);
+      kinds = λ b y here. put_named (λ (q : List ℕ) (z : Actor). RunsAt (seat q) z.program) s.actors a b now y here (carries.kinds a x is) (carries.kinds b y);
+      children = λ b d c runs. carries.children b d c (ran_before s.pipework a due came b d c runs);
+      new = λ b none named.
+          let unknown = none_put s.actors a now b none in
+          let old = carries.new b unknown named in
+          (old.0, still b unknown named ∙ old.1);
     }
 
--- Each program finds no more ready than it may
-
-finds_by : (s : State) (a : List ℕ) (program : Program) (past : List Own) → s.pipework.slots a ≡ None → MayFind s a program past (found_by s a program)
-finds_by s a (Injector args) past none = ((refl, refl), subst (λ (slot : Option Slot). InputIsFound s.pipework a slot past (found_by s a (Injector args))) (sym none) tt)
-finds_by s a (Cleaner start) past none = (refl, refl)
-finds_by s a (Sender start) past none = (_, _, _, refl, refl)
-finds_by s a (LocalSpawner start) past none = (refl, refl)
-finds_by s a (RemoteSpawner start) past none = refl
-
-may_find : (s : State) (a : List ℕ) (x : Actor) (past : List Own) → s.actors a ≡ Some x → s.pipework.slots a ≡ None → MayFind s a x.program past (found_in s a)
-may_find s a x past is none = subst (MayFind s a x.program past) (sym (ap (found_at s a) is)) (finds_by s a x.program past none)
-
--- A legal history that keeps this.
-pub record Goes (d : Disk) (h : List Event) : Type 0 where
-  pub legal : Legal d h
-  pub carries : Carries (after d h)
-
-may_read : (s : State) (a : List ℕ) (x : Actor) → Carries s → s.actors a ≡ Some x → x.life ≡ Alive → MayRead s a x s.now
-may_read s a x carries is alive = record {
-  is = is;
-  alive = alive;
-  no_earlier = carries.in_order a x is;
-  no_later = omega arith;
-  no_stall = omega arith;
+-- a moment
+pub moment_carries : (s : State) (m : ℕ) → s.now ≤ m → Carries s → Carries (happens s (Moment m))
+moment_carries s m later carries = record {
+  finite = carries.finite;
+  lasting = carries.lasting;
+  owns = carries.owns;
+  runs = carries.runs;
+  in_order = λ a x is. let before = carries.in_order a x is in omega arith;
+  kinds = carries.kinds;
+  children = carries.children;
+  new = carries.new;
 }
 
-goes_step : (d : Disk) (h : List Event) (plan : Plan) (a : List ℕ) (e : Event) (x : Actor) → Goes d h
-    → (after d h).actors a ≡ Some x → x.life ≡ Alive → HasDone plan (after d h) (next_pid h) a x e → Goes d (e ∷ h)
-goes_step d h plan a e x so is alive (Calls (c, got, due, given, same)) =
-    let s = after d h in
-    let carries = so.carries in
-    subst (λ (e : Event). Goes d (e ∷ h)) (sym same) (record {
-      legal = (
-        so.legal,
-        record {
-          actor = x;
-          reads = may_read s a x carries is alive;
-          finds = may_find s a x x.past is (carries.no_child a);
-          due = due;
-          came = (given.fits, given.bytes);
-        },
-      );
-      carries =
-          subst (λ (o : Option Actor). Carries (called s a s.now (found_in s a) c got 0 o)) (sym is)
-          (called_carries s a x carries is c got alive due given.fits);
-    })
-goes_step d h plan a e x so is alive (Finishes (status, due, same)) =
-    let s = after d h in
-    let carries = so.carries in
-    subst (λ (e : Event). Goes d (e ∷ h)) (sym same) (record {
-      legal = (
-        so.legal,
-        record {
-          actor = x;
-          reads = may_read s a x carries is alive;
-          finds = may_find s a x x.past is (carries.no_child a);
-          due = due;
-        },
-      );
-      carries =
-          subst (λ (o : Option Actor). Carries (finished s a (Over status) o)) (sym is)
-          (finished_carries s a x (Over status) (λ e. absurd (cc)) carries is);
-    })
-goes_step d h plan a e x so is alive (Passes p) =
-    let s = after d h in
-    let carries = so.carries in
-    let may = comes_may s (next_pid h) a x.program carries.no_runs p.due p.came p.comes_so in
-    subst (λ (e : Event). Goes d (e ∷ h)) (sym p.event) (record {
-      legal = (
-        so.legal,
-        record {
-          actor = x;
-          reads = may_read s a x carries is alive;
-          finds = may_find s a x x.past is (carries.no_child a);
-          due = p.next;
-          came = may.of;
-        },
-      );
-      carries =
-          subst (λ (o : Option Actor). Carries (acted s a (own_by s a p.due p.came) 0 o)) (sym is)
-          (passed_carries s a x p.due p.came p.no_file carries is alive p.next may.may);
-    })
+-- a machine stop that leaves what its name says
+pub halted_carries : (s : State) (how : Survival) (named : List ℕ) → Carries s → Carries (happens s (Halt how (contents_by how s.disk named)))
+halted_carries s how named carries = record {
+  finite = finite_halted (contents_by how s.disk named) s.disk carries.finite;
+  lasting = lasting_halted (contents_by how s.disk named) s.disk;
+  owns = λ a x is lives.
+      let w = mapped_some stopped (s.actors a) x is in
+      absurd (never_alive w.0.life (ap (λ (x : Actor). x.life) w.2 ∙ lives));
+  runs = λ a x is.
+      let w = mapped_some stopped (s.actors a) x is in
+      subst (λ (x : Actor). IsRunBy (next_of x.program) x.past) w.2 (carries.runs a w.0 w.1);
+  in_order = λ a x is.
+      let w = mapped_some stopped (s.actors a) x is in
+      subst (λ (x : Actor). latest x.program x.past ≤ s.now) w.2 (carries.in_order a w.0 w.1);
+  kinds = λ a x is.
+      let w = mapped_some stopped (s.actors a) x is in
+      subst (λ (x : Actor). RunsAt (seat a) x.program) w.2 (carries.kinds a w.0 w.1);
+  children = λ a d c is. absurd (no_tenant c is);
+  new = λ b none named. (refl, refl);
+}
 
--- each step keeps it
-pub goes_on : (d : Disk) (h : List Event) (plan : Plan) (a : List ℕ) (e : Event) → Goes d h → StepsTo d h plan a (Happens e)
-    → Goes d (e ∷ h)
-goes_on d h plan a e so steps =
-    let one = has_stepped d h plan a e steps in
-    goes_step d h plan a e one.actor so one.is one.alive one.did
+-- a generation
+pub generation_carries : (s : State) → Carries s → Carries (happens s (generation_at s.now))
+generation_carries s carries =
+    let pipework = with_generation s.pipework in
+    let one = begins s (codes "sender") (Sender s.now) pipework in
+    let two = begins one (codes "clean") (Cleaner s.now) pipework in
+    let three = begins two (codes "lspawn") (LocalSpawner s.now) pipework in
+    let children : OnlySendersRun pipework.programs = λ a d c is. carries.children a d c (runs_if (is_member a) None (s.pipework.programs a d) c (no_tenant c) is) in
+    let new : AreNew one.actors pipework = λ b none named.
+    let old = carries.new b (none_put s.actors (codes "sender") (newborn (Sender s.now)) b none) named in
+    (old.0, ap (λ (t : Bool). if t then fresh else s.pipework.pipes b port.Input) named ∙ old.1) in
+    starts_carries three (codes "rspawn") (RemoteSpawner s.now) (omega arith) tt
+    (starts_carries two (codes "lspawn") (LocalSpawner s.now) (omega arith) tt
+    (starts_carries one (codes "clean") (Cleaner s.now) (omega arith) tt
+    (begins_carries s (codes "sender") (Sender s.now) pipework (omega arith) tt children new carries)))
+
+-- the report of a remote program
+pub report_carries : (s : State) (slot letter : ℕ) (text : List ℕ) → Carries s → Carries (happens s (Report slot letter text))
+report_carries s slot letter text carries = record {
+  finite = carries.finite;
+  lasting = carries.lasting;
+  owns = carries.owns;
+  runs = carries.runs;
+  in_order = carries.in_order;
+  kinds = carries.kinds;
+  children = λ a d c is. carries.children a d c (runs_if (bytes_eq a (codes "rspawn") && (d == slot)) (Some (Remote true)) (s.pipework.programs a d) c (remote_tenant true c) is);
+  new = λ b none named.
+      let old = carries.new b none named in (
+        old.0,
+        ap (λ (t : Bool). if t then closed (given (report_text letter text) (s.pipework.pipes b port.Input)) else s.pipework.pipes b port.Input) (and-false (bytes_eq b (codes "rspawn"))) ∙ old.1,
+      );
+}
+
+-- Members
+
+-- a member doesn't start alone
+pub member_apart : (a : List ℕ) (program : Program) → RunsAt (seat a) program → Contains members a → MayRun program → ⊥
+member_apart a program runs member alone =
+    let at = seat_some a (contained_member a member) in
+    seated_apart at.at program (subst (λ (o : Option ℕ). RunsAt o program) at.is runs) alone
+
+-- a sender has its name
+seated_sender : (a : List ℕ) (o : Option ℕ) (program : Program) → seat a ≡ o → RunsAt o program → IsSender program → a ≡ codes "sender"
+seated_sender a None (Sender start) at runs sends = absurd runs
+seated_sender a (Some zero) program at runs sends = same_seat (codes "sender") a 0 refl at
+seated_sender a (Some (suc zero)) (Sender start) at runs sends = absurd runs
+seated_sender a (Some (suc (suc zero))) (Sender start) at runs sends = absurd runs
+seated_sender a (Some (suc (suc (suc i)))) (Sender start) at runs sends = absurd runs
+seated_sender a o other at runs sends = absurd sends
+
+pub sender_named : (a : List ℕ) (program : Program) → RunsAt (seat a) program → IsSender program → a ≡ codes "sender"
+sender_named a program runs sends = seated_sender a (seat a) program refl runs sends
 
 -- a mail has no member's name
 pub not_member : (a : List ℕ) → IsMailName a → ¬ (Contains members a)
 not_member [] named = absurd named
 not_member (first ∷ rest) named = named.3
-
--- and each start
-pub goes_started : (d : Disk) (h : List Event) (a : List ℕ) (program : Program) → IsMail program → ¬ (Contains members a) → Goes d h
-    → (after d h).actors a ≡ None → start_of program ≤ (after d h).now → Goes d (Start a program ∷ h)
-goes_started d h a program mail named so new begun = record {
-  legal = (so.legal, record { new = new; runs = mail_runs program mail });
-  carries = begins_carries (after d h) a program (after d h).pipework begun so.carries.no_child so.carries.no_runs (λ member runs. named member) so.carries;
-}
-
--- and each stop
-pub goes_stopped : (d : Disk) (h : List Event) (a : List ℕ) (x : Actor) → Goes d h → (after d h).actors a ≡ Some x
-    → x.life ≡ Alive → Goes d (Stop a ∷ h)
-goes_stopped d h a x so is alive =
-    let s = after d h in
-    record {
-      legal = (so.legal, record { actor = x; is = is; alive = alive });
-      carries = subst (λ (o : Option Actor). Carries (finished s a Stopped o)) (sym is)
-          (finished_carries s a x Stopped (λ e. absurd (cc)) so.carries is);
-    }
-
--- and each moment
-pub goes_moment : (d : Disk) (h : List Event) (m : ℕ) → Goes d h → IsMoment m → (after d h).now ≤ m
-    → Goes d (Moment m ∷ h)
-goes_moment d h m so moment later =
-    let carries = so.carries in
-    record {
-      legal = (so.legal, record { moment = moment; no_earlier = later });
-      carries = record {
-        finite = carries.finite;
-        lasting = carries.lasting;
-        owns = carries.owns;
-        runs = carries.runs;
-        in_order = λ a x is. let before = carries.in_order a x is in omega arith;
-        no_child = carries.no_child;
-        no_runs = carries.no_runs;
-        apart = carries.apart;
-      };
-    }
-
--- and each machine stop that leaves what its name says
-pub goes_halted : (d : Disk) (h : List Event) (how : Survival) (named : List ℕ) → Goes d h
-    → Goes d (Halt how (contents_by how (after d h).disk named) ∷ h)
-goes_halted d h how named so =
-    let s = after d h in
-    let carries = so.carries in
-    record {
-      legal = (so.legal, halt_survives s.disk how named carries.lasting);
-      carries = record {
-        finite = finite_halted (contents_by how s.disk named) s.disk carries.finite;
-        lasting = lasting_halted (contents_by how s.disk named) s.disk;
-        owns = λ a x is lives.
-            let w = mapped_some stopped (s.actors a) x is in
-            absurd (never_alive w.0.life (ap (λ (x : Actor). x.life) w.2 ∙ lives));
-        runs = λ a x is.
-            let w = mapped_some stopped (s.actors a) x is in
-            subst (λ (x : Actor). IsRunBy (next_of x.program) x.past) w.2 (carries.runs a w.0 w.1);
-        in_order = λ a x is.
-            let w = mapped_some stopped (s.actors a) x is in
-            subst (λ (x : Actor). latest x.program x.past ≤ s.now) w.2 (carries.in_order a w.0 w.1);
-        no_child = λ a. refl;
-        no_runs = λ a d b is. absurd (cc);
-        apart = λ a x is.
-            let w = mapped_some stopped (s.actors a) x is in
-            subst (IsApart a) w.2 (carries.apart a w.0 w.1);
-      };
-    }
-
--- and the start of a generation, if no member of the one before lives
 
 lives_life : (program : Program) (past : List Own) (life : Life) → life ≡ Alive → lives_in (Some (record { program = program; past = past; life = life })) ≡ true
 lives_life program past Alive is = refl
@@ -605,7 +713,7 @@ dead_life program past Stopped over = refl
 pub dead_actor : (x : Actor) → x.life ≢ Alive → lives_in (Some x) ≡ false
 dead_actor x over = dead_life x.program x.past x.life over
 
-none_alive : (s : State) (names : List (List ℕ)) → first_alive s names ≡ None → All (λ a. lives_in (s.actors a) ≡ false) names
+pub none_alive : (s : State) (names : List (List ℕ)) → first_alive s names ≡ None → All (λ a. lives_in (s.actors a) ≡ false) names
 none_alive s [] none = All-nil (λ a. lives_in (s.actors a) ≡ false)
 none_alive s (a ∷ names) none = by (lives_in (s.actors a)) refl none (none_alive s names)
   where
@@ -613,44 +721,6 @@ none_alive s (a ∷ names) none = by (lives_in (s.actors a)) refl none (none_ali
         → (first_alive s names ≡ None → All (λ b. lives_in (s.actors b) ≡ false) names) → All (λ b. lives_in (s.actors b) ≡ false) (a ∷ names)
     by true is none later = absurd (cc)
     by false is none later = All-cons (λ b. lives_in (s.actors b) ≡ false) a names is (later none)
-
-generation_runs : (programs : List ℕ → ℕ → Option Tenant) → NoRuns programs → NoRuns (λ a d. if is_member a then None else programs a d)
-generation_runs programs none a d b is = by (is_member a) is
-  where
-    by : (t : Bool) → (if t then None else programs a d) ≡ Some (Runs b) → ⊥
-    by true is = absurd (cc)
-    by false is = none a d b is
-
-generation_carries : (s : State) → Carries s → Carries (happens s (generation_at s.now))
-generation_carries s carries =
-    let pipework = with_generation s.pipework in
-    let none = generation_runs s.pipework.programs carries.no_runs in
-    let one = begins s (codes "sender") (Sender s.now) pipework in
-    let two = begins one (codes "clean") (Cleaner s.now) pipework in
-    let three = begins two (codes "lspawn") (LocalSpawner s.now) pipework in
-    begins_carries three (codes "rspawn") (RemoteSpawner s.now) pipework (omega arith) carries.no_child none (λ member runs. runs)
-    (begins_carries two (codes "lspawn") (LocalSpawner s.now) pipework (omega arith) carries.no_child none (λ member runs. runs)
-    (begins_carries one (codes "clean") (Cleaner s.now) pipework (omega arith) carries.no_child none (λ member runs. runs)
-    (begins_carries s (codes "sender") (Sender s.now) pipework (omega arith) carries.no_child none (λ member runs. runs) carries)))
-
-pub goes_generation : (d : Disk) (h : List Event) → Goes d h → first_alive (after d h) members ≡ None → Goes d (generation_at (after d h).now ∷ h)
-goes_generation d h so none =
-    let s = after d h in
-    record {
-      legal = (
-        so.legal,
-        record {
-          over = λ a x member is alive.
-              let dead = All-contains (λ b. lives_in (s.actors b) ≡ false) members a (none_alive s members none) member in
-              false≢true (sym dead ∙ ap lives_in is ∙ lives_actor x alive);
-          apart = λ a x member is. so.carries.apart a x is member;
-          kinds = (tt, tt, tt, tt);
-        },
-      );
-      carries = generation_carries s so.carries;
-    }
-
--- and a report
 
 pub living_in : (s : State) (a : List ℕ) (o : Option Actor) → s.actors a ≡ o → lives_in o ≡ true → IsLiving s a
 living_in s a None is lives = absurd (cc)
@@ -671,28 +741,3 @@ pub both_true : (p q : Bool) → (p && q) ≡ true → (p ≡ true) × (q ≡ tr
 both_true true true e = (refl, refl)
 both_true true false e = absurd (cc)
 both_true false q e = absurd (cc)
-
-pub goes_report : (d : Disk) (h : List Event) (slot letter : ℕ) (text : List ℕ) → Goes d h → awaits_report (after d h) slot ≡ true → Goes d (Report slot letter text ∷ h)
-goes_report d h slot letter text so awaits =
-    let s = after d h in
-    let carries = so.carries in
-    let tests = both_true (lives_in (s.actors (codes "rspawn"))) (is_unreported (s.pipework.programs (codes "rspawn") slot)) awaits in
-    record {
-      legal = (
-        so.legal,
-        record {
-          lives = living_in s (codes "rspawn") (s.actors (codes "rspawn")) refl tests.0;
-          runs = unreported_is (s.pipework.programs (codes "rspawn") slot) tests.1;
-        },
-      );
-      carries = record {
-        finite = carries.finite;
-        lasting = carries.lasting;
-        owns = carries.owns;
-        runs = carries.runs;
-        in_order = carries.in_order;
-        no_child = carries.no_child;
-        no_runs = put_runs s.pipework.programs (codes "rspawn") slot (Some (Remote true)) carries.no_runs (λ b e. absurd (cc));
-        apart = carries.apart;
-      };
-    }

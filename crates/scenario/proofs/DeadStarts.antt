@@ -10,15 +10,16 @@ use Rattle.call_fs.specs.Plan.{Plan}
 use Rattle.crash_fs.specs.Crash.{Crash}
 use Rattle.world_events.specs.declared.event.Event.{Event as Kept}
 use Rattle.world_events.specs.declared.event.Event.TheVariants as kept
-use Rattle.mail_world.specs.Generations.{lives_in, is_lasting, started_in as kept_started}
-use Rattle.mail_world.specs.History.{Event, State, Legal, after}
-use Rattle.mail_world.specs.World.{Seen, Tells, Span, span_of, span_after, starts as starts_one}
+use Rattle.mail_world.specs.Generations.{lives_in, is_lasting, started_in as kept_started, starts_of as kept_starts}
+use Rattle.mail_world.specs.History.{State}
+use Rattle.mail_world.specs.World.{Seen, Span, span_of, span_after, starts as starts_one}
 use Rattle.mail_world.specs.World.Span.{Unborn, Lasting, OverAt}
-use Rattle.mail_world.proofs.Lives.{suits}
 use Rattle.mail_world.proofs.Tests.{text_cases, same_text, other_text}
+use Rattle.scenario.specs.Deeds.{Deed, TellsDeed, after}
 use Rattle.scenario.specs.Playing.{IsPlaying}
-use Rattle.scenario.specs.Turns.{started_in, starts_of, next_in, next_living, NoneAmong, NoneBefore}
-use Rattle.scenario.proofs.NextLiving.{same_started, lasts}
+use Rattle.scenario.specs.Turns.{starts_of, next_in, next_living, NoneAmong, NoneBefore}
+use Rattle.scenario.proofs.Deeds.{same_starts}
+use Rattle.scenario.proofs.NextLiving.{lasts_told}
 use Rattle.scenario.proofs.TurnStarts.{place_told}
 
 -- The next living actor
@@ -51,7 +52,7 @@ left_out s (suc n) at (a ∷ later) none =
     ∙ ap (λ (from : ℕ). next_in s from (at + 1) later) further ∙ left_out s n (at + 1) later none.1
     ∙ sym (ap (λ (t : Bool). if not t && is_newest s a later then Some (a, at) else next_in s 0 (at + 1) later) (low_enough at 0 (omega arith)) ∙ ap (λ (t : Bool). if t then Some (a, at) else next_in s 0 (at + 1) later) none.0)
 
-pub none_skipped : (d : Disk) (h : List Event) (place : ℕ) → NoneBefore d h place → next_living d h 0 ≡ next_living d h place
+pub none_skipped : (d : Disk) (h : List Deed) (place : ℕ) → NoneBefore d h place → next_living d h 0 ≡ next_living d h place
 none_skipped d h place none =
     let same : 0 + place ≡ place = omega arith in
     sym (left_out (after d h) place 0 (starts_of h) none) ∙ ap (λ (n : ℕ). next_in (after d h) n 0 (starts_of h)) same
@@ -81,7 +82,7 @@ first_found s at (b ∷ later) a place is = by (is_newest s b later) refl (first
             (e, subst (λ (m : ℕ). NoneAmong s m later) fewer (more (rest false e)))
 
 -- where the first living one from such a place on started, and none before it
-pub first_is : (d : Disk) (h : List Event) (from place : ℕ) (a : List ℕ) → NoneBefore d h from → next_living d h from ≡ Some (a, place) → NoneBefore d h place
+pub first_is : (d : Disk) (h : List Deed) (from place : ℕ) (a : List ℕ) → NoneBefore d h from → next_living d h from ≡ Some (a, place) → NoneBefore d h place
 first_is d h from place a none is =
     let same : place - 0 ≡ place = omega arith in
     subst (λ (n : ℕ). NoneAmong (after d h) n (starts_of h)) same (first_found (after d h) 0 (starts_of h) a place (none_skipped d h from none ∙ is))
@@ -95,14 +96,30 @@ head_stays true false any_all lived lives all revives none = ap (λ (t : Bool). 
 head_stays false false any_all lived false all revives none = ap (λ (t : Bool). not t && false) all
 head_stays false false any_all lived true all revives none = absurd (false≢true (sym none ∙ revives refl refl))
 
-stays : (s t : State) (added names : List (List ℕ)) (n : ℕ) → ((a : List ℕ) → lives_in (t.actors a) ≡ true → list_any (bytes_eq a) added ≡ false → lives_in (s.actors a) ≡ true)
-    → NoneAmong s n names → NoneAmong t n (names ++ added)
-stays s t added names zero revives none = tt
-stays s t added [] (suc n) revives none = absurd none
-stays s t added (a ∷ later) (suc n) revives none = (
-  head_stays (list_any (bytes_eq a) later) (list_any (bytes_eq a) added) (list_any (bytes_eq a) (later ++ added)) (lives_in (s.actors a)) (lives_in (t.actors a))
+-- the same of other tests of who lives
+abbrev NoneBy : (List ℕ → Bool) → ℕ → List (List ℕ) → Type 0
+NoneBy lives zero names = Unit {0}
+NoneBy lives (suc n) [] = ⊥
+NoneBy lives (suc n) (a ∷ later) = ((not (list_any (bytes_eq a) later) && lives a) ≡ false) × NoneBy lives n later
+
+by_test : (s : State) (lives : List ℕ → Bool) (n : ℕ) (names : List (List ℕ)) → ((a : List ℕ) → lives a ≡ lives_in (s.actors a)) → NoneAmong s n names → NoneBy lives n names
+by_test s lives zero names same none = tt
+by_test s lives (suc n) [] same none = absurd none
+by_test s lives (suc n) (a ∷ later) same none = (ap (λ (t : Bool). not (list_any (bytes_eq a) later) && t) (same a) ∙ none.0, by_test s lives n later same none.1)
+
+by_state : (s : State) (lives : List ℕ → Bool) (n : ℕ) (names : List (List ℕ)) → ((a : List ℕ) → lives a ≡ lives_in (s.actors a)) → NoneBy lives n names → NoneAmong s n names
+by_state s lives zero names same none = tt
+by_state s lives (suc n) [] same none = absurd none
+by_state s lives (suc n) (a ∷ later) same none = (ap (λ (t : Bool). not (list_any (bytes_eq a) later) && t) (sym (same a)) ∙ none.0, by_state s lives n later same none.1)
+
+stays : (lived lives : List ℕ → Bool) (added names : List (List ℕ)) (n : ℕ) → ((a : List ℕ) → lives a ≡ true → list_any (bytes_eq a) added ≡ false → lived a ≡ true)
+    → NoneBy lived n names → NoneBy lives n (names ++ added)
+stays lived lives added names zero revives none = tt
+stays lived lives added [] (suc n) revives none = absurd none
+stays lived lives added (a ∷ later) (suc n) revives none = (
+  head_stays (list_any (bytes_eq a) later) (list_any (bytes_eq a) added) (list_any (bytes_eq a) (later ++ added)) (lived a) (lives a)
       (list_any-append (bytes_eq a) later added) (revives a) none.0,
-  stays s t added later n revives none.1,
+  stays lived lives added later n revives none.1,
 )
 
 turned_text : (a b : List ℕ) → bytes_eq a b ≡ bytes_eq b a
@@ -115,6 +132,8 @@ turned_text a b = ⊎_elim
 starts_listed : (a : List ℕ) (k : Kept) → starts_one a k ≡ list_any (bytes_eq a) (kept_started k)
 starts_listed a (kept.Start b program) = turned_text b a ∙ sym (or-false (bytes_eq a b))
 starts_listed a (kept.Act b own) = refl
+starts_listed a (kept.Child b own c program) = turned_text c a ∙ sym (or-false (bytes_eq a c))
+starts_listed a (kept.Feed b own c message envelope) = refl
 starts_listed a (kept.Generation start) = refl
 starts_listed a (kept.Report slot letter text) = refl
 starts_listed a (kept.End b read ready status) = refl
@@ -128,19 +147,32 @@ lived_before a k at Unborn lasts_now started = absurd (false≢true (ap (λ (t :
 lived_before a k at Lasting lasts_now started = refl
 lived_before a k at (OverAt before) lasts_now started = absurd (false≢true (ap (λ (t : Bool). is_lasting (if t then Lasting else OverAt before)) (sym started) ∙ lasts_now))
 
-module _ (d : Disk) where
-  one_stays : (k : Kept) (newest : List Kept) (e : Event) (h : List Event) (n : ℕ) → Legal d (e ∷ h) → AllZip Tells (k ∷ newest) (e ∷ h) → NoneBefore d h n → NoneBefore d (e ∷ h) n
-  one_stays k newest e h n legal told =
-      stays (after d h) (after d (e ∷ h)) (started_in e) (starts_of h) n (λ a lives started.
-      sym (lasts (span_of a newest) ((after d h).actors a) (suits d newest h legal.0 told.1 a))
-      ∙ lived_before a k (length newest) (span_of a newest) (lasts (span_of a (k ∷ newest)) ((after d (e ∷ h)).actors a) (suits d (k ∷ newest) (e ∷ h) legal told a) ∙ lives)
-      (starts_listed a k ∙ ap (list_any (bytes_eq a)) (same_started k e told.0) ∙ started))
+abbrev lasting : List Kept → List ℕ → Bool
+lasting newest a = is_lasting (span_of a newest)
 
-  all_stay : (newest : List Kept) (events h : List Event) (n : ℕ) → Legal d (events ++ h) → AllZip Tells newest (events ++ h) → NoneBefore d h n → NoneBefore d (events ++ h) n
-  all_stay newest [] h n legal told none = none
-  all_stay [] (e ∷ events) h n legal told none = absurd told
-  all_stay (k ∷ newest) (e ∷ events) h n legal told none = one_stays k newest e (events ++ h) n legal told (all_stay newest events h n legal.0 told.1 none)
+all_stay : (added newest : List Kept) (n : ℕ) → NoneBy (lasting newest) n (kept_starts newest) → NoneBy (lasting (added ++ newest)) n (kept_starts (added ++ newest))
+all_stay [] newest n none = none
+all_stay (k ∷ added) newest n none =
+    let before = added ++ newest in
+    stays (lasting before) (lasting (k ∷ before)) (kept_started k) (kept_starts before) n
+    (λ a lives started. lived_before a k (length before) (span_of a before) lives (starts_listed a k ∙ started)) (all_stay added newest n none)
+
+-- what tells deeds that came later, and those from before
+split_told : (newest : List Kept) (later h : List Deed) → AllZip TellsDeed newest (later ++ h) → (added before : List Kept) × (newest ≡ added ++ before) × AllZip TellsDeed before h
+split_told newest [] h told = ([], newest, refl, told)
+split_told [] (x ∷ later) h told = absurd told
+split_told (k ∷ newest) (x ∷ later) h told = let rest = split_told newest later h told.1 in (k ∷ rest.0, rest.1, ap (λ (l : List Kept). k ∷ l) rest.2, rest.3)
 
 -- what came later changes nothing of it
-pub none_stays : (d : Disk) (w : Seen Crash) (plan : Plan) (events h : List Event) (place : ℕ) → IsPlaying d w plan (events ++ h) → NoneBefore d h place → NoneBefore d (events ++ h) place
-none_stays d w plan events h place playing = all_stay d (reverse w.events) events h place playing.is.legal playing.is.told
+pub none_stays : (d : Disk) (old w : Seen Crash) (left plan : Plan) (events h : List Deed) (place : ℕ) → IsPlaying d old left h → IsPlaying d w plan (events ++ h) → NoneBefore d h place
+    → NoneBefore d (events ++ h) place
+none_stays d old w left plan events h place was playing none =
+    let newest = reverse w.events in
+    let split = split_told newest events h playing.told in
+    let before = split.1 in
+    let by_then : NoneBy (lasting before) place (kept_starts before) =
+    subst (λ (l : List (List ℕ)). NoneBy (lasting before) place l) (sym (same_starts before h split.3))
+    (by_test (after d h) (lasting before) place (starts_of h) (lasts_told d before h was.is.legal split.3) none) in
+    let now : NoneBy (lasting newest) place (kept_starts newest) = subst (λ (l : List Kept). NoneBy (lasting l) place (kept_starts l)) (sym split.2) (all_stay split.0 before place by_then) in
+    by_state (after d (events ++ h)) (lasting newest) place (starts_of (events ++ h)) (lasts_told d newest (events ++ h) playing.is.legal playing.told)
+    (subst (λ (l : List (List ℕ)). NoneBy (lasting newest) place l) (same_starts newest (events ++ h) playing.told) now)

@@ -1,71 +1,61 @@
 -- The lines of mails, one after the other.
-use Rattle.std.proofs.Common.{◌≡◌, ℕ, ◌+◌, ◌<◌, ◌≤◌, List, [], ◌∷◌, ◌++◌, length, get_or, drop, Option, Some, None, refl, sym, ap, ◌∙◌, append_assoc}
-use Rattle.std.specs.Prelude.{OnOk, Ok, Err, Result, flat_map, if◌then◌else◌}
+use Rattle.std.proofs.Common.{◌≡◌, Bor, ℕ, ◌<◌, List, [], ◌∷◌, ◌++◌, length, get_or, map, min, take, Option, Some, None, refl, sym, ap, ◌∙◌, append_assoc, arith}
+use Rattle.std.specs.Prelude.{OnOk, Ok, Err, Result, flat_map, if◌then◌else◌, option_map, unwrap_or}
 use Rattle.std.specs.Result.{is_ok}
-use Rattle.std.specs.List.{cons_option, filter_map, zip}
-use Rattle.std.proofs.lemmas.List.{append-nil, at_drop_more, drop_all}
-use Rattle.queue_inject.specs.declared.injection.Arguments.{Arguments}
-use Rattle.queue_inject.specs.Texts.{recipients_of}
+use Rattle.std.specs.List.{zip}
+use Rattle.std.proofs.lemmas.List.{append-nil, length_push, take_all, take_more}
+use Rattle.std.proofs.lemmas.List.Concat.{flat_map-append}
+use Rattle.std.proofs.lemmas.Slice.Zip.{get_or-zip, length-zip}
 use Rattle.world_events.specs.declared.books.Entry.{Entry}
-use Rattle.world_events.specs.declared.event.Event.{Event as Kept}
-use Rattle.scenario.specs.Fates.{arguments_in}
+use Rattle.scenario.specs.declared.showing.Given.{Given}
 use Rattle.scenario.specs.Shown.{View, entry_lines}
+use Rattle.scenario.specs.Viewed.{given_lines}
+use Rattle.scenario.proofs.Receivers.{envelope_at}
 
--- the lines of the mails with these entries, which these events started
-abbrev pub left_lines : View → List Entry → List Kept → List ℕ
-left_lines v entries events = flat_map (λ mail. entry_lines v mail.0 (recipients_of mail.1)) (zip entries (filter_map arguments_in events))
+-- A text of each pair of two lists
 
--- an event started no mail
-pub none_left : (v : View) (entries : List Entry) (k : Kept) (events : List Kept) → arguments_in k ≡ None → left_lines v entries (k ∷ events) ≡ left_lines v entries events
-none_left v entries k events none = ap (λ (o : Option Arguments). flat_map (λ mail. entry_lines v mail.0 (recipients_of mail.1)) (zip entries (cons_option o (filter_map arguments_in events)))) none
+module _ {A B : Type 0} (f : A × B → List ℕ) (ks : List A) (vs : List B) where
+  -- of the first so many
+  abbrev pub so_far : ℕ → List ℕ
+  so_far n = flat_map f (take n (zip ks vs))
 
--- or that of the first entry
-pub one_left : (v : View) (entry : Entry) (entries : List Entry) (k : Kept) (args : Arguments) (events : List Kept) → arguments_in k ≡ Some args
-    → left_lines v (entry ∷ entries) (k ∷ events) ≡ entry_lines v entry (recipients_of args) ++ left_lines v entries events
-one_left v entry entries k args events some =
-    ap (λ (o : Option Arguments). flat_map (λ mail. entry_lines v mail.0 (recipients_of mail.1)) (zip (entry ∷ entries) (cons_option o (filter_map arguments_in events)))) some
+  -- the pairs so far, and one more
+  pub one_more : (xs : List (Bor A × Bor B)) (p : Bor A × Bor B)
+      → (length xs < length ks) × (length xs < length vs) × ((d : A) → p.0.now ≡ get_or ks (length xs) d) × ((d : B) → p.1.now ≡ get_or vs (length xs) d)
+      → so_far (length (xs ++ p ∷ [])) ≡ so_far (length xs) ++ f (p.0.now, p.1.now)
+  one_more xs p at =
+      let i = length xs in
+      let d : A × B = (p.0.now, p.1.now) in
+      let low = at.0 in
+      let few = at.1 in
+      let many = length-zip ks vs in
+      let inside : i < length (zip ks vs) = omega (arith, low, few, many) in
+      let here : get_or (zip ks vs) i d ≡ d =
+      get_or-zip ks vs i d low few ∙ ap (λ (a : A). (a, get_or vs i p.1.now)) (sym (at.2 p.0.now)) ∙ ap (λ (b : B). (p.0.now, b)) (sym (at.3 p.1.now)) in
+      ap so_far (length_push xs p)
+      ∙ ap (flat_map f) (take_more (zip ks vs) i d inside ∙ ap (λ (x : A × B). take i (zip ks vs) ++ x ∷ []) here)
+      ∙ flat_map-append f (take i (zip ks vs)) (d ∷ [])
+      ∙ ap (λ (t : List ℕ). so_far i ++ t) (append-nil (f d))
 
--- no entry is left
-pub nothing_left : (v : View) (events : List Kept) → left_lines v [] events ≡ []
-nothing_left v events = by (filter_map arguments_in events)
-  where
-    by : (all : List Arguments) → flat_map (λ mail. entry_lines v mail.0 (recipients_of mail.1)) (zip {K = Entry} [] all) ≡ []
-    by [] = refl
-    by (args ∷ all) = refl
+  -- all of them
+  pub all_so_far : (n : ℕ) → n ≡ min (length ks) (length vs) → so_far n ≡ flat_map f (zip ks vs)
+  all_so_far n is = ap (flat_map f) (take_all n (zip ks vs) (let many = length-zip ks vs in omega (arith, many, is)))
 
-no_event_left : (v : View) (entries : List Entry) → left_lines v entries [] ≡ []
-no_event_left v [] = refl
-no_event_left v (entry ∷ entries) = refl
+-- what was put for the pairs so far, with the lines of one more
+pub one_put : (old before own new after : List ℕ) → before ≡ old ++ own → (lines : List ℕ) → new ≡ before ++ lines → after ≡ own ++ lines → new ≡ old ++ after
+one_put old before own new after first lines second both = second ∙ ap (λ (t : List ℕ). t ++ lines) first ∙ append_assoc old own lines ∙ ap (λ (t : List ℕ). old ++ t) (sym both)
 
--- An event more
+-- the lines of mails by the envelopes that they were given
+pub by_envelope : (v : View) (entries : List Entry) (given : List Given)
+    → flat_map (given_lines v) (zip entries given) ≡ flat_map (λ (mail : Entry × List ℕ). entry_lines v mail.0 mail.1) (zip entries (map envelope_at given))
+by_envelope v [] given = refl
+by_envelope v (entry ∷ entries) [] = refl
+by_envelope v (entry ∷ entries) (g ∷ given) = ap (λ (t : List ℕ). entry_lines v entry (envelope_at g) ++ t) (by_envelope v entries given)
 
-next_left : (v : View) (rest : List Entry) (events : List Kept) (i : ℕ) (k : Kept) → i < length events → k ≡ get_or events i k → left_lines v rest (drop i events) ≡ left_lines v rest (k ∷ drop (i + 1) events)
-next_left v rest events i k there is = at_drop_more (left_lines v rest) events i k there ∙ ap (λ (x : Kept). left_lines v rest (x ∷ drop (i + 1) events)) (sym is)
-
-pub none_put : (v : View) (rest : List Entry) (events : List Kept) (i : ℕ) (k : Kept) (text all : List ℕ) → i < length events → k ≡ get_or events i k → arguments_in k ≡ None
-    → text ++ left_lines v rest (drop i events) ≡ all → text ++ left_lines v rest (drop (i + 1) events) ≡ all
-none_put v rest events i k text all there is none before =
-    ap (λ (t : List ℕ). text ++ t) (sym (next_left v rest events i k there is ∙ none_left v rest k (drop (i + 1) events) none)) ∙ before
-
-pub one_put : (v : View) (rest later : List Entry) (entry : Entry) (args : Arguments) (events : List Kept) (i : ℕ) (k : Kept) (text new all : List ℕ) → i < length events → k ≡ get_or events i k
-    → rest ≡ entry ∷ later → arguments_in k ≡ Some args → new ≡ text ++ entry_lines v entry (recipients_of args)
-    → text ++ left_lines v rest (drop i events) ≡ all → new ++ left_lines v later (drop (i + 1) events) ≡ all
-one_put v rest later entry args events i k text new all there is first some put before =
-    let left = left_lines v later (drop (i + 1) events) in
-    let own = entry_lines v entry (recipients_of args) in
-    ap (λ (t : List ℕ). t ++ left) put
-    ∙ append_assoc text own left
-    ∙ ap (λ (t : List ℕ). text ++ t)
-    (sym (next_left v rest events i k there is ∙ ap (λ (r : List Entry). left_lines v r (k ∷ drop (i + 1) events)) first ∙ one_left v entry later k args (drop (i + 1) events) some))
-    ∙ before
-
-pub all_put : (v : View) (rest : List Entry) (events : List Kept) (i : ℕ) (text all : List ℕ) → length events ≤ i → text ++ left_lines v rest (drop i events) ≡ all → text ≡ all
-all_put v rest events i text all past before =
-    sym (append-nil text) ∙ ap (λ (t : List ℕ). text ++ t) (sym (ap (left_lines v rest) (drop_all i events past) ∙ no_event_left v rest)) ∙ before
-
-pub no_more_put : (v : View) (rest : List Entry) (events : List Kept) (i : ℕ) (text all : List ℕ) → rest ≡ [] → text ++ left_lines v rest (drop i events) ≡ all → text ≡ all
-no_more_put v rest events i text all none before =
-    sym (append-nil text) ∙ ap (λ (t : List ℕ). text ++ t) (sym (ap (λ (r : List Entry). left_lines v r (drop i events)) none ∙ nothing_left v (drop i events))) ∙ before
+-- a word, or another one if there is none
+pub or_else : (o : Option (Bor (List ℕ))) (failed word : Bor (List ℕ)) → word ≡ unwrap_or o failed → word.now ≡ unwrap_or (option_map (λ (b : Bor (List ℕ)). b.now) o) failed.now
+or_else None failed word is = ap (λ (b : Bor (List ℕ)). b.now) is
+or_else (Some b) failed word is = ap (λ (b : Bor (List ℕ)). b.now) is
 
 -- what was put at the end of a text, if that succeeded
 pub if_put : {X E : Type 0} (r : Result X E) (old bytes own new : List ℕ) → new ≡ (if is_ok r then old ++ bytes else old) → bytes ≡ own → OnOk r (new ≡ old ++ own)

@@ -1,10 +1,8 @@
 -- What is kept of the lives of messages follows the state, event by event.
 use Rattle.std.proofs.Common.{◌≡◌, ◌≢◌, ◌⊎◌, inl, inr, ⊎_elim, ℕ, ◌+◌, ◌<◌, List, [], ◌∷◌, ◌++◌, length, get_or, take, Contains, reverse, true, false, bytes_eq, Option, Some, None, refl, sym, ap, ◌∙◌, subst, arith}
-use Rattle.std.specs.Prelude.{codes}
+use Rattle.std.specs.Prelude.{OnOk, Ok, Err, Result, codes}
 use Rattle.std.specs.List.{AllZip}
 use Rattle.std.specs.Option.{option_map}
-use Rattle.std.specs.Ordering.{nat_cmp}
-use Rattle.std.specs.BTreeMap.{get}
 use Rattle.std.proofs.lemmas.List.{reverse-append, take_more}
 use Rattle.call_fs.specs.declared.calls.CallData.{CallData}
 use Rattle.call_fs.specs.declared.past.ChildData.{ChildData}
@@ -33,17 +31,17 @@ use Rattle.world_events.specs.declared.event.Event.TheVariants as kept
 use Rattle.world_events.specs.declared.event.Program.{Program}
 use Rattle.world_events.specs.declared.event.Program.TheVariants.{Injector, Cleaner, Sender, LocalSpawner, RemoteSpawner}
 use Rattle.mail_world.specs.ByKind.{IsMail}
-use Rattle.mail_world.specs.History.{Event, Actor, Life, State, Allowed, ComesOf, IsSender, IsStatusOf, Legal, MayDo, MayRun, TenantEnds, acted, after, begins, books_after, bouncer_of, finished, happens, newborn, next_of, stopped}
+use Rattle.mail_world.specs.History.{Event, Actor, Life, State, Allowed, ComesOf, IsProgramOf, IsSender, IsStatusOf, Legal, MayBear, MayDo, MayRun, TenantEnds, acted, after, begins, books_after, bouncer_of, finished, happens, newborn, next_of, slot_by, stopped}
 use Rattle.mail_world.specs.History.Event.{Start, Act, Child, Generation, Report, End, Stop, Moment, Halt}
 use Rattle.mail_world.specs.History.Life.{Alive, Over, Stopped}
 use Rattle.mail_world.proofs.Opens.{fits_answer}
-use Rattle.mail_world.specs.Pipework.{Pipe, Tenant, Yields, with_generation}
+use Rattle.mail_world.specs.Pipework.{Pipe, Pipework, Tenant, Yields, with_child, with_generation}
 use Rattle.mail_world.specs.Pipework.Tenant.{Runs, Remote}
 use Rattle.mail_world.specs.World.{Tells}
 use Rattle.scenario.specs.declared.fates.Fates.{Fates}
 use Rattle.scenario.specs.declared.fates.Following.{Following}
-use Rattle.scenario.specs.declared.fates.Tenure.{Tenure}
-use Rattle.scenario.specs.Fates.{AreFates, AreMailStarts, AreNamed, Follows, HasDue, IsHeard, IsMailStart, IsTenure, IsTenureIf, heard_by}
+use Rattle.scenario.specs.Fates.{AreFates, AreMailStarts, AreNamed, Follows, HasDone, HasDue, IsHeard, IsMailStart, IsReadAs, TellsRead, heard_by}
+use Rattle.scenario.proofs.KeptEvents.{act_told, child_told}
 
 -- What came may come
 
@@ -131,6 +129,18 @@ may_come s a (needs.Command bytes) came wrote h = h
 may_come s a needs.Wait came wrote h = absurd h
 may_come s a (needs.Ended status) came wrote h = absurd h
 
+-- what an actor did by an event of its own, and by the start of a child
+pub act_done : (s : State) (a : List ℕ) (own : Own) (wrote : ℕ) → MayDo s a own wrote → HasDone s a own
+act_done s a own wrote does = record { actor = does.actor; reads = does.reads; due = does.due; came = may_come s a own.due own.came wrote does.came }
+
+pub child_done : (s : State) (parent : List ℕ) (own : Own) (a : List ℕ) (program : Program) → MayBear s parent own a program → HasDone s parent own
+child_done s parent own a program bears = record {
+  actor = bears.actor;
+  reads = bears.reads;
+  due = bears.due;
+  came = subst (λ (due : NeedData). MayCome due own.came) (sym bears.starts) (subst (MayCome (needs.Start bears.asked)) (sym bears.came) tt);
+}
+
 -- Actors
 
 put_actor : (actors : List ℕ → Option Actor) (a b : List ℕ) (x y : Actor) → put_at actors a (Some x) b ≡ Some y
@@ -187,6 +197,17 @@ mail_run (Sender start) runs = absurd runs
 mail_run (LocalSpawner start) runs = absurd runs
 mail_run (RemoteSpawner start) runs = absurd runs
 
+-- a child that was asked for
+bred_runs : (asked : ChildData) (pid : ℕ) (program : Program) → IsProgramOf asked pid program → MayRun program
+bred_runs asked pid (Injector args) is = tt
+bred_runs (child.Bounce room) pid program is = absurd is
+bred_runs (child.Forward uid room) pid program is = absurd is
+bred_runs (child.Local slot words uid) pid program is = absurd is
+bred_runs (child.Remote slot domain sender recipient) pid program is = absurd is
+
+pub bred_mail : (asked : ChildData) (pid : ℕ) (program : Program) → IsProgramOf asked pid program → IsMail program
+bred_mail asked pid program is = mail_run program (bred_runs asked pid program is)
+
 sender_runs : (program : Program) → MayRun program → IsSender program → ⊥
 sender_runs (Injector args) runs sends = sends
 sender_runs (Cleaner start) runs sends = runs
@@ -219,11 +240,16 @@ named_generation s start named =
     (named_put one two (codes "clean") (newborn (Cleaner start)) refl (record { member = λ m r. r; mail = λ m. absurd (m is_member_clean); sender = λ sends. absurd sends })
     (named_put s one (codes "sender") (newborn (Sender start)) refl (record { member = λ m r. r; mail = λ m. absurd (m is_member_sender); sender = λ sends. refl }) named)))
 
+named_start : (a : List ℕ) (program : Program) → ¬ (Contains members a) → MayRun program → IsNamed a program
+named_start a program mail runs = record { member = λ m r. mail m; mail = λ m. mail_run program runs; sender = λ sends. absurd (sender_runs program runs sends) }
+
 named_event : (s : State) (k : Kept) (e : Event) → Tells k e → IsMailStart e → Allowed s e → AreNamed s → AreNamed (happens s e)
 named_event s k (Start a program) told mail may named =
-    named_put s (begins s a program s.pipework) a (newborn program) refl (record { member = λ m r. mail m; mail = λ m. mail_run program may.runs; sender = λ sends. absurd (sender_runs program may.runs sends) }) named
+    named_put s (begins s a program s.pipework) a (newborn program) refl (named_start a program mail may.runs) named
 named_event s k (Act a own wrote) told mail may named = named_acted s a own wrote (s.actors a) refl named
-named_event s k (Child parent own a program) told mail may named = absurd told
+named_event s k (Child parent own a program) told mail may named =
+    named_put (acted s parent own 0 (s.actors parent)) (happens s (Child parent own a program)) a (newborn program) refl
+    (named_start a program mail (bred_runs may.asked may.pid program may.is)) (named_acted s parent own 0 (s.actors parent) refl named)
 named_event s k (Generation sender clean lspawn rspawn) told mail may named =
     let are = told.2 in
     rw (are.sender_is, are.clean_is, are.lspawn_is, are.rspawn_is) (named_generation s told.0 named)
@@ -248,7 +274,7 @@ now_finished s a life (Some x) = refl
 moment_event : (s : State) (k : Kept) (e : Event) → Tells k e → Allowed s e → IsMoment s.now → IsMoment (happens s e).now
 moment_event s k (Start a program) told may is = is
 moment_event s k (Act a own wrote) told may is = subst IsMoment (sym (now_acted s a own wrote (s.actors a))) is
-moment_event s k (Child parent own a program) told may is = absurd told
+moment_event s k (Child parent own a program) told may is = subst IsMoment (sym (now_acted s parent own 0 (s.actors parent))) is
 moment_event s k (Generation sender clean lspawn rspawn) told may is = is
 moment_event s k (Report slot letter text) told may is = is
 moment_event s k (End a read ready status) told may is = subst IsMoment (sym (now_finished s a (Over status) (s.actors a))) is
@@ -261,7 +287,7 @@ pub record IsOrderly (s : State) : Type 0 where
   pub named : AreNamed s
   pub moment : IsMoment s.now
 
-pub orderly : (d : Disk) (ks : List Kept) (h : List Event) → Legal d h → AllZip Tells ks h → AreMailStarts h → IsOrderly (after d h)
+pub orderly : (d : Disk) (ks : List Kept) (h : List Event) → Legal d h → AllZip TellsRead ks h → AreMailStarts h → IsOrderly (after d h)
 orderly d [] [] legal told mails = record {
   named = record { member = λ a x is. absurd (cc); mail = λ a x is. absurd (cc); sender = λ a x is. absurd (cc) };
   moment = omega arith;
@@ -270,7 +296,8 @@ orderly d (k ∷ ks) [] legal told mails = absurd told
 orderly d [] (e ∷ h) legal told mails = absurd told
 orderly d (k ∷ ks) (e ∷ h) legal told mails =
     let before = orderly d ks h legal.0 told.1 mails.1 in
-    record { named = named_event (after d h) k e told.0 mails.0 legal.1 before.named; moment = moment_event (after d h) k e told.0 legal.1 before.moment }
+    let read = told.0 in
+    record { named = named_event (after d h) read.0 e read.2 mails.0 legal.1 before.named; moment = moment_event (after d h) read.0 e read.2 legal.1 before.moment }
 
 -- What follows a state
 
@@ -299,8 +326,8 @@ heard_stopped None (Some x) h = absurd (cc)
 heard_stopped (Some m) None h = h
 heard_stopped (Some m) (Some x) h = h
 
-pub follows_start : (f : Following) (s : State) (a : List ℕ) (program : Program) → ¬ (Contains members a) → Follows f s → Follows f (happens s (Start a program))
-follows_start f s a program mail h = record {
+follows_begins : (f : Following) (s : State) (a : List ℕ) (program : Program) (pipework : Pipework) → ¬ (Contains members a) → Follows f s → Follows f (begins s a program pipework)
+follows_begins f s a program pipework mail h = record {
   fates = h.fates;
   heard = ⊎_elim
       (λ e. absurd (mail (subst (Contains members) e.0 is_member_sender)))
@@ -308,16 +335,24 @@ follows_start f s a program mail h = record {
       (put_at_cases s.actors a (Some (newborn program)) (codes "sender"));
 }
 
-pub follows_other : (f : Following) (s : State) (k : Kept) (e : Event) → Tells k e → IsMailStart e → Follows f s → ((a : List ℕ) (own : Own) → k ≢ kept.Act a own) → ((start : ℕ) → k ≢ kept.Generation start) → Follows f (happens s e)
-follows_other f s k (Start a program) told mail h act generation = follows_start f s a program mail h
-follows_other f s k (Act a own wrote) told mail h act generation = absurd (act a own told)
-follows_other f s k (Child parent own a program) told mail h act generation = absurd told
-follows_other f s k (Generation sender clean lspawn rspawn) told mail h act generation = absurd (generation told.0 told.1)
-follows_other f s k (Report slot letter text) told mail h act generation = record { fates = h.fates; heard = h.heard }
-follows_other f s k (End a read ready status) told mail h act generation = follows_finished f s a (Over status) (s.actors a) refl h
-follows_other f s k (Stop a) told mail h act generation = follows_finished f s a Stopped (s.actors a) refl h
-follows_other f s k (Moment m) told mail h act generation = record { fates = h.fates; heard = h.heard }
-follows_other f s k (Halt how contents) told mail h act generation = record { fates = h.fates; heard = heard_stopped f.sender (s.actors (codes "sender")) h.heard }
+-- an event that is no actor's own, and starts no generation
+abbrev pub IsOther : Kept → Type 0
+IsOther (kept.Act a own) = ⊥
+IsOther (kept.Child a own c program) = ⊥
+IsOther (kept.Feed a own c message envelope) = ⊥
+IsOther (kept.Generation start) = ⊥
+IsOther k = Unit {0}
+
+follows_other : (f : Following) (s : State) (k : Kept) (e : Event) → IsOther k → Tells k e → IsMailStart e → Follows f s → Follows f (happens s e)
+follows_other f s k (Start a program) other told mail h = follows_begins f s a program s.pipework mail h
+follows_other f s k (Act a own wrote) other told mail h = absurd (subst IsOther told other)
+follows_other f s k (Child parent own a program) other told mail h = absurd (subst IsOther told other)
+follows_other f s k (Generation sender clean lspawn rspawn) other told mail h = absurd (subst IsOther told.1 other)
+follows_other f s k (Report slot letter text) other told mail h = record { fates = h.fates; heard = h.heard }
+follows_other f s k (End a read ready status) other told mail h = follows_finished f s a (Over status) (s.actors a) refl h
+follows_other f s k (Stop a) other told mail h = follows_finished f s a Stopped (s.actors a) refl h
+follows_other f s k (Moment m) other told mail h = record { fates = h.fates; heard = h.heard }
+follows_other f s k (Halt how contents) other told mail h = record { fates = h.fates; heard = heard_stopped f.sender (s.actors (codes "sender")) h.heard }
 
 -- a new generation
 new_sender : (s : State) (start : ℕ) → (happens s (Generation (Sender start) (Cleaner start) (LocalSpawner start) (RemoteSpawner start))).actors (codes "sender") ≡ Some (newborn (Sender start))
@@ -341,7 +376,7 @@ pub follows_generation : (old new : Following) (s : State) (e : Event) (start : 
     → Follows old s → Follows new (happens s e)
 follows_generation old new s (Start a program) start m told fates is stands h = absurd (cc)
 follows_generation old new s (Act a own wrote) start m told fates is stands h = absurd (cc)
-follows_generation old new s (Child parent own a program) start m told fates is stands h = absurd told
+follows_generation old new s (Child parent own a program) start m told fates is stands h = absurd (cc)
 follows_generation old new s (Generation sender clean lspawn rspawn) start m told fates is stands h =
     let are = told.2 in
     let p = told.0 in
@@ -358,20 +393,43 @@ follows_generation old new s (Moment at) start m told fates is stands h = absurd
 follows_generation old new s (Halt how contents) start m told fates is stands h = absurd (cc)
 
 -- the same, by what a kept event is
-abbrev pub IsOther : Kept → Type 0
-IsOther (kept.Act a own) = ⊥
-IsOther (kept.Generation start) = ⊥
-IsOther k = Unit {0}
+pub other_told : (f : Following) (s : State) (k : Kept) (e : Event) → ((a : List ℕ) (own : Own) → k ≢ kept.Act a own) → ((a : List ℕ) (own : Own) (c : List ℕ) (program : Program) → k ≢ kept.Child a own c program)
+    → ((a : List ℕ) (own : Own) (c message envelope : List ℕ) → k ≢ kept.Feed a own c message envelope) → ((start : ℕ) → k ≢ kept.Generation start) → TellsRead k e → IsMailStart e → Follows f s → Follows f (happens s e)
+other_told f s (kept.Act a own) e act child feed generation told mail h = absurd (act a own refl)
+other_told f s (kept.Child a own c program) e act child feed generation told mail h = absurd (child a own c program refl)
+other_told f s (kept.Feed a own c message envelope) e act child feed generation told mail h = absurd (feed a own c message envelope refl)
+other_told f s (kept.Generation start) e act child feed generation told mail h = absurd (generation start refl)
+other_told f s (kept.Start a program) e act child feed generation told mail h = follows_other f s told.0 e (subst IsOther (sym told.1) tt) told.2 mail h
+other_told f s (kept.Report slot letter text) e act child feed generation told mail h = follows_other f s told.0 e (subst IsOther (sym told.1) tt) told.2 mail h
+other_told f s (kept.End a read ready status) e act child feed generation told mail h = follows_other f s told.0 e (subst IsOther (sym told.1) tt) told.2 mail h
+other_told f s (kept.Stop a) e act child feed generation told mail h = follows_other f s told.0 e (subst IsOther (sym told.1) tt) told.2 mail h
+other_told f s (kept.Moment m) e act child feed generation told mail h = follows_other f s told.0 e (subst IsOther (sym told.1) tt) told.2 mail h
+other_told f s (kept.Halt how) e act child feed generation told mail h = follows_other f s told.0 e (subst IsOther (sym told.1) tt) told.2 mail h
 
-pub other_told : (f : Following) (s : State) (k : Kept) (e : Event) (x : Kept) → k ≡ x → IsOther x → Tells k e → IsMailStart e → Follows f s → Follows f (happens s e)
-other_told f s k e x is other told mail h = follows_other f s k e told mail h
-    (λ a own same. subst IsOther (sym is ∙ same) other)
-    (λ start same. subst IsOther (sym is ∙ same) other)
-
-pub generation_told : (old new : Following) (s : State) (k : Kept) (e : Event) (start : ℕ) (m : Machine) → k ≡ kept.Generation start → Tells k e → new.fates ≡ old.fates → new.sender ≡ Some m → Stands m None []
+pub generation_told : (old new : Following) (s : State) (k : Kept) (e : Event) (start : ℕ) (m : Machine) → k ≡ kept.Generation start → TellsRead k e → new.fates ≡ old.fates → new.sender ≡ Some m → Stands m None []
     → Follows old s → Follows new (happens s e)
 generation_told old new s k e start m is told fates sender stands h =
-    follows_generation old new s e start m (subst (λ (x : Kept). Tells x e) is told) fates sender stands h
+    let read = subst (λ (k : Kept). TellsRead k e) is told in
+    follows_generation old new s e start m (subst (λ (k : Kept). Tells k e) read.1 read.2) fates sender stands h
+
+-- an event of an actor's own, one that gives a child its input too
+pub own_told : (new : Following) (s : State) (k : Kept) (e : Event) (x : Kept) (a : List ℕ) (own : Own) → k ≡ x → ((read : Kept) → IsReadAs x read → read ≡ kept.Act a own) → TellsRead k e → Allowed s e
+    → ((wrote : ℕ) → HasDone s a own → Follows new (acted s a own wrote (s.actors a))) → Follows new (happens s e)
+own_told new s k e x a own is same told may follows =
+    let read = subst (λ (k : Kept). TellsRead k e) is told in
+    let it = act_told a own e (subst (λ (k : Kept). Tells k e) (same read.0 read.1) read.2) in
+    subst (λ (e : Event). Follows new (happens s e)) (sym it.1) (follows it.0 (act_done s a own it.0 (subst (Allowed s) it.1 may)))
+
+-- the start of a child
+pub bred_told : (new : Following) (s : State) (k : Kept) (e : Event) (a : List ℕ) (own : Own) (c : List ℕ) (program : Program) → k ≡ kept.Child a own c program → TellsRead k e → IsMailStart e → Allowed s e
+    → ((wrote : ℕ) → HasDone s a own → Follows new (acted s a own wrote (s.actors a))) → Follows new (happens s e)
+bred_told new s k e a own c program is told mail may follows =
+    let read = subst (λ (k : Kept). TellsRead k e) is told in
+    let whole = read.1.0 in
+    let it : e ≡ Child a own c whole = child_told a own c whole e (subst (λ (k : Kept). Tells k e) read.1.1 read.2) in
+    let s' = acted s a own 0 (s.actors a) in
+    subst (λ (e : Event). Follows new (happens s e)) (sym it)
+    (follows_begins new s' c whole (with_child s'.pipework a (slot_by own.due) c) (subst IsMailStart it mail) (follows 0 (child_done s a own c whole (subst (Allowed s) it may))))
 
 -- An event of the sender
 
@@ -385,6 +443,11 @@ sender_at : (o : Option Actor) (m : Machine) → IsHeard (Some m) o → (x : Act
 sender_at None m h = absurd h
 sender_at (Some x) m h = (x, refl, h.0.0, h.0.1, h.1, h.2)
 
+-- what follows from two things that hold where a call succeeded
+pub on_both : {X E : Type 0} {P Q R : Type 0} (r : Result X E) → (P → Q → R) → OnOk r P → OnOk r Q → OnOk r R
+on_both (Ok x) both p q = both p q
+on_both (Err e) both p q = tt
+
 -- what is known of the past of the newest sender, when this is its next event
 pub record IsNext (m : Machine) (s : State) (own : Own) (wrote : ℕ) : Type 0 where
   pub actor : Actor
@@ -395,7 +458,7 @@ pub record IsNext (m : Machine) (s : State) (own : Own) (wrote : ℕ) : Type 0 w
   pub due : HasDue actor.past own
   pub may : MayCome own.due own.came
 
-pub is_next : (f : Following) (s : State) (own : Own) (wrote : ℕ) (m : Machine) → IsMoment s.now → MayDo s (codes "sender") own wrote → f.sender ≡ Some m → Follows f s → IsNext m s own wrote
+pub is_next : (f : Following) (s : State) (own : Own) (wrote : ℕ) (m : Machine) → IsMoment s.now → HasDone s (codes "sender") own → f.sender ≡ Some m → Follows f s → IsNext m s own wrote
 is_next f s own wrote m moment does is h =
     let w = sender_at (s.actors (codes "sender")) m (subst (λ (o : Option Machine). IsHeard o (s.actors (codes "sender"))) is h.heard) in
     let same : does.actor ≡ w.0 = some_is does.actor w.0 (sym does.reads.is ∙ w.1) in
@@ -411,18 +474,11 @@ is_next f s own wrote m moment does is h =
         moment = omega (arith, moment, no_later);
         due = ap (λ (p : Program). next_of p w.0.past own.read own.ready) (sym w.3) ∙ ap (λ (x : Actor). next_of x.program x.past own.read own.ready) (sym same) ∙ does.due;
       };
-      may = may_come s (codes "sender") own.due own.came wrote does.came;
+      may = does.came;
     }
   where
     some_is : (x y : Actor) → ◌≡◌ {A = Option Actor} (Some x) (Some y) → x ≡ y
     some_is x y e = cc
-
--- there is one, if a sender acts
-pub some_sender : (f : Following) (s : State) (own : Own) (wrote : ℕ) → MayDo s (codes "sender") own wrote → f.sender ≡ None → Follows f s → ⊥
-some_sender f s own wrote does is h =
-    let none : s.actors (codes "sender") ≡ None = subst (λ (o : Option Machine). IsHeard o (s.actors (codes "sender"))) is h.heard in
-    let some = does.reads.is in
-    absurd (cc)
 
 pub follows_sender : (new : Following) (s : State) (own : Own) (wrote : ℕ) (old m : Machine) → (next : IsNext old s own wrote) → new.sender ≡ Some m → Stands m None (own ∷ next.actor.past)
     → AreFates new.fates (heard_by (bouncer_of s (codes "sender")) next.actor.past own s.books) → Follows new (acted s (codes "sender") own wrote (s.actors (codes "sender")))
@@ -480,7 +536,7 @@ mail_is (RemoteSpawner start) mail = absurd mail
 
 pub follows_mail : (old new : Following) (s : State) (a : List ℕ) (own : Own) (wrote : ℕ) → AreNamed s → ¬ (Contains members a) → new.sender ≡ old.sender
     → ((child : Option Bouncer) (books : Books) (args : Arguments) (past : List Own) → AreFates old.fates books → AreFates new.fates (books_after child books a (Injector args) past own.read own.ready own.due own.came))
-    → MayDo s a own wrote → Follows old s → Follows new (acted s a own wrote (s.actors a))
+    → HasDone s a own → Follows old s → Follows new (acted s a own wrote (s.actors a))
 follows_mail old new s a own wrote named mail sender link does h =
     let x = does.actor in
     let is = does.reads.is in
@@ -493,25 +549,13 @@ follows_mail old new s a own wrote named mail sender link does h =
 
 -- Event by event
 
-pub first_follows : (f : Following) (d : Disk) (ks : List Kept) (h : List Event) → f.sender ≡ None → ((n : ℕ) → get nat_cmp f.fates.living n ≡ None) → f.fates.over.items ≡ [] → ks ≡ [] → AllZip Tells ks h → Follows f (after d h)
-first_follows f d ks [] sender none over is told = record {
-  fates = record {
-    living = λ n n_is. subst (λ (t : Option Tenure). IsTenureIf t None) (sym (none n)) tt;
-    over = subst (λ (l : List Tenure). AllZip IsTenure (reverse l) []) (sym over) tt;
-    placed = λ n q e. absurd (cc);
-  };
-  heard = subst (λ (m : Option Machine). IsHeard m None) (sym sender) refl;
-}
-first_follows f d [] (e ∷ h) sender none over is told = absurd told
-first_follows f d (k ∷ ks) (e ∷ h) sender none over is told = absurd (cc)
-
 -- what is kept follows each history that these events tell, the newest first
 abbrev pub FollowsAll : Following → List Kept → Type 0
-FollowsAll f ks = (d : Disk) (h : List Event) → Legal d h → AllZip Tells ks h → AreMailStarts h → Follows f (after d h)
+FollowsAll f ks = (d : Disk) (h : List Event) → Legal d h → AllZip TellsRead ks h → AreMailStarts h → Follows f (after d h)
 
 -- so it does after one event more
 abbrev pub Notes : Following → Following → Kept → Type 0
-Notes old new k = (s : State) (e : Event) → AreNamed s → IsMoment s.now → IsMailStart e → Allowed s e → Tells k e → Follows old s → Follows new (happens s e)
+Notes old new k = (s : State) (e : Event) → AreNamed s → IsMoment s.now → IsMailStart e → Allowed s e → TellsRead k e → Follows old s → Follows new (happens s e)
 
 one_more : (old new : Following) (k : Kept) (ks : List Kept) → Notes old new k → FollowsAll old ks → FollowsAll new (k ∷ ks)
 one_more old new k ks notes before d [] legal told mails = absurd told

@@ -10,28 +10,27 @@ use Rattle.actor_names.specs.MailNames.{members}
 use Rattle.world_events.specs.declared.event.Event.{Event as Kept}
 use Rattle.world_events.specs.declared.event.Event.TheVariants as kept
 use Rattle.mail_world.specs.Generations.{generation_world, reported_world, IsFirstAlive, is_lasting, lives_in, is_unreported}
-use Rattle.mail_world.specs.History.{Event, Actor, State, MayReport, after}
+use Rattle.mail_world.specs.History.{Event, Actor, State, MayReport}
 use Rattle.mail_world.specs.History.Event.{Report}
 use Rattle.mail_world.specs.History.Life.{Alive}
 use Rattle.mail_world.specs.Known.{known}
-use Rattle.mail_world.specs.World.{Seen, IsHistory, GoesOn, Span, span_of}
+use Rattle.mail_world.specs.World.{Seen, Tells, IsHistory, GoesOn, Span, span_of}
 use Rattle.mail_world.specs.World.Span.{Unborn, Lasting, OverAt}
-use Rattle.mail_world.specs.Wired.{AreWholeGivings}
-use Rattle.mail_world.proofs.Lives.{suits}
-use Rattle.mail_world.proofs.Piped.{whole_push}
 use Rattle.play_lines.specs.declared.line.Line.TheVariants as line
 use Rattle.play_lines.specs.declared.keyword.Alone.TheVariants as alone
 use Rattle.script_words.specs.declared.letter.Letter.{Letter}
 use Rattle.script_words.specs.Words.{letter_byte}
+use Rattle.scenario.specs.Deeds.{Deed, history_of, after}
+use Rattle.scenario.specs.Deeds.Deed.{Came}
 use Rattle.scenario.specs.Steps.{Refusal, outcome_events, printed, refusal_line}
 use Rattle.scenario.specs.Steps.Outcome.{Happens, Is}
 use Rattle.scenario.specs.Turns.{first_alive, generation_at, generation_events, generation_text, awaits_report, report_comes}
 use Rattle.scenario.specs.Playing.{IsPlaying, HasPlayed}
 use Rattle.scenario.proofs.Carried.{lives_actor, dead_actor, both_true, living_in, unreported_is}
-use Rattle.scenario.proofs.KeptEvents.{last_told, generation_told, report_told}
+use Rattle.scenario.proofs.Deeds.{tells, plain_on, playing_push}
+use Rattle.scenario.proofs.KeptEvents.{generation_told, report_told}
 use Rattle.scenario.proofs.Knowing.{actors_told, pipework_told, may_report_same}
-use Rattle.scenario.proofs.NextLiving.{lasts}
-use Rattle.scenario.proofs.ScriptSteps.{moved, tells}
+use Rattle.scenario.proofs.NextLiving.{lasts_told}
 
 -- The first member that lives
 
@@ -61,11 +60,11 @@ all_dead s newest (a ∷ names) same none =
     (all_dead s newest names same (All-tail (λ b. span_of b newest ≢ Lasting) a names none))
 
 -- that of the kept events is that of the history that they tell
-pub first_is : (d : Disk) (w : Seen Crash) (plan : Plan) (h : List Event) (name : List ℕ) → IsPlaying d w plan h → IsFirstAlive w.events name → first_alive (after d h) members ≡ Some name
+pub first_is : (d : Disk) (w : Seen Crash) (plan : Plan) (h : List Deed) (name : List ℕ) → IsPlaying d w plan h → IsFirstAlive w.events name → first_alive (after d h) members ≡ Some name
 first_is d w plan h name playing first =
     let s = after d h in
     let same : (a : List ℕ) → is_lasting (span_of a (reverse w.events)) ≡ lives_in (s.actors a) =
-    λ a. lasts (span_of a (reverse w.events)) (s.actors a) (suits d (reverse w.events) h playing.is.legal playing.is.told a) in
+    λ a. lasts_told d (reverse w.events) h playing.is.legal playing.told a in
     ap (first_alive s) first.among
     ∙ first_after s first.before first.later name (all_dead s (reverse w.events) first.before same first.none)
     (sym (same name) ∙ ap is_lasting first.lives)
@@ -82,33 +81,27 @@ none_lives s (a ∷ names) over =
 
 -- `sender`
 
-abbrev pub generation_played : (d : Disk) (old new : Seen Crash) (plan : Plan) (text : List ℕ) (h : List Event) → IsPlaying d old plan h → new ≡ generation_world old → GoesOn tells old new
+abbrev pub generation_played : (d : Disk) (old new : Seen Crash) (plan : Plan) (text : List ℕ) (h : List Deed) → IsPlaying d old plan h → new ≡ generation_world old → GoesOn tells old new
     → HasPlayed d new (line.Alone alone.Sender) text text plan h
 generation_played d old new plan text h playing started goes =
     let s = after d h in
     let k : Kept = kept.Generation old.present in
     let events : new.events ≡ old.events ++ k ∷ [] = ap (λ (w : Seen Crash). w.events) started in
-    let present : new.present ≡ old.present = ap (λ (w : Seen Crash). w.present) started in
     let disk : new.disk ≡ old.disk = ap (λ (w : Seen Crash). w.disk) started in
-    let next = goes d h playing.is in
-    let is : IsHistory d (crash_disk new.disk) (old.events ++ k ∷ []) old.present (next.0 ∷ h) = moved d (crash_disk new.disk) new.events (old.events ++ k ∷ []) new.present old.present (next.0 ∷ h) events present next.1 in
-    let told : next.0 ≡ generation_at s.now = generation_told old.present next.0 (last_told old.events k next.0 h is.told) ∙ ap generation_at (sym playing.is.moment) in
-    let now : IsHistory d (crash_disk new.disk) new.events new.present (generation_at s.now ∷ h) = subst (λ (e : Event). IsHistory d (crash_disk new.disk) new.events new.present (e ∷ h)) told next.1 in
+    let next = plain_on d old new plan k h playing goes tt events in
+    let told : next.0 ≡ generation_at s.now = generation_told old.present next.0 next.2 ∙ ap generation_at (sym playing.is.moment) in
+    let now : IsHistory d (crash_disk new.disk) new.events new.present (generation_at s.now ∷ history_of h) =
+    subst (λ (e : Event). IsHistory d (crash_disk new.disk) new.events new.present (e ∷ history_of h)) told next.1 in
     let none : first_alive s members ≡ None = none_first s members (none_lives s members now.legal.1.over) in
     record {
-      events = generation_at s.now ∷ [];
+      events = Came (generation_at s.now) ∷ [];
       own = [];
       plays = (ap (generation_events s.now) (sym none), ap generation_text (sym none));
-      playing = record {
-        is = now;
-        planned = ap crash_plan disk ∙ playing.planned;
-        whole = subst (λ (l : List Kept). AreWholeGivings (reverse l)) (sym events) (whole_push old.events k playing.whole tt);
-        starts = (tt, playing.starts);
-      };
+      playing = playing_push d old new plan plan k (Came (generation_at s.now)) h playing events now (subst (Tells k) told next.2) (ap crash_plan disk ∙ playing.planned) tt tt;
       text = sym (append-nil text);
     }
 
-abbrev pub generation_refused : (d : Disk) (w : Seen Crash) (plan : Plan) (name text : List ℕ) (h : List Event) → IsPlaying d w plan h → IsFirstAlive w.events name
+abbrev pub generation_refused : (d : Disk) (w : Seen Crash) (plan : Plan) (name text : List ℕ) (h : List Deed) → IsPlaying d w plan h → IsFirstAlive w.events name
     → HasPlayed d w (line.Alone alone.Sender) text (text ++ refusal_line Refusal.Alive name) plan h
 generation_refused d w plan name text h playing first =
     let s = after d h in
@@ -137,34 +130,29 @@ may_report s slot is =
     }
 
 -- one report more in a world
-pub reported : (d : Disk) (old new : Seen Crash) (plan : Plan) (slot letter : ℕ) (text : List ℕ) (h : List Event) → IsPlaying d old plan h → new ≡ reported_world old slot letter text → GoesOn tells old new
-    → IsPlaying d new plan (Report slot letter text ∷ h)
+pub reported : (d : Disk) (old new : Seen Crash) (plan : Plan) (slot letter : ℕ) (text : List ℕ) (h : List Deed) → IsPlaying d old plan h → new ≡ reported_world old slot letter text → GoesOn tells old new
+    → IsPlaying d new plan (Came (Report slot letter text) ∷ h)
 reported d old new plan slot letter text h playing did goes =
     let k : Kept = kept.Report slot letter text in
     let events : new.events ≡ old.events ++ k ∷ [] = ap (λ (w : Seen Crash). w.events) did in
-    let present : new.present ≡ old.present = ap (λ (w : Seen Crash). w.present) did in
     let disk : new.disk ≡ old.disk = ap (λ (w : Seen Crash). w.disk) did in
-    let next = goes d h playing.is in
-    let is : IsHistory d (crash_disk new.disk) (old.events ++ k ∷ []) old.present (next.0 ∷ h) = moved d (crash_disk new.disk) new.events (old.events ++ k ∷ []) new.present old.present (next.0 ∷ h) events present next.1 in
-    let told : next.0 ≡ Report slot letter text = report_told slot letter text next.0 (last_told old.events k next.0 h is.told) in
-    record {
-      is = subst (λ (e : Event). IsHistory d (crash_disk new.disk) new.events new.present (e ∷ h)) told next.1;
-      planned = ap crash_plan disk ∙ playing.planned;
-      whole = subst (λ (l : List Kept). AreWholeGivings (reverse l)) (sym events) (whole_push old.events k playing.whole tt);
-      starts = (tt, playing.starts);
-    }
+    let e : Event = Report slot letter text in
+    let next = plain_on d old new plan k h playing goes tt events in
+    let now : IsHistory d (crash_disk new.disk) new.events new.present (e ∷ history_of h) =
+    subst (λ (e : Event). IsHistory d (crash_disk new.disk) new.events new.present (e ∷ history_of h)) (report_told slot letter text next.0 next.2) next.1 in
+    playing_push d old new plan plan k (Came e) h playing events now refl (ap crash_plan disk ∙ playing.planned) tt tt
 
-pub report_comes_to : (s : State) (slot : ℕ) (letter : Letter) (text : List ℕ) → MayReport s slot → report_comes s slot letter text ≡ Happens (Report slot (letter_byte letter) text)
-report_comes_to s slot letter text may = ap (λ t. if t then Happens (Report slot (letter_byte letter) text) else Is Refusal.NotWaiting) (awaits s slot may)
+pub report_comes_to : (s : State) (slot : ℕ) (letter : Letter) (text : List ℕ) → MayReport s slot → report_comes s slot letter text ≡ Happens (Came (Report slot (letter_byte letter) text))
+report_comes_to s slot letter text may = ap (λ t. if t then Happens (Came (Report slot (letter_byte letter) text)) else Is Refusal.NotWaiting) (awaits s slot may)
 
-abbrev pub report_played : (d : Disk) (old new : Seen Crash) (plan : Plan) (slot : ℕ) (letter : Letter) (word text : List ℕ) (h : List Event) → IsPlaying d old plan h
+abbrev pub report_played : (d : Disk) (old new : Seen Crash) (plan : Plan) (slot : ℕ) (letter : Letter) (word text : List ℕ) (h : List Deed) → IsPlaying d old plan h
     → new ≡ reported_world old slot (letter_byte letter) word → GoesOn tells old new → HasPlayed d new (line.Report slot letter word) text text plan h
 report_played d old new plan slot letter word text h playing did goes =
     let s = after d h in
     let now = reported d old new plan slot (letter_byte letter) word h playing did goes in
     let comes = report_comes_to s slot letter word now.is.legal.1 in
     record {
-      events = Report slot (letter_byte letter) word ∷ [];
+      events = Came (Report slot (letter_byte letter) word) ∷ [];
       own = [];
       plays = (ap outcome_events (sym comes), ap (printed (codes "rspawn")) (sym comes));
       playing = now;
@@ -175,12 +163,12 @@ pub not_true : (t : Bool) → (t ≡ true → ⊥) → t ≡ false
 not_true true none = absurd (none refl)
 not_true false none = refl
 
-abbrev pub report_refused : (d : Disk) (w : Seen Crash) (plan : Plan) (slot : ℕ) (letter : Letter) (word text : List ℕ) (h : List Event) → IsPlaying d w plan h → ¬ (MayReport (known w.events) slot)
+abbrev pub report_refused : (d : Disk) (w : Seen Crash) (plan : Plan) (slot : ℕ) (letter : Letter) (word text : List ℕ) (h : List Deed) → IsPlaying d w plan h → ¬ (MayReport (known w.events) slot)
     → HasPlayed d w (line.Report slot letter word) text (text ++ refusal_line Refusal.NotWaiting (codes "rspawn")) plan h
 report_refused d w plan slot letter word text h playing none =
     let s = after d h in
     let comes : report_comes s slot letter word ≡ Is Refusal.NotWaiting =
-    ap (λ t. if t then Happens (Report slot (letter_byte letter) word) else Is Refusal.NotWaiting) (not_true (awaits_report s slot) (λ is. none (may_report_same (known w.events) s (sym (actors_told d w.events h playing.is.told)) (sym (pipework_told d w.events h playing.is.told playing.whole)) slot (may_report s slot is)))) in
+    ap (λ t. if t then Happens (Came (Report slot (letter_byte letter) word)) else Is Refusal.NotWaiting) (not_true (awaits_report s slot) (λ is. none (may_report_same (known w.events) s (sym (actors_told d w.events (history_of h) playing.is.told)) (sym (pipework_told d w.events (history_of h) playing.is.told playing.whole)) slot (may_report s slot is)))) in
     record {
       events = [];
       own = refusal_line Refusal.NotWaiting (codes "rspawn");

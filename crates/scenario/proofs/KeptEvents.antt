@@ -1,45 +1,18 @@
 -- Which event a kept one tells.
-use Rattle.std.proofs.Common.{◌≡◌, ℕ, List, [], ◌∷◌, ◌++◌, sym, subst, reverse}
-use Rattle.std.specs.List.{AllZip}
-use Rattle.std.proofs.lemmas.List.{reverse-append}
-use Rattle.call_fs.specs.declared.calls.CallData.{CallData}
-use Rattle.call_fs.specs.declared.calls.Told.{Told}
+use Rattle.std.proofs.Common.{◌≡◌, ℕ, List}
 use Rattle.call_fs.specs.declared.past.Own.{Own}
 use Rattle.call_fs.specs.declared.program.Ready.{Ready}
-use Rattle.world_events.specs.declared.event.Event.{Event as Kept}
 use Rattle.world_events.specs.declared.event.Event.TheVariants as kept
 use Rattle.world_events.specs.declared.event.Program.{Program}
-use Rattle.mail_world.specs.History.{Event, call_act}
+use Rattle.mail_world.specs.History.{Event}
 use Rattle.mail_world.specs.History.Event.{Start, Act, Child, Generation, Report, End, Stop, Moment, Halt}
-use Rattle.mail_world.specs.World.{kept_call, Tells}
+use Rattle.mail_world.specs.World.{Tells}
 use Rattle.scenario.specs.Turns.{generation_at}
-
--- the newest event is told by the last one that was kept
-pub last_told : (events : List Kept) (k : Kept) (e : Event) (h : List Event) → AllZip Tells (reverse (events ++ k ∷ [])) (e ∷ h) → Tells k e
-last_told events k e h told = (subst (λ (l : List Kept). AllZip Tells l (e ∷ h)) (reverse-append events (k ∷ [])) told).0
-
-pub told_by : (events : List Kept) (k : Kept) (e f : Event) (h : List Event) → Tells k f → AllZip Tells (reverse (events ++ k ∷ [])) (e ∷ h) → AllZip Tells (reverse (events ++ k ∷ [])) (f ∷ h)
-told_by events k e f h one told =
-    subst (λ (l : List Kept). AllZip Tells l (f ∷ h)) (sym (reverse-append events (k ∷ [])))
-    (one, (subst (λ (l : List Kept). AllZip Tells l (e ∷ h)) (reverse-append events (k ∷ [])) told).1)
-
--- which event a kept one tells
-pub call_told : (a : List ℕ) (p : ℕ) (ready : Ready) (call : CallData) (got : Told) (e : Event)
-    → Tells (kept_call a p ready call got) e → (w : ℕ) × (e ≡ call_act a p ready call got w)
-call_told a p ready call got (Start b program) told = absurd (cc)
-call_told a p ready call got (Act b own w) told = (w, cc)
-call_told a p ready call got (Child parent own b other) told = absurd told
-call_told a p ready call got (Generation sender clean lspawn rspawn) told = (let kept_is = told.1 in absurd (cc))
-call_told a p ready call got (Report slot letter text) told = absurd (cc)
-call_told a p ready call got (End b q r status) told = absurd (cc)
-call_told a p ready call got (Stop b) told = absurd (cc)
-call_told a p ready call got (Moment m) told = absurd (cc)
-call_told a p ready call got (Halt how contents) told = absurd (cc)
 
 pub act_told : (a : List ℕ) (own : Own) (e : Event) → Tells (kept.Act a own) e → (w : ℕ) × (e ≡ Act a own w)
 act_told a own (Start b program) told = absurd (cc)
 act_told a own (Act b other w) told = (w, cc)
-act_told a own (Child parent other b program) told = absurd told
+act_told a own (Child parent other b program) told = absurd (cc)
 act_told a own (Generation sender clean lspawn rspawn) told = (let kept_is = told.1 in absurd (cc))
 act_told a own (Report slot letter text) told = absurd (cc)
 act_told a own (End b q r status) told = absurd (cc)
@@ -47,10 +20,21 @@ act_told a own (Stop b) told = absurd (cc)
 act_told a own (Moment m) told = absurd (cc)
 act_told a own (Halt how contents) told = absurd (cc)
 
+pub child_told : (a : List ℕ) (own : Own) (c : List ℕ) (program : Program) (e : Event) → Tells (kept.Child a own c program) e → e ≡ Child a own c program
+child_told a own c program (Start b other) told = absurd (cc)
+child_told a own c program (Act b other w) told = absurd (cc)
+child_told a own c program (Child b other d starts) told = cc
+child_told a own c program (Generation sender clean lspawn rspawn) told = (let kept_is = told.1 in absurd (cc))
+child_told a own c program (Report slot letter text) told = absurd (cc)
+child_told a own c program (End b q r status) told = absurd (cc)
+child_told a own c program (Stop b) told = absurd (cc)
+child_told a own c program (Moment m) told = absurd (cc)
+child_told a own c program (Halt how contents) told = absurd (cc)
+
 pub end_told : (a : List ℕ) (p : ℕ) (ready : Ready) (status : ℕ) (e : Event) → Tells (kept.End a p ready status) e → e ≡ End a p ready status
 end_told a p ready status (Start b program) told = absurd (cc)
 end_told a p ready status (Act b own w) told = absurd (cc)
-end_told a p ready status (Child parent own b other) told = absurd told
+end_told a p ready status (Child parent own b other) told = absurd (cc)
 end_told a p ready status (Generation sender clean lspawn rspawn) told = (let kept_is = told.1 in absurd (cc))
 end_told a p ready status (Report slot letter text) told = absurd (cc)
 end_told a p ready status (End b q r other) told = cc
@@ -61,7 +45,7 @@ end_told a p ready status (Halt how contents) told = absurd (cc)
 pub start_told : (a : List ℕ) (program : Program) (e : Event) → Tells (kept.Start a program) e → e ≡ Start a program
 start_told a program (Start b other) told = cc
 start_told a program (Act b own w) told = absurd (cc)
-start_told a program (Child parent own b other) told = absurd told
+start_told a program (Child parent own b other) told = absurd (cc)
 start_told a program (Generation sender clean lspawn rspawn) told = (let kept_is = told.1 in absurd (cc))
 start_told a program (Report slot letter text) told = absurd (cc)
 start_told a program (End b q r status) told = absurd (cc)
@@ -72,7 +56,7 @@ start_told a program (Halt how contents) told = absurd (cc)
 pub stop_told : (a : List ℕ) (e : Event) → Tells (kept.Stop a) e → e ≡ Stop a
 stop_told a (Start b program) told = absurd (cc)
 stop_told a (Act b own w) told = absurd (cc)
-stop_told a (Child parent own b other) told = absurd told
+stop_told a (Child parent own b other) told = absurd (cc)
 stop_told a (Generation sender clean lspawn rspawn) told = (let kept_is = told.1 in absurd (cc))
 stop_told a (Report slot letter text) told = absurd (cc)
 stop_told a (End b q r status) told = absurd (cc)
@@ -83,7 +67,7 @@ stop_told a (Halt how contents) told = absurd (cc)
 pub moment_told : (m : ℕ) (e : Event) → Tells (kept.Moment m) e → e ≡ Moment m
 moment_told m (Start b program) told = absurd (cc)
 moment_told m (Act b own w) told = absurd (cc)
-moment_told m (Child parent own b other) told = absurd told
+moment_told m (Child parent own b other) told = absurd (cc)
 moment_told m (Generation sender clean lspawn rspawn) told = (let kept_is = told.1 in absurd (cc))
 moment_told m (Report slot letter text) told = absurd (cc)
 moment_told m (End b q r status) told = absurd (cc)
@@ -94,7 +78,7 @@ moment_told m (Halt how contents) told = absurd (cc)
 pub generation_told : (now : ℕ) (e : Event) → Tells (kept.Generation now) e → e ≡ generation_at now
 generation_told now (Start b program) told = absurd (cc)
 generation_told now (Act b own w) told = absurd (cc)
-generation_told now (Child parent own b program) told = absurd told
+generation_told now (Child parent own b program) told = absurd (cc)
 generation_told now (Generation sender clean lspawn rspawn) told =
     let same : kept.Generation now ≡ kept.Generation told.0 = told.1 in
     let start : now ≡ told.0 = cc in
@@ -112,7 +96,7 @@ generation_told now (Halt how contents) told = absurd (cc)
 pub report_told : (slot letter : ℕ) (text : List ℕ) (e : Event) → Tells (kept.Report slot letter text) e → e ≡ Report slot letter text
 report_told slot letter text (Start b program) told = absurd (cc)
 report_told slot letter text (Act b own w) told = absurd (cc)
-report_told slot letter text (Child parent own b program) told = absurd told
+report_told slot letter text (Child parent own b program) told = absurd (cc)
 report_told slot letter text (Generation sender clean lspawn rspawn) told = (let kept_is = told.1 in absurd (cc))
 report_told slot letter text (Report other k words) told = cc
 report_told slot letter text (End b q r status) told = absurd (cc)

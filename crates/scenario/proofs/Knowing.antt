@@ -1,17 +1,19 @@
 -- What is known of actors, pipes and slots by the events that a world kept is so after each history that they tell.
 use Rattle.std.proofs.Common.{◌≡◌, ℕ, List, [], ◌∷◌, reverse, Bool, true, false, not, ◌&&◌, Option, Some, None, refl, sym, ap, ◌∙◌, subst}
 use Rattle.std.proofs.Math.Path.{fun_ext}
-use Rattle.std.specs.Prelude.{codes, nat_lt, position}
+use Rattle.std.specs.Prelude.{codes, nat_lt, position, is_some, if◌then◌else◌}
 use Rattle.std.specs.List.{AllZip, range_with_len}
 use Rattle.call_fs.specs.Disk.{Disk}
 use Rattle.call_fs.specs.declared.past.ChildData.TheVariants as child
 use Rattle.call_fs.specs.declared.past.GotData.{GotData}
+use Rattle.call_fs.specs.declared.past.GotData.TheVariants.{Gave, Started}
 use Rattle.call_fs.specs.declared.past.NeedData.{NeedData}
 use Rattle.call_fs.specs.declared.past.NeedData.TheVariants as needs
 use Rattle.call_fs.specs.declared.past.Own.{Own}
 use Rattle.call_fs.specs.declared.program.Port.{Port}
 use Rattle.call_fs.specs.declared.program.Port.TheVariants as port
 use Rattle.call_fs.specs.declared.program.Ready.{Ready}
+use Rattle.call_fs.specs.declared.program.TheConstants.{INPUT_READY}
 use Rattle.world_events.specs.declared.event.Event.{Event as Kept}
 use Rattle.world_events.specs.declared.event.Program.{Program}
 use Rattle.world_events.specs.declared.event.Program.TheVariants.{Injector, Cleaner, Sender, LocalSpawner, RemoteSpawner}
@@ -21,9 +23,9 @@ use Rattle.mail_world.specs.History.{Event, Actor, State, MayReport, TenantEnds,
 use Rattle.mail_world.specs.Known.{known}
 use Rattle.mail_world.specs.Pipework.{Pipework, Tenant, is_ready}
 use Rattle.mail_world.specs.Pipework.Tenant.{Runs, Remote}
-use Rattle.mail_world.specs.Readiness.{found_at, found_by, found_in, has_ended, input_alone, is_gone, lies_ready, lowest_ended}
+use Rattle.mail_world.specs.Readiness.{found_at, found_by, found_in, has_ended, input_alone, is_awaiting, is_gone, lies_ready, lowest_ended}
 use Rattle.mail_world.specs.Wired.{AreWholeGivings}
-use Rattle.mail_world.specs.World.{ComesWhole, Tells, most_of}
+use Rattle.mail_world.specs.World.{ComesWhole, IsKeptBy, IsKeptGiving, Tells, most_of, with_inputs}
 use Rattle.mail_world.proofs.Known.{after_known, known_pipework}
 
 module _ (s t : State) (actors : s.actors ≡ t.actors) (pipework : s.pipework ≡ t.pipework) where
@@ -43,8 +45,11 @@ module _ (s t : State) (actors : s.actors ≡ t.actors) (pipework : s.pipework �
       let is : ◌≡◌ {A = ℕ → Bool} (λ d. has_ended s (s.pipework.programs a d)) (λ d. has_ended t (t.pipework.programs a d)) = fun_ext (λ d. slot_same a d) in
       ap (λ (f : ℕ → Bool). position f (range_with_len 0 256)) is
 
+  awaiting_same : (a : List ℕ) → is_awaiting s a ≡ is_awaiting t a
+  awaiting_same a = ap (λ (w : Pipework). is_some (w.slots a) && not (is_ready (w.pipes a port.Input))) pipework
+
   by_program : (a : List ℕ) (program : Program) → found_by s a program ≡ found_by t a program
-  by_program a (Injector args) = refl
+  by_program a (Injector args) = ap (λ (t : Bool). if t then input_alone false else INPUT_READY) (awaiting_same a)
   by_program a (Cleaner start) = ap (λ (b : Bool). input_alone b) (ready_same a port.Input)
   by_program a (Sender start) =
       let f : Pipework → Ready = λ w. record { links = is_ready (w.pipes a port.Clean) ∷ is_ready (w.pipes a port.Lspawn) ∷ is_ready (w.pipes a port.Rspawn) ∷ false ∷ []; child = None } in
@@ -92,6 +97,12 @@ module _ (s t : State) (actors : s.actors ≡ t.actors) (pipework : s.pipework �
   comes_same pid a program needs.Wait came h = h
   comes_same pid a program (needs.Ended status) came h = h
 
+  -- as what it is kept
+  pub kept_same : (bounces : ℕ) (a : List ℕ) (own : Own) (due : NeedData) (came : GotData) (k : Kept) → IsKeptBy t bounces a own due came k → IsKeptBy s bounces a own due came k
+  kept_same bounces a own (needs.Start (child.Bounce room)) (Started pid) k h = h
+  kept_same bounces a own (needs.Give (port.Program d) bytes) Gave k h = subst (λ (w : Pipework). IsKeptGiving (w.programs a d) a own bytes k) (sym pipework) h
+  kept_same bounces a own due came k h = h
+
   -- what can't be done yet
   pub cannot_same : (a : List ℕ) (due : NeedData) → CanNot t a due → CanNot s a due
   cannot_same a needs.Wait h = tt
@@ -136,8 +147,8 @@ module _ (s t : State) (actors : s.actors ≡ t.actors) (pipework : s.pipework �
   idled_same a own = ap (λ (m : List ℕ → Option Actor). idled_by (m a) own) actors
 
 -- after each history that these events tell
-pub actors_told : (d : Disk) (events : List Kept) (h : List Event) → AllZip Tells (reverse events) h → (after d h).actors ≡ (known events).actors
+pub actors_told : (d : Disk) (events : List Kept) (h : List Event) → AllZip Tells (with_inputs (reverse events)) h → (after d h).actors ≡ (known events).actors
 actors_told d events h told = (after_known d events h told).actors
 
-pub pipework_told : (d : Disk) (events : List Kept) (h : List Event) → AllZip Tells (reverse events) h → AreWholeGivings (reverse events) → (after d h).pipework ≡ (known events).pipework
+pub pipework_told : (d : Disk) (events : List Kept) (h : List Event) → AllZip Tells (with_inputs (reverse events)) h → AreWholeGivings (reverse events) → (after d h).pipework ≡ (known events).pipework
 pipework_told d events h told whole = known_pipework d events h told whole

@@ -2,6 +2,8 @@
 pub mod Dirs
 -- directories that are made if they are missing, and entries
 pub mod MadeDirs
+-- what a world keeps tells deeds, and those the history
+pub mod Deeds
 -- which event a kept one tells
 pub mod KeptEvents
 -- what is known of a world is so after each history
@@ -32,20 +34,24 @@ pub mod StopsAndMoments
 pub mod Tracings
 -- what a sender's taking adds to its marks
 pub mod Takings
+-- what a world keeps, as a history has it
+pub mod ReadEvents
 -- the lives of messages
 pub mod Lives
 -- they follow the state
 pub mod Followed
+-- the injectors of a world, with the envelopes that they were given
+pub mod Receivers
 -- the lines of mails
 pub mod EachMail
 -- what was printed is what a history shows
 pub mod Showings
--- the first events of a history
-pub mod Oldest
 -- lists in one strict order with the same members are one
 pub mod OneOrder
 -- lists whose elements follow one after the other
 pub mod Chains
+-- what is given to a child is one message and one envelope
+pub mod OneGiving
 -- a step comes to one outcome, and a run is one list of steps
 pub mod OneStep
 -- a turn is one list of parts, and `settle` one list of rounds
@@ -62,6 +68,10 @@ pub mod LastingFiles
 pub mod Listings
 -- what a script's history keeps beside being legal
 pub mod Carried
+-- a sender that has just started the injector of a bounce
+pub mod Births
+-- a legal history of a play
+pub mod Going
 -- entries make a disk
 pub mod FirstDisks
 -- and make one disk

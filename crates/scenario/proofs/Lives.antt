@@ -378,15 +378,3 @@ delivered_here f b s mail n t h is there own = by (b.living n) (subst (λ (o : O
     by (Some q) k =
         let same : bytes_eq q.actor mail ≡ true = ap (λ (a : List ℕ). bytes_eq a mail) (sym k.mail) ∙ own in
         entered_is t q s k ∙ sym (ap (λ (c : Bool). if c then is_entered s q else list_any (is_entered_so s mail n) b.over) same)
-
-pub delivered_before : (f : Fates) (b : Books) (s : Spot) (mail : List ℕ) (n : ℕ) → AreFates f b → is_number n ≡ true → ((t : Tenure) → get nat_cmp f.living n ≡ Some t → bytes_eq t.mail mail ≡ false)
-    → list_any (is_entered_so s mail n) b.over ≡ is_delivered b mail (Some n) s
-delivered_before f b s mail n h is apart = by (get nat_cmp f.living n) (b.living n) refl (h.living n is)
-  where
-    by : (o : Option Tenure) (p : Option Injection) → get nat_cmp f.living n ≡ o → IsTenureIf o p → list_any (is_entered_so s mail n) b.over ≡ is_delivered_by s mail n p b.over
-    by None None there k = refl
-    by None (Some q) there k = absurd k
-    by (Some t) None there k = absurd k
-    by (Some t) (Some q) there k =
-        let other : bytes_eq q.actor mail ≡ false = ap (λ (a : List ℕ). bytes_eq a mail) (sym k.mail) ∙ apart t there in
-        sym (ap (λ (c : Bool). if c then is_entered s q else list_any (is_entered_so s mail n) b.over) other)

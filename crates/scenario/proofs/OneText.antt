@@ -5,7 +5,7 @@ use Rattle.mail_bytes.specs.Decimal.{digits}
 use Rattle.call_fs.specs.Choices.{AreNamed, contents_by}
 use Rattle.call_fs.specs.Plan.{Plan, no_plan}
 use Rattle.std.proofs.lemmas.List.Kept.{AllPairs-from_increasing}
-use Rattle.mail_world.specs.History.{Event, Actor, Life, after}
+use Rattle.mail_world.specs.History.{Actor, Life}
 use Rattle.mail_world.specs.History.Event.{Halt}
 use Rattle.mail_world.specs.History.Life.{Alive, Over, Stopped}
 use Rattle.mail_world.specs.World.{mail}
@@ -20,6 +20,8 @@ use Rattle.play_lines.specs.declared.keyword.OfMoment.TheVariants as of_moment
 use Rattle.play_lines.specs.declared.keyword.OfSurvival.TheVariants as of_survival
 use Rattle.play_lines.specs.declared.keyword.OfWord.TheVariants as of_word
 use Rattle.play_lines.specs.Contents.{Content}
+use Rattle.scenario.specs.Deeds.{Deed, after, history_of}
+use Rattle.scenario.specs.Deeds.Deed.{Came}
 use Rattle.scenario.specs.FirstDisk.{IsFirstDisk}
 use Rattle.scenario.specs.Played.{Outcome, StopsAlive, StopComesTo, MomentComesTo, NumberComesTo, plan_after, outcome_events, printed, next_pid, Plays, PlaysAll}
 use Rattle.scenario.specs.Traced.{traced_after, traced_text}
@@ -41,7 +43,7 @@ one_named d xs ys p q =
 -- Lines
 
 -- by what an outcome adds and prints
-by_outcome : (name : List ℕ) (o p : Outcome) (e f : List Event) (t u : List ℕ) → o ≡ p → e ≡ outcome_events o → f ≡ outcome_events p → t ≡ printed name o → u ≡ printed name p → (e ≡ f) × (t ≡ u)
+by_outcome : (name : List ℕ) (o p : Outcome) (e f : List Deed) (t u : List ℕ) → o ≡ p → e ≡ outcome_events o → f ≡ outcome_events p → t ≡ printed name o → u ≡ printed name p → (e ≡ f) × (t ≡ u)
 by_outcome name o p e f t u same add add' print print' = (add ∙ ap outcome_events same ∙ sym add', print ∙ ap (printed name) same ∙ sym print')
 
 one_life : (a : List ℕ) (life : Life) (o p : Outcome) → StopsAlive a life o → StopsAlive a life p → o ≡ p
@@ -65,7 +67,7 @@ one_number_text d n t u (inl p) (inr q) = absurd (q.0 p.0)
 one_number_text d n t u (inr p) (inl q) = absurd (p.0 q.0)
 one_number_text d n t u (inr p) (inr q) = p.1 ∙ sym q.1
 
-one_play : (d : Disk) (h : List Event) (plan : Plan) (l : Line) (e f : List Event) (t u : List ℕ) → Plays d h plan l e t → Plays d h plan l f u → (e ≡ f) × (t ≡ u)
+one_play : (d : Disk) (h : List Deed) (plan : Plan) (l : Line) (e f : List Deed) (t u : List ℕ) → Plays d h plan l e t → Plays d h plan l f u → (e ≡ f) × (t ≡ u)
 one_play d h plan (line.Mail name message envelope) e f t u p q =
     by_outcome name p.0 q.0 e f t u (one_start (after d h) name (mail (next_pid h) (after d h).now message envelope) p.0 q.0 p.1 q.1) p.2 q.2 p.3 q.3
 one_play d h plan (line.Actor of_actor.Step actor) e f t u p q = by_outcome actor p.0 q.0 e f t u (one_step d h plan actor p.0 q.0 p.1 q.1) p.2 q.2 p.3 q.3
@@ -75,14 +77,14 @@ one_play d h plan (line.Actor of_actor.Stop actor) e f t u p q =
 one_play d h plan (line.Survival of_survival.Halt how) e f t u p q =
     let now = (after d h).disk in
     let same : p.0 ≡ q.0 = one_named now p.0 q.0 p.1 q.1 in
-    (p.2 ∙ ap (λ (named : List ℕ). Halt how (contents_by how now named) ∷ []) same ∙ sym q.2, p.3 ∙ sym q.3)
+    (p.2 ∙ ap (λ (named : List ℕ). Came (Halt how (contents_by how now named)) ∷ []) same ∙ sym q.2, p.3 ∙ sym q.3)
 one_play d h plan (line.Count of_count.Fault k) e f t u p q = (p.0 ∙ sym q.0, p.1 ∙ sym q.1)
 one_play d h plan (line.Count of_count.Number n) e f t u p q = (p.0 ∙ sym q.0, one_number_text (after d h).disk n t u p.1 q.1)
 one_play d h plan (line.Moment of_moment.Moment m) e f t u p q =
     by_outcome (digits (after d h).now) p.0 q.0 e f t u (one_moment (after d h).now m p.0 q.0 p.1 q.1) p.2 q.2 p.3 q.3
 one_play d h plan (line.Alone alone.Trace) e f t u p q = (p.0 ∙ sym q.0, p.1 ∙ sym q.1)
 one_play d h plan (line.Word of_word.Cat path) e f t u p q = (p.0 ∙ sym q.0, p.1 ∙ sym q.1)
-one_play d h plan (line.Alone alone.Show) e f t u p q = (p.0 ∙ sym q.0, one_shown d h t u p.1 q.1)
+one_play d h plan (line.Alone alone.Show) e f t u p q = (p.0 ∙ sym q.0, one_shown d (history_of h) t u p.1 q.1)
 one_play d h plan (line.Alone alone.Sender) e f t u p q = (p.0 ∙ sym q.0, p.1 ∙ sym q.1)
 one_play d h plan (line.Alone alone.Turn) e f t u p q =
     let same : p.0 ≡ q.0 = one_turn d h plan p.0 q.0 p.1 q.1 in
@@ -93,18 +95,18 @@ one_play d h plan (line.Letter of_letter.Settle letter) e f t u p q =
 one_play d h plan (line.Report slot letter word) e f t u p q = (p.0 ∙ sym q.0, p.1 ∙ sym q.1)
 
 -- what a line prints, of the events that it adds and of itself
-same_print : (traced : Bool) (e f : List Event) (t u : List ℕ) → (e ≡ f) × (t ≡ u) → traced_text traced e ++ t ≡ traced_text traced f ++ u
-same_print traced e f t u same = ap (λ (l : List Event). traced_text traced l ++ t) same.0 ∙ ap (λ w. traced_text traced f ++ w) same.1
+same_print : (traced : Bool) (e f : List Deed) (t u : List ℕ) → (e ≡ f) × (t ≡ u) → traced_text traced e ++ t ≡ traced_text traced f ++ u
+same_print traced e f t u same = ap (λ (l : List Deed). traced_text traced l ++ t) same.0 ∙ ap (λ w. traced_text traced f ++ w) same.1
 
 -- the rest is played from what the one line left, or the other
-same_rest : (d : Disk) (h : List Event) (plan : Plan) (traced : Bool) (l : Line) (lines : List Line) (e f : List Event) (t u : List ℕ) (mid : List Event) (left : Plan) (rest : List ℕ)
+same_rest : (d : Disk) (h : List Deed) (plan : Plan) (traced : Bool) (l : Line) (lines : List Line) (e f : List Deed) (t u : List ℕ) (mid : List Deed) (left : Plan) (rest : List ℕ)
     → (e ≡ f) × (t ≡ u) → PlaysAll d (e ++ h) (plan_after plan l e t) traced lines mid left rest → PlaysAll d (f ++ h) (plan_after plan l f u) traced lines mid left rest
 same_rest d h plan traced l lines e f t u mid left rest same plays =
     subst (λ (t : List ℕ). PlaysAll d (f ++ h) (plan_after plan l f t) traced lines mid left rest) same.1
-    (subst (λ (e : List Event). PlaysAll d (e ++ h) (plan_after plan l e t) traced lines mid left rest) same.0 plays)
+    (subst (λ (e : List Deed). PlaysAll d (e ++ h) (plan_after plan l e t) traced lines mid left rest) same.0 plays)
 
 -- What the first of some lines print is a prefix of what all of them print.
-play_prefix : (d : Disk) (h : List Event) (plan : Plan) (traced : Bool) (first later : List Line) (mid end : List Event) (left last : Plan) (text whole : List ℕ)
+play_prefix : (d : Disk) (h : List Deed) (plan : Plan) (traced : Bool) (first later : List Line) (mid end : List Deed) (left last : Plan) (text whole : List ℕ)
     → PlaysAll d h plan traced first mid left text → PlaysAll d h plan traced (first ++ later) end last whole → IsPrefix text whole
 play_prefix d h plan traced [] later mid end left last text whole p q = (whole, ap (λ t. t ++ whole) (sym p.2))
 play_prefix d h plan traced (l ∷ first) later mid end left last text whole p q =
@@ -120,7 +122,7 @@ play_prefix d h plan traced (l ∷ first) later mid end left last text whole p q
           ∙ ap (λ t. t ++ rest.0) (sym p.5),
     )
 
-one_play_all : (d : Disk) (h : List Event) (plan : Plan) (traced : Bool) (lines : List Line) (mid end : List Event) (left last : Plan) (t u : List ℕ)
+one_play_all : (d : Disk) (h : List Deed) (plan : Plan) (traced : Bool) (lines : List Line) (mid end : List Deed) (left last : Plan) (t u : List ℕ)
     → PlaysAll d h plan traced lines mid left t → PlaysAll d h plan traced lines end last u → t ≡ u
 one_play_all d h plan traced [] mid end left last t u p q = p.2 ∙ sym q.2
 one_play_all d h plan traced (l ∷ lines) mid end left last t u p q =
@@ -129,7 +131,7 @@ one_play_all d h plan traced (l ∷ lines) mid end left last t u p q =
     (same_rest d h plan (traced_after traced l) l lines p.0 q.0 p.1 q.1 mid left p.2 one p.4) q.4 in
     p.5 ∙ ap (λ t. t ++ p.2) (same_print traced p.0 q.0 p.1 q.1 one) ∙ ap (λ t. (traced_text traced q.0 ++ q.1) ++ t) rest ∙ sym q.5
 
-one_end : (d : Disk) (h : List Event) (plan : Plan) (traced : Bool) (lines : List Line) (mid end : List Event) (left last : Plan) (t u : List ℕ)
+one_end : (d : Disk) (h : List Deed) (plan : Plan) (traced : Bool) (lines : List Line) (mid end : List Deed) (left last : Plan) (t u : List ℕ)
     → PlaysAll d h plan traced lines mid left t → PlaysAll d h plan traced lines end last u → mid ≡ end
 one_end d h plan traced [] mid end left last t u p q = p.0 ∙ sym q.0
 one_end d h plan traced (l ∷ lines) mid end left last t u p q =
@@ -138,18 +140,18 @@ one_end d h plan traced (l ∷ lines) mid end left last t u p q =
     (same_rest d h plan (traced_after traced l) l lines p.0 q.0 p.1 q.1 mid left p.2 one p.4) q.4
 
 -- from one disk
-all_from : (opening : List Entry) (d e : Disk) (lines : List Line) (end : List Event) (left : Plan) (t : List ℕ) → IsFirstDisk opening d → IsFirstDisk opening e
+all_from : (opening : List Entry) (d e : Disk) (lines : List Line) (end : List Deed) (left : Plan) (t : List ℕ) → IsFirstDisk opening d → IsFirstDisk opening e
     → PlaysAll d [] no_plan false lines end left t → PlaysAll e [] no_plan false lines end left t
 all_from opening d e lines end left t p q plays = subst (λ (x : Disk). PlaysAll x [] no_plan false lines end left t) (one_disk opening d e p q) plays
 
 one_played : (opening : List Entry) (lines : List Line) (t u : List ℕ) → IsPlayed opening lines t → IsPlayed opening lines u → t ≡ u
 one_played opening lines t u p q =
-    one_play_all q.disk [] no_plan false lines p.history q.history p.left q.left t u (all_from opening p.disk q.disk lines p.history p.left t p.is_first q.is_first p.plays) q.plays
+    one_play_all q.disk [] no_plan false lines p.deeds q.deeds p.left q.left t u (all_from opening p.disk q.disk lines p.deeds p.left t p.is_first q.is_first p.plays) q.plays
 
--- lines make one history
-pub one_history : (opening : List Entry) (lines : List Line) (t u : List ℕ) (p : IsPlayed opening lines t) (q : IsPlayed opening lines u) → p.history ≡ q.history
-one_history opening lines t u p q =
-    one_end q.disk [] no_plan false lines p.history q.history p.left q.left t u (all_from opening p.disk q.disk lines p.history p.left t p.is_first q.is_first p.plays) q.plays
+-- lines make one list of deeds
+pub one_list : (opening : List Entry) (lines : List Line) (t u : List ℕ) (p : IsPlayed opening lines t) (q : IsPlayed opening lines u) → p.deeds ≡ q.deeds
+one_list opening lines t u p q =
+    one_end q.disk [] no_plan false lines p.deeds q.deeds p.left q.left t u (all_from opening p.disk q.disk lines p.deeds p.left t p.is_first q.is_first p.plays) q.plays
 
 -- Scripts
 
@@ -160,9 +162,9 @@ one_text script a b p q =
 
 begun_prefix : (opening : List Entry) (lines : List Line) (begun whole : List ℕ) → IsBegun opening lines begun → IsPlayed opening lines whole → IsPrefix begun whole
 begun_prefix opening lines begun whole p q =
-    let front = play_prefix q.disk [] no_plan false p.first p.later p.played.history q.history p.played.left q.left p.printed whole
-    (all_from opening p.played.disk q.disk p.first p.played.history p.played.left p.printed p.played.is_first q.is_first p.played.plays)
-    (subst (λ (l : List Line). PlaysAll q.disk [] no_plan false l q.history q.left whole) p.lines_are q.plays) in
+    let front = play_prefix q.disk [] no_plan false p.first p.later p.played.deeds q.deeds p.played.left q.left p.printed whole
+    (all_from opening p.played.disk q.disk p.first p.played.deeds p.played.left p.printed p.played.is_first q.is_first p.played.plays)
+    (subst (λ (l : List Line). PlaysAll q.disk [] no_plan false l q.deeds q.left whole) p.lines_are q.plays) in
     (p.rest ++ front.0, front.1 ∙ ap (λ t. t ++ front.0) p.text_is ∙ append_assoc begun p.rest front.0)
 
 pub begins_prefix : (script begun whole : List ℕ) → BeginsToPrint script begun → Prints script whole → IsPrefix begun whole

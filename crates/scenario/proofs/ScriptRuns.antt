@@ -1,25 +1,22 @@
 -- The steps of a run, one after the other.
-use Rattle.std.proofs.Common.{◌≡◌, ◌≢◌, ◌⊎◌, inl, inr, ℕ, zero, suc, ◌+◌, ◌<◌, ◌≤◌, List, [], ◌∷◌, ◌++◌, length, Bool, true, false, refl, sym, ap, ◌∙◌, subst, ⊎_elim, arith, append_assoc}
-use Rattle.std.specs.Prelude.{flat_map}
+use Rattle.std.proofs.Common.{◌≡◌, ◌≢◌, ◌⊎◌, inl, inr, ℕ, zero, suc, ◌+◌, ◌<◌, ◌≤◌, List, [], ◌∷◌, ◌++◌, length, Bool, true, false, refl, sym, ap, ◌∙◌, subst, ⊎_elim, arith}
 use Rattle.std.proofs.lemmas.Bool.{false≢true}
 use Rattle.std.proofs.lemmas.List.{append-nil}
-use Rattle.std.proofs.lemmas.Grind.{flat_map-append}
 use Rattle.call_fs.specs.Disk.{Disk}
 use Rattle.call_fs.specs.Plan.{Plan}
 use Rattle.crash_fs.specs.Crash.{Crash}
-use Rattle.world_events.specs.declared.event.Event.{Event as Kept}
 use Rattle.mail_world.specs.declared.error.WorldError.{WorldError}
 use Rattle.mail_world.specs.declared.error.WorldError.TheVariants as error
-use Rattle.mail_world.specs.Generations.{started_in}
-use Rattle.mail_world.specs.History.{Event, IsLiving, after}
+use Rattle.mail_world.specs.History.{IsLiving}
 use Rattle.mail_world.specs.World.{Seen}
 use Rattle.play_lines.specs.declared.line.Line.TheVariants as line
 use Rattle.play_lines.specs.declared.keyword.OfActor.TheVariants as of_actor
 use Rattle.scenario.specs.declared.stepping.Stepped.TheVariants as how
+use Rattle.scenario.specs.Deeds.{Deed, after}
 use Rattle.scenario.specs.Steps.{Refusal, IsRefusalOf, StepsTo, AreSteps, plan_through, has_idled, most_steps, stop_text, refusal_line}
 use Rattle.scenario.specs.Steps.Stops.{Idles, Refused, Full}
 use Rattle.scenario.specs.Steps.Outcome.{Is}
-use Rattle.scenario.specs.Playing.{IsPlaying, HasStepped, HasRun, HasPlayed, IsRefusedAs, AddsNoStart, is_waiting}
+use Rattle.scenario.specs.Playing.{IsPlaying, HasStepped, HasRun, HasPlayed, IsRefusedAs, is_waiting}
 use Rattle.scenario.proofs.Outcomes.{alive_waits}
 
 -- an error has one refusal
@@ -33,7 +30,7 @@ same_refusal (error.Alive name) r s one other = one ∙ sym other
 same_refusal error.Memory r s one other = absurd one
 
 -- a refusal of the world as one of the script
-pub refused_with : (why : WorldError) (r : Refusal) (d : Disk) (plan : Plan) (a : List ℕ) (h : List Event) → IsRefusedAs why d plan a h → IsRefusalOf why r → StepsTo d h plan a (Is r)
+pub refused_with : (why : WorldError) (r : Refusal) (d : Disk) (plan : Plan) (a : List ℕ) (h : List Deed) → IsRefusedAs why d plan a h → IsRefusalOf why r → StepsTo d h plan a (Is r)
 refused_with (error.Gone name at) r d plan a h seen is = subst (λ r. StepsTo d h plan a (Is r)) (same_refusal (error.Gone name at) seen.0 r seen.1 is) seen.2
 refused_with (error.NotWaiting name) r d plan a h seen is = subst (λ r. StepsTo d h plan a (Is r)) (same_refusal (error.NotWaiting name) seen.0 r seen.1 is) seen.2
 refused_with error.Unknown r d plan a h seen is = subst (λ r. StepsTo d h plan a (Is r)) (same_refusal error.Unknown seen.0 r seen.1 is) seen.2
@@ -75,21 +72,21 @@ pub waits_not : (why : WorldError) (name : List ℕ) → is_waiting why ≡ fals
 waits_not why name is e = false≢true (sym is ∙ ap is_waiting e)
 
 -- So many steps were made, none of which ended an idle turn, and the actor lives.
-pub record HasGone (d : Disk) (h : List Event) (plan : Plan) (a : List ℕ) (w : Seen Crash) (steps : ℕ) : Type 0 where
-  pub events : List Event
+pub record HasGone (d : Disk) (h : List Deed) (plan : Plan) (a : List ℕ) (w : Seen Crash) (steps : ℕ) : Type 0 where
+  pub events : List Deed
   pub are_steps : AreSteps d h plan a events
   pub count : length events ≡ steps
   pub busy : has_idled d h events ≡ false
   pub playing : IsPlaying d w (plan_through plan events) (events ++ h)
   pub living : (steps ≡ 0) ⊎ IsLiving (after d (events ++ h)) a
 
-abbrev pub run_begins : (d : Disk) (h : List Event) (plan : Plan) (a : List ℕ) (w : Seen Crash) → IsPlaying d w plan h → HasGone d h plan a w 0
+abbrev pub run_begins : (d : Disk) (h : List Deed) (plan : Plan) (a : List ℕ) (w : Seen Crash) → IsPlaying d w plan h → HasGone d h plan a w 0
 run_begins d h plan a w playing = record { events = []; are_steps = tt; count = refl; busy = refl; playing = playing; living = inl refl }
 
-abbrev pub run_goes_on : (d : Disk) (h : List Event) (plan : Plan) (a : List ℕ) (w v : Seen Crash) (n : ℕ) (run : HasGone d h plan a w n) → n < most_steps
+abbrev pub run_goes_on : (d : Disk) (h : List Deed) (plan : Plan) (a : List ℕ) (w v : Seen Crash) (n : ℕ) (run : HasGone d h plan a w n) → n < most_steps
     → HasStepped d v a how.On (plan_through plan run.events) (run.events ++ h) → HasGone d h plan a v (n + 1)
 run_goes_on d h plan a w v n run low step = record {
-  events = step.event ∷ run.events;
+  events = step.deed ∷ run.events;
   are_steps = (run.are_steps, (let same = run.count in omega arith, run.busy, step.steps));
   count = let same = run.count in omega arith;
   busy = step.over.1;
@@ -103,24 +100,24 @@ pub over_text : (n : ℕ) (a : List ℕ) → 1 ≤ n → [] ≡ stop_text n Refu
 over_text zero a some = absurd (omega arith)
 over_text (suc n) a some = refl
 
-abbrev pub run_ends : (d : Disk) (h : List Event) (plan : Plan) (a : List ℕ) (w v : Seen Crash) (n : ℕ) (text : List ℕ) (run : HasGone d h plan a w n) → n < most_steps
+abbrev pub run_ends : (d : Disk) (h : List Deed) (plan : Plan) (a : List ℕ) (w v : Seen Crash) (n : ℕ) (text : List ℕ) (run : HasGone d h plan a w n) → n < most_steps
     → HasStepped d v a how.Over (plan_through plan run.events) (run.events ++ h) → HasRun d v a false text text plan h
 run_ends d h plan a w v n text run low step = record {
-  events = step.event ∷ run.events;
+  events = step.deed ∷ run.events;
   own = [];
   run = record {
     are_steps = (run.are_steps, (let same = run.count in omega arith, run.busy, step.steps));
-    stops = Refused step.over.1 Refusal.Gone step.over.0 (inr refl) (over_text (length (step.event ∷ run.events)) a (omega arith));
+    stops = Refused step.over.1 Refusal.Gone step.over.0 (inr refl) (over_text (length (step.deed ∷ run.events)) a (omega arith));
   };
   idled = sym step.over.1;
   playing = step.playing;
   text = sym (append-nil text);
 }
 
-abbrev pub run_idles : (d : Disk) (h : List Event) (plan : Plan) (a : List ℕ) (w v : Seen Crash) (n : ℕ) (text : List ℕ) (run : HasGone d h plan a w n) → n < most_steps
+abbrev pub run_idles : (d : Disk) (h : List Deed) (plan : Plan) (a : List ℕ) (w v : Seen Crash) (n : ℕ) (text : List ℕ) (run : HasGone d h plan a w n) → n < most_steps
     → HasStepped d v a how.Idle (plan_through plan run.events) (run.events ++ h) → HasRun d v a true text text plan h
 run_idles d h plan a w v n text run low step = record {
-  events = step.event ∷ run.events;
+  events = step.deed ∷ run.events;
   own = [];
   run = record {
     are_steps = (run.are_steps, (let same = run.count in omega arith, run.busy, step.steps));
@@ -131,7 +128,7 @@ run_idles d h plan a w v n text run low step = record {
   text = sym (append-nil text);
 }
 
-abbrev pub run_waits : (d : Disk) (h : List Event) (plan : Plan) (a : List ℕ) (w : Seen Crash) (n : ℕ) (text name : List ℕ) (run : HasGone d h plan a w n) → n < most_steps
+abbrev pub run_waits : (d : Disk) (h : List Deed) (plan : Plan) (a : List ℕ) (w : Seen Crash) (n : ℕ) (text name : List ℕ) (run : HasGone d h plan a w n) → n < most_steps
     → IsRefusedAs (error.NotWaiting name) d (plan_through plan run.events) a (run.events ++ h) → HasRun d w a false text text plan h
 run_waits d h plan a w n text name run low seen =
     let waits : StepsTo d (run.events ++ h) (plan_through plan run.events) a (Is Refusal.NotWaiting) =
@@ -153,7 +150,7 @@ refusal_text zero Refusal.NotWaiting a none other = absurd (other refl)
 refusal_text zero r a none other = refl
 refusal_text (suc n) r a none other = absurd (omega arith)
 
-abbrev pub run_refused : (d : Disk) (h : List Event) (plan : Plan) (a : List ℕ) (w : Seen Crash) (n : ℕ) (text : List ℕ) (why : WorldError) (r : Refusal) (run : HasGone d h plan a w n) → n < most_steps
+abbrev pub run_refused : (d : Disk) (h : List Deed) (plan : Plan) (a : List ℕ) (w : Seen Crash) (n : ℕ) (text : List ℕ) (why : WorldError) (r : Refusal) (run : HasGone d h plan a w n) → n < most_steps
     → IsRefusedAs why d (plan_through plan run.events) a (run.events ++ h) → IsRefusalOf why r → ((name : List ℕ) → why ≢ error.NotWaiting name) → HasRun d w a false text (text ++ refusal_line r a) plan h
 run_refused d h plan a w n text why r run low seen is waits =
     let now = plan_through plan run.events in
@@ -175,7 +172,7 @@ run_refused d h plan a w n text why r run low seen is waits =
 pub not_gone : Refusal.Gone ≢ Refusal.NotWaiting
 not_gone e = absurd (cc)
 
-abbrev pub run_full : (d : Disk) (h : List Event) (plan : Plan) (a : List ℕ) (w : Seen Crash) (n : ℕ) (text : List ℕ) (run : HasGone d h plan a w n) → n ≡ most_steps
+abbrev pub run_full : (d : Disk) (h : List Deed) (plan : Plan) (a : List ℕ) (w : Seen Crash) (n : ℕ) (text : List ℕ) (run : HasGone d h plan a w n) → n ≡ most_steps
     → HasRun d w a false text (text ++ refusal_line Refusal.Steps a) plan h
 run_full d h plan a w n text run full = record {
   events = run.events;
@@ -192,18 +189,6 @@ run_full d h plan a w n text run full = record {
 }
 
 -- a run as a line
-abbrev pub run_played : (d : Disk) (w : Seen Crash) (plan : Plan) (a : List ℕ) (idle : Bool) (before after_text : List ℕ) (h : List Event) → HasRun d w a idle before after_text plan h
+abbrev pub run_played : (d : Disk) (w : Seen Crash) (plan : Plan) (a : List ℕ) (idle : Bool) (before after_text : List ℕ) (h : List Deed) → HasRun d w a idle before after_text plan h
     → HasPlayed d w (line.Actor of_actor.Run a) before after_text plan h
 run_played d w plan a idle before after_text h run = record { events = run.events; own = run.own; plays = run.run; playing = run.playing; text = run.text }
-
--- No actor was started, step by step.
-
-abbrev pub no_start : (events : List Kept) → AddsNoStart events events
-no_start events = ([], sym (append-nil events), refl)
-
-abbrev pub no_start_more : (a b c : List Kept) → AddsNoStart a b → AddsNoStart b c → AddsNoStart a c
-no_start_more a b c p q = (
-  p.0 ++ q.0,
-  q.1 ∙ ap (λ (l : List Kept). l ++ q.0) p.1 ∙ append_assoc a p.0 q.0,
-  flat_map-append started_in p.0 q.0 ∙ ap (λ (l : List (List ℕ)). l ++ flat_map started_in q.0) p.2 ∙ q.2,
-)

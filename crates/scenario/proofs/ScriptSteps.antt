@@ -1,5 +1,7 @@
 -- A step of a world is a step of the script's history.
-use Rattle.std.proofs.Common.{◌≡◌, ◌≢◌, ℕ, List, [], ◌∷◌, ◌++◌, reverse, Bool, true, false, is_some, Option, Some, None, refl, sym, ap, ◌∙◌, subst, Result, Err}
+use Rattle.std.proofs.Common.{◌≡◌, ◌≢◌, ⊎_elim, ℕ, ◌+◌, List, [], ◌∷◌, ◌++◌, reverse, Bool, true, false, is_some, Option, Some, None, refl, sym, ap, ◌∙◌, subst, Result, Err}
+use Rattle.std.specs.List.{AllZip}
+use Rattle.actor_names.specs.BounceNames.{bounce_name}
 use Rattle.call_fs.specs.declared.calls.CallData.{CallData}
 use Rattle.call_fs.specs.declared.calls.Answer.{Answer}
 use Rattle.call_fs.specs.declared.calls.Answer.TheVariants.{Refused}
@@ -19,121 +21,43 @@ use Rattle.call_fs.specs.declared.past.Own.{Own}
 use Rattle.call_fs.specs.Plan.{Plan, Takes, CallKeepsPlan}
 use Rattle.call_fs.specs.Apply.{effect}
 use Rattle.crash_fs.specs.Crash.{Crash, crash_disk, crash_plan}
-use Rattle.call_fs.proofs.Maps.{put_at_same}
+use Rattle.call_fs.proofs.Maps.{put_at_same, put_at_other}
+use Rattle.world_events.specs.Inputs.{bounce, with_inputs}
 use Rattle.world_events.specs.declared.event.Program.{Program}
+use Rattle.world_events.specs.declared.event.Program.TheVariants.{Injector}
 use Rattle.world_events.specs.declared.event.Event.{Event as Kept}
 use Rattle.world_events.specs.declared.event.Event.TheVariants as kept
 use Rattle.mail_world.specs.Generations.{Waits, CanNot, has_idled, idled_by}
-use Rattle.mail_world.specs.History.{Event, call_act, Actor, Life, State, ComesOf, next_of, IsLiving, acted, called, finished, after, happens, own_call}
+use Rattle.mail_world.specs.History.{Event, call_act, Actor, Life, State, Allowed, MayDo, ComesOf, netstring, next_of, IsLiving, acted, called, finished, happens, own_call}
+use Rattle.mail_world.specs.History.{after as after_events}
 use Rattle.mail_world.specs.Known.{known}
-use Rattle.mail_world.specs.Pipework.{Pipe, Pipework, pipes_after, pipework_after}
-use Rattle.mail_world.specs.Wired.{AreWholeGivings, GivesWhole}
-use Rattle.mail_world.specs.History.Event.{Act, End}
-use Rattle.mail_world.specs.History.Life.{Over}
+use Rattle.mail_world.specs.Pipework.{Pipe, Pipework, Tenant, pipes_after, pipework_after}
+use Rattle.mail_world.specs.Pipework.Tenant.{Runs, Remote}
+use Rattle.mail_world.specs.Wired.{GivesWhole}
+use Rattle.mail_world.specs.History.Event.{Act, Child, End}
+use Rattle.mail_world.specs.History.Life.{Alive, Over}
 use Rattle.mail_world.specs.Readiness.{found_in}
-use Rattle.mail_world.specs.World.{kept_call, next_pid as kept_pid, pid_after, Seen, IsHistory, GoesOn, GoesByPlan, IsStep, IsOwnOf, ComesWhole, IsPlannedOwn, EndsAt, was_started}
-use Rattle.mail_world.proofs.Lives.{started_is, starts_is, ended_is}
-use Rattle.mail_world.proofs.Piped.{whole_push}
+use Rattle.mail_world.specs.World.{kept_call, next_pid as kept_pid, bounces_in as kept_bounces, begun_with, Seen, Tells, IsHistory, GoesOn, GoesByPlan, IsStep, IsOwnOf, IsKeptBy, IsKeptGiving, ComesWhole, IsPlannedOwn, EndsAt, was_started}
+use Rattle.mail_world.proofs.Bounces.{bounce_mail}
+use Rattle.mail_world.proofs.Lives.{started_is, ended_is, lives_or_ended}
+use Rattle.mail_world.proofs.Members.{contained_member}
+use Rattle.mail_world.proofs.Spans.{span_stays}
 use Rattle.crash_fs.proofs.CountedCalls.{done_by}
 use Rattle.scenario.proofs.HalfWritten.{call_wrote_none}
-use Rattle.scenario.specs.Steps.{plan_by, plan_left_of, DoesNext, DoesStep, StepsTo, next_pid, comes, idles, own_by}
+use Rattle.scenario.specs.Deeds.{Deed, event_in, history_of, after, bounces_in}
+use Rattle.scenario.specs.Deeds.Deed.{Came, Fed}
+use Rattle.scenario.specs.Steps.{plan_by, plan_left_of, DoesNext, DoesStep, StepsTo, Outcome, next_pid, comes, idles, own_by}
 use Rattle.scenario.specs.Steps.Outcome.{Happens, Is}
 use Rattle.scenario.specs.Steps.Refusal.{Gone, Unknown, NotWaiting}
-use Rattle.scenario.specs.Fates.{IsMailStart}
 use Rattle.scenario.specs.Playing.{HasStepped, IsLeftBy, IsPlaying, IsRefusedAs, is_memory, lacked_memory, stepped_by}
 use Rattle.scenario.proofs.Carried.{IsNoFile, no_file_disk}
-use Rattle.scenario.proofs.KeptEvents.{act_told, last_told, told_by, call_told, end_told}
-use Rattle.scenario.proofs.Knowing.{actors_told, pipework_told, found_same, comes_same, idled_same, waits_same}
+use Rattle.scenario.proofs.Deeds.{tells, plain_on, fed_on, playing_push, pid_told, bounces_told}
+use Rattle.scenario.proofs.KeptEvents.{act_told, child_told, end_told}
+use Rattle.scenario.proofs.Knowing.{actors_told, pipework_told, found_same, comes_same, kept_same, idled_same, waits_same}
 use Rattle.scenario.proofs.Outcomes.{does_next, over_gone}
-use Rattle.scenario.proofs.Waiting.{all_comes, passes_next, waits_steps}
+use Rattle.scenario.proofs.Waiting.{all_comes, acts_next, bears_next, feeds_next, waits_steps}
 use Rattle.mail_world.specs.declared.error.WorldError.{WorldError}
 use Rattle.mail_world.specs.declared.error.WorldError.TheVariants as error
-
--- Calls
-
-call_actor : (s : State) (a : List ℕ) (read : ℕ) (ready : Ready) (call : CallData) (got : Told) (w : ℕ) (x : Actor) → s.actors a ≡ Some x
-    → (y : Actor) × ((called s a read ready call got w (s.actors a)).actors a ≡ Some y) × (y.life ≡ x.life)
-call_actor s a read ready call got w x is =
-    subst (λ (o : Option Actor). (y : Actor) × ((called s a read ready call got w o).actors a ≡ Some y) × (y.life ≡ x.life)) (sym is)
-    (_, put_at_same s.actors a _, refl)
-
--- one event more, by a step of that actor
-pub record Stepped (o d : Disk) (plan : Plan) (left : Option Plan) (events : List Kept) (p : ℕ) (a : List ℕ) (h : List Event) : Type 0 where
-  pub event : Event
-  pub steps : StepsTo o h plan a (Happens event)
-  pub planned : left ≡ Some (plan_by event plan)
-  pub is : IsHistory o d events p (event ∷ h)
-
-pub call_steps : (o d d' : Disk) (plan : Plan) (left : Option Plan) (events : List Kept) (p : ℕ) (h : List Event) (a : List ℕ) (call : CallData) (got : Told) (e : Event)
-    → IsHistory o d events p h → got.answer ≢ Refused Memory → CallKeepsPlan call (Some plan) left (Some d) (Some d') got.answer
-    → IsHistory o d' (events ++ kept_call a p (found_in (after o h) a) call got ∷ []) p (e ∷ h)
-    → (done : Stepped o d' plan left (events ++ kept_call a p (found_in (after o h) a) call got ∷ []) p a h) × IsLiving (after o (done.event ∷ h)) a
-call_steps o d d' plan left events p h a call got e was memory keeps is =
-    let s = after o h in
-    let k : Kept = kept_call a p (found_in (after o h) a) call got in
-    let told = call_told a p (found_in (after o h) a) call got e (last_told events k e h is.told) in
-    let w = told.0 in
-    let at_w : IsHistory o d' (events ++ k ∷ []) p (call_act a p (found_in (after o h) a) call got w ∷ h) = subst (λ (e : Event). IsHistory o d' (events ++ k ∷ []) p (e ∷ h)) told.1 is in
-    let made = at_w.legal.1 in
-    let by = done_by call s.disk plan left d d' got.answer w made.came.0 keeps in
-    let left_disk : effect s.disk p call got.answer w ≡ d' =
-    subst (λ (m : Option Actor). effect s.disk p call got.answer w ≡ (called s a p (found_in (after o h) a) call got w m).disk) (sym made.reads.is) refl ∙ at_w.disk in
-    let zero = call_wrote_none s a p (found_in (after o h) a) call got w (λ fault. left_disk ∙ by.nothing_done fault ∙ sym was.disk) made in
-    let may = zero.0 in
-    let f : Event = call_act a p (found_in (after o h) a) call got 0 in
-    let living = call_actor s a p (found_in (after o h) a) call got 0 may.actor may.reads.is in (
-      record {
-        event = f;
-        steps = does_next o h plan a p may.actor (needs.File call) (Happens f) may.reads.is may.reads.alive was.moment may.due (
-          got,
-          record {
-            fits = may.came.0;
-            bytes = may.came.1;
-            fails = by.fails;
-            takes = subst (λ (d : Disk). Takes d plan.pick got.answer) (sym was.disk) by.takes;
-            no_memory = memory;
-          },
-          ap (λ q. Happens (call_act a q (found_in (after o h) a) call got 0)) (sym was.moment),
-        );
-        planned = by.planned;
-        is = record {
-          legal = (was.legal, may);
-          told = told_by events k (call_act a p (found_in (after o h) a) call got w) f h refl at_w.told;
-          named = (was.named, tt);
-          disk = ap (λ (t : State). t.disk) (sym zero.1) ∙ at_w.disk;
-          moment = ap (λ (t : State). t.now) (sym zero.1) ∙ at_w.moment;
-        };
-      },
-      record { actor = living.0; is = living.1; alive = living.2 ∙ may.reads.alive },
-    )
-
--- Ends
-
-end_actor : (s : State) (a : List ℕ) (life : Life) (x : Actor) → s.actors a ≡ Some x
-    → (y : Actor) × ((finished s a life (s.actors a)).actors a ≡ Some y) × (y.life ≡ life)
-end_actor s a life x is =
-    subst (λ (o : Option Actor). (y : Actor) × ((finished s a life o).actors a ≡ Some y) × (y.life ≡ life)) (sym is)
-    (_, put_at_same s.actors a _, refl)
-
-pub end_steps : (o d d' : Disk) (plan : Plan) (left : Option Plan) (events : List Kept) (p : ℕ) (h : List Event) (a : List ℕ) (status : ℕ) (e : Event)
-    → left ≡ Some plan → IsHistory o d events p h → IsHistory o d' (events ++ kept.End a p (found_in (after o h) a) status ∷ []) p (e ∷ h)
-    → (done : Stepped o d' plan left (events ++ kept.End a p (found_in (after o h) a) status ∷ []) p a h) × StepsTo o (done.event ∷ h) (plan_by done.event plan) a (Is Gone)
-end_steps o d d' plan left events p h a status e planned was is =
-    let s = after o h in
-    let k : Kept = kept.End a p (found_in (after o h) a) status in
-    let same = end_told a p (found_in (after o h) a) status e (last_told events k e h is.told) in
-    let f : Event = End a p (found_in (after o h) a) status in
-    let now : IsHistory o d' (events ++ k ∷ []) p (f ∷ h) = subst (λ (e : Event). IsHistory o d' (events ++ k ∷ []) p (e ∷ h)) same is in
-    let may = now.legal.1 in
-    let over = end_actor s a (Over status) may.actor may.reads.is in (
-      record {
-        event = f;
-        steps = does_next o h plan a p may.actor (needs.Ended status) (Happens f) may.reads.is may.reads.alive was.moment may.due (ap (λ q. Happens (End a q (found_in (after o h) a) status)) (sym was.moment));
-        planned = planned;
-        is = now;
-      },
-      over_gone o (f ∷ h) plan a over.0 over.1 (λ e. let both = sym over.2 ∙ e in absurd (cc)),
-    )
 
 -- Refusals
 
@@ -141,19 +65,19 @@ none_of : (m : Option Actor) → is_some m ≡ false → m ≡ None
 none_of None e = refl
 none_of (Some x) e = let h = e in absurd (cc)
 
-pub never_started : (o d : Disk) (events : List Kept) (p : ℕ) (h : List Event) (a : List ℕ) → IsHistory o d events p h → was_started events a ≡ false → (after o h).actors a ≡ None
-never_started o d events p h a was new = none_of ((after o h).actors a) (sym (started_is o h events a was.told) ∙ new)
+pub never_started : (o d : Disk) (events : List Kept) (p : ℕ) (h : List Deed) (a : List ℕ) → IsHistory o d events p (history_of h) → was_started events a ≡ false → (after o h).actors a ≡ None
+never_started o d events p h a was new = none_of ((after o h).actors a) (sym (started_is o (history_of h) events a was.told) ∙ new)
 
-unknown_steps : (plan : Plan) (o d : Disk) (events : List Kept) (p : ℕ) (h : List Event) (a : List ℕ) → IsHistory o d events p h → was_started events a ≡ false → StepsTo o h plan a (Is Unknown)
-unknown_steps plan o d events p h a was new = subst (λ (m : Option Actor). DoesStep plan (after o h) (next_pid h) a m (Is Unknown)) (sym (never_started o d events p h a was new)) refl
+unknown_steps : (plan : Plan) (o d : Disk) (events : List Kept) (p : ℕ) (h : List Deed) (a : List ℕ) → IsHistory o d events p (history_of h) → was_started events a ≡ false → StepsTo o h plan a (Is Unknown)
+unknown_steps plan o d events p h a was new = subst (λ (m : Option Actor). DoesStep plan (after o h) (next_pid h) (bounces_in h) a m (Is Unknown)) (sym (never_started o d events p h a was new)) refl
 
-gone_steps : (plan : Plan) (o d : Disk) (events : List Kept) (p : ℕ) (h : List Event) (a : List ℕ) (at : ℕ) → IsHistory o d events p h → EndsAt events a at → StepsTo o h plan a (Is Gone)
+gone_steps : (plan : Plan) (o d : Disk) (events : List Kept) (p : ℕ) (h : List Deed) (a : List ℕ) (at : ℕ) → IsHistory o d events p (history_of h) → EndsAt events a at → StepsTo o h plan a (Is Gone)
 gone_steps plan o d events p h a at was ends =
-    let x = ended_is o h events a at was.legal was.told ends in
+    let x = ended_is o (history_of h) events a at was.legal was.told ends in
     over_gone o h plan a x.0 x.1 x.2
 
 -- a world's own refusal of a step is the script's; it waits as the history tells
-pub refused_as : {T : Type 0} (r : Result T WorldError) (why : WorldError) (o : Disk) (old : Seen Crash) (plan : Plan) (a : List ℕ) (h : List Event)
+pub refused_as : {T : Type 0} (r : Result T WorldError) (why : WorldError) (o : Disk) (old : Seen Crash) (plan : Plan) (a : List ℕ) (h : List Deed)
     → IsPlaying o old plan h → r ≡ Err why → (r ≡ Err error.Unknown → was_started old.events a ≡ false)
     → ((name : List ℕ) (at : ℕ) → r ≡ Err (error.Gone name at) → (name ≡ a) × EndsAt old.events a at)
     → ((name : List ℕ) → r ≡ Err (error.NotWaiting name) → (name ≡ a) × Waits (known old.events) old.present a)
@@ -161,7 +85,7 @@ pub refused_as : {T : Type 0} (r : Result T WorldError) (why : WorldError) (o : 
 refused_as r (error.Gone name at) o old plan a h playing is unknown gone waits taken past alive =
     (Gone, refl, gone_steps plan o (crash_disk old.disk) old.events old.present h a at playing.is (gone name at is).1)
 refused_as r (error.NotWaiting name) o old plan a h playing is unknown gone waits taken past alive =
-    let w = waits_same (after o h) (known old.events) (actors_told o old.events h playing.is.told) (pipework_told o old.events h playing.is.told playing.whole) old.present a (waits name is).1 in
+    let w = waits_same (after o h) (known old.events) (actors_told o old.events (history_of h) playing.is.told) (pipework_told o old.events (history_of h) playing.is.told playing.whole) old.present a (waits name is).1 in
     let due = subst (λ (q : ℕ). CanNot (after o h) a (next_of w.actor.program w.actor.past q (found_in (after o h) a))) (sym playing.is.moment) w.due in
     (NotWaiting, refl, waits_steps o h plan a w.actor w.is w.alive due)
 refused_as r error.Unknown o old plan a h playing is unknown gone waits taken past alive =
@@ -178,9 +102,6 @@ moved o d events kept_now p q h same now is = subst (λ (q : ℕ). IsHistory o d
 
 pub not_memory : (answer : Answer) → is_memory answer ≡ false → answer ≢ Refused Memory
 not_memory answer is e = let both : true ≡ false = sym (ap is_memory e) ∙ is in absurd (cc)
-
-abbrev pub tells : Crash → Option Disk
-tells m = Some (crash_disk m)
 
 -- Takings, givings and starts
 
@@ -376,40 +297,6 @@ acted_actor s a own w x is =
     subst (λ (o : Option Actor). (y : Actor) × ((acted s a own w o).actors a ≡ Some y) × (y.life ≡ x.life)) (sym is)
     (_, put_at_same s.actors a _, refl)
 
--- A step that is no call: what came of it comes in a world.
-pub pass_steps : (o d d' : Disk) (plan : Plan) (left : Option Plan) (events : List Kept) (p : ℕ) (h : List Event) (a : List ℕ) (own : Own) (e : Event)
-    → IsHistory o d events p h → IsNoFile own.due → GivesWhole own.due own.came → own.read ≡ p → own.ready ≡ found_in (after o h) a → left ≡ Some plan
-    → ((x : Actor) → (after o h).actors a ≡ Some x → comes (after o h) (next_pid h) a x.program own.due ≡ Some own.came)
-    → IsHistory o d' (events ++ kept.Act a own ∷ []) p (e ∷ h)
-    → (done : Stepped o d' plan left (events ++ kept.Act a own ∷ []) p a h) × IsLiving (after o (done.event ∷ h)) a
-pass_steps o d d' plan left events p h a own e was unfiled whole read ready planned so is =
-    let s = after o h in
-    let told = act_told a own e (last_told events (kept.Act a own) e h is.told) in
-    let w = told.0 in
-    let at_w : IsHistory o d' (events ++ kept.Act a own ∷ []) p (Act a own w ∷ h) = subst (λ (e : Event). IsHistory o d' (events ++ kept.Act a own ∷ []) p (e ∷ h)) told.1 is in
-    let made = at_w.legal.1 in
-    let same : happens s (Act a own w) ≡ happens s (Act a own 0) = same_left s a own w (s.actors a) unfiled whole in
-    let living = acted_actor s a own 0 made.actor made.reads.is in
-    let mine : own ≡ own_by s a own.due own.came =
-    ap (λ (q : ℕ). own_at q own.ready own.due own.came) (read ∙ sym was.moment) ∙ ap (λ (q : Ready). own_at s.now q own.due own.came) ready in (
-      record {
-        event = Act a own 0;
-        steps = does_next o h plan a own.read made.actor own.due (Happens (Act a own 0)) made.reads.is made.reads.alive (was.moment ∙ sym read)
-            (ap (λ (q : Ready). next_of made.actor.program made.actor.past own.read q) (sym ready) ∙ made.due)
-            (subst (λ (o : Own). DoesNext plan s (next_pid h) a made.actor.program own.due (Happens (Act a o 0))) (sym mine)
-            (passes_next plan s (next_pid h) a made.actor.program own.due own.came unfiled (so made.actor made.reads.is)));
-        planned = planned ∙ ap (λ (q : Plan). Some q) (sym (left_so own.due own.came plan unfiled));
-        is = record {
-          legal = (was.legal, record { actor = made.actor; reads = made.reads; finds = made.finds; due = made.due; came = came_zero s a own.due own.came w unfiled whole made.came });
-          told = told_by events (kept.Act a own) (Act a own w) (Act a own 0) h refl at_w.told;
-          named = (was.named, tt);
-          disk = ap (λ (t : State). t.disk) (sym same) ∙ at_w.disk;
-          moment = ap (λ (t : State). t.now) (sym same) ∙ at_w.moment;
-        };
-      },
-      record { actor = living.0; is = living.1; alive = living.2 ∙ made.reads.alive },
-    )
-
 -- A step of a world
 
 no_file : (due : NeedData) → ((call : CallData) → due ≢ needs.File call) → IsNoFile due
@@ -425,23 +312,125 @@ gives_whole : (s : State) (pid : ℕ) (a : List ℕ) (program : Program) (due : 
 gives_whole s pid a program (needs.Give port bytes) came h = subst (GivesWhole (needs.Give port bytes)) (sym h) tt
 gives_whole s pid a program due came h = tt
 
--- what a step of the world that is no end leaves
-pub record GoesBy (o : Disk) (new : Seen Crash) (plan : Plan) (a : List ℕ) (own : Own) (h : List Event) : Type 0 where
-  pub event : Event
-  pub steps : StepsTo o h plan a (Happens event)
-  pub playing : IsPlaying o new (plan_by event plan) (event ∷ h)
-  pub living : IsLiving (after o (event ∷ h)) a
-  pub idle : idles (after o h) event ≡ idled_by ((after o h).actors a) own
+-- an event of an actor that hid how much it wrote, as one that wrote nothing
+zero_told : (ks : List Kept) (a : List ℕ) (own : Own) (w : ℕ) (h : List Event) → AllZip Tells ks (Act a own w ∷ h) → AllZip Tells ks (Act a own 0 ∷ h)
+zero_told [] a own w h told = absurd told
+zero_told (k ∷ ks) a own w h told = told
 
-module _ (o : Disk) (old new : Seen Crash) (plan : Plan) (a : List ℕ) (own : Own) (h : List Event) (playing : IsPlaying o old plan h)
-    (did : IsOwnOf (known old.events) (kept_pid old.events) old.present a own) (event : new.events ≡ old.events ++ kept.Act a own ∷ []) (same : new.present ≡ old.present)
+zero_wrote : (o d : Disk) (events : List Kept) (p : ℕ) (a : List ℕ) (own : Own) (w : ℕ) (h : List Event) → IsHistory o d events p (Act a own w ∷ h)
+    → Allowed (after_events o h) (Act a own 0) → happens (after_events o h) (Act a own w) ≡ happens (after_events o h) (Act a own 0) → IsHistory o d events p (Act a own 0 ∷ h)
+zero_wrote o d events p a own w h is may same = record {
+  legal = (is.legal.0, may);
+  told = zero_told (with_inputs (reverse events)) a own w h is.told;
+  named = (is.named.0, tt);
+  disk = ap (λ (t : State). t.disk) (sym same) ∙ is.disk;
+  moment = ap (λ (t : State). t.now) (sym same) ∙ is.moment;
+}
+
+-- so it is with one that is no file call
+zero_passed : (o d : Disk) (events : List Kept) (p : ℕ) (a : List ℕ) (own : Own) (w : ℕ) (h : List Event) → IsNoFile own.due → GivesWhole own.due own.came → IsHistory o d events p (Act a own w ∷ h)
+    → IsHistory o d events p (Act a own 0 ∷ h)
+zero_passed o d events p a own w h unfiled whole is =
+    let s = after_events o h in
+    let made : MayDo s a own w = is.legal.1 in
+    zero_wrote o d events p a own w h is
+    (record { actor = made.actor; reads = made.reads; finds = made.finds; due = made.due; came = came_zero s a own.due own.came w unfiled whole made.came })
+    (same_left s a own w (s.actors a) unfiled whole)
+
+-- the actor lives on
+lives_on : (o d : Disk) (events : List Kept) (p : ℕ) (a : List ℕ) (own : Own) (h : List Event) → IsHistory o d events p (Act a own 0 ∷ h) → IsLiving (after_events o (Act a own 0 ∷ h)) a
+lives_on o d events p a own h is =
+    let s = after_events o h in
+    let made : MayDo s a own 0 = is.legal.1 in
+    let living = acted_actor s a own 0 made.actor made.reads.is in
+    record { actor = living.0; is = living.1; alive = living.2 ∙ made.reads.alive }
+
+-- what a file call comes to
+call_steps : (o : Disk) (old new : Seen Crash) (plan : Plan) (h : List Deed) (a : List ℕ) (call : CallData) (got : Told) (w : ℕ) → IsPlaying o old plan h
+    → IsHistory o (crash_disk new.disk) new.events new.present (call_act a old.present (found_in (after o h) a) call got w ∷ history_of h)
+    → got.answer ≢ Refused Memory → CallKeepsPlan call (Some plan) (crash_plan new.disk) (Some (crash_disk old.disk)) (Some (crash_disk new.disk)) got.answer
+    → StepsTo o h plan a (Happens (Came (call_act a old.present (found_in (after o h) a) call got 0)))
+    × (crash_plan new.disk ≡ Some (plan_by (call_act a old.present (found_in (after o h) a) call got 0) plan))
+    × IsHistory o (crash_disk new.disk) new.events new.present (call_act a old.present (found_in (after o h) a) call got 0 ∷ history_of h)
+call_steps o old new plan h a call got w playing at_w memory keeps =
+    let s = after o h in
+    let p = old.present in
+    let found = found_in s a in
+    let was = playing.is in
+    let made = at_w.legal.1 in
+    let by = done_by call s.disk plan (crash_plan new.disk) (crash_disk old.disk) (crash_disk new.disk) got.answer w made.came.0 keeps in
+    let left_disk : effect s.disk p call got.answer w ≡ crash_disk new.disk =
+    subst (λ (m : Option Actor). effect s.disk p call got.answer w ≡ (called s a p found call got w m).disk) (sym made.reads.is) refl ∙ at_w.disk in
+    let zero = call_wrote_none s a p found call got w (λ fault. left_disk ∙ by.nothing_done fault ∙ sym was.disk) made in
+    let may = zero.0 in
+    let f : Event = call_act a p found call got 0 in (
+      does_next o h plan a p may.actor (needs.File call) (Happens (Came f)) may.reads.is may.reads.alive was.moment may.due (
+        got,
+        record {
+          fits = may.came.0;
+          bytes = may.came.1;
+          fails = by.fails;
+          takes = subst (λ (d : Disk). Takes d plan.pick got.answer) (sym was.disk) by.takes;
+          no_memory = memory;
+        },
+        ap (λ q. Happens (Came (call_act a q found call got 0))) (sym was.moment),
+      ),
+      by.planned,
+      zero_wrote o (crash_disk new.disk) new.events new.present a (own_call p found call got) w (history_of h) at_w may zero.1,
+    )
+
+-- so it does if it started a child
+bears_on : (s : State) (a : List ℕ) (own : Own) (c : List ℕ) (program : Program) (x : Actor) → s.actors a ≡ Some x → a ≢ c
+    → (y : Actor) × ((happens s (Child a own c program)).actors a ≡ Some y) × (y.life ≡ x.life)
+bears_on s a own c program x is apart =
+    let lives = acted_actor s a own 0 x is in
+    (lives.0, put_at_other (acted s a own 0 (s.actors a)).actors c _ a apart ∙ lives.1, lives.2)
+
+-- What an event of an actor is kept as
+data IsKeptAs (s : State) (bounces : ℕ) (a : List ℕ) (own : Own) (due : NeedData) (came : GotData) (k : Kept) : Type 0 where
+  Acts : IsKeptBy s bounces a own due came (kept.Act a own) → k ≡ kept.Act a own → IsKeptAs s bounces a own due came k
+  Bears : (room pid : ℕ) → due ≡ needs.Start (child.Bounce room) → came ≡ got.Started pid → k ≡ kept.Child a own (bounce_name (bounces + 1)) (Injector (bounce pid own.read))
+      → IsKeptAs s bounces a own due came k
+  Feeds : (slot : ℕ) (c message envelope : List ℕ) → due ≡ needs.Give (port.Program slot) (netstring message ++ netstring envelope) → came ≡ got.Gave → s.pipework.programs a slot ≡ Some (Runs c)
+      → k ≡ kept.Feed a own c message envelope → IsKeptAs s bounces a own due came k
+
+given_as : (s : State) (bounces : ℕ) (a : List ℕ) (own : Own) (slot : ℕ) (bytes : List ℕ) (k : Kept) (o : Option Tenant) → s.pipework.programs a slot ≡ o → IsKeptGiving o a own bytes k
+    → IsKeptAs s bounces a own (needs.Give (port.Program slot) bytes) got.Gave k
+given_as s bounces a own slot bytes k None is kept_as = Acts (subst (λ (o : Option Tenant). IsKeptGiving o a own bytes (kept.Act a own)) (sym is) refl) kept_as
+given_as s bounces a own slot bytes k (Some (Runs c)) is kept_as =
+    Feeds slot c kept_as.0 kept_as.1 (ap (λ (b : List ℕ). needs.Give (port.Program slot) b) kept_as.2) refl is kept_as.3
+given_as s bounces a own slot bytes k (Some (Remote reported)) is kept_as = Acts (subst (λ (o : Option Tenant). IsKeptGiving o a own bytes (kept.Act a own)) (sym is) refl) kept_as
+
+kept_so : (s : State) (bounces : ℕ) (a : List ℕ) (own : Own) (due : NeedData) (came : GotData) (k : Kept) → IsKeptBy s bounces a own due came k → IsKeptAs s bounces a own due came k
+kept_so s bounces a own (needs.Start (child.Bounce room)) (got.Started pid) k is = Bears room pid refl refl is
+kept_so s bounces a own (needs.Give (port.Program slot) bytes) got.Gave k is = given_as s bounces a own slot bytes k (s.pipework.programs a slot) refl is
+kept_so s bounces a own due came k is = Acts refl is
+
+kept_idled : (s : State) (bounces : ℕ) (a : List ℕ) (own : Own) (due : NeedData) (came : GotData) (k : Kept) → IsKeptAs s bounces a own due came k → has_idled s k ≡ idled_by (s.actors a) own
+kept_idled s bounces a own due came k (Acts plain is) = ap (has_idled s) is
+kept_idled s bounces a own due came k (Bears room pid asked started is) = ap (has_idled s) is
+kept_idled s bounces a own due came k (Feeds slot c message envelope gives gave runs is) = ap (has_idled s) is
+
+-- what a step of the world that is no end leaves
+pub record GoesBy (o : Disk) (new : Seen Crash) (plan : Plan) (a : List ℕ) (own : Own) (h : List Deed) : Type 0 where
+  pub deed : Deed
+  pub steps : StepsTo o h plan a (Happens deed)
+  pub playing : IsPlaying o new (plan_by (event_in deed) plan) (deed ∷ h)
+  pub living : IsLiving (after o (deed ∷ h)) a
+  pub idle : idles (after o h) (event_in deed) ≡ idled_by ((after o h).actors a) own
+
+module _ (o : Disk) (old new : Seen Crash) (plan : Plan) (a : List ℕ) (own : Own) (h : List Deed) (playing : IsPlaying o old plan h)
+    (did : IsOwnOf (known old.events) (kept_pid old.events) old.present a own) (k : Kept) (event : new.events ≡ old.events ++ k ∷ []) (same : new.present ≡ old.present)
     (goes : GoesOn tells old new) (by : GoesByPlan crash_plan tells old.disk new.disk old.events new.events)
     (memory : (before : List Kept) (newest : Kept) → new.events ≡ before ++ newest ∷ [] → false ≡ lacked_memory newest) where
+  abbrev IsNow : List Event → Type 0
+  IsNow g = IsHistory o (crash_disk new.disk) new.events new.present g
+
   actors : (after o h).actors ≡ (known old.events).actors
-  actors = actors_told o old.events h playing.is.told
+  actors = actors_told o old.events (history_of h) playing.is.told
 
   pipework : (after o h).pipework ≡ (known old.events).pipework
-  pipework = pipework_told o old.events h playing.is.told playing.whole
+  pipework = pipework_told o old.events (history_of h) playing.is.told playing.whole
 
   ready : own.ready ≡ found_in (after o h) a
   ready = did.ready ∙ sym (found_same (after o h) (known old.events) actors pipework a)
@@ -449,77 +438,186 @@ module _ (o : Disk) (old new : Seen Crash) (plan : Plan) (a : List ℕ) (own : O
   whole : GivesWhole own.due own.came
   whole = gives_whole (known old.events) (kept_pid old.events) a did.actor.program own.due own.came did.came
 
-  -- whichever event is told
-  left : (mine : Own) → own ≡ mine → (done : Stepped o (crash_disk new.disk) plan (crash_plan new.disk) (old.events ++ kept.Act a mine ∷ []) old.present a h) → IsLiving (after o (done.event ∷ h)) a → GoesBy o new plan a own h
-  left mine is done living =
-      let told = act_told a mine done.event (last_told old.events (kept.Act a mine) done.event h done.is.told) in
-      let events : new.events ≡ old.events ++ kept.Act a mine ∷ [] = event ∙ ap (λ (own : Own). old.events ++ kept.Act a own ∷ []) is in
-      record {
-        event = done.event;
-        steps = done.steps;
-        playing = record {
-          is = moved o (crash_disk new.disk) (old.events ++ kept.Act a mine ∷ []) new.events old.present new.present (done.event ∷ h) (sym events) (sym same) done.is;
-          planned = done.planned;
-          whole = subst (λ (l : List Kept). AreWholeGivings (reverse l)) (sym event) (whole_push old.events (kept.Act a own) playing.whole whole);
-          starts = (subst IsMailStart (sym told.1) tt, playing.starts);
-        };
-        living = living;
-        idle = ap (idles (after o h)) told.1 ∙ ap (idled_by ((after o h).actors a)) (sym is);
-      }
+  mine : own ≡ own_by (after o h) a own.due own.came
+  mine = ap (λ (q : ℕ). own_at q own.ready own.due own.came) (did.read ∙ sym playing.is.moment) ∙ ap (λ (q : Ready). own_at (after o h).now q own.due own.came) ready
 
-  after_it : (mine : Own) → own ≡ mine → IsHistory o (crash_disk new.disk) (old.events ++ kept.Act a mine ∷ []) old.present ((goes o h playing.is).0 ∷ h)
-  after_it mine is =
-      let next = goes o h playing.is in
-      moved o (crash_disk new.disk) new.events (old.events ++ kept.Act a mine ∷ []) new.present old.present (next.0 ∷ h) (event ∙ ap (λ (own : Own). old.events ++ kept.Act a own ∷ []) is) same next.1
+  actor_is : (after o h).actors a ≡ Some did.actor
+  actor_is = ap (λ (m : List ℕ → Option Actor). m a) actors ∙ did.is
 
-  passes : IsNoFile own.due → GoesBy o new plan a own h
-  passes unfiled =
-      let planned : crash_plan new.disk ≡ Some plan = planned_so own.due own.came (crash_plan old.disk) (crash_plan new.disk) (tells old.disk) (tells new.disk) unfiled (by (kept.Act a own) event) ∙ playing.planned in
-      let done = pass_steps o (crash_disk old.disk) (crash_disk new.disk) plan (crash_plan new.disk) old.events old.present h a own (goes o h playing.is).0 playing.is unfiled whole did.read ready planned
-      (λ x is.
-      let program : did.actor ≡ x = let both : ◌≡◌ {A = Option Actor} (Some did.actor) (Some x) = sym did.is ∙ sym (ap (λ (m : List ℕ → Option Actor). m a) actors) ∙ is in cc in
-      all_comes (after o h) (next_pid h) a x.program own.due own.came unfiled
-      (subst (λ (pid : ℕ). ComesWhole (after o h) pid a x.program own.due own.came) (ap pid_after (starts_is h old.events playing.is.told))
-      (subst (λ (y : Actor). ComesWhole (after o h) (kept_pid old.events) a y.program own.due own.came) program
-      (comes_same (after o h) (known old.events) actors pipework (kept_pid old.events) a did.actor.program own.due own.came did.came))))
-      (after_it own refl) in
-      left own refl done.0 done.1
+  due_is : next_of did.actor.program did.actor.past old.present (found_in (after o h) a) ≡ own.due
+  due_is = ap (next_of did.actor.program did.actor.past old.present) (found_same (after o h) (known old.events) actors pipework a) ∙ did.due
 
-  calls : (call : CallData) → own.due ≡ needs.File call → GoesBy o new plan a own h
-  calls call due =
+  -- what is due now and comes
+  comes_now : IsNoFile own.due → comes (after o h) (next_pid h) a did.actor.program own.due ≡ Some own.came
+  comes_now unfiled = all_comes (after o h) (next_pid h) a did.actor.program own.due own.came unfiled
+      (subst (λ (pid : ℕ). ComesWhole (after o h) pid a did.actor.program own.due own.came) (pid_told old.events h playing.told)
+      (comes_same (after o h) (known old.events) actors pipework (kept_pid old.events) a did.actor.program own.due own.came did.came))
+
+  steps_by : (outcome : Outcome) → did.actor.life ≡ Alive → DoesNext plan (after o h) (next_pid h) (bounces_in h) a did.actor.program own.due outcome → StepsTo o h plan a outcome
+  steps_by outcome alive does = does_next o h plan a old.present did.actor own.due outcome actor_is alive playing.is.moment due_is does
+
+  -- the actor that may do it now is that one
+  same_actor : (x : Actor) → (after o h).actors a ≡ Some x → x ≡ did.actor
+  same_actor x is = let both : ◌≡◌ {A = Option Actor} (Some x) (Some did.actor) = sym is ∙ actor_is in cc
+
+  unplanned : IsNoFile own.due → crash_plan new.disk ≡ crash_plan old.disk → crash_plan new.disk ≡ Some (plan_left_of own.due own.came plan)
+  unplanned unfiled left = left ∙ playing.planned ∙ ap (λ (q : Plan). Some q) (sym (left_so own.due own.came plan unfiled))
+
+  -- an event that is kept as it is
+  acted_so : (own_now : Own) → own ≡ own_now → k ≡ kept.Act a own → StepsTo o h plan a (Happens (Came (Act a own_now 0))) → crash_plan new.disk ≡ Some (plan_by (Act a own_now 0) plan)
+      → IsNow (Act a own_now 0 ∷ history_of h) → GoesBy o new plan a own h
+  acted_so own_now is kept_is steps planned now = record {
+    deed = Came (Act a own_now 0);
+    steps = steps;
+    playing = playing_push o old new plan (plan_by (Act a own_now 0) plan) (kept.Act a own_now) (Came (Act a own_now 0)) h playing
+        (event ∙ ap (λ (k : Kept). old.events ++ k ∷ []) (kept_is ∙ ap (kept.Act a) is)) now refl planned (subst (λ (own : Own). GivesWhole own.due own.came) is whole) tt;
+    living = lives_on o (crash_disk new.disk) new.events new.present a own_now (history_of h) now;
+    idle = ap (idled_by ((after o h).actors a)) (sym is);
+  }
+
+  -- the history then
+  acted_now : k ≡ kept.Act a own → (w : ℕ) × IsNow (Act a own w ∷ history_of h)
+  acted_now kept_is =
+      let on = plain_on o old new plan (kept.Act a own) h playing goes tt (event ∙ ap (λ (k : Kept). old.events ++ k ∷ []) kept_is) in
+      let told = act_told a own on.0 on.2 in
+      (told.0, subst (λ (e : Event). IsNow (e ∷ history_of h)) told.1 on.1)
+
+  passes : k ≡ kept.Act a own → IsKeptBy (after o h) (kept_bounces old.events) a own own.due own.came (kept.Act a own) → IsNoFile own.due → GoesBy o new plan a own h
+  passes kept_is plain unfiled =
+      let at_w = acted_now kept_is in
+      let now = zero_passed o (crash_disk new.disk) new.events new.present a own at_w.0 (history_of h) unfiled whole at_w.1 in
+      let left = planned_so own.due own.came (crash_plan old.disk) (crash_plan new.disk) (tells old.disk) (tells new.disk) unfiled (by (kept.Act a own) (event ∙ ap (λ (k : Kept). old.events ++ k ∷ []) kept_is)) in
+      let made : MayDo (after o h) a own 0 = now.legal.1 in
+      let alive : did.actor.life ≡ Alive = subst (λ (x : Actor). x.life ≡ Alive) (same_actor made.actor made.reads.is) made.reads.alive in
+      acted_so own refl kept_is
+      (steps_by (Happens (Came (Act a own 0))) alive
+      (acts_next plan (after o h) (next_pid h) (bounces_in h) (kept_bounces old.events) a did.actor.program own own.due own.came unfiled (comes_now unfiled) plain mine))
+      (unplanned unfiled left)
+      now
+
+  calls : (call : CallData) → own.due ≡ needs.File call → k ≡ kept.Act a own → GoesBy o new plan a own h
+  calls call due kept_is =
       let came : (got : Told) × (own.came ≡ Answered got) = subst (λ (d : NeedData). ComesWhole (known old.events) (kept_pid old.events) a did.actor.program d own.came) due did.came in
       let got = came.0 in
       let found = found_in (after o h) a in
-      let mine : Own = own_call old.present found call got in
-      let is : own ≡ mine =
+      let own_now : Own = own_call old.present found call got in
+      let is : own ≡ own_now =
       ap (λ (q : ℕ). own_at q own.ready own.due own.came) did.read
       ∙ ap (λ (q : Ready). own_at old.present q own.due own.came) ready
       ∙ ap (λ (q : NeedData). own_at old.present found q own.came) due
       ∙ ap (λ (q : GotData). own_at old.present found (needs.File call) q) came.1 in
-      let k : Kept = kept_call a old.present found call got in
-      let events : new.events ≡ old.events ++ k ∷ [] = event ∙ ap (λ (own : Own). old.events ++ kept.Act a own ∷ []) is in
-      let keeps = subst (λ (was : Option Plan). CallKeepsPlan call was (crash_plan new.disk) (Some (crash_disk old.disk)) (Some (crash_disk new.disk)) got.answer) playing.planned (by k events) in
-      let done = call_steps o (crash_disk old.disk) (crash_disk new.disk) plan (crash_plan new.disk) old.events old.present h a call got (goes o h playing.is).0 playing.is
-      (not_memory got.answer (sym (memory old.events k events))) keeps (after_it mine is) in
-      left mine is done.0 done.1
+      let k_now : Kept = kept_call a old.present found call got in
+      let events : new.events ≡ old.events ++ k_now ∷ [] = event ∙ ap (λ (k : Kept). old.events ++ k ∷ []) (kept_is ∙ ap (kept.Act a) is) in
+      let keeps = subst (λ (was : Option Plan). CallKeepsPlan call was (crash_plan new.disk) (Some (crash_disk old.disk)) (Some (crash_disk new.disk)) got.answer) playing.planned (by k_now events) in
+      let at_w = acted_now kept_is in
+      let done = call_steps o old new plan h a call got at_w.0 playing (subst (λ (own : Own). IsNow (Act a own at_w.0 ∷ history_of h)) is at_w.1) (not_memory got.answer (sym (memory old.events k_now events))) keeps in
+      acted_so own_now is kept_is done.0 done.1 done.2
 
-  by_due : (due : NeedData) → own.due ≡ due → GoesBy o new plan a own h
-  by_due (needs.File call) due = calls call due
-  by_due (needs.Take port) due = passes (no_file own.due (λ call e. let both = sym due ∙ e in absurd (cc)))
-  by_due (needs.Give port bytes) due = passes (no_file own.due (λ call e. let both = sym due ∙ e in absurd (cc)))
-  by_due (needs.Start child) due = passes (no_file own.due (λ call e. let both = sym due ∙ e in absurd (cc)))
-  by_due (needs.Command bytes) due = passes (no_file own.due (λ call e. let both = sym due ∙ e in absurd (cc)))
-  by_due needs.Wait due = passes (no_file own.due (λ call e. let both = sym due ∙ e in absurd (cc)))
-  by_due (needs.Ended status) due = passes (no_file own.due (λ call e. let both = sym due ∙ e in absurd (cc)))
+  acts : k ≡ kept.Act a own → IsKeptBy (after o h) (kept_bounces old.events) a own own.due own.came (kept.Act a own) → GoesBy o new plan a own h
+  acts kept_is plain = by_due own.due refl
+    where
+      by_due : (due : NeedData) → own.due ≡ due → GoesBy o new plan a own h
+      by_due (needs.File call) due = calls call due kept_is
+      by_due (needs.Take port) due = passes kept_is plain (no_file own.due (λ call e. let both = sym due ∙ e in absurd (cc)))
+      by_due (needs.Give port bytes) due = passes kept_is plain (no_file own.due (λ call e. let both = sym due ∙ e in absurd (cc)))
+      by_due (needs.Start child) due = passes kept_is plain (no_file own.due (λ call e. let both = sym due ∙ e in absurd (cc)))
+      by_due (needs.Command bytes) due = passes kept_is plain (no_file own.due (λ call e. let both = sym due ∙ e in absurd (cc)))
+      by_due needs.Wait due = passes kept_is plain (no_file own.due (λ call e. let both = sym due ∙ e in absurd (cc)))
+      by_due (needs.Ended status) due = passes kept_is plain (no_file own.due (λ call e. let both = sym due ∙ e in absurd (cc)))
 
-  pub acts : GoesBy o new plan a own h
-  acts = by_due own.due refl
+  -- the start of a child
+  bears : (room pid : ℕ) → own.due ≡ needs.Start (child.Bounce room) → own.came ≡ got.Started pid
+      → k ≡ kept.Child a own (bounce_name (kept_bounces old.events + 1)) (Injector (bounce pid own.read)) → GoesBy o new plan a own h
+  bears room pid due came kept_is =
+      let s = after o h in
+      let c = bounce_name (kept_bounces old.events + 1) in
+      let program = Injector (bounce pid own.read) in
+      let e : Event = Child a own c program in
+      let events : new.events ≡ old.events ++ kept.Child a own c program ∷ [] = event ∙ ap (λ (k : Kept). old.events ++ k ∷ []) kept_is in
+      let on = plain_on o old new plan (kept.Child a own c program) h playing goes tt events in
+      let now : IsNow (e ∷ history_of h) = subst (λ (e : Event). IsNow (e ∷ history_of h)) (child_told a own c program on.0 on.2) on.1 in
+      let made = now.legal.1 in
+      let alive : did.actor.life ≡ Alive = subst (λ (x : Actor). x.life ≡ Alive) (same_actor made.actor made.reads.is) made.reads.alive in
+      let unfiled : IsNoFile own.due = subst IsNoFile (sym due) tt in
+      let comes_so : comes s (next_pid h) a did.actor.program (needs.Start (child.Bounce room)) ≡ Some (got.Started pid) =
+      subst (λ (d : NeedData). comes s (next_pid h) a did.actor.program d ≡ Some (got.Started pid)) due (comes_now unfiled ∙ ap (λ (g : GotData). Some g) came) in
+      let own_so : own ≡ own_by s a (needs.Start (child.Bounce room)) (got.Started pid) =
+      mine ∙ ap (λ (d : NeedData). own_by s a d own.came) due ∙ ap (own_by s a (needs.Start (child.Bounce room))) came in
+      let does : DoesNext plan s (next_pid h) (bounces_in h) a did.actor.program (needs.Start (child.Bounce room)) (Happens (Came e)) =
+      subst (λ (n : ℕ). DoesNext plan s (next_pid h) (bounces_in h) a did.actor.program (needs.Start (child.Bounce room)) (Happens (Came (Child a own (bounce_name (n + 1)) program)))) (sym (bounces_told old.events h playing.told))
+      (bears_next plan s (next_pid h) (bounces_in h) a did.actor.program own room pid comes_so own_so) in
+      let apart : a ≢ c = λ same_name. let both : Some made.actor ≡ None = sym (ap s.actors (sym same_name) ∙ made.reads.is) ∙ made.new in absurd (cc) in
+      let lives = bears_on s a own c program made.actor made.reads.is apart in
+      record {
+        deed = Came e;
+        steps = steps_by (Happens (Came e)) alive (subst (λ (d : NeedData). DoesNext plan s (next_pid h) (bounces_in h) a did.actor.program d (Happens (Came e))) (sym due) does);
+        playing = playing_push o old new plan plan (kept.Child a own c program) (Came e) h playing events now refl (by (kept.Child a own c program) events ∙ playing.planned) whole
+            (λ member. let no : true ≡ false = sym (contained_member c member) ∙ bounce_mail (kept_bounces old.events + 1) in absurd (cc));
+        living = record { actor = lives.0; is = lives.1; alive = lives.2 ∙ made.reads.alive };
+        idle = refl;
+      }
 
-left_as : (d : Disk) (plan : Plan) (a : List ℕ) (e : Event) (h : List Event) (idle : Bool) → idle ≡ idles (after d h) e → IsLiving (after d (e ∷ h)) a → IsLeftBy (stepped_by None idle) d plan a e h
-left_as d plan a e h true is living = sym is
-left_as d plan a e h false is living = (living, sym is)
+  -- a giving of its whole input
+  lived : (x : Actor) → (e : Event) (g : List Event) → IsNow (e ∷ g) → (after_events o (e ∷ g)).actors a ≡ Some x → x.life ≡ Alive
+      → (c message envelope : List ℕ) → new.events ≡ old.events ++ kept.Feed a own c message envelope ∷ [] → did.actor.life ≡ Alive
+  lived x e g now is alive c message envelope events =
+      ⊎_elim (λ lives. lives)
+      (λ over.
+      let stays = span_stays old.events (kept.Feed a own c message envelope) a refl refl ∙ over.1 in
+      let ended : EndsAt new.events a over.0 = subst (λ (l : List Kept). EndsAt l a over.0) (sym events) stays in
+      let dead = ended_is o (e ∷ g) new.events a over.0 now.legal now.told ended in
+      let one : x ≡ dead.0 = let both : ◌≡◌ {A = Option Actor} (Some x) (Some dead.0) = sym is ∙ dead.1 in cc in
+      absurd (dead.2 (ap (λ (y : Actor). y.life) (sym one) ∙ alive)))
+      (lives_or_ended o (history_of h) old.events a did.actor playing.is.legal playing.is.told actor_is)
 
-pub stepped : (o : Disk) (old new : Seen Crash) (plan : Plan) (a : List ℕ) (ended : Option ℕ) (idle : Bool) (h : List Event) → IsPlaying o old plan h
+  feeds : (slot : ℕ) (c message envelope : List ℕ) → own.due ≡ needs.Give (port.Program slot) (netstring message ++ netstring envelope) → own.came ≡ got.Gave
+      → (after o h).pipework.programs a slot ≡ Some (Runs c) → k ≡ kept.Feed a own c message envelope → GoesBy o new plan a own h
+  feeds slot c message envelope due came runs kept_is =
+      let s = after o h in
+      let bytes = netstring message ++ netstring envelope in
+      let x : Deed = Fed a own c message envelope in
+      let g = begun_with c message envelope (history_of h) in
+      let kf : Kept = kept.Feed a own c message envelope in
+      let events : new.events ≡ old.events ++ kf ∷ [] = event ∙ ap (λ (k : Kept). old.events ++ k ∷ []) kept_is in
+      let on = fed_on o old new plan a own c message envelope h playing goes events in
+      let told = act_told a own on.0 on.2 in
+      let unfiled : IsNoFile own.due = subst IsNoFile (sym due) tt in
+      let at_w : IsNow (Act a own told.0 ∷ g) = subst (λ (e : Event). IsNow (e ∷ g)) told.1 on.1 in
+      let now : IsNow (Act a own 0 ∷ g) = zero_passed o (crash_disk new.disk) new.events new.present a own told.0 g unfiled whole at_w in
+      let living = lives_on o (crash_disk new.disk) new.events new.present a own g now in
+      let alive = lived living.actor (Act a own 0) g now living.is living.alive c message envelope events in
+      let own_so : own ≡ own_by s a (needs.Give (port.Program slot) bytes) got.Gave =
+      mine ∙ ap (λ (d : NeedData). own_by s a d own.came) due ∙ ap (own_by s a (needs.Give (port.Program slot) bytes)) came in
+      let does = feeds_next plan s (next_pid h) (bounces_in h) a did.actor.program own slot c message envelope runs own_so in
+      record {
+        deed = x;
+        steps = steps_by (Happens x) alive (subst (λ (d : NeedData). DoesNext plan s (next_pid h) (bounces_in h) a did.actor.program d (Happens x)) (sym due) does);
+        playing = playing_push o old new plan (plan_left_of own.due own.came plan) kf x h playing events now refl (unplanned unfiled (by kf events)) whole tt;
+        living = living;
+        idle = refl;
+      }
+
+  pub goes_by : IsKeptBy (known old.events) (kept_bounces old.events) a own own.due own.came k → GoesBy o new plan a own h
+  goes_by kept_as = by_case (kept_so (after o h) (kept_bounces old.events) a own own.due own.came k (kept_same (after o h) (known old.events) actors pipework (kept_bounces old.events) a own own.due own.came k kept_as))
+    where
+      by_case : IsKeptAs (after o h) (kept_bounces old.events) a own own.due own.came k → GoesBy o new plan a own h
+      by_case (Acts plain is) = acts is plain
+      by_case (Bears room pid asked started is) = bears room pid asked started is
+      by_case (Feeds slot c message envelope gives gave runs is) = feeds slot c message envelope gives gave runs is
+
+left_as : (d : Disk) (plan : Plan) (a : List ℕ) (x : Deed) (h : List Deed) (idle : Bool) → idle ≡ idles (after d h) (event_in x) → IsLiving (after d (x ∷ h)) a → IsLeftBy (stepped_by None idle) d plan a x h
+left_as d plan a x h true is living = sym is
+left_as d plan a x h false is living = (living, sym is)
+
+-- Ends
+
+end_actor : (s : State) (a : List ℕ) (life : Life) (x : Actor) → s.actors a ≡ Some x
+    → (y : Actor) × ((finished s a life (s.actors a)).actors a ≡ Some y) × (y.life ≡ life)
+end_actor s a life x is =
+    subst (λ (o : Option Actor). (y : Actor) × ((finished s a life o).actors a ≡ Some y) × (y.life ≡ life)) (sym is)
+    (_, put_at_same s.actors a _, refl)
+
+pub stepped : (o : Disk) (old new : Seen Crash) (plan : Plan) (a : List ℕ) (ended : Option ℕ) (idle : Bool) (h : List Deed) → IsPlaying o old plan h
     → IsStep a ended old new → new.present ≡ old.present
     → ((event : Kept) → new.events ≡ old.events ++ event ∷ [] → idle ≡ has_idled (known old.events) event)
     → GoesOn tells old new → GoesByPlan crash_plan tells old.disk new.disk old.events new.events
@@ -527,31 +625,35 @@ pub stepped : (o : Disk) (old new : Seen Crash) (plan : Plan) (a : List ℕ) (en
     → HasStepped o new a (stepped_by ended idle) plan h
 stepped o old new plan a None idle h playing step same turn goes by memory =
     let own = step.0 in
-    let done = acts o old new plan a own h playing step.1 step.2 same goes by memory in
+    let k = step.1 in
+    let before = known old.events in
+    let done = goes_by o old new plan a own h playing step.2 k step.4 same goes by memory step.3 in
+    let kept_as = kept_so before (kept_bounces old.events) a own own.due own.came k step.3 in
+    let idled = idled_same (after o h) before (actors_told o old.events (history_of h) playing.is.told) (pipework_told o old.events (history_of h) playing.is.told playing.whole) a own in
     record {
-      event = done.event;
+      deed = done.deed;
       steps = done.steps;
       playing = done.playing;
-      over = left_as o (plan_by done.event plan) a done.event h idle
-          (turn (kept.Act a own) step.2 ∙ sym (idled_same (after o h) (known old.events) (actors_told o old.events h playing.is.told) (pipework_told o old.events h playing.is.told playing.whole) a own) ∙ sym done.idle)
+      over = left_as o (plan_by (event_in done.deed) plan) a done.deed h idle
+          (turn k step.4 ∙ kept_idled before (kept_bounces old.events) a own own.due own.came k kept_as ∙ sym idled ∙ sym done.idle)
           done.living;
     }
 stepped o old new plan a (Some status) idle h playing step same turn goes by memory =
-    let k : Kept = kept.End a old.present (found_in (after o h) a) status in
-    let found = found_same (after o h) (known old.events) (actors_told o old.events h playing.is.told) (pipework_told o old.events h playing.is.told playing.whole) a in
-    let event : new.events ≡ old.events ++ k ∷ [] = step ∙ ap (λ ready. old.events ++ kept.End a old.present ready status ∷ []) (sym found) in
-    let next = goes o h playing.is in
-    let done = end_steps o (crash_disk old.disk) (crash_disk new.disk) plan (crash_plan new.disk) old.events old.present h a status next.0 (by k event ∙ playing.planned) playing.is
-    (moved o (crash_disk new.disk) new.events (old.events ++ k ∷ []) new.present old.present (next.0 ∷ h) event same next.1) in
-    let same_end = end_told a old.present (found_in (after o h) a) status done.0.event (last_told old.events k done.0.event h done.0.is.told) in
+    let s = after o h in
+    let p = old.present in
+    let k : Kept = kept.End a p (found_in s a) status in
+    let f : Event = End a p (found_in s a) status in
+    let found = found_same s (known old.events) (actors_told o old.events (history_of h) playing.is.told) (pipework_told o old.events (history_of h) playing.is.told playing.whole) a in
+    let event : new.events ≡ old.events ++ k ∷ [] = step ∙ ap (λ ready. old.events ++ kept.End a p ready status ∷ []) (sym found) in
+    let on = plain_on o old new plan k h playing goes tt event in
+    let now : IsHistory o (crash_disk new.disk) new.events new.present (f ∷ history_of h) =
+    subst (λ (e : Event). IsHistory o (crash_disk new.disk) new.events new.present (e ∷ history_of h)) (end_told a p (found_in s a) status on.0 on.2) on.1 in
+    let may = now.legal.1 in
+    let over = end_actor s a (Over status) may.actor may.reads.is in
     record {
-      event = done.0.event;
-      steps = done.0.steps;
-      playing = record {
-        is = moved o (crash_disk new.disk) (old.events ++ k ∷ []) new.events old.present new.present (done.0.event ∷ h) (sym event) (sym same) done.0.is;
-        planned = done.0.planned;
-        whole = subst (λ (l : List Kept). AreWholeGivings (reverse l)) (sym event) (whole_push old.events k playing.whole tt);
-        starts = (subst IsMailStart (sym same_end) tt, playing.starts);
-      };
-      over = (done.1, ap (idles (after o h)) same_end);
+      deed = Came f;
+      steps = does_next o h plan a p may.actor (needs.Ended status) (Happens (Came f)) may.reads.is may.reads.alive playing.is.moment may.due
+          (ap (λ q. Happens (Came (End a q (found_in s a) status))) (sym playing.is.moment));
+      playing = playing_push o old new plan plan k (Came f) h playing event now refl (by k event ∙ playing.planned) tt tt;
+      over = (over_gone o (Came f ∷ h) plan a over.0 over.1 (λ e. let both = sym over.2 ∙ e in absurd (cc)), refl);
     }

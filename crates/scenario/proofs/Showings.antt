@@ -1,9 +1,8 @@
 -- What was printed is what a history shows.
 use Rattle.std.proofs.Common.{◌≡◌, ℕ, List, [], ◌∷◌, ◌++◌, All, map, reverse, bytes_eq, Bool, true, false, Option, Some, None, refl, sym, ap, ◌∙◌, subst, append_assoc}
-use Rattle.std.proofs.lemmas.List.{append-nil, map-append, reverse-append, reverse-reverse}
-use Rattle.std.proofs.lemmas.List.Elements.{All-append, All-cons, All-map, All-nil, All-weaker, filter_map-append}
+use Rattle.std.proofs.lemmas.List.Elements.{All-append, All-cons, All-map, All-nil, All-weaker}
 use Rattle.std.specs.Prelude.{flat_map, codes, if◌then◌else◌}
-use Rattle.std.specs.List.{AllZip, cons_option, filter_map, zip}
+use Rattle.std.specs.List.{zip}
 use Rattle.address_rules.specs.declared.controls.Controls.{Controls}
 use Rattle.call_fs.specs.declared.calls.Answer.{Answer}
 use Rattle.call_fs.specs.declared.calls.Answer.TheVariants.{Done}
@@ -18,7 +17,6 @@ use Rattle.call_fs.specs.Disk.{Disk}
 use Rattle.crash_fs.specs.Crash.{crash_disk}
 use Rattle.disk_numbers.specs.Controls.{controls_on}
 use Rattle.queue_inject.specs.declared.injection.Arguments.{Arguments}
-use Rattle.queue_inject.specs.Texts.{recipients_of}
 use Rattle.queue_paths.specs.Names.{Name, is_number, is_used, parse, used}
 use Rattle.queue_paths.specs.Names.Name.{Of, Pid}
 use Rattle.queue_paths.specs.Names.Part.{Mess, Intd, Todo, Info, Local, Remote, Bounce}
@@ -30,53 +28,20 @@ use Rattle.world_events.specs.declared.event.Event.TheVariants as kept
 use Rattle.world_events.specs.Books.{acted_on, books_of, entered_by, entry_by, left_as, linked_number, mess_number, new_entry, newer, noted, number_by}
 use Rattle.world_events.specs.Programs.{injection_of}
 use Rattle.mail_world.specs.History.{Event, after}
-use Rattle.mail_world.specs.History.Event.{Start, Act, Child, Generation, Report, End, Stop, Moment, Halt}
-use Rattle.mail_world.specs.World.{IsHistory, Tells}
-use Rattle.mail_world.specs.Books.{books_in, entry_in, mail_by, mails_of}
+use Rattle.mail_world.specs.World.{IsHistory}
+use Rattle.mail_world.specs.Books.{books_in, entry_in, mails_of}
 use Rattle.scenario.specs.declared.overview.Overview.{Overview}
-use Rattle.scenario.specs.Fates.{IsUsed, arguments_in}
+use Rattle.scenario.specs.declared.showing.Given.{Given}
+use Rattle.scenario.specs.Fates.{IsUsed, receiver, receivers_in}
 use Rattle.scenario.specs.Shown.{AreNamesIn, AreNumbersIn, pid_line, number_line, all_mail_lines, IsShown, View, entry_lines, view_of}
-use Rattle.scenario.specs.Viewed.{view_at}
+use Rattle.scenario.specs.Viewed.{given_lines, view_at}
+use Rattle.scenario.proofs.EachMail.{by_envelope}
+use Rattle.scenario.proofs.Receivers.{envelope_at, envelope_in, envelopes_told}
 
 -- three texts, one after the other
 pub joined : (old first second third a b e : List ℕ) → first ≡ old ++ a → second ≡ first ++ b → third ≡ second ++ e → third ≡ old ++ (a ++ (b ++ e))
 joined old first second third a b e f g h =
     h ∙ ap (λ t. t ++ e) (g ∙ ap (λ t. t ++ b) f) ∙ append_assoc (old ++ a) b e ∙ append_assoc old a (b ++ e)
-
--- Each mail with what its injector was started with
-
-abbrev second : List ℕ × Arguments → Arguments
-second mail = mail.1
-
-by_start : (a : List ℕ) (o : Option Arguments) → map second (mail_by a o) ≡ cons_option o []
-by_start a None = refl
-by_start a (Some args) = refl
-
--- an event tells the start of a mail, or of none
-one_told : (k : Kept) (e : Event) (h : List Event) → Tells k e → map second (mails_of (e ∷ h)) ≡ map second (mails_of h) ++ filter_map arguments_in (k ∷ [])
-one_told k (Start a program) h told =
-    map-append second (mails_of h) (mail_by a (injection_of program))
-    ∙ ap (λ t. map second (mails_of h) ++ t) (by_start a (injection_of program))
-    ∙ ap (λ (k : Kept). map second (mails_of h) ++ filter_map arguments_in (k ∷ [])) (sym told)
-one_told k (Act a own wrote) h told = sym (ap (λ (k : Kept). map second (mails_of h) ++ filter_map arguments_in (k ∷ [])) told ∙ append-nil (map second (mails_of h)))
-one_told k (Child parent own a program) h told = absurd told
-one_told k (Generation sender clean lspawn rspawn) h told = sym (ap (λ (k : Kept). map second (mails_of h) ++ filter_map arguments_in (k ∷ [])) told.1 ∙ append-nil (map second (mails_of h)))
-one_told k (Report slot letter text) h told = sym (ap (λ (k : Kept). map second (mails_of h) ++ filter_map arguments_in (k ∷ [])) told ∙ append-nil (map second (mails_of h)))
-one_told k (End a read ready status) h told = sym (ap (λ (k : Kept). map second (mails_of h) ++ filter_map arguments_in (k ∷ [])) told ∙ append-nil (map second (mails_of h)))
-one_told k (Stop a) h told = sym (ap (λ (k : Kept). map second (mails_of h) ++ filter_map arguments_in (k ∷ [])) told ∙ append-nil (map second (mails_of h)))
-one_told k (Moment m) h told = sym (ap (λ (k : Kept). map second (mails_of h) ++ filter_map arguments_in (k ∷ [])) told ∙ append-nil (map second (mails_of h)))
-one_told k (Halt how contents) h told = sym (ap (λ (k : Kept). map second (mails_of h) ++ filter_map arguments_in (k ∷ [])) told ∙ append-nil (map second (mails_of h)))
-
--- the events, the newest first
-all_told : (events : List Kept) (h : List Event) → AllZip Tells events h → filter_map arguments_in (reverse events) ≡ map second (mails_of h)
-all_told [] [] told = refl
-all_told [] (e ∷ h) told = absurd told
-all_told (k ∷ events) [] told = absurd told
-all_told (k ∷ events) (e ∷ h) told =
-    ap (filter_map arguments_in) (reverse-append (k ∷ []) events)
-    ∙ filter_map-append arguments_in (reverse events) (k ∷ [])
-    ∙ ap (λ t. t ++ filter_map arguments_in (k ∷ [])) (all_told events h told.1)
-    ∙ sym (one_told k e h told.0)
 
 zipped : {X Y Z : Type 0} (f : X → Y) (g : X → Z) (text : Y × Z → List ℕ) (xs : List X) → flat_map text (zip (map f xs) (map g xs)) ≡ flat_map (λ x. text (f x, g x)) xs
 zipped f g text [] = refl
@@ -96,18 +61,19 @@ is_shown d h now present events pids numbers own history are_pids are_numbers ma
 }
 
 -- what is put of each mail
-pub mails_shown : (d : Disk) (h : List Event) (now : Disk) (present : ℕ) (events : List Kept) (o : Overview) (entries : List Entry) → IsHistory d now events present h
-    → crash_disk o.disk.now ≡ now → o.controls.now ≡ controls_on now → entries ≡ books_in d h
-    → flat_map (λ mail. entry_lines (view_at o (after d h).books) mail.0 (recipients_of mail.1)) (zip entries (filter_map arguments_in events)) ≡ all_mail_lines d h
-mails_shown d h now present events o entries history disk controls are =
+pub mails_shown : (d : Disk) (h : List Event) (now : Disk) (present : ℕ) (events : List Kept) (o : Overview) (entries : List Entry) (given : List Given) → IsHistory d now events present h
+    → crash_disk o.disk.now ≡ now → o.controls.now ≡ controls_on now → entries ≡ books_in d h → reverse (map receiver given) ≡ receivers_in (reverse events)
+    → flat_map (given_lines (view_at o (after d h).books)) (zip entries given) ≡ all_mail_lines d h
+mails_shown d h now present events o entries given history disk controls are received =
     let view : ◌≡◌ {A = View} (view_at o (after d h).books) (view_of d h) =
     ap (λ (m : Disk). record { disk = m; controls = o.controls.now; books = (after d h).books }) (disk ∙ sym history.disk)
     ∙ ap (λ (c : Option Controls). record { disk = (after d h).disk; controls = c; books = (after d h).books }) (controls ∙ ap controls_on (sym history.disk)) in
-    let args : filter_map arguments_in events ≡ map second (mails_of h) = ap (filter_map arguments_in) (sym (reverse-reverse events)) ∙ all_told (reverse events) h history.told in
-    ap (λ (v : View). flat_map (λ mail. entry_lines v mail.0 (recipients_of mail.1)) (zip entries (filter_map arguments_in events))) view
-    ∙ ap (λ (es : List Entry). flat_map (λ mail. entry_lines (view_of d h) mail.0 (recipients_of mail.1)) (zip es (filter_map arguments_in events))) are
-    ∙ ap (λ (args : List Arguments). flat_map (λ mail. entry_lines (view_of d h) mail.0 (recipients_of mail.1)) (zip (books_in d h) args)) args
-    ∙ zipped (entry_in (after d h) h) second (λ mail. entry_lines (view_of d h) mail.0 (recipients_of mail.1)) (mails_of h)
+    let lines : Entry × List ℕ → List ℕ = λ mail. entry_lines (view_of d h) mail.0 mail.1 in
+    ap (λ (v : View). flat_map (given_lines v) (zip entries given)) view
+    ∙ by_envelope (view_of d h) entries given
+    ∙ ap (λ (es : List Entry). flat_map lines (zip es (map envelope_at given))) are
+    ∙ ap (λ (texts : List (List ℕ)). flat_map lines (zip (books_in d h) texts)) (envelopes_told d (reverse events) h given history.legal history.told received)
+    ∙ zipped (entry_in (after d h) h) envelope_in lines (mails_of h)
 
 -- The numbers of mails are numbers of messages
 
@@ -156,6 +122,8 @@ used_left false life e h = h
 used_noted : (k : Kept) (e : Entry) → IsEntryUsed e → IsEntryUsed (noted k e)
 used_noted (kept.Start a program) e h = h
 used_noted (kept.Act a own) e h = used_acted (bytes_eq a e.actor) own e h
+used_noted (kept.Child a own c program) e h = h
+used_noted (kept.Feed a own c message envelope) e h = h
 used_noted (kept.End a read ready status) e h = used_left (bytes_eq a e.actor) (told_life.Ended status) e h
 used_noted (kept.Stop a) e h = used_left (bytes_eq a e.actor) told_life.Stopped e h
 used_noted (kept.Generation start) e h = h
@@ -170,6 +138,8 @@ used_entry a (Some args) = All-cons IsEntryUsed (new_entry a args) [] tt (All-ni
 used_entered : (k : Kept) → All IsEntryUsed (entered_by k)
 used_entered (kept.Start a program) = used_entry a (injection_of program)
 used_entered (kept.Act a own) = All-nil IsEntryUsed
+used_entered (kept.Child a own c program) = used_entry c (injection_of program)
+used_entered (kept.Feed a own c message envelope) = All-nil IsEntryUsed
 used_entered (kept.End a read ready status) = All-nil IsEntryUsed
 used_entered (kept.Stop a) = All-nil IsEntryUsed
 used_entered (kept.Generation start) = All-nil IsEntryUsed

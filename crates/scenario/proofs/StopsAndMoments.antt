@@ -1,5 +1,6 @@
 -- `stop` and `moment`.
 use Rattle.std.proofs.Common.{◌≡◌, ◌≢◌, ◌⊎◌, inl, inr, ℕ, ◌<◌, List, [], ◌∷◌, ◌++◌, reverse, false, Option, Some, None, refl, sym, ap, ◌∙◌, subst}
+use Rattle.std.specs.List.{AllZip}
 use Rattle.std.proofs.lemmas.List.{append-nil}
 use Rattle.mail_bytes.specs.Decimal.{digits}
 use Rattle.call_fs.specs.declared.crash_file_system.Survival.{Survival}
@@ -11,49 +12,47 @@ use Rattle.mail_world.specs.declared.error.WorldError.{WorldError}
 use Rattle.mail_world.specs.declared.error.WorldError.TheVariants as error
 use Rattle.world_events.specs.declared.event.Event.{Event as Kept}
 use Rattle.world_events.specs.declared.event.Event.TheVariants as kept
-use Rattle.mail_world.specs.History.{Event, Actor, Life, after}
+use Rattle.mail_world.specs.History.{Event, Actor, Life}
 use Rattle.mail_world.specs.History.Event.{Stop, Moment, Halt}
 use Rattle.mail_world.specs.History.Life.{Alive, Over, Stopped}
 use Rattle.mail_world.specs.World.{Seen, IsHistory, GoesOn, GoesOnWith, IsStop, Tells, EndsAt, GoesByPlan, IsHalt, moment_world, was_started}
 use Rattle.mail_world.specs.Wired.{AreWholeGivings, IsWholeGiving}
 use Rattle.mail_world.proofs.Lives.{ended_is}
-use Rattle.mail_world.proofs.Piped.{whole_push}
+use Rattle.mail_world.proofs.Known.{IsPlain}
 use Rattle.play_lines.specs.declared.line.Line.TheVariants as line
 use Rattle.play_lines.specs.declared.keyword.OfActor.TheVariants as of_actor
 use Rattle.play_lines.specs.declared.keyword.OfCount.TheVariants as of_count
 use Rattle.play_lines.specs.declared.keyword.OfMoment.TheVariants as of_moment
 use Rattle.play_lines.specs.declared.keyword.OfSurvival.TheVariants as of_survival
+use Rattle.scenario.specs.Deeds.{Deed, TellsDeed, history_of, after}
+use Rattle.scenario.specs.Deeds.Deed.{Came}
 use Rattle.scenario.specs.Played.{Refusal, IsRefusalOf, StopsAlive, StopComesTo, refusal_line}
 use Rattle.scenario.specs.Steps.Outcome.{Happens, Is}
 use Rattle.scenario.specs.Fates.{IsMailStart}
 use Rattle.scenario.specs.Playing.{IsPlaying, HasPlayed}
-use Rattle.scenario.proofs.KeptEvents.{last_told, stop_told, moment_told}
-use Rattle.scenario.proofs.ScriptSteps.{moved, never_started, tells}
+use Rattle.scenario.proofs.Deeds.{tells, plain_on, playing_push}
+use Rattle.scenario.proofs.KeptEvents.{stop_told, moment_told}
+use Rattle.scenario.proofs.ScriptSteps.{moved, never_started}
 
 -- one event more in the world, told by the one that was kept
-abbrev pub one_more : (d : Disk) (old new : Seen Crash) (plan : Plan) (k : Kept) (e : Event) (p : ℕ) (h : List Event) → IsPlaying d old plan h → GoesOn tells old new
-    → crash_plan new.disk ≡ crash_plan old.disk → new.events ≡ old.events ++ k ∷ [] → new.present ≡ p
-    → ((f : Event) → Tells k f → f ≡ e) → IsWholeGiving k → IsMailStart e → IsPlaying d new plan (e ∷ h)
-one_more d old new plan k e p h playing goes same_plan events present told gives start =
-    let next = goes d h playing.is in
-    let is : IsHistory d (crash_disk new.disk) (old.events ++ k ∷ []) p (next.0 ∷ h) =
-    moved d (crash_disk new.disk) new.events (old.events ++ k ∷ []) new.present p (next.0 ∷ h) events present next.1 in
-    let same : next.0 ≡ e = told next.0 (last_told old.events k next.0 h is.told) in
-    record {
-      is = subst (λ (e : Event). IsHistory d (crash_disk new.disk) new.events new.present (e ∷ h)) same next.1;
-      planned = same_plan ∙ playing.planned;
-      whole = subst (λ (l : List Kept). AreWholeGivings (reverse l)) (sym events) (whole_push old.events k playing.whole gives);
-      starts = (start, playing.starts);
-    }
+abbrev pub one_more : (d : Disk) (old new : Seen Crash) (plan : Plan) (k : Kept) (e : Event) (h : List Deed) → IsPlaying d old plan h → GoesOn tells old new
+    → crash_plan new.disk ≡ crash_plan old.disk → new.events ≡ old.events ++ k ∷ [] → IsPlain k
+    → ((f : Event) → Tells k f → f ≡ e) → IsWholeGiving k → IsMailStart e → IsPlaying d new plan (Came e ∷ h)
+one_more d old new plan k e h playing goes same_plan events plain told gives start =
+    let next = plain_on d old new plan k h playing goes plain events in
+    let same : next.0 ≡ e = told next.0 next.2 in
+    playing_push d old new plan plan k (Came e) h playing events (subst (λ (e : Event). IsHistory d (crash_disk new.disk) new.events new.present (e ∷ history_of h)) same next.1)
+    (subst (Tells k) same next.2) (same_plan ∙ playing.planned) gives start
 
 -- no event, but another plan
-replanned : (d : Disk) (old new : Seen Crash) (plan left : Plan) (h : List Event) → IsPlaying d old plan h → tells new.disk ≡ tells old.disk
+replanned : (d : Disk) (old new : Seen Crash) (plan left : Plan) (h : List Deed) → IsPlaying d old plan h → tells new.disk ≡ tells old.disk
     → new.events ≡ old.events → new.present ≡ old.present → crash_plan new.disk ≡ Some left → IsPlaying d new left h
 replanned d old new plan left h playing disk events present planned =
     let same : crash_disk old.disk ≡ crash_disk new.disk = cc in
     record {
-      is = moved d (crash_disk new.disk) old.events new.events old.present new.present h (sym events) (sym present)
-          (subst (λ (now : Disk). IsHistory d now old.events old.present h) same playing.is);
+      is = moved d (crash_disk new.disk) old.events new.events old.present new.present (history_of h) (sym events) (sym present)
+          (subst (λ (now : Disk). IsHistory d now old.events old.present (history_of h)) same playing.is);
+      told = subst (λ (l : List Kept). AllZip TellsDeed (reverse l) h) (sym events) playing.told;
       planned = planned;
       whole = subst (λ (l : List Kept). AreWholeGivings (reverse l)) (sym events) playing.whole;
       starts = playing.starts;
@@ -68,10 +67,10 @@ left_by None None plan change met is = absurd (cc)
 -- Stops
 
 -- a living actor is stopped, and one that lives no more is gone
-stops : (a : List ℕ) (o : Option Actor) (x : Actor) → o ≡ Some x → x.life ≡ Alive → StopComesTo a o (Happens (Stop a))
+stops : (a : List ℕ) (o : Option Actor) (x : Actor) → o ≡ Some x → x.life ≡ Alive → StopComesTo a o (Happens (Came (Stop a)))
 stops a o x is alive =
-    subst (λ (o : Option Actor). StopComesTo a o (Happens (Stop a))) (sym is)
-    (subst (λ (life : Life). StopsAlive a life (Happens (Stop a))) (sym alive) refl)
+    subst (λ (o : Option Actor). StopComesTo a o (Happens (Came (Stop a)))) (sym is)
+    (subst (λ (life : Life). StopsAlive a life (Happens (Came (Stop a)))) (sym alive) refl)
 
 is_gone : (a : List ℕ) (o : Option Actor) (x : Actor) → o ≡ Some x → x.life ≢ Alive → StopComesTo a o (Is Refusal.Gone)
 is_gone a o x is over = subst (λ (o : Option Actor). StopComesTo a o (Is Refusal.Gone)) (sym is) (by_life x.life over) where
@@ -80,32 +79,32 @@ is_gone a o x is over = subst (λ (o : Option Actor). StopComesTo a o (Is Refusa
   by_life (Over status) over = refl
   by_life Stopped over = refl
 
-pub stop_played : (d : Disk) (old new : Seen Crash) (plan : Plan) (a text : List ℕ) (h : List Event) → IsPlaying d old plan h → IsStop a old new → GoesOn tells old new
+pub stop_played : (d : Disk) (old new : Seen Crash) (plan : Plan) (a text : List ℕ) (h : List Deed) → IsPlaying d old plan h → IsStop a old new → GoesOn tells old new
     → GoesByPlan crash_plan tells old.disk new.disk old.events new.events → HasPlayed d new (line.Actor of_actor.Stop a) text text plan h
 stop_played d old new plan a text h playing stop goes by =
-    let now : IsPlaying d new plan (Stop a ∷ h) = one_more d old new plan (kept.Stop a) (Stop a) old.present h playing goes (by (kept.Stop a) stop.0) stop.0 stop.1 (stop_told a) tt tt in
+    let now : IsPlaying d new plan (Came (Stop a) ∷ h) = one_more d old new plan (kept.Stop a) (Stop a) h playing goes (by (kept.Stop a) stop.0) stop.0 tt (stop_told a) tt tt in
     let living = now.is.legal.1 in
     record {
-      events = Stop a ∷ [];
+      events = Came (Stop a) ∷ [];
       own = [];
-      plays = (Happens (Stop a), stops a ((after d h).actors a) living.actor living.is living.alive, refl, refl);
+      plays = (Happens (Came (Stop a)), stops a ((after d h).actors a) living.actor living.is living.alive, refl, refl);
       playing = now;
       text = sym (append-nil text);
     }
 
 -- what a refused stop comes to
-stop_comes : (d : Disk) (w : Seen Crash) (plan : Plan) (a : List ℕ) (why : WorldError) (r : Refusal) (h : List Event) → IsPlaying d w plan h → IsRefusalOf why r
+stop_comes : (d : Disk) (w : Seen Crash) (plan : Plan) (a : List ℕ) (why : WorldError) (r : Refusal) (h : List Deed) → IsPlaying d w plan h → IsRefusalOf why r
     → (why ≡ error.Unknown → was_started w.events a ≡ false) → ((name : List ℕ) (at : ℕ) → why ≡ error.Gone name at → EndsAt w.events a at)
     → (why ≡ error.Unknown) ⊎ ((name : List ℕ) × (at : ℕ) × (why ≡ error.Gone name at)) → StopComesTo a ((after d h).actors a) (Is r)
 stop_comes d w plan a why r h playing is unknown gone (inl e) =
     subst (λ r. StopComesTo a ((after d h).actors a) (Is r)) (sym (subst (λ why. IsRefusalOf why r) e is))
     (subst (λ (o : Option Actor). StopComesTo a o (Is Refusal.Unknown)) (sym (never_started d (crash_disk w.disk) w.events w.present h a playing.is (unknown e))) refl)
 stop_comes d w plan a why r h playing is unknown gone (inr e) =
-    let x = ended_is d h w.events a e.1 playing.is.legal playing.is.told (gone e.0 e.1 e.2) in
+    let x = ended_is d (history_of h) w.events a e.1 playing.is.legal playing.is.told (gone e.0 e.1 e.2) in
     subst (λ r. StopComesTo a ((after d h).actors a) (Is r)) (sym (subst (λ why. IsRefusalOf why r) e.2 is))
     (is_gone a ((after d h).actors a) x.0 x.1 x.2)
 
-pub stop_refused : (d : Disk) (w : Seen Crash) (plan : Plan) (a text : List ℕ) (why : WorldError) (r : Refusal) (h : List Event) → IsPlaying d w plan h → IsRefusalOf why r
+pub stop_refused : (d : Disk) (w : Seen Crash) (plan : Plan) (a text : List ℕ) (why : WorldError) (r : Refusal) (h : List Deed) → IsPlaying d w plan h → IsRefusalOf why r
     → (why ≡ error.Unknown → was_started w.events a ≡ false) → ((name : List ℕ) (at : ℕ) → why ≡ error.Gone name at → EndsAt w.events a at)
     → (why ≡ error.Unknown) ⊎ ((name : List ℕ) × (at : ℕ) × (why ≡ error.Gone name at)) → HasPlayed d w (line.Actor of_actor.Stop a) text (text ++ refusal_line r a) plan h
 stop_refused d w plan a text why r h playing is unknown gone only = record {
@@ -118,27 +117,23 @@ stop_refused d w plan a text why r h playing is unknown gone only = record {
 
 -- Machine stops
 
-pub halt_played : (d : Disk) (old new : Seen Crash) (plan : Plan) (how : Survival) (text : List ℕ) (h : List Event) → IsPlaying d old plan h → IsHalt how old new → GoesOnWith tells how old new
+pub halt_played : (d : Disk) (old new : Seen Crash) (plan : Plan) (how : Survival) (text : List ℕ) (h : List Deed) → IsPlaying d old plan h → IsHalt how old new → GoesOnWith tells how old new
     → GoesByPlan crash_plan tells old.disk new.disk old.events new.events → HasPlayed d new (line.Survival of_survival.Halt how) text text plan h
 halt_played d old new plan how text h playing halt goes by =
-    let next = goes d h playing.is in
+    let next = goes d (history_of h) playing.is in
     let named = next.1.named.1 in
+    let e : Event = Halt how next.0 in
     record {
-      events = Halt how next.0 ∷ [];
+      events = Came e ∷ [];
       own = [];
-      plays = (named.0, named.1, ap (λ (contents : ℕ → List ℕ). Halt how contents ∷ []) named.2, refl);
-      playing = record {
-        is = next.1;
-        planned = by (kept.Halt how) halt.0 ∙ playing.planned;
-        whole = subst (λ (l : List Kept). AreWholeGivings (reverse l)) (sym halt.0) (whole_push old.events (kept.Halt how) playing.whole tt);
-        starts = (tt, playing.starts);
-      };
+      plays = (named.0, named.1, ap (λ (contents : ℕ → List ℕ). Came (Halt how contents) ∷ []) named.2, refl);
+      playing = playing_push d old new plan plan (kept.Halt how) (Came e) h playing halt.0 next.1 refl (by (kept.Halt how) halt.0 ∙ playing.planned) tt tt;
       text = sym (append-nil text);
     }
 
 -- Calls that fail, and numbers
 
-pub fault_played : (d : Disk) (old new : Seen Crash) (plan : Plan) (k : ℕ) (text : List ℕ) (h : List Event) → IsPlaying d old plan h
+pub fault_played : (d : Disk) (old new : Seen Crash) (plan : Plan) (k : ℕ) (text : List ℕ) (h : List Deed) → IsPlaying d old plan h
     → Meets (crash_plan old.disk) (crash_plan new.disk) (λ before after. after ≡ with_fault k before)
     → tells new.disk ≡ tells old.disk → new.events ≡ old.events → new.present ≡ old.present → HasPlayed d new (line.Count of_count.Fault k) text text plan h
 fault_played d old new plan k text h playing met disk events present = record {
@@ -149,7 +144,7 @@ fault_played d old new plan k text h playing met disk events present = record {
   text = sym (append-nil text);
 }
 
-pub number_played : (d : Disk) (old new : Seen Crash) (plan : Plan) (n : ℕ) (text : List ℕ) (h : List Event) → IsPlaying d old plan h
+pub number_played : (d : Disk) (old new : Seen Crash) (plan : Plan) (n : ℕ) (text : List ℕ) (h : List Deed) → IsPlaying d old plan h
     → Meets (crash_plan old.disk) (crash_plan new.disk) (λ before after. after ≡ with_pick n before) → IsUnused (crash_disk old.disk) n
     → tells new.disk ≡ tells old.disk → new.events ≡ old.events → new.present ≡ old.present → HasPlayed d new (line.Count of_count.Number n) text text plan h
 number_played d old new plan n text h playing met unused disk events present = record {
@@ -160,7 +155,7 @@ number_played d old new plan n text h playing met unused disk events present = r
   text = sym (append-nil text);
 }
 
-pub number_refused : (d : Disk) (old new : Seen Crash) (plan : Plan) (n : ℕ) (text : List ℕ) (h : List Event) → IsPlaying d old plan h
+pub number_refused : (d : Disk) (old new : Seen Crash) (plan : Plan) (n : ℕ) (text : List ℕ) (h : List Deed) → IsPlaying d old plan h
     → crash_plan new.disk ≡ crash_plan old.disk → (¬ (IsUnused (crash_disk old.disk) n))
     → tells new.disk ≡ tells old.disk → new.events ≡ old.events → new.present ≡ old.present
     → HasPlayed d new (line.Count of_count.Number n) text (text ++ refusal_line Refusal.Taken (digits n)) plan h
@@ -174,20 +169,20 @@ number_refused d old new plan n text h playing same_plan used disk events presen
 
 -- Moments
 
-pub moment_came : (d : Disk) (old new : Seen Crash) (plan : Plan) (m : ℕ) (text : List ℕ) (h : List Event) → IsPlaying d old plan h → new ≡ moment_world old m → GoesOn tells old new
+pub moment_came : (d : Disk) (old new : Seen Crash) (plan : Plan) (m : ℕ) (text : List ℕ) (h : List Deed) → IsPlaying d old plan h → new ≡ moment_world old m → GoesOn tells old new
     → GoesByPlan crash_plan tells old.disk new.disk old.events new.events → HasPlayed d new (line.Moment of_moment.Moment m) text text plan h
 moment_came d old new plan m text h playing came goes by =
-    let now : IsPlaying d new plan (Moment m ∷ h) =
-    one_more d old new plan (kept.Moment m) (Moment m) m h playing goes (by (kept.Moment m) (ap (λ (w : Seen Crash). w.events) came)) (ap (λ (w : Seen Crash). w.events) came) (ap (λ (w : Seen Crash). w.present) came) (moment_told m) tt tt in
+    let events = ap (λ (w : Seen Crash). w.events) came in
+    let now : IsPlaying d new plan (Came (Moment m) ∷ h) = one_more d old new plan (kept.Moment m) (Moment m) h playing goes (by (kept.Moment m) events) events tt (moment_told m) tt tt in
     record {
-      events = Moment m ∷ [];
+      events = Came (Moment m) ∷ [];
       own = [];
-      plays = (Happens (Moment m), inl (now.is.legal.1.no_earlier, refl), refl, refl);
+      plays = (Happens (Came (Moment m)), inl (now.is.legal.1.no_earlier, refl), refl, refl);
       playing = now;
       text = sym (append-nil text);
     }
 
-pub moment_refused : (d : Disk) (w : Seen Crash) (plan : Plan) (m : ℕ) (text : List ℕ) (h : List Event) → IsPlaying d w plan h → m < w.present
+pub moment_refused : (d : Disk) (w : Seen Crash) (plan : Plan) (m : ℕ) (text : List ℕ) (h : List Deed) → IsPlaying d w plan h → m < w.present
     → HasPlayed d w (line.Moment of_moment.Moment m) text (text ++ refusal_line Refusal.Past (digits w.present)) plan h
 moment_refused d w plan m text h playing earlier =
     let present = playing.is.moment in

@@ -2,7 +2,7 @@
 use Rattle.std.proofs.Common.{◌≡◌, ◌≢◌, ⊎_elim, ℕ, ◌+◌, ◌<◌, ◌≤◌, List, [], ◌∷◌, ◌++◌, length, get_or, set, drop, take, cond, Bool, true, false, Option, Some, None, refl, sym, ap, ◌∙◌, subst, arith, append_assoc, length-append, length-set, count_by}
 use Rattle.std.specs.Prelude.{◌&&◌, ◌==◌, if◌then◌else◌, is_none, is_some, map, not, nat_lt, codes, slice_get}
 use Rattle.std.proofs.lemmas.Bool.{lt-ltb}
-use Rattle.std.proofs.lemmas.List.{append-nil, drop-append-le, drop_all, length-map, length-take, length-take-le, take_more}
+use Rattle.std.proofs.lemmas.List.{append-nil, drop-append-le, drop_all, length-map, length-take-le, take_more}
 use Rattle.std.proofs.lemmas.Option.{slice_get_cases}
 use Rattle.std.proofs.lemmas.List.Sums.{sum_by-set}
 use Rattle.bounce_record.specs.declared.note_row.NoteRow.{NoteRow}
@@ -20,7 +20,6 @@ use Rattle.call_fs.specs.declared.past.GotData.TheVariants as got
 use Rattle.call_fs.specs.declared.past.NeedData.{NeedData}
 use Rattle.call_fs.specs.declared.past.NeedData.TheVariants as needs
 use Rattle.call_fs.specs.declared.past.Own.{Own}
-use Rattle.call_fs.specs.declared.program.Port.{Port}
 use Rattle.call_fs.specs.declared.program.Port.TheVariants as port
 use Rattle.call_fs.specs.declared.program.Ready.{Ready}
 use Rattle.call_fs.specs.Past.{IsRunBy}
@@ -54,7 +53,7 @@ use Rattle.send_steps.specs.declared.step.Step.{Step}
 use Rattle.send_steps.specs.declared.step.Step.TheVariants as step
 use Rattle.send_steps.specs.Readings.{reading_step}
 use Rattle.send_steps.specs.Replies.{Said, said}
-use Rattle.send_steps.specs.Rows.{finish_step, sweep_step}
+use Rattle.send_steps.specs.Rows.{sweep_step}
 use Rattle.send_steps.specs.Start.{remote_limit}
 use Rattle.send_steps.specs.Steps.{due_by}
 use Rattle.spawn_protocol.specs.declared.report.Report.{Report}
@@ -71,11 +70,11 @@ use Rattle.send_core.specs.declared.row.Row.{Row}
 use Rattle.send_core.specs.declared.row.Row.TheVariants as at
 use Rattle.send_core.specs.Agrees.{owed_at}
 use Rattle.send_core.specs.Booked.{booked_at, finished_at, if_done, if_ok, if_zero, marked_at, noted_at, reported_all, reported_by, reported_if, reported_in, reported_when, returned_at}
-use Rattle.send_core.specs.Desk.{deferred, heard, link, ready, retried_if, settle, told, told_all, told_by, waits, with_reader}
+use Rattle.send_core.specs.Desk.{deferred, heard, link, retried_if, settle, told, told_all, told_by, waits, with_reader}
 use Rattle.send_core.specs.Past.{Account, Owed, account, work}
 use Rattle.send_core.specs.Stands.{Machine, Stands}
 use Rattle.send_core.specs.Start.{started}
-use Rattle.send_core.specs.Table.{Next, busy, desk_after, due_at, file_of, mark_step, moved_by, port_of, row_now, sweep_words}
+use Rattle.send_core.specs.Table.{Next, desk_after, due_at, file_of, moved_by, port_of, row_now, sweep_words}
 use Rattle.send_core.specs.Turn.{took}
 use Rattle.send_core.proofs.Changes.{DeskFits}
 use Rattle.send_core.proofs.Fits.{Fits}
@@ -401,9 +400,6 @@ not_sweep (sweep.Take split n) text c is = no_clean c is
 not_sweep sweep.Over text c is = cc
 not_sweep sweep.Lost text c is = cc
 
-busy_ready : (c : Channel) (d : Desk) → lane c (ready (busy d)).slots ≡ lane c d.slots
-busy_ready c d = refl
-
 row_adds : (row : Row) (now : ℕ) (came : GotData) (d : Desk) (c : Channel) → due_at row d ≡ needs.Take (port_of c) → (row ≡ at.TakeLink c → HasRoom (lane c d.slots))
     → AddsAt c (booked_at row came d) (lane c d.slots).marks (lane c (moved_by row now came d).slots).marks
 row_adds (at.Start row) now came d c is room = started_at c row (said came) d
@@ -580,9 +576,6 @@ entered_more c marks before at m b low high is =
     ap (λ (l : List Mark). entered_of c (drop before l) b) one
     ∙ ap (λ (l : List Mark). entered_of c l b) (drop_both before (take at marks) (m ∷ []) (omega (arith, long)))
     ∙ entered_both c (drop before (take at marks)) (m ∷ []) b
-
-pub entered_first : (c : Channel) (marks : List Mark) (before : ℕ) (b : Books) → entered_of c (drop before (take before marks)) b ≡ b
-entered_first c marks before b = ap (λ (l : List Mark). entered_of c l b) (drop_all before (take before marks) (let le = length-take before marks in omega (arith, le)))
 
 -- A mark alone
 

@@ -1,27 +1,24 @@
 -- The parts of a turn, by what the calls of a world tell.
 use Rattle.std.proofs.Common.{◌≡◌, ◌≢◌, inl, inr, ℕ, ◌+◌, ◌<◌, ◌≤◌, List, [], ◌∷◌, ◌++◌, length, reverse, Bool, Option, Some, None, refl, sym, ap, ◌∙◌, subst, arith, length-append}
 use Rattle.std.specs.List.{AllZip}
-use Rattle.std.proofs.lemmas.List.{append-nil, length-reverse}
-use Rattle.std.proofs.lemmas.Slice.Zip.{AllZip-long}
+use Rattle.std.proofs.lemmas.List.{append-nil}
 use Rattle.call_fs.specs.Disk.{Disk}
 use Rattle.call_fs.specs.Plan.{Plan}
 use Rattle.crash_fs.specs.Crash.{Crash}
 use Rattle.world_events.specs.declared.event.Event.{Event as Kept}
 use Rattle.mail_world.specs.Generations.{next_living as kept_next}
-use Rattle.mail_world.specs.History.{Event}
-use Rattle.mail_world.specs.World.{Seen, Tells}
+use Rattle.mail_world.specs.World.{Seen}
+use Rattle.scenario.specs.Deeds.{Deed, TellsDeed}
 use Rattle.scenario.specs.Steps.{plan_through}
 use Rattle.scenario.specs.Turns.{next_living, events_of}
 use Rattle.scenario.specs.Playing.{IsPlaying, HasRun, HasParted, HasTurned}
+use Rattle.scenario.proofs.Deeds.{told_long}
 use Rattle.scenario.proofs.NextLiving.{next_is}
 use Rattle.scenario.proofs.TurnRuns.{HasTurnedOn, run_parted, one_part, part_goes_on, turn_printed, turn_rests}
 
 -- The events that a run added, by how many the world keeps
 
-told_long : (events : List Kept) (h : List Event) → AllZip Tells (reverse events) h → length events ≡ length h
-told_long events h told = sym (length-reverse events) ∙ sym (AllZip-long Tells (reverse events) h told)
-
-none_came : (old new : List Kept) (h events : List Event) → AllZip Tells (reverse old) h → AllZip Tells (reverse new) (events ++ h) → length new ≡ length old → events ≡ []
+none_came : (old new : List Kept) (h events : List Deed) → AllZip TellsDeed (reverse old) h → AllZip TellsDeed (reverse new) (events ++ h) → length new ≡ length old → events ≡ []
 none_came old new h [] told now same = refl
 none_came old new h (e ∷ events) told now same =
     let long = told_long old h told in
@@ -29,19 +26,19 @@ none_came old new h (e ∷ events) told now same =
     let more = length-append (e ∷ events) h in
     absurd (omega arith)
 
-some_came : (old new : List Kept) (h events : List Event) → AllZip Tells (reverse old) h → AllZip Tells (reverse new) (events ++ h) → length new ≢ length old → events ≢ []
+some_came : (old new : List Kept) (h events : List Deed) → AllZip TellsDeed (reverse old) h → AllZip TellsDeed (reverse new) (events ++ h) → length new ≢ length old → events ≢ []
 some_came old new h events told now other none =
-    other (told_long new (events ++ h) now ∙ ap (λ (l : List Event). length (l ++ h)) none ∙ sym (told_long old h told))
+    other (told_long new (events ++ h) now ∙ ap (λ (l : List Deed). length (l ++ h)) none ∙ sym (told_long old h told))
 
-pub run_kept : (d : Disk) (v w : Seen Crash) (a : List ℕ) (was idle : Bool) (before after_text : List ℕ) (plan : Plan) (h : List Event) → IsPlaying d v plan h
+pub run_kept : (d : Disk) (v w : Seen Crash) (a : List ℕ) (was idle : Bool) (before after_text : List ℕ) (plan : Plan) (h : List Deed) → IsPlaying d v plan h
     → length w.events ≡ length v.events → HasRun d w a idle before after_text plan h → HasParted d w a was was before after_text plan h
 run_kept d v w a was idle before after_text plan h playing same run =
-    run_parted d w a was idle was before after_text plan h run (inl (none_came v.events w.events h run.events playing.is.told run.playing.is.told same, refl))
+    run_parted d w a was idle was before after_text plan h run (inl (none_came v.events w.events h run.events playing.told run.playing.told same, refl))
 
-pub run_added : (d : Disk) (v w : Seen Crash) (a : List ℕ) (was idle : Bool) (before after_text : List ℕ) (plan : Plan) (h : List Event) → IsPlaying d v plan h
+pub run_added : (d : Disk) (v w : Seen Crash) (a : List ℕ) (was idle : Bool) (before after_text : List ℕ) (plan : Plan) (h : List Deed) → IsPlaying d v plan h
     → length w.events ≢ length v.events → HasRun d w a idle before after_text plan h → HasParted d w a was idle before after_text plan h
 run_added d v w a was idle before after_text plan h playing other run =
-    run_parted d w a was idle idle before after_text plan h run (inr (some_came v.events w.events h run.events playing.is.told run.playing.is.told other, refl))
+    run_parted d w a was idle idle before after_text plan h run (inr (some_came v.events w.events h run.events playing.told run.playing.told other, refl))
 
 -- What was printed, by how long the text is
 
@@ -57,14 +54,14 @@ own_some before after_text own is more none =
 
 -- Parts
 
-pub next_told : (d : Disk) (h : List Event) (plan : Plan) (w : Seen Crash) (from : ℕ) (next : Option (List ℕ × ℕ)) → IsPlaying d w plan h → next ≡ kept_next from w.events → next_living d h from ≡ next
-next_told d h plan w from next playing is = sym (next_is d h w.events playing.is.legal playing.is.told from) ∙ sym is
+pub next_told : (d : Disk) (h : List Deed) (plan : Plan) (w : Seen Crash) (from : ℕ) (next : Option (List ℕ × ℕ)) → IsPlaying d w plan h → next ≡ kept_next from w.events → next_living d h from ≡ next
+next_told d h plan w from next playing is = sym (next_is d h w.events playing.is.legal playing.told from) ∙ sym is
 
 -- The turn goes on after a part if the text is as long as at the start, and then it is that text.
-abbrev pub GoesOnFrom : Disk → List Event → Plan → Seen Crash → Bool → ℕ → List ℕ → List ℕ → Type 0
+abbrev pub GoesOnFrom : Disk → List Deed → Plan → Seen Crash → Bool → ℕ → List ℕ → List ℕ → Type 0
 GoesOnFrom d h plan w idle from start text = (text ≡ start) × HasTurnedOn d h plan w idle from
 
-pub part_on : (d : Disk) (h : List Event) (plan : Plan) (w v : Seen Crash) (was now : Bool) (from place next : ℕ) (a start before after_text : List ℕ) (on : GoesOnFrom d h plan w was from start before)
+pub part_on : (d : Disk) (h : List Deed) (plan : Plan) (w v : Seen Crash) (was now : Bool) (from place next : ℕ) (a start before after_text : List ℕ) (on : GoesOnFrom d h plan w was from start before)
     → Some (a, place) ≡ kept_next from w.events
     → HasParted d v a was now before after_text (plan_through plan (events_of on.1.parts)) (events_of on.1.parts ++ h)
     → length after_text ≤ length start → next ≡ place + 1 → GoesOnFrom d h plan v now next start after_text
@@ -76,7 +73,7 @@ part_on d h plan w v was now from place next a start before after_text on is par
       part_goes_on d h plan v now place next part.own (one_part d h plan w v was now from place a before after_text turn there part) none after_it,
     )
 
-pub part_over : (d : Disk) (h : List Event) (plan : Plan) (w v : Seen Crash) (was now : Bool) (from place : ℕ) (a start before after_text : List ℕ) (on : GoesOnFrom d h plan w was from start before)
+pub part_over : (d : Disk) (h : List Deed) (plan : Plan) (w v : Seen Crash) (was now : Bool) (from place : ℕ) (a start before after_text : List ℕ) (on : GoesOnFrom d h plan w was from start before)
     → Some (a, place) ≡ kept_next from w.events
     → HasParted d v a was now before after_text (plan_through plan (events_of on.1.parts)) (events_of on.1.parts ++ h)
     → length start < length after_text → HasTurned d v now start after_text plan h
@@ -88,7 +85,7 @@ part_over d h plan w v was now from place a start before after_text on is part m
     (turn_printed d h plan v now place part.own before after_text (one_part d h plan w v was now from place a before after_text turn there part)
     (own_some before after_text part.own part.text longer) part.text)
 
-pub turn_over : (d : Disk) (h : List Event) (plan : Plan) (w : Seen Crash) (idle : Bool) (from : ℕ) (start text : List ℕ) (on : GoesOnFrom d h plan w idle from start text)
+pub turn_over : (d : Disk) (h : List Deed) (plan : Plan) (w : Seen Crash) (idle : Bool) (from : ℕ) (start text : List ℕ) (on : GoesOnFrom d h plan w idle from start text)
     → None ≡ kept_next from w.events → HasTurned d w idle start text plan h
 turn_over d h plan w idle from start text on is =
     let turn = on.1 in

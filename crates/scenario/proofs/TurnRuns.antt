@@ -7,36 +7,36 @@ use Rattle.call_fs.specs.Disk.{Disk}
 use Rattle.call_fs.specs.Plan.{Plan}
 use Rattle.crash_fs.specs.Crash.{Crash}
 use Rattle.mail_world.specs.Generations.{lowest_unreported}
-use Rattle.mail_world.specs.History.{Event, after}
 use Rattle.mail_world.specs.World.{Seen}
 use Rattle.play_lines.specs.declared.line.Line.TheVariants as line
 use Rattle.play_lines.specs.declared.keyword.Alone.TheVariants as alone
 use Rattle.play_lines.specs.declared.keyword.OfLetter.TheVariants as of_letter
 use Rattle.script_words.specs.declared.letter.Letter.{Letter}
 use Rattle.scenario.specs.Chains.{EachFollows}
+use Rattle.scenario.specs.Deeds.{Deed, event_in, after}
 use Rattle.scenario.specs.Steps.{plan_through, plan_by, idles, has_idled, refusal_line}
 use Rattle.scenario.specs.Steps.Refusal.{Rounds}
-use Rattle.scenario.specs.Turns.{next_living, NoneBefore, Part, events_of, text_of, place_after, AreParts, Round, reports_of, slot_after, ReportsOn, AreReported, AreReportsAfter, round_events, is_search, is_idle, has_bytes, events_in, is_last, most_rounds, SettlesOn}
+use Rattle.scenario.specs.Turns.{next_living, NoneBefore, Part, events_of, text_of, place_after, AreParts, Round, reports_of, slot_after, ReportsOn, AreReported, AreReportsAfter, round_events, is_search_deed, is_idle, has_bytes, events_in, is_last, most_rounds, SettlesOn}
 use Rattle.scenario.specs.Turns.Settles.{Rests, Full}
 use Rattle.scenario.proofs.DeadStarts.{none_skipped, none_stays}
 use Rattle.scenario.specs.Playing.{IsPlaying, HasRun, HasParted, HasTurned, HasReported, HasRounded, HasPlayed}
 
 -- What events leave of a plan, in two steps
-pub plan_through-append : (plan : Plan) (later before : List Event) → plan_through plan (later ++ before) ≡ plan_through (plan_through plan before) later
+pub plan_through-append : (plan : Plan) (later before : List Deed) → plan_through plan (later ++ before) ≡ plan_through (plan_through plan before) later
 plan_through-append plan [] before = refl
-plan_through-append plan (e ∷ later) before = ap (plan_by e) (plan_through-append plan later before)
+plan_through-append plan (x ∷ later) before = ap (plan_by (event_in x)) (plan_through-append plan later before)
 
 -- the history and the plan after events, read as one list
-pub playing_on : (d : Disk) (w : Seen Crash) (plan : Plan) (later before h : List Event) → IsPlaying d w (plan_through (plan_through plan before) later) (later ++ (before ++ h))
+pub playing_on : (d : Disk) (w : Seen Crash) (plan : Plan) (later before h : List Deed) → IsPlaying d w (plan_through (plan_through plan before) later) (later ++ (before ++ h))
     → IsPlaying d w (plan_through plan (later ++ before)) ((later ++ before) ++ h)
 playing_on d w plan later before h playing =
     subst (λ (p : Plan). IsPlaying d w p ((later ++ before) ++ h)) (sym (plan_through-append plan later before))
-    (subst (λ (l : List Event). IsPlaying d w (plan_through (plan_through plan before) later) l) (sym (append_assoc later before h)) playing)
+    (subst (λ (l : List Deed). IsPlaying d w (plan_through (plan_through plan before) later) l) (sym (append_assoc later before h)) playing)
 
 -- Parts
 
 -- So many parts were run, which printed nothing; the next one is the first from this place on.
-pub record HasTurnedOn (d : Disk) (h : List Event) (plan : Plan) (w : Seen Crash) (idle : Bool) (from : ℕ) : Type 0 where
+pub record HasTurnedOn (d : Disk) (h : List Deed) (plan : Plan) (w : Seen Crash) (idle : Bool) (from : ℕ) : Type 0 where
   pub parts : List Part
   pub are : AreParts d h plan parts
   pub quiet : text_of parts ≡ []
@@ -44,22 +44,22 @@ pub record HasTurnedOn (d : Disk) (h : List Event) (plan : Plan) (w : Seen Crash
   pub next_is : next_living d (events_of parts ++ h) (place_after parts) ≡ next_living d (events_of parts ++ h) from
   pub playing : IsPlaying d w (plan_through plan (events_of parts)) (events_of parts ++ h)
 
-abbrev pub turn_begins : (d : Disk) (h : List Event) (plan : Plan) (w : Seen Crash) (first : ℕ) → IsPlaying d w plan h → NoneBefore d h first → HasTurnedOn d h plan w false first
+abbrev pub turn_begins : (d : Disk) (h : List Deed) (plan : Plan) (w : Seen Crash) (first : ℕ) → IsPlaying d w plan h → NoneBefore d h first → HasTurnedOn d h plan w false first
 turn_begins d h plan w first playing none = record { parts = []; are = tt; quiet = refl; idled = refl; next_is = none_skipped d h first none; playing = playing }
 
 -- the newest event of a turn is that of the part, if it has one
-pub idled_on : (d : Disk) (h : List Event) (events before : List Event) (was now : Bool) → was ≡ has_idled d h before
+pub idled_on : (d : Disk) (h : List Deed) (events before : List Deed) (was now : Bool) → was ≡ has_idled d h before
     → ((events ≡ []) × (now ≡ was)) ⊎ ((events ≢ []) × (now ≡ has_idled d (before ++ h) events)) → now ≡ has_idled d h (events ++ before)
 idled_on d h [] before was now is (inl none) = none.1 ∙ is
 idled_on d h [] before was now is (inr some) = absurd (some.0 refl)
-idled_on d h (e ∷ events) before was now is (inl none) = absurd (let e = none.0 in cc)
-idled_on d h (e ∷ events) before was now is (inr some) = some.1 ∙ ap (λ (l : List Event). idles (after d l) e) (sym (append_assoc events before h))
+idled_on d h (x ∷ events) before was now is (inl none) = absurd (let e = none.0 in cc)
+idled_on d h (x ∷ events) before was now is (inr some) = some.1 ∙ ap (λ (l : List Deed). idles (after d l) (event_in x)) (sym (append_assoc events before h))
 
-abbrev part_of : List ℕ → ℕ → List Event → List ℕ → Part
+abbrev part_of : List ℕ → ℕ → List Deed → List ℕ → Part
 part_of a place events text = record { actor = a; place = place; events = events; text = text }
 
 -- one part more
-pub record OnePart (d : Disk) (h : List Event) (plan : Plan) (v : Seen Crash) (now : Bool) (place : ℕ) (own : List ℕ) : Type 0 where
+pub record OnePart (d : Disk) (h : List Deed) (plan : Plan) (v : Seen Crash) (now : Bool) (place : ℕ) (own : List ℕ) : Type 0 where
   pub parts : List Part
   pub are : AreParts d h plan parts
   pub printed : text_of parts ≡ own
@@ -67,7 +67,7 @@ pub record OnePart (d : Disk) (h : List Event) (plan : Plan) (v : Seen Crash) (n
   pub place_is : place + 1 ≡ place_after parts
   pub playing : IsPlaying d v (plan_through plan (events_of parts)) (events_of parts ++ h)
 
-abbrev pub one_part : (d : Disk) (h : List Event) (plan : Plan) (w v : Seen Crash) (was now : Bool) (from place : ℕ) (a before after_text : List ℕ) (turn : HasTurnedOn d h plan w was from)
+abbrev pub one_part : (d : Disk) (h : List Deed) (plan : Plan) (w v : Seen Crash) (was now : Bool) (from place : ℕ) (a before after_text : List ℕ) (turn : HasTurnedOn d h plan w was from)
     → next_living d (events_of turn.parts ++ h) from ≡ Some (a, place) → (part : HasParted d v a was now before after_text (plan_through plan (events_of turn.parts)) (events_of turn.parts ++ h))
     → OnePart d h plan v now place part.own
 one_part d h plan w v was now from place a before after_text turn next part = record {
@@ -86,7 +86,7 @@ one_part d h plan w v was now from place a before after_text turn next part = re
   playing = playing_on d v plan part.events (events_of turn.parts) h part.playing;
 }
 
-abbrev pub part_goes_on : (d : Disk) (h : List Event) (plan : Plan) (v : Seen Crash) (now : Bool) (place from : ℕ) (own : List ℕ) → (part : OnePart d h plan v now place own) → own ≡ [] → from ≡ place + 1
+abbrev pub part_goes_on : (d : Disk) (h : List Deed) (plan : Plan) (v : Seen Crash) (now : Bool) (place from : ℕ) (own : List ℕ) → (part : OnePart d h plan v now place own) → own ≡ [] → from ≡ place + 1
     → HasTurnedOn d h plan v now from
 part_goes_on d h plan v now place from own part none next = record {
   parts = part.parts;
@@ -98,7 +98,7 @@ part_goes_on d h plan v now place from own part none next = record {
 }
 
 -- the turn is over: a part printed something, or no living actor is left
-abbrev pub turn_printed : (d : Disk) (h : List Event) (plan : Plan) (v : Seen Crash) (now : Bool) (place : ℕ) (own before after_text : List ℕ) → (part : OnePart d h plan v now place own) → own ≢ []
+abbrev pub turn_printed : (d : Disk) (h : List Deed) (plan : Plan) (v : Seen Crash) (now : Bool) (place : ℕ) (own before after_text : List ℕ) → (part : OnePart d h plan v now place own) → own ≢ []
     → after_text ≡ before ++ own → HasTurned d v now before after_text plan h
 turn_printed d h plan v now place own before after_text part some text = record {
   parts = part.parts;
@@ -108,7 +108,7 @@ turn_printed d h plan v now place own before after_text part some text = record 
   text = text ∙ ap (λ t. before ++ t) (sym part.printed);
 }
 
-abbrev pub turn_rests : (d : Disk) (h : List Event) (plan : Plan) (w : Seen Crash) (idle : Bool) (from : ℕ) (text : List ℕ) (turn : HasTurnedOn d h plan w idle from)
+abbrev pub turn_rests : (d : Disk) (h : List Deed) (plan : Plan) (w : Seen Crash) (idle : Bool) (from : ℕ) (text : List ℕ) (turn : HasTurnedOn d h plan w idle from)
     → next_living d (events_of turn.parts ++ h) from ≡ None → HasTurned d w idle text text plan h
 turn_rests d h plan w idle from text turn none = record {
   parts = turn.parts;
@@ -119,7 +119,7 @@ turn_rests d h plan w idle from text turn none = record {
 }
 
 -- the part of a turn that a run is
-abbrev pub run_parted : (d : Disk) (w : Seen Crash) (a : List ℕ) (was idle now : Bool) (before after_text : List ℕ) (plan : Plan) (h : List Event) (run : HasRun d w a idle before after_text plan h)
+abbrev pub run_parted : (d : Disk) (w : Seen Crash) (a : List ℕ) (was idle now : Bool) (before after_text : List ℕ) (plan : Plan) (h : List Deed) (run : HasRun d w a idle before after_text plan h)
     → ((run.events ≡ []) × (now ≡ was)) ⊎ ((run.events ≢ []) × (now ≡ idle)) → HasParted d w a was now before after_text plan h
 run_parted d w a was idle now before after_text plan h run which = record {
   events = run.events;
@@ -131,7 +131,7 @@ run_parted d w a was idle now before after_text plan h run which = record {
 }
 
 -- a turn as a line
-abbrev pub turn_played : (d : Disk) (w : Seen Crash) (plan : Plan) (idle : Bool) (before after_text : List ℕ) (h : List Event) → HasTurned d w idle before after_text plan h
+abbrev pub turn_played : (d : Disk) (w : Seen Crash) (plan : Plan) (idle : Bool) (before after_text : List ℕ) (h : List Deed) → HasTurned d w idle before after_text plan h
     → HasPlayed d w (line.Alone alone.Turn) before after_text plan h
 turn_played d w plan idle before after_text h turn = record {
   events = events_of turn.parts;
@@ -148,16 +148,16 @@ pub plan_reports : (plan : Plan) (letter : Letter) (slots : List ℕ) → plan_t
 plan_reports plan letter [] = refl
 plan_reports plan letter (slot ∷ slots) = plan_reports plan letter slots
 
-pub record HasReportedOn (d : Disk) (h : List Event) (letter : Letter) (w : Seen Crash) (plan : Plan) (from : ℕ) : Type 0 where
+pub record HasReportedOn (d : Disk) (h : List Deed) (letter : Letter) (w : Seen Crash) (plan : Plan) (from : ℕ) : Type 0 where
   pub slots : List ℕ
   pub are : EachFollows (ReportsOn d h letter) slots
   pub place : from ≡ slot_after slots
   pub playing : IsPlaying d w plan (reports_of letter slots ++ h)
 
-abbrev pub reports_begin : (d : Disk) (h : List Event) (letter : Letter) (w : Seen Crash) (plan : Plan) → IsPlaying d w plan h → HasReportedOn d h letter w plan 0
+abbrev pub reports_begin : (d : Disk) (h : List Deed) (letter : Letter) (w : Seen Crash) (plan : Plan) → IsPlaying d w plan h → HasReportedOn d h letter w plan 0
 reports_begin d h letter w plan playing = record { slots = []; are = tt; place = refl; playing = playing }
 
-abbrev pub one_report : (d : Disk) (h : List Event) (letter : Letter) (w v : Seen Crash) (plan : Plan) (from slot next : ℕ) (so : HasReportedOn d h letter w plan from)
+abbrev pub one_report : (d : Disk) (h : List Deed) (letter : Letter) (w v : Seen Crash) (plan : Plan) (from slot next : ℕ) (so : HasReportedOn d h letter w plan from)
     → lowest_unreported from (after d (reports_of letter so.slots ++ h)) ≡ Some slot → next ≡ slot + 1 → IsPlaying d v plan (reports_of letter (slot ∷ so.slots) ++ h)
     → HasReportedOn d h letter v plan next
 one_report d h letter w v plan from slot next so lowest is playing = record {
@@ -167,7 +167,7 @@ one_report d h letter w v plan from slot next so lowest is playing = record {
   playing = playing;
 }
 
-abbrev pub all_reported : (d : Disk) (h : List Event) (letter : Letter) (w : Seen Crash) (plan : Plan) (from : ℕ) (so : HasReportedOn d h letter w plan from)
+abbrev pub all_reported : (d : Disk) (h : List Deed) (letter : Letter) (w : Seen Crash) (plan : Plan) (from : ℕ) (so : HasReportedOn d h letter w plan from)
     → lowest_unreported from (after d (reports_of letter so.slots ++ h)) ≡ None → HasReported d w letter plan h
 all_reported d h letter w plan from so none = record {
   slots = so.slots;
@@ -178,7 +178,7 @@ all_reported d h letter w plan from so none = record {
 -- Rounds
 
 -- a turn that printed something is the last round, without reports
-pub reports_none : (d : Disk) (h : List Event) (letter : Letter) (text : List ℕ) → text ≢ [] → AreReportsAfter d h letter text []
+pub reports_none : (d : Disk) (h : List Deed) (letter : Letter) (text : List ℕ) → text ≢ [] → AreReportsAfter d h letter text []
 reports_none d h letter [] some = absurd (some refl)
 reports_none d h letter (b ∷ text) some = refl
 
@@ -186,7 +186,7 @@ pub bytes_some : (text : List ℕ) → text ≢ [] → has_bytes text ≡ true
 bytes_some [] some = absurd (some refl)
 bytes_some (b ∷ text) some = refl
 
-abbrev pub round_printed : (d : Disk) (w : Seen Crash) (letter : Letter) (idle : Bool) (before after_text : List ℕ) (plan : Plan) (h : List Event) (turn : HasTurned d w idle before after_text plan h)
+abbrev pub round_printed : (d : Disk) (w : Seen Crash) (letter : Letter) (idle : Bool) (before after_text : List ℕ) (plan : Plan) (h : List Deed) (turn : HasTurned d w idle before after_text plan h)
     → text_of turn.parts ≢ [] → HasRounded d w letter true before after_text plan h
 round_printed d w letter idle before after_text plan h turn some =
     let round : Round = record { parts = turn.parts; slots = [] } in
@@ -199,14 +199,14 @@ round_printed d w letter idle before after_text plan h turn some =
     }
 
 -- whether such a round is idle, by its events and by the newest one of its turn
-pub round_idle : (d : Disk) (h : List Event) (letter : Letter) (idle searches : Bool) (parts : List Part) (slots : List ℕ) → idle ≡ has_idled d h (events_of parts)
-    → searches ≡ list_all is_search (reports_of letter slots ++ events_of parts) → (idle && searches) ≡ is_idle d h letter (record { parts = parts; slots = slots })
-round_idle d h letter true searches parts [] idled all = all ∙ and_true searches (list_all is_search (events_of parts)) (has_idled d h (events_of parts)) all idled
+pub round_idle : (d : Disk) (h : List Deed) (letter : Letter) (idle searches : Bool) (parts : List Part) (slots : List ℕ) → idle ≡ has_idled d h (events_of parts)
+    → searches ≡ list_all is_search_deed (reports_of letter slots ++ events_of parts) → (idle && searches) ≡ is_idle d h letter (record { parts = parts; slots = slots })
+round_idle d h letter true searches parts [] idled all = all ∙ and_true searches (list_all is_search_deed (events_of parts)) (has_idled d h (events_of parts)) all idled
   where
     and_true : (s t u : Bool) → s ≡ t → true ≡ u → t ≡ (t && u)
     and_true s true u same is = is
     and_true s false u same is = refl
-round_idle d h letter false searches parts [] idled all = and_false (list_all is_search (events_of parts)) (has_idled d h (events_of parts)) idled
+round_idle d h letter false searches parts [] idled all = and_false (list_all is_search_deed (events_of parts)) (has_idled d h (events_of parts)) idled
   where
     and_false : (t u : Bool) → false ≡ u → false ≡ (t && u)
     and_false true u is = is
@@ -214,13 +214,13 @@ round_idle d h letter false searches parts [] idled all = and_false (list_all is
 round_idle d h letter true searches parts (slot ∷ slots) idled all = all
 round_idle d h letter false searches parts (slot ∷ slots) idled all = refl
 
-pub reports_after : (d : Disk) (h : List Event) (letter : Letter) (text slots : List ℕ) → text ≡ [] → AreReported d h letter slots → AreReportsAfter d h letter text slots
+pub reports_after : (d : Disk) (h : List Deed) (letter : Letter) (text slots : List ℕ) → text ≡ [] → AreReported d h letter slots → AreReportsAfter d h letter text slots
 reports_after d h letter [] slots none reported = reported
 reports_after d h letter (b ∷ text) slots none reported = absurd (cc)
 
-abbrev pub round_reported : (d : Disk) (w v : Seen Crash) (letter : Letter) (idle searches : Bool) (before after_text : List ℕ) (plan : Plan) (h : List Event) (turn : HasTurned d w idle before after_text plan h)
+abbrev pub round_reported : (d : Disk) (w v : Seen Crash) (letter : Letter) (idle searches : Bool) (before after_text : List ℕ) (plan : Plan) (h : List Deed) (turn : HasTurned d w idle before after_text plan h)
     → text_of turn.parts ≡ [] → (told : HasReported d v letter (plan_through plan (events_of turn.parts)) (events_of turn.parts ++ h))
-    → searches ≡ list_all is_search (reports_of letter told.slots ++ events_of turn.parts) → HasRounded d v letter (idle && searches) before after_text plan h
+    → searches ≡ list_all is_search_deed (reports_of letter told.slots ++ events_of turn.parts) → HasRounded d v letter (idle && searches) before after_text plan h
 round_reported d w v letter idle searches before after_text plan h turn quiet told all =
     let round : Round = record { parts = turn.parts; slots = told.slots } in
     record {
@@ -233,7 +233,7 @@ round_reported d w v letter idle searches before after_text plan h turn quiet to
     }
 
 -- So many rounds were made, none of which was the last one; no actor that lives started before that first place.
-pub record HasSettledOn (d : Disk) (h : List Event) (plan : Plan) (letter : Letter) (w : Seen Crash) (made first : ℕ) : Type 0 where
+pub record HasSettledOn (d : Disk) (h : List Deed) (plan : Plan) (letter : Letter) (w : Seen Crash) (made first : ℕ) : Type 0 where
   pub rounds : List Round
   pub are : EachFollows (SettlesOn d h plan letter) rounds
   pub more : is_last d h letter rounds ≡ false
@@ -241,11 +241,11 @@ pub record HasSettledOn (d : Disk) (h : List Event) (plan : Plan) (letter : Lett
   pub none : NoneBefore d (events_in letter rounds ++ h) first
   pub playing : IsPlaying d w (plan_through plan (events_in letter rounds)) (events_in letter rounds ++ h)
 
-abbrev pub settle_begins : (d : Disk) (h : List Event) (plan : Plan) (letter : Letter) (w : Seen Crash) → IsPlaying d w plan h → HasSettledOn d h plan letter w 0 0
+abbrev pub settle_begins : (d : Disk) (h : List Deed) (plan : Plan) (letter : Letter) (w : Seen Crash) → IsPlaying d w plan h → HasSettledOn d h plan letter w 0 0
 settle_begins d h plan letter w playing = record { rounds = []; are = tt; more = refl; count = refl; none = tt; playing = playing }
 
 -- one round more
-abbrev pub settle_goes_on : (d : Disk) (h : List Event) (plan : Plan) (letter : Letter) (w v : Seen Crash) (made was first : ℕ) (before after_text : List ℕ) (so : HasSettledOn d h plan letter w made was) → made < most_rounds d h
+abbrev pub settle_goes_on : (d : Disk) (h : List Deed) (plan : Plan) (letter : Letter) (w v : Seen Crash) (made was first : ℕ) (before after_text : List ℕ) (so : HasSettledOn d h plan letter w made was) → made < most_rounds d h
     → NoneBefore d (events_in letter so.rounds ++ h) first
     → HasRounded d v letter false before after_text (plan_through plan (events_in letter so.rounds)) (events_in letter so.rounds ++ h) → HasSettledOn d h plan letter v (made + 1) first
 settle_goes_on d h plan letter w v made was first before after_text so low none round = record {
@@ -253,12 +253,13 @@ settle_goes_on d h plan letter w v made was first before after_text so low none 
   are = (so.are, record { few = let same = so.count in omega arith; more = so.more; is = round.is });
   more = sym round.is_last;
   count = let same = so.count in omega arith;
-  none = subst (λ (l : List Event). NoneBefore d l first) (sym (append_assoc (round_events letter round.round) (events_in letter so.rounds) h))
-      (none_stays d v (plan_through (plan_through plan (events_in letter so.rounds)) (round_events letter round.round)) (round_events letter round.round) (events_in letter so.rounds ++ h) first round.playing none);
+  none = subst (λ (l : List Deed). NoneBefore d l first) (sym (append_assoc (round_events letter round.round) (events_in letter so.rounds) h))
+      (none_stays d w v (plan_through plan (events_in letter so.rounds)) (plan_through (plan_through plan (events_in letter so.rounds)) (round_events letter round.round)) (round_events letter round.round)
+      (events_in letter so.rounds ++ h) first so.playing round.playing none);
   playing = playing_on d v plan (round_events letter round.round) (events_in letter so.rounds) h round.playing;
 }
 
-abbrev pub settle_rests : (d : Disk) (h : List Event) (plan : Plan) (letter : Letter) (w v : Seen Crash) (made was : ℕ) (before after_text : List ℕ) (so : HasSettledOn d h plan letter w made was) → made < most_rounds d h
+abbrev pub settle_rests : (d : Disk) (h : List Deed) (plan : Plan) (letter : Letter) (w v : Seen Crash) (made was : ℕ) (before after_text : List ℕ) (so : HasSettledOn d h plan letter w made was) → made < most_rounds d h
     → HasRounded d v letter true before after_text (plan_through plan (events_in letter so.rounds)) (events_in letter so.rounds ++ h) → HasPlayed d v (line.Letter of_letter.Settle letter) before after_text plan h
 settle_rests d h plan letter w v made was before after_text so low round = record {
   events = events_in letter (round.round ∷ so.rounds);
@@ -275,7 +276,7 @@ settle_rests d h plan letter w v made was before after_text so low round = recor
   text = round.text;
 }
 
-abbrev pub settle_full : (d : Disk) (h : List Event) (plan : Plan) (letter : Letter) (w : Seen Crash) (made was : ℕ) (text : List ℕ) (so : HasSettledOn d h plan letter w made was) → made ≡ most_rounds d h
+abbrev pub settle_full : (d : Disk) (h : List Deed) (plan : Plan) (letter : Letter) (w : Seen Crash) (made was : ℕ) (text : List ℕ) (so : HasSettledOn d h plan letter w made was) → made ≡ most_rounds d h
     → HasPlayed d w (line.Letter of_letter.Settle letter) text (text ++ refusal_line Rounds (codes "settle")) plan h
 settle_full d h plan letter w made was text so full = record {
   events = events_in letter so.rounds;

@@ -8,7 +8,7 @@ use Rattle.mail_bytes.specs.Moments.{IsMoment}
 use Rattle.mem_fs.specs.MemDisk.{bytes_at}
 use Rattle.queue_inject.specs.declared.injection.Arguments.{Arguments}
 use Rattle.world_events.specs.declared.event.Program.TheVariants.{Injector}
-use Rattle.mail_world.specs.History.{Event, Actor, Life, State, after}
+use Rattle.mail_world.specs.History.{Actor, Life, State}
 use Rattle.mail_world.specs.History.Event.{Start, Report, Stop, Moment, Halt}
 use Rattle.mail_world.specs.History.Life.{Alive, Over, Stopped}
 use Rattle.actor_names.specs.MailNames.{IsMailName, IsLetter, IsLetterOrDigit, members}
@@ -25,8 +25,10 @@ use Rattle.play_lines.specs.declared.keyword.OfSurvival.TheVariants as of_surviv
 use Rattle.play_lines.specs.declared.keyword.OfWord.TheVariants as of_word
 use Rattle.play_lines.specs.Contents.{Content, HaveEntryPaths}
 use Rattle.play_lines.specs.Lines.{IsScript, IsLine}
+use Rattle.scenario.specs.Deeds.{Deed, history_of, after, next_pid}
+use Rattle.scenario.specs.Deeds.Deed.{Came}
 use Rattle.scenario.specs.FirstDisk.{IsFirstDisk}
-use Rattle.scenario.specs.Played.{Outcome, StepsTo, MailComesTo, StopsAlive, StopComesTo, MomentComesTo, NumberComesTo, plan_after, Plays, PlaysAll, outcome_events, printed, next_pid, refusal_line, cat_line}
+use Rattle.scenario.specs.Played.{Outcome, StepsTo, MailComesTo, StopsAlive, StopComesTo, MomentComesTo, NumberComesTo, plan_after, Plays, PlaysAll, outcome_events, printed, refusal_line, cat_line}
 use Rattle.scenario.specs.Turns.{first_alive, generation_events, generation_text, awaits_report, report_comes, events_of, text_of, events_in}
 use Rattle.script_words.specs.declared.letter.Letter.{Letter}
 use Rattle.script_words.specs.Words.{letter_byte}
@@ -35,7 +37,7 @@ use Rattle.scenario.specs.Steps.Refusal.{Unknown, Gone, NotWaiting, Taken, Past}
 use Rattle.scenario.specs.Shown.{IsShown, pid_line, number_line, all_mail_lines}
 use Rattle.scenario.specs.Traced.{traced_after, traced_text}
 use Rattle.scenario.specs.Text.{IsPlayed, IsBegun, Prints, BeginsToPrint, BeginsAtMost, IsPrefix, IsPrefixAtMost}
-use Rattle.scenario.proofs.Carried.{Goes, goes_on, goes_started, goes_stopped, goes_moment, goes_halted, goes_generation, goes_report, not_member}
+use Rattle.scenario.proofs.Going.{Goes, goes_on, goes_started, goes_stopped, goes_moment, goes_halted, goes_generation, goes_report}
 use Rattle.scenario.proofs.Endings.{step_comes, runs, steps_kept, turns, turn_kept, settles, rounds_kept}
 use Rattle.crash_fs.specs.Answers.{IsFinite}
 use Rattle.scenario.proofs.FirstDisks.{first_disk}
@@ -66,7 +68,7 @@ is_mail_name (first ∷ rest) = ⊎_elim
 mail_comes : (s : State) (name : List ℕ) (args : Arguments) → (outcome : Outcome) × MailComesTo s name args outcome
 mail_comes s name args = ⊎_elim
     (λ good. ⊎_elim
-    (λ new. (Happens (Start name (Injector args)), inl (good, new, refl)))
+    (λ new. (Happens (Came (Start name (Injector args))), inl (good, new, refl)))
     (λ used. (Is Taken, inr (inl used, refl)))
     (some_or_none (s.actors name)))
     (λ bad. (Is Taken, inr (inr bad, refl)))
@@ -74,12 +76,12 @@ mail_comes s name args = ⊎_elim
 
 -- `show`
 
-shows : (d : Disk) (h : List Event) → Goes d h → (text : List ℕ) × IsShown d h text
+shows : (d : Disk) (h : List Deed) → Goes d h → (text : List ℕ) × IsShown d (history_of h) text
 shows d h so =
     let s = after d h in
     let pids = names_in s.disk so.carries.finite (codes "pid") in
     let numbers = numbers_in s.disk so.carries.finite in (
-      pid_line pids.0 ++ (flat_map (number_line s.disk) numbers.0 ++ all_mail_lines d h),
+      pid_line pids.0 ++ (flat_map (number_line s.disk) numbers.0 ++ all_mail_lines d (history_of h)),
       record {
         pids = pids.0;
         numbers = numbers.0;
@@ -92,7 +94,7 @@ shows d h so =
 -- Stops and moments
 
 stop_life : (a : List ℕ) (life : Life) → (outcome : Outcome) × StopsAlive a life outcome
-stop_life a Alive = (Happens (Stop a), refl)
+stop_life a Alive = (Happens (Came (Stop a)), refl)
 stop_life a (Over status) = (Is Gone, refl)
 stop_life a Stopped = (Is Gone, refl)
 
@@ -102,7 +104,7 @@ stop_comes a (Some x) = stop_life a x.life
 
 moment_comes : (now m : ℕ) → (outcome : Outcome) × MomentComesTo now m outcome
 moment_comes now m = ⊎_elim
-    (λ later. (Happens (Moment m), inl (later, refl)))
+    (λ later. (Happens (Came (Moment m)), inl (later, refl)))
     (λ early. (Is Past, inr (omega arith, refl)))
     (up_to now m)
 
@@ -114,8 +116,8 @@ number_comes d n f = ⊎_elim
 
 -- Lines
 
-plays_line : (d : Disk) (h : List Event) (plan : Plan) (one : Line) → Goes d h
-    → (events : List Event) × (text : List ℕ) × Plays d h plan one events text
+plays_line : (d : Disk) (h : List Deed) (plan : Plan) (one : Line) → Goes d h
+    → (events : List Deed) × (text : List ℕ) × Plays d h plan one events text
 plays_line d h plan (line.Mail name message envelope) so =
     let s = after d h in
     let comes = mail_comes s name (mail (next_pid h) s.now message envelope) in
@@ -130,7 +132,7 @@ plays_line d h plan (line.Actor of_actor.Stop a) so =
 plays_line d h plan (line.Survival of_survival.Halt how) so =
     let now = (after d h).disk in
     let named = numbers_named now so.carries.finite in
-    (Halt how (contents_by how now named.0) ∷ [], [], (named.0, named.1, refl, refl))
+    (Came (Halt how (contents_by how now named.0)) ∷ [], [], (named.0, named.1, refl, refl))
 plays_line d h plan (line.Count of_count.Fault k) so = ([], [], (refl, refl))
 plays_line d h plan (line.Count of_count.Number n) so =
     let comes = number_comes (after d h).disk n so.carries.finite in
@@ -155,45 +157,45 @@ plays_line d h plan (line.Report slot letter word) so =
     let outcome = report_comes (after d h) slot letter word in
     (outcome_events outcome, printed (codes "rspawn") outcome, (refl, refl))
 
-same_events : (d : Disk) (h events new : List Event) → events ≡ new → Goes d (new ++ h) → Goes d (events ++ h)
-same_events d h events new is so = subst (λ (l : List Event). Goes d (l ++ h)) (sym is) so
+same_events : (d : Disk) (h events new : List Deed) → events ≡ new → Goes d (new ++ h) → Goes d (events ++ h)
+same_events d h events new is so = subst (λ (l : List Deed). Goes d (l ++ h)) (sym is) so
 
-outcome_kept : (d : Disk) (h : List Event) (plan : Plan) (a : List ℕ) (outcome : Outcome) → Goes d h → StepsTo d h plan a outcome
+outcome_kept : (d : Disk) (h : List Deed) (plan : Plan) (a : List ℕ) (outcome : Outcome) → Goes d h → StepsTo d h plan a outcome
     → Goes d (outcome_events outcome ++ h)
-outcome_kept d h plan a (Happens e) so steps = goes_on d h plan a e so steps
+outcome_kept d h plan a (Happens deed) so steps = goes_on d h plan a deed so steps
 outcome_kept d h plan a (Is why) so steps = so
 
-generation_kept : (d : Disk) (h : List Event) (alive : Option (List ℕ)) → first_alive (after d h) members ≡ alive → Goes d h → Goes d (generation_events (after d h).now alive ++ h)
+generation_kept : (d : Disk) (h : List Deed) (alive : Option (List ℕ)) → first_alive (after d h) members ≡ alive → Goes d h → Goes d (generation_events (after d h).now alive ++ h)
 generation_kept d h None none so = goes_generation d h so none
 generation_kept d h (Some a) is so = so
 
-report_kept : (d : Disk) (h : List Event) (slot : ℕ) (letter : Letter) (word : List ℕ) (awaits : Bool) → awaits_report (after d h) slot ≡ awaits → Goes d h
-    → Goes d (outcome_events (if awaits then Happens (Report slot (letter_byte letter) word) else Is NotWaiting) ++ h)
+report_kept : (d : Disk) (h : List Deed) (slot : ℕ) (letter : Letter) (word : List ℕ) (awaits : Bool) → awaits_report (after d h) slot ≡ awaits → Goes d h
+    → Goes d (outcome_events (if awaits then Happens (Came (Report slot (letter_byte letter) word)) else Is NotWaiting) ++ h)
 report_kept d h slot letter word true is so = goes_report d h slot (letter_byte letter) word so is
 report_kept d h slot letter word false is so = so
 
-start_kept : (d : Disk) (h : List Event) (name message envelope : List ℕ) (outcome : Outcome) → Goes d h
+start_kept : (d : Disk) (h : List Deed) (name message envelope : List ℕ) (outcome : Outcome) → Goes d h
     → MailComesTo (after d h) name (mail (next_pid h) (after d h).now message envelope) outcome
     → Goes d (outcome_events outcome ++ h)
 start_kept d h name message envelope outcome so comes = ⊎_elim
     (λ good. subst (λ (o : Outcome). Goes d (outcome_events o ++ h)) (sym good.2)
-    (goes_started d h name (Injector (mail (next_pid h) (after d h).now message envelope)) tt (not_member name good.0) so good.1 (omega arith)))
+    (goes_started d h name (Injector (mail (next_pid h) (after d h).now message envelope)) tt good.0 so good.1 (omega arith)))
     (λ bad. subst (λ (o : Outcome). Goes d (outcome_events o ++ h)) (sym bad.1) so)
     comes
 
-stop_kept_life : (d : Disk) (h : List Event) (a : List ℕ) (x : Actor) (life : Life) (outcome : Outcome) → Goes d h
+stop_kept_life : (d : Disk) (h : List Deed) (a : List ℕ) (x : Actor) (life : Life) (outcome : Outcome) → Goes d h
     → (after d h).actors a ≡ Some x → x.life ≡ life → StopsAlive a life outcome → Goes d (outcome_events outcome ++ h)
 stop_kept_life d h a x Alive outcome so is alive comes =
     subst (λ (o : Outcome). Goes d (outcome_events o ++ h)) (sym comes) (goes_stopped d h a x so is alive)
 stop_kept_life d h a x (Over status) outcome so is over comes = subst (λ (o : Outcome). Goes d (outcome_events o ++ h)) (sym comes) so
 stop_kept_life d h a x Stopped outcome so is over comes = subst (λ (o : Outcome). Goes d (outcome_events o ++ h)) (sym comes) so
 
-stop_kept : (d : Disk) (h : List Event) (a : List ℕ) (o : Option Actor) (outcome : Outcome) → Goes d h
+stop_kept : (d : Disk) (h : List Deed) (a : List ℕ) (o : Option Actor) (outcome : Outcome) → Goes d h
     → (after d h).actors a ≡ o → StopComesTo a o outcome → Goes d (outcome_events outcome ++ h)
 stop_kept d h a None outcome so is comes = subst (λ (o : Outcome). Goes d (outcome_events o ++ h)) (sym comes) so
 stop_kept d h a (Some x) outcome so is comes = stop_kept_life d h a x x.life outcome so is refl comes
 
-moment_kept : (d : Disk) (h : List Event) (m : ℕ) (outcome : Outcome) → Goes d h → IsMoment m
+moment_kept : (d : Disk) (h : List Deed) (m : ℕ) (outcome : Outcome) → Goes d h → IsMoment m
     → MomentComesTo (after d h).now m outcome → Goes d (outcome_events outcome ++ h)
 moment_kept d h m outcome so moment comes = ⊎_elim
     (λ late. subst (λ (o : Outcome). Goes d (outcome_events o ++ h)) (sym late.1) (goes_moment d h m so moment late.0))
@@ -237,7 +239,7 @@ moments_in : (first later : List Line) → HaveMoments (first ++ later) → Have
 moments_in [] later have = (tt, have)
 moments_in (one ∷ first) later have = let rest = moments_in first later have.1 in ((have.0, rest.0), rest.1)
 
-line_kept : (d : Disk) (h : List Event) (plan : Plan) (one : Line) (events : List Event) (text : List ℕ) → Goes d h → HasMoment one
+line_kept : (d : Disk) (h : List Deed) (plan : Plan) (one : Line) (events : List Deed) (text : List ℕ) → Goes d h → HasMoment one
     → Plays d h plan one events text → Goes d (events ++ h)
 line_kept d h plan (line.Mail name message envelope) events text so fits plays =
     same_events d h events (outcome_events plays.0) plays.2 (start_kept d h name message envelope plays.0 so plays.1)
@@ -247,7 +249,7 @@ line_kept d h plan (line.Actor of_actor.Run a) events text so fits plays = steps
 line_kept d h plan (line.Actor of_actor.Stop a) events text so fits plays =
     same_events d h events (outcome_events plays.0) plays.2 (stop_kept d h a ((after d h).actors a) plays.0 so refl plays.1)
 line_kept d h plan (line.Survival of_survival.Halt how) events text so fits plays =
-    same_events d h events (Halt how (contents_by how (after d h).disk plays.0) ∷ []) plays.2 (goes_halted d h how plays.0 so)
+    same_events d h events (Came (Halt how (contents_by how (after d h).disk plays.0)) ∷ []) plays.2 (goes_halted d h how plays.0 so)
 line_kept d h plan (line.Count of_count.Fault k) events text so fits plays = same_events d h events [] plays.0 so
 line_kept d h plan (line.Count of_count.Number n) events text so fits plays = same_events d h events [] plays.0 so
 line_kept d h plan (line.Moment of_moment.Moment m) events text so fits plays =
@@ -265,13 +267,13 @@ line_kept d h plan (line.Report slot letter word) events text so fits plays =
 
 -- All lines
 
-record PlaysOn (d : Disk) (h : List Event) (plan : Plan) (traced : Bool) (lines : List Line) : Type 0 where
-  end : List Event
+record PlaysOn (d : Disk) (h : List Deed) (plan : Plan) (traced : Bool) (lines : List Line) : Type 0 where
+  end : List Deed
   left : Plan
   text : List ℕ
   plays : PlaysAll d h plan traced lines end left text
 
-plays_on : (d : Disk) (h : List Event) (plan : Plan) (traced : Bool) (lines : List Line) → Goes d h → HaveMoments lines
+plays_on : (d : Disk) (h : List Deed) (plan : Plan) (traced : Bool) (lines : List Line) → Goes d h → HaveMoments lines
     → PlaysOn d h plan traced lines
 plays_on d h plan traced [] so fit = record { end = h; left = plan; text = []; plays = (refl, refl, refl) }
 plays_on d h plan traced (first ∷ lines) so fit =
@@ -284,9 +286,9 @@ plays_on d h plan traced (first ∷ lines) so fit =
       plays = (one.0, one.1, rest.text, one.2, rest.plays, refl);
     }
 
-all_kept : (d : Disk) (h : List Event) (plan : Plan) (traced : Bool) (lines : List Line) (end : List Event) (left : Plan) (text : List ℕ) → Goes d h
+all_kept : (d : Disk) (h : List Deed) (plan : Plan) (traced : Bool) (lines : List Line) (end : List Deed) (left : Plan) (text : List ℕ) → Goes d h
     → HaveMoments lines → PlaysAll d h plan traced lines end left text → Goes d end
-all_kept d h plan traced [] end left text so fit plays = subst (λ (l : List Event). Goes d l) (sym plays.0) so
+all_kept d h plan traced [] end left text so fit plays = subst (λ (l : List Deed). Goes d l) (sym plays.0) so
 all_kept d h plan traced (first ∷ lines) end left text so fit plays =
     all_kept d (plays.0 ++ h) (plan_after plan first plays.0 plays.1) (traced_after traced first) lines end left plays.2
     (line_kept d h plan first plays.0 plays.1 so fit.0 plays.3) fit.1 plays.4
@@ -296,13 +298,13 @@ abbrev traced_behind : Bool → List Line → Bool
 traced_behind traced [] = traced
 traced_behind traced (first ∷ lines) = traced_behind (traced_after traced first) lines
 
-one_after_other : (d : Disk) (h : List Event) (plan : Plan) (traced : Bool) (first later : List Line) (mid end : List Event) (left last : Plan)
+one_after_other : (d : Disk) (h : List Deed) (plan : Plan) (traced : Bool) (first later : List Line) (mid end : List Deed) (left last : Plan)
     (text more : List ℕ) → PlaysAll d h plan traced first mid left text → PlaysAll d mid left (traced_behind traced first) later end last more
     → PlaysAll d h plan traced (first ++ later) end last (text ++ more)
 one_after_other d h plan traced [] later mid end left last text more before behind =
     subst (λ (t : List ℕ). PlaysAll d h plan traced later end last (t ++ more)) (sym before.2)
     (subst (λ (p : Plan). PlaysAll d h p traced later end last more) before.1
-    (subst (λ (l : List Event). PlaysAll d l left traced later end last more) before.0 behind))
+    (subst (λ (l : List Deed). PlaysAll d l left traced later end last more) before.0 behind))
 one_after_other d h plan traced (one ∷ first) later mid end left last text more before behind = (
   before.0,
   before.1,
@@ -323,17 +325,19 @@ goes_first opening d paths first =
         owns = λ a x is lives. absurd (cc);
         runs = λ a x is. absurd (cc);
         in_order = λ a x is. absurd (cc);
-        no_child = λ a. refl;
-        no_runs = λ a d b is. absurd (cc);
-        apart = λ a x is. absurd (cc);
+        kinds = λ a x is. absurd (cc);
+        children = λ a d c is. absurd (cc);
+        new = λ b none named. (refl, refl);
       };
+      unborn = λ n later. refl;
+      begun = λ x is. absurd (cc);
     }
 
-is_played : (opening : List Entry) (d : Disk) (lines : List Line) (end : List Event) (left : Plan) (text : List ℕ) → IsFirstDisk opening d
+is_played : (opening : List Entry) (d : Disk) (lines : List Line) (end : List Deed) (left : Plan) (text : List ℕ) → IsFirstDisk opening d
     → PlaysAll d [] no_plan false lines end left text → Goes d end → IsPlayed opening lines text
 is_played opening d lines end left text first plays so = record {
   disk = d;
-  history = end;
+  deeds = end;
   left = left;
   is_first = first;
   plays = plays;
@@ -355,14 +359,14 @@ has_whole_play : (opening : List Entry) (lines : List Line) (begun : List ℕ) �
 has_whole_play opening lines begun paths have cut =
     let some = cut.played in
     let fit = moments_in cut.first cut.later (subst HaveMoments cut.lines_are have) in
-    let so = all_kept some.disk [] no_plan false cut.first some.history some.left cut.printed (goes_first opening some.disk paths some.is_first) fit.0 some.plays in
+    let so = all_kept some.disk [] no_plan false cut.first some.deeds some.left cut.printed (goes_first opening some.disk paths some.is_first) fit.0 some.plays in
     let traced = traced_behind false cut.first in
-    let more = plays_on some.disk some.history some.left traced cut.later so fit.1 in
+    let more = plays_on some.disk some.deeds some.left traced cut.later so fit.1 in
     let whole : List ℕ = cut.printed ++ more.text in
     let plays = subst (λ (l : List Line). PlaysAll some.disk [] no_plan false l more.end more.left whole) (sym cut.lines_are)
-    (one_after_other some.disk [] no_plan false cut.first cut.later some.history more.end some.left more.left cut.printed more.text
+    (one_after_other some.disk [] no_plan false cut.first cut.later some.deeds more.end some.left more.left cut.printed more.text
     some.plays more.plays) in
-    let end = all_kept some.disk some.history some.left traced cut.later more.end more.left more.text so fit.1 more.plays in (
+    let end = all_kept some.disk some.deeds some.left traced cut.later more.end more.left more.text so fit.1 more.plays in (
       whole,
       is_played opening some.disk lines more.end more.left whole some.is_first plays end,
       (cut.rest ++ more.text, ap (λ (t : List ℕ). t ++ more.text) cut.text_is ∙ append_assoc begun cut.rest more.text),

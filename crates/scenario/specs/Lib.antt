@@ -5,6 +5,8 @@ pub mod Shown
 -- what is read of a world for it
 pub mod Fates
 pub mod Viewed
+-- what happens in a play, deed by deed
+pub mod Deeds
 -- the lines of events
 pub mod Traced
 -- lists whose elements follow one after the other

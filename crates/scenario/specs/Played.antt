@@ -1,4 +1,4 @@
--- The history that a script plays, and what each of its lines prints.
+-- What a script plays, deed by deed, and what each of its lines prints.
 use Rattle.std.specs.Prelude.{◌≡◌, ◌⊎◌, ℕ, ◌<◌, ◌≤◌, List, [], ◌∷◌, ◌++◌, Bool, Option, Some, None, IsSome, codes}
 use Rattle.mail_bytes.specs.Decimal.{digits}
 use Rattle.mail_bytes.specs.Escape.{escaped}
@@ -8,7 +8,7 @@ use Rattle.call_fs.specs.Choices.{AreNamed, contents_by}
 use Rattle.mem_fs.specs.MemDisk.{bytes_at}
 use Rattle.queue_inject.specs.declared.injection.Arguments.{Arguments}
 use Rattle.world_events.specs.declared.event.Program.TheVariants.{Injector}
-use Rattle.mail_world.specs.History.{Event, Life, State, Actor, after}
+use Rattle.mail_world.specs.History.{Life, State, Actor}
 use Rattle.mail_world.specs.History.Event.{Start, Stop, Moment, Halt}
 use Rattle.mail_world.specs.History.Life.{Alive, Over, Stopped}
 use Rattle.actor_names.specs.MailNames.{IsMailName, members}
@@ -23,6 +23,8 @@ use Rattle.play_lines.specs.declared.keyword.OfMoment.TheVariants as of_moment
 use Rattle.play_lines.specs.declared.keyword.OfSurvival.TheVariants as of_survival
 use Rattle.play_lines.specs.declared.keyword.OfWord.TheVariants as of_word
 use Rattle.scenario.specs.Shown.{line_of, IsShown}
+use Rattle.scenario.specs.Deeds.{Deed, history_of, after}
+use Rattle.scenario.specs.Deeds.Deed.{Came}
 use Rattle.scenario.specs.Traced.{traced_after, traced_text}
 use Rattle.scenario.specs.Steps.Outcome.{Happens, Is}
 use Rattle.scenario.specs.Steps.Refusal.{Unknown, Gone, Taken, Past}
@@ -33,12 +35,12 @@ pub use Rattle.scenario.specs.Steps.{Refusal, refusal_word, IsRefusalOf, refusal
 -- What the start of a mail comes to: it is refused if its name was used, or is none that a mail may have.
 abbrev pub MailComesTo : State → List ℕ → Arguments → Outcome → Type 0
 MailComesTo s name args outcome =
-    (IsMailName name × (s.actors name ≡ None) × (outcome ≡ Happens (Start name (Injector args))))
+    (IsMailName name × (s.actors name ≡ None) × (outcome ≡ Happens (Came (Start name (Injector args)))))
     ⊎ ((IsSome (s.actors name) ⊎ (¬ (IsMailName name))) × (outcome ≡ Is Taken))
 
 -- What a stop of an actor comes to, by whether it lives, and whether it was started.
 abbrev pub StopsAlive : List ℕ → Life → Outcome → Type 0
-StopsAlive a Alive outcome = outcome ≡ Happens (Stop a)
+StopsAlive a Alive outcome = outcome ≡ Happens (Came (Stop a))
 StopsAlive a (Over status) outcome = outcome ≡ Is Gone
 StopsAlive a Stopped outcome = outcome ≡ Is Gone
 
@@ -48,7 +50,7 @@ StopComesTo a (Some x) outcome = StopsAlive a x.life outcome
 
 -- what a moment comes to: it is refused if it lies before the present one
 abbrev pub MomentComesTo : ℕ → ℕ → Outcome → Type 0
-MomentComesTo present m outcome = ((present ≤ m) × (outcome ≡ Happens (Moment m))) ⊎ ((m < present) × (outcome ≡ Is Past))
+MomentComesTo present m outcome = ((present ≤ m) × (outcome ≡ Happens (Came (Moment m)))) ⊎ ((m < present) × (outcome ≡ Is Past))
 
 -- `PATH : TEXT`, or `PATH none` if there is no such file
 abbrev pub cat_line : List ℕ → Option (List ℕ) → List ℕ
@@ -59,8 +61,8 @@ cat_line path None = line_of (escaped path) (codes "none")
 abbrev pub NumberComesTo : Disk → ℕ → List ℕ → Type 0
 NumberComesTo d n text = (IsUnused d n × (text ≡ [])) ⊎ ((¬ (IsUnused d n)) × (text ≡ refusal_line Taken (digits n)))
 
--- What a line adds to a history, newest event first, and what it prints.
-abbrev pub Plays : Disk → List Event → Plan → Line → List Event → List ℕ → Type 0
+-- What a line adds to these deeds, newest first, and what it prints.
+abbrev pub Plays : Disk → List Deed → Plan → Line → List Deed → List ℕ → Type 0
 Plays d h plan (line.Mail name message envelope) events text =
     (outcome : Outcome) × MailComesTo (after d h) name (mail (next_pid h) (after d h).now message envelope) outcome
     × (events ≡ outcome_events outcome) × (text ≡ printed name outcome)
@@ -71,14 +73,14 @@ Plays d h plan (line.Actor of_actor.Stop actor) events text =
     (outcome : Outcome) × StopComesTo actor ((after d h).actors actor) outcome × (events ≡ outcome_events outcome) × (text ≡ printed actor outcome)
 Plays d h plan (line.Survival of_survival.Halt how) events text =
     let now = (after d h).disk in
-    (named : List ℕ) × AreNamed now named × (events ≡ Halt how (contents_by how now named) ∷ []) × (text ≡ [])
+    (named : List ℕ) × AreNamed now named × (events ≡ Came (Halt how (contents_by how now named)) ∷ []) × (text ≡ [])
 Plays d h plan (line.Count of_count.Fault k) events text = (events ≡ []) × (text ≡ [])
 Plays d h plan (line.Count of_count.Number n) events text = (events ≡ []) × NumberComesTo (after d h).disk n text
 Plays d h plan (line.Moment of_moment.Moment m) events text =
     (outcome : Outcome) × MomentComesTo (after d h).now m outcome × (events ≡ outcome_events outcome) × (text ≡ printed (digits (after d h).now) outcome)
 Plays d h plan (line.Alone alone.Trace) events text = (events ≡ []) × (text ≡ [])
 Plays d h plan (line.Word of_word.Cat path) events text = (events ≡ []) × (text ≡ cat_line path (bytes_at (after d h).disk path))
-Plays d h plan (line.Alone alone.Show) events text = (events ≡ []) × IsShown d h text
+Plays d h plan (line.Alone alone.Show) events text = (events ≡ []) × IsShown d (history_of h) text
 Plays d h plan (line.Alone alone.Sender) events text =
     let s = after d h in
     let alive = first_alive s members in
@@ -91,19 +93,19 @@ Plays d h plan (line.Report slot letter word) events text =
     let outcome = report_comes (after d h) slot letter word in
     (events ≡ outcome_events outcome) × (text ≡ printed (codes "rspawn") outcome)
 
--- What is chosen of the disk after a line that added these events and printed this: another call that is to fail, another
+-- What is chosen of the disk after a line that added these deeds and printed this: another call that is to fail, another
 -- number, if it wasn't refused, or what the events left.
-abbrev pub plan_after : Plan → Line → List Event → List ℕ → Plan
+abbrev pub plan_after : Plan → Line → List Deed → List ℕ → Plan
 plan_after plan (line.Count of_count.Fault k) events text = with_fault k plan
 plan_after plan (line.Count of_count.Number n) events [] = with_pick n plan
 plan_after plan (line.Count of_count.Number n) events (b ∷ text) = plan
 plan_after plan other events text = plan_through plan events
 
--- The history after these lines, from that one on, what is chosen of the disk then, and what they print; if events are
--- traced, a line first prints the events that it adds.
-abbrev pub PlaysAll : Disk → List Event → Plan → Bool → List Line → List Event → Plan → List ℕ → Type 0
+-- The deeds after these lines, from those on, what is chosen of the disk then, and what they print; if events are traced, a line
+-- first prints those that it adds.
+abbrev pub PlaysAll : Disk → List Deed → Plan → Bool → List Line → List Deed → Plan → List ℕ → Type 0
 PlaysAll d h plan traced [] end left text = (end ≡ h) × (left ≡ plan) × (text ≡ [])
 PlaysAll d h plan traced (first ∷ lines) end left text =
-    (events : List Event) × (own rest : List ℕ) × Plays d h plan first events own
+    (events : List Deed) × (own rest : List ℕ) × Plays d h plan first events own
     × PlaysAll d (events ++ h) (plan_after plan first events own) (traced_after traced first) lines end left rest
     × (text ≡ (traced_text traced events ++ own) ++ rest)

@@ -1,5 +1,6 @@
 -- A world in which a script is played.
-use Rattle.std.specs.Prelude.{◌≡◌, ◌≢◌, ◌⊎◌, ℕ, List, [], ◌∷◌, ◌++◌, Bool, true, false, ◌||◌, ◌&&◌, Option, Some, None, bytes_eq, codes, flat_map, reverse}
+use Rattle.std.specs.Prelude.{◌≡◌, ◌≢◌, ◌⊎◌, ℕ, List, [], ◌∷◌, ◌++◌, Bool, true, false, ◌||◌, ◌&&◌, Option, Some, None, bytes_eq, codes, reverse}
+use Rattle.std.specs.List.{AllZip}
 use Rattle.call_fs.specs.declared.calls.Answer.{Answer}
 use Rattle.call_fs.specs.declared.past.GotData.{GotData}
 use Rattle.call_fs.specs.declared.past.GotData.TheVariants.{Answered}
@@ -12,14 +13,14 @@ use Rattle.mail_world.specs.declared.error.WorldError.{WorldError}
 use Rattle.mail_world.specs.declared.error.WorldError.TheVariants as error
 use Rattle.world_events.specs.declared.event.Event.{Event as Kept}
 use Rattle.world_events.specs.declared.event.Event.TheVariants as kept
-use Rattle.mail_world.specs.History.{Event, IsLiving, after}
-use Rattle.mail_world.specs.Generations.{started_in}
+use Rattle.mail_world.specs.History.{IsLiving}
 use Rattle.mail_world.specs.Wired.{AreWholeGivings}
 use Rattle.mail_world.specs.World.{Seen, IsHistory}
 use Rattle.play_lines.specs.declared.line.Line.{Line}
 use Rattle.script_words.specs.declared.letter.Letter.{Letter}
 use Rattle.scenario.specs.declared.stepping.Stepped.{Stepped}
 use Rattle.scenario.specs.declared.stepping.Stepped.TheVariants as how
+use Rattle.scenario.specs.Deeds.{Deed, TellsDeed, event_in, history_of, after}
 use Rattle.scenario.specs.Fates.{AreMailStarts}
 use Rattle.scenario.specs.Played.{Plays, plan_after}
 use Rattle.scenario.specs.Steps.{Refusal, IsRefusalOf, StepsTo, plan_by, plan_through, idles, has_idled, IsRunOf}
@@ -42,6 +43,8 @@ is_memory_of other = false
 abbrev pub lacked_memory : Kept → Bool
 lacked_memory (kept.Start a program) = false
 lacked_memory (kept.Act a own) = is_memory_of own.came
+lacked_memory (kept.Child a own c program) = is_memory_of own.came
+lacked_memory (kept.Feed a own c message envelope) = is_memory_of own.came
 lacked_memory (kept.End a read ready status) = false
 lacked_memory (kept.Stop a) = false
 lacked_memory (kept.Generation start) = false
@@ -49,12 +52,14 @@ lacked_memory (kept.Report slot letter text) = false
 lacked_memory (kept.Moment m) = false
 lacked_memory (kept.Halt how) = false
 
--- The world began with this disk, this happened in it, and its disk tells this plan. No giving failed, and no mail has a member's name.
-pub record IsPlaying (d : Disk) (w : Seen Crash) (plan : Plan) (h : List Event) : Type 0 where
-  pub is : IsHistory d (crash_disk w.disk) w.events w.present h
+-- The world began with this disk, this happened in it, of which it kept each deed, and its disk tells this plan. No giving failed, and no
+-- mail has a member's name.
+pub record IsPlaying (d : Disk) (w : Seen Crash) (plan : Plan) (h : List Deed) : Type 0 where
+  pub is : IsHistory d (crash_disk w.disk) w.events w.present (history_of h)
+  pub told : AllZip TellsDeed (reverse w.events) h
   pub planned : crash_plan w.disk ≡ Some plan
   pub whole : AreWholeGivings (reverse w.events)
-  pub starts : AreMailStarts h
+  pub starts : AreMailStarts (history_of h)
 
 -- what a step of the world did, as what it left of its actor
 abbrev pub stepped_by : Option ℕ → Bool → Stepped
@@ -63,17 +68,17 @@ stepped_by None true = how.Idle
 stepped_by None false = how.On
 
 -- whether an actor is over after a step, and whether an idle turn has just ended
-abbrev pub IsLeftBy : Stepped → Disk → Plan → List ℕ → Event → List Event → Type 0
-IsLeftBy how.On d plan a event h = IsLiving (after d (event ∷ h)) a × (idles (after d h) event ≡ false)
-IsLeftBy how.Idle d plan a event h = idles (after d h) event ≡ true
-IsLeftBy how.Over d plan a event h = StepsTo d (event ∷ h) plan a (Is Gone) × (idles (after d h) event ≡ false)
+abbrev pub IsLeftBy : Stepped → Disk → Plan → List ℕ → Deed → List Deed → Type 0
+IsLeftBy how.On d plan a deed h = IsLiving (after d (deed ∷ h)) a × (idles (after d h) (event_in deed) ≡ false)
+IsLeftBy how.Idle d plan a deed h = idles (after d h) (event_in deed) ≡ true
+IsLeftBy how.Over d plan a deed h = StepsTo d (deed ∷ h) plan a (Is Gone) × (idles (after d h) (event_in deed) ≡ false)
 
 -- whatever happened before, a step of that actor happened then
-pub record HasStepped (d : Disk) (new : Seen Crash) (a : List ℕ) (left : Stepped) (plan : Plan) (h : List Event) : Type 0 where
-  pub event : Event
-  pub steps : StepsTo d h plan a (Happens event)
-  pub playing : IsPlaying d new (plan_by event plan) (event ∷ h)
-  pub over : IsLeftBy left d (plan_by event plan) a event h
+pub record HasStepped (d : Disk) (new : Seen Crash) (a : List ℕ) (left : Stepped) (plan : Plan) (h : List Deed) : Type 0 where
+  pub deed : Deed
+  pub steps : StepsTo d h plan a (Happens deed)
+  pub playing : IsPlaying d new (plan_by (event_in deed) plan) (deed ∷ h)
+  pub over : IsLeftBy left d (plan_by (event_in deed) plan) a deed h
 
 -- the world refused since the actor waits
 abbrev pub is_waiting : WorldError → Bool
@@ -81,17 +86,13 @@ is_waiting (error.NotWaiting name) = true
 is_waiting other = false
 
 -- a step was refused
-abbrev pub IsRefusedAs : WorldError → Disk → Plan → List ℕ → List Event → Type 0
+abbrev pub IsRefusedAs : WorldError → Disk → Plan → List ℕ → List Deed → Type 0
 IsRefusedAs error.Memory d plan a h = Unit {0}
 IsRefusedAs why d plan a h = (refusal : Refusal) × IsRefusalOf why refusal × StepsTo d h plan a (Is refusal)
 
--- no actor was started by the events that came
-abbrev pub AddsNoStart : List Kept → List Kept → Type 0
-AddsNoStart old new = (added : List Kept) × (new ≡ old ++ added) × (flat_map started_in added ≡ [])
-
 -- a run added this to the history, and to the text; and whether it stopped with an idle turn
-pub record HasRun (d : Disk) (new : Seen Crash) (a : List ℕ) (idle : Bool) (before after_text : List ℕ) (plan : Plan) (h : List Event) : Type 0 where
-  pub events : List Event
+pub record HasRun (d : Disk) (new : Seen Crash) (a : List ℕ) (idle : Bool) (before after_text : List ℕ) (plan : Plan) (h : List Deed) : Type 0 where
+  pub events : List Deed
   pub own : List ℕ
   pub run : IsRunOf d h plan a events own
   pub idled : idle ≡ has_idled d h events
@@ -99,8 +100,8 @@ pub record HasRun (d : Disk) (new : Seen Crash) (a : List ℕ) (idle : Bool) (be
   pub text : after_text ≡ before ++ own
 
 -- so the run of a part of a turn; and whether the newest event of the turn ended an idle turn, if before it so was told
-pub record HasParted (d : Disk) (new : Seen Crash) (a : List ℕ) (was now : Bool) (before after_text : List ℕ) (plan : Plan) (h : List Event) : Type 0 where
-  pub events : List Event
+pub record HasParted (d : Disk) (new : Seen Crash) (a : List ℕ) (was now : Bool) (before after_text : List ℕ) (plan : Plan) (h : List Deed) : Type 0 where
+  pub events : List Deed
   pub own : List ℕ
   pub run : IsRunOf d h plan a events own
   pub idled : ((events ≡ []) × (now ≡ was)) ⊎ ((events ≢ []) × (now ≡ has_idled d h events))
@@ -108,7 +109,7 @@ pub record HasParted (d : Disk) (new : Seen Crash) (a : List ℕ) (was now : Boo
   pub text : after_text ≡ before ++ own
 
 -- so a turn; and whether its newest event ended an idle turn of a sender
-pub record HasTurned (d : Disk) (new : Seen Crash) (idle : Bool) (before after_text : List ℕ) (plan : Plan) (h : List Event) : Type 0 where
+pub record HasTurned (d : Disk) (new : Seen Crash) (idle : Bool) (before after_text : List ℕ) (plan : Plan) (h : List Deed) : Type 0 where
   pub parts : List Part
   pub turn : IsTurnOf d h plan parts
   pub idled : idle ≡ has_idled d h (events_of parts)
@@ -116,13 +117,13 @@ pub record HasTurned (d : Disk) (new : Seen Crash) (idle : Bool) (before after_t
   pub text : after_text ≡ before ++ text_of parts
 
 -- so the reports of a round
-pub record HasReported (d : Disk) (new : Seen Crash) (letter : Letter) (plan : Plan) (h : List Event) : Type 0 where
+pub record HasReported (d : Disk) (new : Seen Crash) (letter : Letter) (plan : Plan) (h : List Deed) : Type 0 where
   pub slots : List ℕ
   pub reported : AreReported d h letter slots
   pub playing : IsPlaying d new plan (reports_of letter slots ++ h)
 
 -- so a round; and whether it is the last one
-pub record HasRounded (d : Disk) (new : Seen Crash) (letter : Letter) (last : Bool) (before after_text : List ℕ) (plan : Plan) (h : List Event) : Type 0 where
+pub record HasRounded (d : Disk) (new : Seen Crash) (letter : Letter) (last : Bool) (before after_text : List ℕ) (plan : Plan) (h : List Deed) : Type 0 where
   pub round : Round
   pub is : IsRound d h plan letter round
   pub is_last : last ≡ (has_bytes (text_of round.parts) || is_idle d h letter round)
@@ -135,15 +136,15 @@ is_search_kept (kept.Act a own) = bytes_eq a (codes "sender") && is_search_call 
 is_search_kept other = false
 
 -- what a line added to the history, and to the text
-pub record HasPlayed (d : Disk) (new : Seen Crash) (line : Line) (before after : List ℕ) (plan : Plan) (h : List Event) : Type 0 where
-  pub events : List Event
+pub record HasPlayed (d : Disk) (new : Seen Crash) (line : Line) (before after : List ℕ) (plan : Plan) (h : List Deed) : Type 0 where
+  pub events : List Deed
   pub own : List ℕ
   pub plays : Plays d h plan line events own
   pub playing : IsPlaying d new (plan_after plan line events own) (events ++ h)
   pub text : after ≡ before ++ own
 
 -- what is printed of a line that was played: if events are traced, first those that it added
-pub record HasPrinted (d : Disk) (new : Seen Crash) (traced : Bool) (line : Line) (text : List ℕ) (plan : Plan) (h : List Event) : Type 0 where
+pub record HasPrinted (d : Disk) (new : Seen Crash) (traced : Bool) (line : Line) (text : List ℕ) (plan : Plan) (h : List Deed) : Type 0 where
   pub own : List ℕ
   pub played : HasPlayed d new line [] own plan h
   pub text_is : text ≡ traced_text traced played.events ++ own

@@ -1,11 +1,10 @@
 -- What `show` prints: how many names `pid/` has, the state of each number that isn't in S1, and how each mail fares, by the disk, the
 -- control files and the books, in which the takings of senders enter who was delivered to.
-use Rattle.std.specs.Prelude.{◌≡◌, ℕ, List, [], ◌∷◌, ◌++◌, length, map, Bool, true, false, ◌&&◌, ◌==◌, bytes_eq, Option, Some, None, codes, flat_map, if◌then◌else◌}
-use Rattle.std.specs.List.{list_any}
+use Rattle.std.specs.Prelude.{◌≡◌, ℕ, List, [], ◌∷◌, ◌++◌, length, map, Bool, true, false, ◌&&◌, ◌==◌, bytes_eq, Option, Some, None, codes, flat_map, if◌then◌else◌, nat_eq}
+use Rattle.std.specs.List.{list_any, starts_with}
 use Rattle.address_rules.specs.declared.controls.Controls.{Controls}
 use Rattle.call_fs.specs.Disk.{Disk}
 use Rattle.queue_inject.specs.declared.injection.Arguments.{Arguments}
-use Rattle.queue_inject.specs.Texts.{recipients_of}
 use Rattle.queue_law.specs.Books.{Books, Injection}
 use Rattle.queue_law.specs.Ledgers.{Spot}
 use Rattle.queue_paths.specs.Names.Part.{Todo}
@@ -15,7 +14,7 @@ use Rattle.send_jobs.specs.declared.channels.Channel.{Channel}
 use Rattle.send_jobs.specs.declared.channels.Channel.TheVariants.{Local, Remote}
 use Rattle.disk_numbers.specs.declared.routes.Routed.{Routed}
 use Rattle.disk_numbers.specs.Controls.{controls_on}
-use Rattle.disk_numbers.specs.Routes.{routes_in}
+use Rattle.disk_numbers.specs.Routes.{recipients_in, routes_in}
 pub use Rattle.disk_numbers.specs.Numbers.{AreNumbersIn}
 pub use Rattle.disk_numbers.specs.Records.{is_noted, is_unmarked}
 pub use Rattle.queue_states.specs.Lines.{line_of, count_line, state_line}
@@ -82,29 +81,36 @@ is_queued d (Some n) = is_there d Todo n
 abbrev pub spot_at : Routed → Spot
 spot_at r = record { channel = r.channel; place = r.place }
 
--- What became of a recipient of a mail that isn't in todo, and whose record doesn't read `T`. One of whom a spawner reported `D` is
--- pending while its note is put into the bounce file, and noted once its record is marked, until that file is gone.
-abbrev pub ending_of : View → List ℕ → Option ℕ → Routed → List ℕ
-ending_of v mail number r =
-    if is_delivered v.books mail number (spot_at r) then codes "delivered" else (if is_noted v.disk (lasting v.books mail number) r.name then codes "noted" else codes "dropped")
+-- What became of a recipient that failed and isn't noted, by the envelope of its mail: a bounce of the mail was injected, but that of a
+-- double bounce, which comes from `#@[]`, is dropped.
+abbrev pub word_of_failed : List ℕ → List ℕ
+word_of_failed envelope = if starts_with nat_eq envelope (70 ∷ codes "#@[]" ++ 0 ∷ []) then codes "dropped" else codes "bounced"
+
+-- What became of a recipient of a mail that isn't in todo, and whose record doesn't read `T`, with the word for one that failed and isn't
+-- noted. One of whom a spawner reported `D` is pending while its note is put into the bounce file, and noted once its record is marked,
+-- until that file is gone.
+abbrev pub ending_of : View → List ℕ → Option ℕ → List ℕ → Routed → List ℕ
+ending_of v mail number failed r =
+    if is_delivered v.books mail number (spot_at r) then codes "delivered" else (if is_noted v.disk (lasting v.books mail number) r.name then codes "noted" else failed)
 
 -- what became of a recipient of a mail that isn't in todo
-abbrev pub word_of : View → List ℕ → Option ℕ → Routed → List ℕ
-word_of v mail number r = if is_unmarked v.disk (lasting v.books mail number) r then codes "pending" else ending_of v mail number r
+abbrev pub word_of : View → List ℕ → Option ℕ → List ℕ → Routed → List ℕ
+word_of v mail number failed r = if is_unmarked v.disk (lasting v.books mail number) r then codes "pending" else ending_of v mail number failed r
 
 -- the lines of the recipients of a mail that isn't in todo; with a bad control file nothing was ever preprocessed
-abbrev pub sorted_lines : View → Entry → Option Controls → List (List ℕ) → List ℕ
-sorted_lines v e None recipients = alike_lines e.actor (codes "dropped") 1 e.recipients
-sorted_lines v e (Some controls) recipients = recipient_lines e.actor 1 (map (word_of v e.actor e.number) (routes_in controls recipients))
+abbrev pub sorted_lines : View → Entry → Option Controls → List ℕ → List ℕ
+sorted_lines v e None envelope = alike_lines e.actor (codes "dropped") 1 e.recipients
+sorted_lines v e (Some controls) envelope =
+    recipient_lines e.actor 1 (map (word_of v e.actor e.number (word_of_failed envelope)) (routes_in controls (recipients_in envelope)))
 
--- the lines of the recipients of the mail with this entry in the books
-abbrev pub lines_of : View → Entry → List (List ℕ) → List ℕ
-lines_of v e recipients =
-    if is_queued v.disk (lasting v.books e.actor e.number) then alike_lines e.actor (codes "pending") 1 e.recipients else sorted_lines v e v.controls recipients
+-- the lines of the recipients of the mail with this entry in the books, and this envelope
+abbrev pub lines_of : View → Entry → List ℕ → List ℕ
+lines_of v e envelope =
+    if is_queued v.disk (lasting v.books e.actor e.number) then alike_lines e.actor (codes "pending") 1 e.recipients else sorted_lines v e v.controls envelope
 
 -- `NAME STATUS`, and a line for each recipient if the mail was accepted
-abbrev pub entry_lines : View → Entry → List (List ℕ) → List ℕ
-entry_lines v e recipients = line_of e.actor (life_word e.life) ++ (if e.accepted then lines_of v e recipients else [])
+abbrev pub entry_lines : View → Entry → List ℕ → List ℕ
+entry_lines v e envelope = line_of e.actor (life_word e.life) ++ (if e.accepted then lines_of v e envelope else [])
 
 -- By a history
 
@@ -114,7 +120,7 @@ view_of d h = record { disk = (after d h).disk; controls = controls_on (after d 
 
 -- the lines of a mail
 abbrev pub mail_lines : Disk → List Event → List ℕ × Arguments → List ℕ
-mail_lines d h mail = entry_lines (view_of d h) (entry_in (after d h) h mail) (recipients_of mail.1)
+mail_lines d h mail = entry_lines (view_of d h) (entry_in (after d h) h mail) mail.1.envelope
 
 abbrev pub all_mail_lines : Disk → List Event → List ℕ
 all_mail_lines d h = flat_map (mail_lines d h) (mails_of h)

@@ -1,11 +1,11 @@
 -- A step and a run of an actor: what each comes to, and what is printed of it. A file call fails if the script says so, and
 -- only then, and nothing else fails.
-use Rattle.std.specs.Prelude.{◌≡◌, ◌⊎◌, ℕ, zero, suc, ◌<◌, List, [], ◌∷◌, ◌++◌, length, Bool, true, false, if◌then◌else◌, Option, Some, None, codes}
-use Rattle.std.specs.List.{sum_by}
+use Rattle.std.specs.Prelude.{◌≡◌, ◌⊎◌, ℕ, zero, suc, ◌+◌, ◌<◌, List, [], ◌∷◌, ◌++◌, length, Bool, true, false, if◌then◌else◌, Option, Some, None, codes}
 use Rattle.call_fs.specs.declared.calls.Told.{Told}
 use Rattle.call_fs.specs.Disk.{Disk}
 use Rattle.call_fs.specs.Plan.{Plan}
 use Rattle.call_fs.specs.declared.program.Port.TheVariants as port
+use Rattle.call_fs.specs.declared.past.ChildData.{ChildData}
 use Rattle.call_fs.specs.declared.past.ChildData.TheVariants as child
 use Rattle.call_fs.specs.declared.past.NeedData.{NeedData}
 use Rattle.call_fs.specs.declared.past.NeedData.TheVariants as needs
@@ -13,20 +13,26 @@ use Rattle.call_fs.specs.declared.past.GotData.{GotData}
 use Rattle.call_fs.specs.declared.past.GotData.TheVariants.{Answered, Gave, Started, Ended, Crashed, Failed}
 use Rattle.call_fs.specs.declared.past.Own.{Own}
 use Rattle.crash_fs.specs.Answers.{Answers, plan_left_by}
+use Rattle.actor_names.specs.BounceNames.{bounce_name}
 use Rattle.world_events.specs.declared.event.Program.{Program}
+use Rattle.world_events.specs.declared.event.Program.TheVariants.{Injector, Sender}
+use Rattle.world_events.specs.Inputs.{bounce}
 use Rattle.world_pipes.specs.Pipes.{offered}
 use Rattle.mail_world.specs.declared.error.WorldError.{WorldError}
 use Rattle.mail_world.specs.declared.error.WorldError.TheVariants as error
 use Rattle.mail_world.specs.Pipework.{Tenant}
 use Rattle.mail_world.specs.Pipework.Tenant.{Runs, Remote}
-use Rattle.mail_world.specs.History.{Event, Life, State, Actor, call_act, next_of, after, started_by}
+use Rattle.mail_world.specs.History.{Event, Life, State, Actor, call_act, netstring, next_of}
 use Rattle.mail_world.specs.History.Event.{Start, Act, Child, Generation, Report, End, Stop, Moment, Halt}
 use Rattle.mail_world.specs.History.Life.{Alive as Living, Over, Stopped}
 use Rattle.mail_world.specs.Readiness.{found_in}
 use Rattle.mail_world.specs.Generations.{idled_by}
-use Rattle.mail_world.specs.World.{pid_after, most_of}
+use Rattle.mail_world.specs.World.{most_of}
 use Rattle.scenario.specs.Shown.{line_of}
+use Rattle.scenario.specs.Deeds.{Deed, event_in, after, bounces_in}
+use Rattle.scenario.specs.Deeds.Deed.{Came, Fed}
 use Rattle.scenario.specs.Chains.{EachFollows}
+pub use Rattle.scenario.specs.Deeds.{next_pid}
 
 -- why a line is refused
 pub data Refusal : Type 0 where
@@ -63,25 +69,21 @@ IsRefusalOf error.Memory why = ⊥
 abbrev pub refusal_line : Refusal → List ℕ → List ℕ
 refusal_line why name = codes "refused " ++ line_of (refusal_word why) name
 
--- what a step comes to: an event, or a refusal
+-- what a step comes to: a deed, or a refusal
 pub data Outcome : Type 0 where
-  Happens : Event → Outcome
+  Happens : Deed → Outcome
   Is : Refusal → Outcome
 
--- what an outcome adds to the history, and what is printed of it
-abbrev pub outcome_events : Outcome → List Event
-outcome_events (Happens event) = event ∷ []
+-- what an outcome adds to the deeds, and what is printed of it
+abbrev pub outcome_events : Outcome → List Deed
+outcome_events (Happens deed) = deed ∷ []
 outcome_events (Is why) = []
 
 abbrev pub printed : List ℕ → Outcome → List ℕ
-printed name (Happens event) = []
+printed name (Happens deed) = []
 printed name (Is why) = refusal_line why name
 
 -- Steps
-
--- the process number of the next program
-abbrev pub next_pid : List Event → ℕ
-next_pid h = pid_after (sum_by started_by h)
 
 -- the status of a program that is over
 abbrev pub status_told : Life → Option GotData
@@ -99,15 +101,20 @@ status_in s None = None
 status_in s (Some (Runs a)) = status_of (s.actors a)
 status_in s (Some (Remote reported)) = if reported then Some (Ended 0) else None
 
+-- What comes of the start of a program, if the next process number is this one: a remote program starts, and so does the injector of a
+-- bounce that a sender asks for. No other program is started yet.
+abbrev pub starts_as : ℕ → Program → ChildData → GotData
+starts_as pid program (child.Remote slot domain sender recipient) = Started pid
+starts_as pid (Sender start) (child.Bounce room) = Started pid
+starts_as pid program asked = Failed
+
 -- What comes of what is due to an actor, which runs this program, other than a file call or its end, if the next process
--- number is this one; None if the actor waits. A taking takes all that lies there, a giving goes well, and so does the start of a remote
--- program. No other program is started yet, and no command is run.
+-- number is this one; None if the actor waits. A taking takes all that lies there, and a giving goes well. No command is run.
 abbrev pub comes : State → ℕ → List ℕ → Program → NeedData → Option GotData
 comes s pid a program (needs.Take (port.Status slot)) = status_in s (s.pipework.programs a slot)
 comes s pid a program (needs.Take port) = offered (most_of program) (s.pipework.pipes a port)
 comes s pid a program (needs.Give port bytes) = Some Gave
-comes s pid a program (needs.Start (child.Remote slot domain sender recipient)) = Some (Started pid)
-comes s pid a program (needs.Start asked) = Some Failed
+comes s pid a program (needs.Start asked) = Some (starts_as pid program asked)
 comes s pid a program (needs.Command bytes) = Some Failed
 comes s pid a program due = None
 
@@ -115,28 +122,43 @@ comes s pid a program due = None
 abbrev pub own_by : State → List ℕ → NeedData → GotData → Own
 own_by s a due came = record { read = s.now; ready = found_in s a; due = due; came = came }
 
-abbrev pub does : State → List ℕ → NeedData → Option GotData → Outcome
-does s a due None = Is NotWaiting
-does s a due (Some came) = Happens (Act a (own_by s a due came) 0)
+-- what an actor did, as an event: if so many bounces were injected before, the injector of the next one starts under its name, with no
+-- input
+abbrev pub event_by : ℕ → List ℕ → Own → NeedData → GotData → Event
+event_by bounces a own (needs.Start (child.Bounce room)) (Started pid) = Child a own (bounce_name (bounces + 1)) (Injector (bounce pid own.read))
+event_by bounces a own due came = Act a own 0
 
--- by what the actor must do next, whether it lives, and whether it was started
-abbrev pub DoesNext : Plan → State → ℕ → List ℕ → Program → NeedData → Outcome → Type 0
-DoesNext plan s pid a program (needs.File call) outcome =
-    (told : Told) × Answers plan s.disk call told × (outcome ≡ Happens (call_act a s.now (found_in s a) call told 0))
-DoesNext plan s pid a program (needs.Ended status) outcome = outcome ≡ Happens (End a s.now (found_in s a) status)
-DoesNext plan s pid a program due outcome = outcome ≡ does s a due (comes s pid a program due)
+abbrev pub does : State → ℕ → List ℕ → NeedData → Option GotData → Outcome
+does s bounces a due None = Is NotWaiting
+does s bounces a due (Some came) = Happens (Came (event_by bounces a (own_by s a due came) due came))
 
-abbrev pub DoesAlive : Plan → State → ℕ → List ℕ → Actor → Life → Outcome → Type 0
-DoesAlive plan s pid a x Living outcome = DoesNext plan s pid a x.program (next_of x.program x.past s.now (found_in s a)) outcome
-DoesAlive plan s pid a x other outcome = outcome ≡ Is Gone
+-- What a giving to the program in a slot comes to: an injector is given its whole input, a message and an envelope.
+abbrev pub Gives : State → List ℕ → Own → List ℕ → Option Tenant → Outcome → Type 0
+Gives s a own bytes (Some (Runs c)) outcome =
+    (message envelope : List ℕ) × (bytes ≡ netstring message ++ netstring envelope) × (outcome ≡ Happens (Fed a own c message envelope))
+Gives s a own bytes other outcome = outcome ≡ Happens (Came (Act a own 0))
 
-abbrev pub DoesStep : Plan → State → ℕ → List ℕ → Option Actor → Outcome → Type 0
-DoesStep plan s pid a None outcome = outcome ≡ Is Unknown
-DoesStep plan s pid a (Some x) outcome = DoesAlive plan s pid a x x.life outcome
+-- by what the actor must do next, whether it lives, and whether it was started; so many bounces were injected before
+abbrev pub DoesNext : Plan → State → ℕ → ℕ → List ℕ → Program → NeedData → Outcome → Type 0
+DoesNext plan s pid bounces a program (needs.File call) outcome =
+    (told : Told) × Answers plan s.disk call told × (outcome ≡ Happens (Came (call_act a s.now (found_in s a) call told 0)))
+DoesNext plan s pid bounces a program (needs.Ended status) outcome = outcome ≡ Happens (Came (End a s.now (found_in s a) status))
+DoesNext plan s pid bounces a program (needs.Give (port.Program d) bytes) outcome =
+    Gives s a (own_by s a (needs.Give (port.Program d) bytes) Gave) bytes (s.pipework.programs a d) outcome
+DoesNext plan s pid bounces a program due outcome = outcome ≡ does s bounces a due (comes s pid a program due)
 
--- what a step of the actor of this name comes to, after a history that began with this disk, by what is chosen of the disk
-abbrev pub StepsTo : Disk → List Event → Plan → List ℕ → Outcome → Type 0
-StepsTo d h plan a outcome = DoesStep plan (after d h) (next_pid h) a ((after d h).actors a) outcome
+abbrev pub DoesAlive : Plan → State → ℕ → ℕ → List ℕ → Actor → Life → Outcome → Type 0
+DoesAlive plan s pid bounces a x Living outcome =
+    DoesNext plan s pid bounces a x.program (next_of x.program x.past s.now (found_in s a)) outcome
+DoesAlive plan s pid bounces a x other outcome = outcome ≡ Is Gone
+
+abbrev pub DoesStep : Plan → State → ℕ → ℕ → List ℕ → Option Actor → Outcome → Type 0
+DoesStep plan s pid bounces a None outcome = outcome ≡ Is Unknown
+DoesStep plan s pid bounces a (Some x) outcome = DoesAlive plan s pid bounces a x x.life outcome
+
+-- what a step of the actor of this name comes to, after these deeds, of which the first found this disk, by what is chosen of the disk
+abbrev pub StepsTo : Disk → List Deed → Plan → List ℕ → Outcome → Type 0
+StepsTo d h plan a outcome = DoesStep plan (after d h) (next_pid h) (bounces_in h) a ((after d h).actors a) outcome
 
 -- Plans
 
@@ -157,34 +179,35 @@ plan_by (Stop a) plan = plan
 plan_by (Moment m) plan = plan
 plan_by (Halt how contents) plan = plan
 
--- after these events, newest first
-abbrev pub plan_through : Plan → List Event → Plan
+-- after these deeds, newest first
+abbrev pub plan_through : Plan → List Deed → Plan
 plan_through plan [] = plan
-plan_through plan (event ∷ before) = plan_by event (plan_through plan before)
+plan_through plan (deed ∷ before) = plan_by (event_in deed) (plan_through plan before)
 
 -- Runs
 
 -- an event ended an idle turn of a sender, after that state
 abbrev pub idles : State → Event → Bool
 idles s (Act a own wrote) = idled_by (s.actors a) own
+idles s (Child parent own a program) = idled_by (s.actors parent) own
 idles s other = false
 
--- the newest of these events, which came after that history, did
-abbrev pub has_idled : Disk → List Event → List Event → Bool
+-- the newest of these deeds, which came after those, did
+abbrev pub has_idled : Disk → List Deed → List Deed → Bool
 has_idled d h [] = false
-has_idled d h (event ∷ before) = idles (after d (before ++ h)) event
+has_idled d h (deed ∷ before) = idles (after d (before ++ h)) (event_in deed)
 
 -- the most steps of one run
 abbrev pub most_steps : ℕ
 most_steps = 1000000
 
 -- A run goes on with this step after these, newest first: they are fewer than the most, and no idle turn has just ended.
-abbrev pub RunsOn : Disk → List Event → Plan → List ℕ → List Event → Event → Type 0
-RunsOn d h plan a before event =
-    (length before < most_steps) × (has_idled d h before ≡ false) × StepsTo d (before ++ h) (plan_through plan before) a (Happens event)
+abbrev pub RunsOn : Disk → List Deed → Plan → List ℕ → List Deed → Deed → Type 0
+RunsOn d h plan a before deed =
+    (length before < most_steps) × (has_idled d h before ≡ false) × StepsTo d (before ++ h) (plan_through plan before) a (Happens deed)
 
-abbrev pub AreSteps : Disk → List Event → Plan → List ℕ → List Event → Type 0
-AreSteps d h plan a events = EachFollows (RunsOn d h plan a) events
+abbrev pub AreSteps : Disk → List Deed → Plan → List ℕ → List Deed → Type 0
+AreSteps d h plan a deeds = EachFollows (RunsOn d h plan a) deeds
 
 -- What a run prints that stops since its next step is refused so: nothing if the actor waits, or has ended by one of
 -- its steps.
@@ -194,14 +217,14 @@ stop_text zero why a = refusal_line why a
 stop_text (suc steps) why a = []
 
 -- A run stops with an idle turn; or if its next step is refused; or if it has made the most steps and the actor hasn't ended.
-pub data Stops (d : Disk) (h : List Event) (plan : Plan) (a : List ℕ) (events : List Event) (text : List ℕ) : Type 0 where
-  Idles : has_idled d h events ≡ true → text ≡ [] → Stops d h plan a events text
-  Refused : has_idled d h events ≡ false → (why : Refusal) → StepsTo d (events ++ h) (plan_through plan events) a (Is why)
-      → (length events < most_steps) ⊎ (why ≡ Gone) → text ≡ stop_text (length events) why a → Stops d h plan a events text
-  Full : has_idled d h events ≡ false → length events ≡ most_steps → (¬ (StepsTo d (events ++ h) (plan_through plan events) a (Is Gone)))
-      → text ≡ refusal_line Steps a → Stops d h plan a events text
+pub data Stops (d : Disk) (h : List Deed) (plan : Plan) (a : List ℕ) (deeds : List Deed) (text : List ℕ) : Type 0 where
+  Idles : has_idled d h deeds ≡ true → text ≡ [] → Stops d h plan a deeds text
+  Refused : has_idled d h deeds ≡ false → (why : Refusal) → StepsTo d (deeds ++ h) (plan_through plan deeds) a (Is why)
+      → (length deeds < most_steps) ⊎ (why ≡ Gone) → text ≡ stop_text (length deeds) why a → Stops d h plan a deeds text
+  Full : has_idled d h deeds ≡ false → length deeds ≡ most_steps → (¬ (StepsTo d (deeds ++ h) (plan_through plan deeds) a (Is Gone)))
+      → text ≡ refusal_line Steps a → Stops d h plan a deeds text
 
--- these events, newest first, are what a run adds, and this is what it prints
-pub record IsRunOf (d : Disk) (h : List Event) (plan : Plan) (a : List ℕ) (events : List Event) (text : List ℕ) : Type 0 where
-  pub are_steps : AreSteps d h plan a events
-  pub stops : Stops d h plan a events text
+-- these deeds, newest first, are what a run adds, and this is what it prints
+pub record IsRunOf (d : Disk) (h : List Deed) (plan : Plan) (a : List ℕ) (deeds : List Deed) (text : List ℕ) : Type 0 where
+  pub are_steps : AreSteps d h plan a deeds
+  pub stops : Stops d h plan a deeds text

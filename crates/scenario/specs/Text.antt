@@ -3,23 +3,24 @@ use Rattle.std.specs.Prelude.{◌≡◌, ◌⊎◌, ℕ, List, [], ◌++◌, fal
 use Rattle.mail_bytes.specs.Decimal.{digits}
 use Rattle.call_fs.specs.Disk.{Disk}
 use Rattle.call_fs.specs.Plan.{Plan, no_plan}
-use Rattle.mail_world.specs.History.{Event, Legal}
+use Rattle.mail_world.specs.History.{Legal}
 use Rattle.script_words.specs.declared.entry.Entry.{Entry}
 use Rattle.play_lines.specs.declared.line.Line.{Line}
 use Rattle.play_lines.specs.Contents.{Content}
+use Rattle.scenario.specs.Deeds.{Deed, history_of}
 use Rattle.scenario.specs.FirstDisk.{IsFirstDisk}
 use Rattle.play_lines.specs.Lines.{IsScript, IsBadLine}
 use Rattle.scenario.specs.Played.{PlaysAll}
 use Rattle.scenario.specs.Shown.{line_of}
 
--- These lines are played from the disk with these entries, and print this. The history that they make is legal.
+-- These lines are played from the disk with these entries, and print this. The history of their deeds is legal.
 pub record IsPlayed (opening : List Entry) (lines : List Line) (text : List ℕ) : Type 0 where
   pub disk : Disk
-  pub history : List Event
+  pub deeds : List Deed
   pub left : Plan
   pub is_first : IsFirstDisk opening disk
-  pub plays : PlaysAll disk [] no_plan false lines history left text
-  pub legal : Legal disk history
+  pub plays : PlaysAll disk [] no_plan false lines deeds left text
+  pub legal : Legal disk (history_of deeds)
 
 -- the script with these bytes prints this
 pub record Prints (script text : List ℕ) : Type 0 where

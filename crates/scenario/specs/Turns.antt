@@ -11,11 +11,13 @@ use Rattle.world_events.specs.declared.books.Entry.{Entry}
 use Rattle.world_events.specs.declared.event.Program.TheVariants.{Cleaner, Sender, LocalSpawner, RemoteSpawner}
 use Rattle.mail_world.specs.Books.{books_in}
 use Rattle.mail_world.specs.Generations.{lives_in, is_unreported, lowest_unreported}
-use Rattle.mail_world.specs.History.{Event, State, after}
+use Rattle.mail_world.specs.History.{Event, State}
 use Rattle.mail_world.specs.History.Event.{Start, Act, Child, Generation, Report, End, Stop, Moment, Halt}
 use Rattle.script_words.specs.declared.letter.Letter.{Letter}
 use Rattle.script_words.specs.Words.{letter_byte}
 use Rattle.scenario.specs.Chains.{EachFollows}
+use Rattle.scenario.specs.Deeds.{Deed, event_in, history_of, after}
+use Rattle.scenario.specs.Deeds.Deed.{Came, Fed}
 use Rattle.scenario.specs.Steps.{Outcome, refusal_line, plan_through, has_idled, IsRunOf}
 use Rattle.scenario.specs.Steps.Outcome.{Happens, Is}
 use Rattle.scenario.specs.Steps.Refusal.{Alive, NotWaiting, Rounds}
@@ -32,8 +34,8 @@ abbrev pub generation_at : ℕ → Event
 generation_at now = Generation (Sender now) (Cleaner now) (LocalSpawner now) (RemoteSpawner now)
 
 -- what the start of a generation adds, and what it prints, by the first member of the one before that lives
-abbrev pub generation_events : ℕ → Option (List ℕ) → List Event
-generation_events now None = generation_at now ∷ []
+abbrev pub generation_events : ℕ → Option (List ℕ) → List Deed
+generation_events now None = Came (generation_at now) ∷ []
 generation_events now (Some a) = []
 
 abbrev pub generation_text : Option (List ℕ) → List ℕ
@@ -46,7 +48,7 @@ awaits_report s slot = lives_in (s.actors (codes "rspawn")) && is_unreported (s.
 
 -- what a report comes to
 abbrev pub report_comes : State → ℕ → Letter → List ℕ → Outcome
-report_comes s slot letter text = if awaits_report s slot then Happens (Report slot (letter_byte letter) text) else Is NotWaiting
+report_comes s slot letter text = if awaits_report s slot then Happens (Came (Report slot (letter_byte letter) text)) else Is NotWaiting
 
 -- Turns
 
@@ -62,10 +64,10 @@ started_in (Stop a) = []
 started_in (Moment m) = []
 started_in (Halt how contents) = []
 
--- the starts of a history, the oldest first: a member starts again with each generation
-abbrev pub starts_of : List Event → List (List ℕ)
+-- the starts of these deeds, the oldest first: a member starts again with each generation
+abbrev pub starts_of : List Deed → List (List ℕ)
 starts_of [] = []
-starts_of (event ∷ before) = starts_of before ++ started_in event
+starts_of (deed ∷ before) = starts_of before ++ started_in (event_in deed)
 
 -- a start at this place, before those later ones, is the newest of an actor that lives, and isn't before the place `from`
 abbrev pub is_next : State → ℕ → ℕ → List ℕ → List (List ℕ) → Bool
@@ -77,7 +79,7 @@ next_in s from at [] = None
 next_in s from at (a ∷ later) = if is_next s from at a later then Some (a, at) else next_in s from (at + 1) later
 
 -- the next living actor in order of start, from that place on
-abbrev pub next_living : Disk → List Event → ℕ → Option (List ℕ × ℕ)
+abbrev pub next_living : Disk → List Deed → ℕ → Option (List ℕ × ℕ)
 next_living d h from = next_in (after d h) from 0 (starts_of h)
 
 -- none of the first so many of these starts is the newest of an actor that lives
@@ -87,19 +89,19 @@ NoneAmong s (suc n) [] = ⊥
 NoneAmong s (suc n) (a ∷ later) = ((not (list_any (bytes_eq a) later) && lives_in (s.actors a)) ≡ false) × NoneAmong s n later
 
 -- no actor that lives started at a place before this one, which is a place of a start or the next one
-abbrev pub NoneBefore : Disk → List Event → ℕ → Type 0
+abbrev pub NoneBefore : Disk → List Deed → ℕ → Type 0
 NoneBefore d h place = NoneAmong (after d h) place (starts_of h)
 
--- a part of a turn: the run of that actor, which has that place in the order of starts; its events, newest first, and what it prints
+-- a part of a turn: the run of that actor, which has that place in the order of starts; its deeds, newest first, and what it prints
 pub record Part : Type 0 where
   pub actor : List ℕ
   pub place : ℕ
-  pub events : List Event
+  pub events : List Deed
   pub text : List ℕ
 
--- The events of some parts, the newest first; what was printed last; and the place after the newest one's. Only a run that made the most
+-- The deeds of some parts, the newest first; what was printed last; and the place after the newest one's. Only a run that made the most
 -- steps prints something, and with it the turn is over.
-abbrev pub events_of : List Part → List Event
+abbrev pub events_of : List Part → List Deed
 events_of [] = []
 events_of (part ∷ before) = part.events ++ events_of before
 
@@ -112,16 +114,16 @@ place_after [] = 0
 place_after (part ∷ before) = part.place + 1
 
 -- A turn goes on with this part after these, newest first: the run of the next living actor, if nothing was printed.
-pub record TurnsOn (d : Disk) (h : List Event) (plan : Plan) (before : List Part) (part : Part) : Type 0 where
+pub record TurnsOn (d : Disk) (h : List Deed) (plan : Plan) (before : List Part) (part : Part) : Type 0 where
   pub quiet : text_of before ≡ []
   pub next : next_living d (events_of before ++ h) (place_after before) ≡ Some (part.actor, part.place)
   pub run : IsRunOf d (events_of before ++ h) (plan_through plan (events_of before)) part.actor part.events part.text
 
-abbrev pub AreParts : Disk → List Event → Plan → List Part → Type 0
+abbrev pub AreParts : Disk → List Deed → Plan → List Part → Type 0
 AreParts d h plan parts = EachFollows (TurnsOn d h plan) parts
 
 -- these are all parts of a turn: something was printed, or no living actor is left
-pub record IsTurnOf (d : Disk) (h : List Event) (plan : Plan) (parts : List Part) : Type 0 where
+pub record IsTurnOf (d : Disk) (h : List Deed) (plan : Plan) (parts : List Part) : Type 0 where
   pub are : AreParts d h plan parts
   pub over : (text_of parts ≢ []) ⊎ (next_living d (events_of parts ++ h) (place_after parts) ≡ None)
 
@@ -132,10 +134,10 @@ pub record Round : Type 0 where
   pub parts : List Part
   pub slots : List ℕ
 
-abbrev pub settled_by : Letter → ℕ → Event
-settled_by letter slot = Report slot (letter_byte letter) (codes "settled")
+abbrev pub settled_by : Letter → ℕ → Deed
+settled_by letter slot = Came (Report slot (letter_byte letter) (codes "settled"))
 
-abbrev pub reports_of : Letter → List ℕ → List Event
+abbrev pub reports_of : Letter → List ℕ → List Deed
 reports_of letter slots = map (settled_by letter) slots
 
 abbrev pub slot_after : List ℕ → ℕ
@@ -143,23 +145,23 @@ slot_after [] = 0
 slot_after (slot ∷ before) = slot + 1
 
 -- reports go on with this slot after these, newest first: the next one, ascending, whose program has no report
-abbrev pub ReportsOn : Disk → List Event → Letter → List ℕ → ℕ → Type 0
+abbrev pub ReportsOn : Disk → List Deed → Letter → List ℕ → ℕ → Type 0
 ReportsOn d h letter before slot = lowest_unreported (slot_after before) (after d (reports_of letter before ++ h)) ≡ Some slot
 
 -- these are all of them
-pub record AreReported (d : Disk) (h : List Event) (letter : Letter) (slots : List ℕ) : Type 0 where
+pub record AreReported (d : Disk) (h : List Deed) (letter : Letter) (slots : List ℕ) : Type 0 where
   pub are : EachFollows (ReportsOn d h letter) slots
   pub none : lowest_unreported (slot_after slots) (after d (reports_of letter slots ++ h)) ≡ None
 
 -- the reports come after the turn, if it printed nothing
-abbrev pub AreReportsAfter : Disk → List Event → Letter → List ℕ → List ℕ → Type 0
+abbrev pub AreReportsAfter : Disk → List Deed → Letter → List ℕ → List ℕ → Type 0
 AreReportsAfter d h letter [] slots = AreReported d h letter slots
 AreReportsAfter d h letter (b ∷ text) slots = slots ≡ []
 
-abbrev pub round_events : Letter → Round → List Event
+abbrev pub round_events : Letter → Round → List Deed
 round_events letter round = reports_of letter round.slots ++ events_of round.parts
 
-pub record IsRound (d : Disk) (h : List Event) (plan : Plan) (letter : Letter) (round : Round) : Type 0 where
+pub record IsRound (d : Disk) (h : List Deed) (plan : Plan) (letter : Letter) (round : Round) : Type 0 where
   pub turn : IsTurnOf d h plan round.parts
   pub reports : AreReportsAfter d (events_of round.parts ++ h) letter (text_of round.parts) round.slots
 
@@ -172,12 +174,16 @@ abbrev pub is_search : Event → Bool
 is_search (Act a own wrote) = bytes_eq a (codes "sender") && is_search_call own.due
 is_search other = false
 
--- Nothing happened in a round but an idle turn of the sender.
-abbrev pub is_idle : Disk → List Event → Letter → Round → Bool
-is_idle d h letter round = list_all is_search (round_events letter round) && has_idled d h (round_events letter round)
+abbrev pub is_search_deed : Deed → Bool
+is_search_deed (Came event) = is_search event
+is_search_deed (Fed a own c message envelope) = false
 
--- the events of some rounds, newest first
-abbrev pub events_in : Letter → List Round → List Event
+-- Nothing happened in a round but an idle turn of the sender.
+abbrev pub is_idle : Disk → List Deed → Letter → Round → Bool
+is_idle d h letter round = list_all is_search_deed (round_events letter round) && has_idled d h (round_events letter round)
+
+-- the deeds of some rounds, newest first
+abbrev pub events_in : Letter → List Round → List Deed
 events_in letter [] = []
 events_in letter (round ∷ before) = round_events letter round ++ events_in letter before
 
@@ -186,7 +192,7 @@ has_bytes [] = false
 has_bytes (b ∷ text) = true
 
 -- `settle` is over with the newest round: it printed something, or it was idle
-abbrev pub is_last : Disk → List Event → Letter → List Round → Bool
+abbrev pub is_last : Disk → List Deed → Letter → List Round → Bool
 is_last d h letter [] = false
 is_last d h letter (round ∷ before) = has_bytes (text_of round.parts) || is_idle d (events_in letter before ++ h) letter round
 
@@ -198,21 +204,21 @@ text_in (round ∷ before) = text_of round.parts
 abbrev pub counted : Entry → ℕ
 counted entry = if entry.accepted then 1 + entry.recipients else 0
 
-abbrev pub most_rounds : Disk → List Event → ℕ
-most_rounds d h = 100 + 40 * sum_by counted (books_in d h)
+abbrev pub most_rounds : Disk → List Deed → ℕ
+most_rounds d h = 100 + 40 * sum_by counted (books_in d (history_of h))
 
 -- `settle` goes on with this round after these, newest first: they are fewer than the most, and it isn't over.
-pub record SettlesOn (d : Disk) (h : List Event) (plan : Plan) (letter : Letter) (before : List Round) (round : Round) : Type 0 where
+pub record SettlesOn (d : Disk) (h : List Deed) (plan : Plan) (letter : Letter) (before : List Round) (round : Round) : Type 0 where
   pub few : length before < most_rounds d h
   pub more : is_last d h letter before ≡ false
   pub is : IsRound d (events_in letter before ++ h) (plan_through plan (events_in letter before)) letter round
 
 -- it stops with an idle round or one that printed something, or with the most rounds
-pub data Settles (d : Disk) (h : List Event) (letter : Letter) (rounds : List Round) (text : List ℕ) : Type 0 where
+pub data Settles (d : Disk) (h : List Deed) (letter : Letter) (rounds : List Round) (text : List ℕ) : Type 0 where
   Rests : is_last d h letter rounds ≡ true → text ≡ text_in rounds → Settles d h letter rounds text
   Full : is_last d h letter rounds ≡ false → length rounds ≡ most_rounds d h → text ≡ refusal_line Rounds (codes "settle") → Settles d h letter rounds text
 
 -- these are the rounds of `settle`, and this is what it prints
-pub record IsSettled (d : Disk) (h : List Event) (plan : Plan) (letter : Letter) (rounds : List Round) (text : List ℕ) : Type 0 where
+pub record IsSettled (d : Disk) (h : List Deed) (plan : Plan) (letter : Letter) (rounds : List Round) (text : List ℕ) : Type 0 where
   pub are : EachFollows (SettlesOn d h plan letter) rounds
   pub stops : Settles d h letter rounds text

@@ -2,7 +2,6 @@
 ghost use Rattle.std.specs.Prelude.{◌≡◌, ◌∷◌, [], ℕ, List, IfOk, OnOk, Option, Some, None, true, bytes_eq, codes, drop, map};
 ghost use Rattle.std.specs.List.{list_any};
 ghost use Rattle.call_fs.specs.Disk.{Disk};
-ghost use Rattle.call_fs.specs.Program.{came_of};
 ghost use Rattle.call_fs.specs.declared.past.NeedData.TheVariants.{Take};
 ghost use Rattle.call_fs.specs.declared.past.Own.{Own};
 ghost use Rattle.mail_bytes.specs.Moments.{IsMoment};
@@ -12,15 +11,16 @@ ghost use Rattle.queue_law.specs.Books.{Books, Child as Bouncer};
 ghost use Rattle.queue_paths.specs.Names.{is_number};
 ghost use Rattle.queue_inject.specs.declared.injection.Arguments.{Arguments};
 ghost use Rattle.world_events.specs.declared.event.Program.TheVariants.{Injector};
-ghost use Rattle.mail_world.specs.History.{Event as Happening, State, Allowed, MayDo, acted, after, books_after, happens};
-ghost use Rattle.mail_world.specs.World.{IsHistory, Tells};
-ghost use Rattle.scenario.specs.Fates.{AreFates, AreMailStarts, AreNamed, IsMailStart, Follows, HasDue, entered_of, heard_by, spot_of};
+ghost use Rattle.mail_world.specs.History.{Event as Happening, State, Allowed, acted, after, books_after, happens};
+ghost use Rattle.mail_world.specs.World.{IsHistory};
+ghost use Rattle.scenario.specs.Fates.{AreFates, AreMailStarts, AreNamed, IsMailStart, Follows, HasDone, HasDue, TellsRead, entered_of, heard_by, spot_of};
 ghost use Rattle.scenario.specs.Shown.{lasts, is_channel, is_delivered, is_entered_so, is_spot};
 
 use actor_names::{ActorName, is_member};
-use call_fs::{Got, GotData, NeedData, Own, Port};
+use call_fs::{NeedData, Own, Port};
 use mail_bytes::Memory;
 use mail_world::Event;
+use open_files::got_of;
 use send_core::Sender;
 use send_jobs::{Channel, Mark, Marks};
 use std::alloc::Global;
@@ -212,22 +212,23 @@ impl Following {
     /// Takes one event more into account.
     fn note(&mut self, alloc: Global, event: &Event) -> Result<(), Memory>
         ensures { OnOk result ((s : State) (happening : Happening) → AreNamed s → IsMoment s.now → IsMailStart happening → Allowed s happening
-            → Tells event.now happening → Follows self.old s → Follows self.new (happens s happening)) }
+            → TellsRead event.now happening → Follows self.old s → Follows self.new (happens s happening)) }
     {
         match event {
-            Event::Act { actor, own } => self.act(alloc, actor, own),
+            Event::Act { actor, own }
+            | Event::Child { actor, own, .. }
+            | Event::Feed { actor, own, .. } => self.act(alloc, actor, own),
             Event::Generation { .. } => {
                 self.sender = Some(Sender::new(alloc, None)?);
                 Ok(())
             }
-            Event::Start { .. } | Event::Report { .. } | Event::End { .. } => Ok(()),
-            Event::Stop { .. } | Event::Moment { .. } | Event::Halt { .. } => Ok(()),
+            _ => Ok(()),
         }
     }
 
     /// The same, of an event of this actor.
     fn act(&mut self, alloc: Global, actor: &ActorName, own: &Own) -> Result<(), Memory>
-        ensures { OnOk result ((s : State) (wrote : ℕ) → AreNamed s → IsMoment s.now → MayDo s actor.now own.now wrote
+        ensures { OnOk result ((s : State) (wrote : ℕ) → AreNamed s → IsMoment s.now → HasDone s actor.now own.now
             → Follows self.old s → Follows self.new (acted s actor.now own.now wrote (s.actors actor.now))) }
     {
         let name = actor.as_slice();
@@ -242,15 +243,13 @@ impl Following {
 
     /// The same, of an event of the newest sender.
     fn hear(&mut self, alloc: Global, own: &Own) -> Result<(), Memory>
-        ensures { OnOk result ((s : State) (wrote : ℕ) → IsMoment s.now → MayDo s (codes "sender") own.now wrote
+        ensures { OnOk result ((s : State) (wrote : ℕ) → IsMoment s.now → HasDone s (codes "sender") own.now
             → Follows self.old s → Follows self.new (acted s (codes "sender") own.now wrote (s.actors (codes "sender")))) }
     {
-        let Some(mut sender) = self.sender.take() else {
-            return Ok(());
-        };
-        self.fates.hear_from(alloc, &mut sender, own)?;
-        self.sender = Some(sender);
-        Ok(())
+        match &mut self.sender {
+            Some(sender) => self.fates.hear_from(alloc, sender, own),
+            None => Ok(()),
+        }
     }
 }
 
@@ -290,21 +289,4 @@ fn go_on(alloc: Global, sender: &mut Sender, own: &Own) -> Result<(), Memory>
     sender.done(alloc, got_of(&own.came))?;
     sender.clear_log();
     Ok(())
-}
-
-/// What came, as a machine is handed it.
-fn got_of(came: &GotData) -> Got<'_>
-    ensures { came_of result ≡ came.now }
-{
-    match came {
-        GotData::Answered(told) => Got::File(told.answer.copy(), told.bytes.as_slice()),
-        GotData::Took(bytes) => Got::Took(bytes.as_slice()),
-        GotData::End => Got::End,
-        GotData::Ended(status) => Got::Ended(*status),
-        GotData::Crashed => Got::Crashed,
-        GotData::Gave => Got::Gave,
-        GotData::Started { pid } => Got::Started { pid: *pid },
-        GotData::Failed => Got::Failed,
-        GotData::Memory => Got::Memory,
-    }
 }

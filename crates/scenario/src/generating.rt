@@ -1,8 +1,8 @@
 // The start of a generation, and reports of its remote programs.
-ghost use Rattle.std.specs.Prelude.{◌≡◌, List, OnOk};
+ghost use Rattle.std.specs.Prelude.{List, OnOk};
 ghost use Rattle.call_fs.specs.Disk.{Disk};
 ghost use Rattle.call_fs.specs.Plan.{Plan};
-ghost use Rattle.mail_world.specs.History.{Event as Happening};
+ghost use Rattle.scenario.specs.Deeds.{Deed};
 ghost use Rattle.play_lines.specs.declared.line.Line.TheVariants as LineOf;
 ghost use Rattle.play_lines.specs.declared.keyword.Alone.TheVariants as AloneOf;
 ghost use Rattle.scenario.specs.Playing.{IsPlaying, HasPlayed};
@@ -16,7 +16,7 @@ use std::alloc::{AllocError, Global};
 
 /// Starts a generation, or puts the line of its refusal at the end of a text, with the first member of the one before that lives.
 pub fn begin(alloc: Global, world: &mut World<CrashDisk>, text: &mut Vec<u8>) -> Result<(), Memory>
-    ensures { OnOk result ((d : Disk) (plan : Plan) (h : List Happening) → IsPlaying d world.old plan h
+    ensures { OnOk result ((d : Disk) (plan : Plan) (h : List Deed) → IsPlaying d world.old plan h
         → HasPlayed d world.new (LineOf.Alone AloneOf.Sender) text.old.items text.new.items plan h) }
 {
     match world.start_generation(alloc) {
@@ -36,7 +36,7 @@ pub fn report(
     told: &ByteText,
     text: &mut Vec<u8>,
 ) -> Result<(), Memory>
-    ensures { OnOk result ((d : Disk) (plan : Plan) (h : List Happening) → IsPlaying d world.old plan h
+    ensures { OnOk result ((d : Disk) (plan : Plan) (h : List Deed) → IsPlaying d world.old plan h
         → HasPlayed d world.new (LineOf.Report slot letter told.now) text.old.items text.new.items plan h) }
 {
     match world.report(alloc, slot, letter.byte(), told.as_slice()) {

@@ -24,11 +24,11 @@ pub fn has_text()
         → (whole : List ℕ) × Prints script whole × IsPrefix begun whole }
 {}
 
-/// Lines that are played from the disk with some entries make one history, and a script prints one text; what it begins
-/// to print is a prefix of that.
+/// Lines that are played from the disk with some entries make one list of deeds, and so one history, and a script prints one text;
+/// what it begins to print is a prefix of that.
 pub fn one_text()
-    ensures history { (opening : List Entry) (lines : List Line) (t u : List ℕ)
-        (p : IsPlayed opening lines t) (q : IsPlayed opening lines u) → p.history ≡ q.history }
+    ensures deeds { (opening : List Entry) (lines : List Line) (t u : List ℕ)
+        (p : IsPlayed opening lines t) (q : IsPlayed opening lines u) → p.deeds ≡ q.deeds }
     ensures one { (script a b : List ℕ) → Prints script a → Prints script b → a ≡ b }
     ensures prefix { (script begun whole : List ℕ) → BeginsToPrint script begun → Prints script whole
         → IsPrefix begun whole }

@@ -4,7 +4,7 @@ ghost use Rattle.mail_bytes.specs.Decimal.{digits};
 ghost use Rattle.call_fs.specs.Disk.{Disk};
 ghost use Rattle.call_fs.specs.Plan.{Plan};
 ghost use Rattle.mail_bytes.specs.Told.{Rose, Meets};
-ghost use Rattle.mail_world.specs.History.{Event as Happening};
+ghost use Rattle.scenario.specs.Deeds.{Deed};
 ghost use Rattle.play_lines.specs.declared.line.Line.TheVariants as LineOf;
 ghost use Rattle.play_lines.specs.declared.keyword.OfActor.TheVariants as OfActorOf;
 ghost use Rattle.play_lines.specs.declared.keyword.OfCount.TheVariants as OfCountOf;
@@ -76,7 +76,7 @@ fn printed(
     traced: bool,
     line: &Line,
 ) -> Result<Vec<u8>, Memory>
-    ensures { IfOk result (λ text. (d : Disk) (plan : Plan) (h : List Happening) → IsPlaying d world.old plan h
+    ensures { IfOk result (λ text. (d : Disk) (plan : Plan) (h : List Deed) → IsPlaying d world.old plan h
         → HasPrinted d world.new traced line.now text.items plan h) }
 {
     let before = world.history().len();
@@ -98,7 +98,7 @@ fn play_line(
     line: &Line,
     text: &mut Vec<u8>,
 ) -> Result<(), Memory>
-    ensures { OnOk result ((d : Disk) (plan : Plan) (h : List Happening) → IsPlaying d world.old plan h
+    ensures { OnOk result ((d : Disk) (plan : Plan) (h : List Deed) → IsPlaying d world.old plan h
         → HasPlayed d world.new line.now text.old.items text.new.items plan h) }
 {
     match line {
@@ -135,7 +135,7 @@ fn play_alone(
     word: Alone,
     text: &mut Vec<u8>,
 ) -> Result<(), Memory>
-    ensures { OnOk result ((d : Disk) (plan : Plan) (h : List Happening) → IsPlaying d world.old plan h
+    ensures { OnOk result ((d : Disk) (plan : Plan) (h : List Deed) → IsPlaying d world.old plan h
         → HasPlayed d world.new (LineOf.Alone word) text.old.items text.new.items plan h) }
 {
     match word {
@@ -155,7 +155,7 @@ fn start(
     envelope: &ByteText,
     text: &mut Vec<u8>,
 ) -> Result<(), Memory>
-    ensures { OnOk result ((d : Disk) (plan : Plan) (h : List Happening) → IsPlaying d world.old plan h
+    ensures { OnOk result ((d : Disk) (plan : Plan) (h : List Deed) → IsPlaying d world.old plan h
         → HasPlayed d world.new (LineOf.Mail name.now message.now envelope.now) text.old.items text.new.items plan h) }
 {
     match world.start_mail(alloc, name, message.as_slice(), envelope.as_slice()) {
@@ -171,7 +171,7 @@ fn step_once(
     actor: &ActorName,
     text: &mut Vec<u8>,
 ) -> Result<(), Memory>
-    ensures { OnOk result ((d : Disk) (plan : Plan) (h : List Happening) → IsPlaying d world.old plan h
+    ensures { OnOk result ((d : Disk) (plan : Plan) (h : List Deed) → IsPlaying d world.old plan h
         → HasPlayed d world.new (LineOf.Actor OfActorOf.Step actor.now) text.old.items text.new.items plan h) }
 {
     match step(alloc, world, actor) {
@@ -187,7 +187,7 @@ fn run_once(
     actor: &ActorName,
     text: &mut Vec<u8>,
 ) -> Result<(), Memory>
-    ensures { OnOk result ((d : Disk) (plan : Plan) (h : List Happening) → IsPlaying d world.old plan h
+    ensures { OnOk result ((d : Disk) (plan : Plan) (h : List Deed) → IsPlaying d world.old plan h
         → HasPlayed d world.new (LineOf.Actor OfActorOf.Run actor.now) text.old.items text.new.items plan h) }
 {
     run(alloc, world, actor, text)?;
@@ -196,7 +196,7 @@ fn run_once(
 
 /// Stops an actor, or puts the line of its refusal at the end of a text.
 fn stop(world: &mut World<CrashDisk>, actor: &ActorName, text: &mut Vec<u8>) -> Result<(), Memory>
-    ensures { OnOk result ((d : Disk) (plan : Plan) (h : List Happening) → IsPlaying d world.old plan h
+    ensures { OnOk result ((d : Disk) (plan : Plan) (h : List Deed) → IsPlaying d world.old plan h
         → HasPlayed d world.new (LineOf.Actor OfActorOf.Stop actor.now) text.old.items text.new.items plan h) }
 {
     match world.stop(actor) {
@@ -207,7 +207,7 @@ fn stop(world: &mut World<CrashDisk>, actor: &ActorName, text: &mut Vec<u8>) -> 
 
 /// The machine stops. Nothing is printed.
 fn halt(alloc: Global, world: &mut World<CrashDisk>, how: Survival) -> Result<(), Memory>
-    ensures { OnOk result ((d : Disk) (plan : Plan) (h : List Happening) (text : List ℕ) → IsPlaying d world.old plan h
+    ensures { OnOk result ((d : Disk) (plan : Plan) (h : List Deed) (text : List ℕ) → IsPlaying d world.old plan h
         → HasPlayed d world.new (LineOf.Survival OfSurvivalOf.Halt how) text text plan h) }
 {
     world.halt(alloc, how)?;
@@ -216,7 +216,7 @@ fn halt(alloc: Global, world: &mut World<CrashDisk>, how: Survival) -> Result<()
 
 /// The call of this place from now on fails. Nothing is printed.
 fn fail_in(world: &mut World<CrashDisk>, k: Count)
-    ensures { (d : Disk) (plan : Plan) (h : List Happening) (text : List ℕ) → IsPlaying d world.old plan h
+    ensures { (d : Disk) (plan : Plan) (h : List Deed) (text : List ℕ) → IsPlaying d world.old plan h
         → HasPlayed d world.new (LineOf.Count OfCountOf.Fault k) text text plan h }
 {
     world.fault_in(k.number());
@@ -224,7 +224,7 @@ fn fail_in(world: &mut World<CrashDisk>, k: Count)
 
 /// Picks the number of the next new file, or puts the line of its refusal at the end of a text.
 fn pick(world: &mut World<CrashDisk>, number: Count, text: &mut Vec<u8>) -> Result<(), Memory>
-    ensures { OnOk result ((d : Disk) (plan : Plan) (h : List Happening) → IsPlaying d world.old plan h
+    ensures { OnOk result ((d : Disk) (plan : Plan) (h : List Deed) → IsPlaying d world.old plan h
         → HasPlayed d world.new (LineOf.Count OfCountOf.Number number) text.old.items text.new.items plan h) }
 {
     match world.pick(number.number()) {
@@ -249,17 +249,14 @@ fn set_moment(
     moment: Moment,
     text: &mut Vec<u8>,
 ) -> Result<(), Memory>
-    ensures { OnOk result ((d : Disk) (plan : Plan) (h : List Happening) → IsPlaying d world.old plan h
+    ensures { OnOk result ((d : Disk) (plan : Plan) (h : List Deed) → IsPlaying d world.old plan h
         → HasPlayed d world.new (LineOf.Moment OfMomentOf.Moment moment) text.old.items text.new.items plan h) }
 {
     match world.moment(moment.seconds()) {
         Ok(()) => Ok(()),
         Err(WorldError::Past(present)) => put_past(text, present),
         // out of memory, and no other
-        Err(WorldError::Gone(_, _) | WorldError::NotWaiting(_) | WorldError::Unknown) => {
-            Err(AllocError)
-        }
-        Err(WorldError::Taken | WorldError::Alive(_) | WorldError::Memory) => Err(AllocError),
+        Err(_) => Err(AllocError),
     }
 }
 

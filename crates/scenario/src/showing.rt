@@ -1,17 +1,17 @@
 // What `show` and `cat` print.
-ghost use Rattle.std.specs.Prelude.{◌≡◌, ◌++◌, List, ℕ, OnOk, Some, All, flat_map, option_map};
-ghost use Rattle.std.specs.List.{filter_map, zip};
+ghost use Rattle.std.specs.Prelude.{◌≡◌, ◌++◌, List, ℕ, IfOk, OnOk, All, flat_map, map, reverse};
+ghost use Rattle.std.specs.List.{zip};
 ghost use Rattle.call_fs.specs.Disk.{Disk};
 ghost use Rattle.mem_fs.specs.MemDisk.{bytes_at};
 ghost use Rattle.crash_fs.specs.Crash.{crash_disk};
-ghost use Rattle.mail_world.specs.History.{Event as Happening, after};
+ghost use Rattle.scenario.specs.Deeds.{Deed, history_of, after};
 ghost use Rattle.call_fs.specs.Plan.{Plan};
 ghost use Rattle.scenario.specs.Playing.{IsPlaying};
-ghost use Rattle.queue_inject.specs.Texts.{recipients_of};
 ghost use Rattle.queue_law.specs.Books.{Books};
-ghost use Rattle.scenario.specs.Fates.{AreFates, IsUsed, arguments_in};
-ghost use Rattle.scenario.specs.Shown.{IsShown, all_mail_lines, entry_lines, number_line};
-ghost use Rattle.scenario.specs.Viewed.{IsOf, view_at};
+ghost use Rattle.world_events.specs.Programs.{injection_of};
+ghost use Rattle.scenario.specs.Fates.{AreFates, IsUsed, given_to, received_by, receiver, receivers_in};
+ghost use Rattle.scenario.specs.Shown.{IsShown, all_mail_lines, number_line};
+ghost use Rattle.scenario.specs.Viewed.{IsOf, given_lines, view_at};
 ghost use Rattle.scenario.specs.Played.{cat_line};
 
 use crate::fates::Fates;
@@ -19,8 +19,7 @@ use crate::overview::Overview;
 use crash_fs::CrashDisk;
 use disk_numbers::{controls_on, names_of, numbers_of, state_on};
 use mail_bytes::Memory;
-use mail_world::{Entry, Event, World};
-use queue_inject::Arguments;
+use mail_world::{ActorName, Entry, Event, Program, World};
 use queue_states::{put_count_line, put_state_line};
 use std::alloc::Global;
 use trace_lines::put_escaped;
@@ -28,10 +27,10 @@ use trace_lines::put_escaped;
 /// Puts at the end of a text how many names `pid/` has, the state of each number that isn't in S1, and how each mail
 /// fares. A recipient of an accepted mail is pending while todo holds the mail or its own record reads `T`, in the life of that mail;
 /// else it was delivered, if a report said so; or it is noted, if the bounce file names it, in the life of that mail; or it was
-/// dropped.
+/// bounced, or dropped if the mail is a double bounce.
 pub fn show(alloc: Global, world: &World<CrashDisk>, text: &mut Vec<u8>) -> Result<(), Memory>
     ensures { OnOk result ((own : List ℕ) × (text.new.items ≡ text.old.items ++ own)
-        × ((d : Disk) (plan : Plan) (h : List Happening) → IsPlaying d world.now plan h → IsShown d h own)) }
+        × ((d : Disk) (plan : Plan) (h : List Deed) → IsPlaying d world.now plan h → IsShown d (history_of h) own)) }
 {
     let pids = names_of(alloc, world.disk(), b"pid")?;
     put_count_line(text, pids.len() as u64)?;
@@ -43,7 +42,7 @@ pub fn show(alloc: Global, world: &World<CrashDisk>, text: &mut Vec<u8>) -> Resu
 /// Puts how each mail fares at the end of a text.
 fn put_mails(alloc: Global, world: &World<CrashDisk>, text: &mut Vec<u8>) -> Result<(), Memory>
     ensures { OnOk result ((own : List ℕ) × (text.new.items ≡ text.old.items ++ own)
-        × ((d : Disk) (plan : Plan) (h : List Happening) → IsPlaying d world.now plan h → own ≡ all_mail_lines d h)) }
+        × ((d : Disk) (plan : Plan) (h : List Deed) → IsPlaying d world.now plan h → own ≡ all_mail_lines d (history_of h))) }
 {
     let fates = Fates::of(alloc, world.history().events())?;
     put_fated(alloc, &fates, world, text)
@@ -56,8 +55,8 @@ fn put_fated(
     world: &World<CrashDisk>,
     text: &mut Vec<u8>,
 ) -> Result<(), Memory>
-    ensures { OnOk result ((own : List ℕ) × (text.new.items ≡ text.old.items ++ own) × ((d : Disk) (plan : Plan) (h : List Happening)
-        → IsPlaying d world.now plan h → AreFates fates.now (after d h).books → own ≡ all_mail_lines d h)) }
+    ensures { OnOk result ((own : List ℕ) × (text.new.items ≡ text.old.items ++ own) × ((d : Disk) (plan : Plan) (h : List Deed)
+        → IsPlaying d world.now plan h → AreFates fates.now (after d h).books → own ≡ all_mail_lines d (history_of h))) }
 {
     let controls = controls_on(alloc, world.disk())?;
     let overview = Overview {
@@ -76,46 +75,89 @@ fn put_all(
     text: &mut Vec<u8>,
 ) -> Result<(), Memory>
     ensures { OnOk result ((own : List ℕ) × (text.new.items ≡ text.old.items ++ own)
-        × ((d : Disk) (plan : Plan) (h : List Happening) → IsPlaying d world.now plan h → IsOf overview.entry d h → own ≡ all_mail_lines d h)) }
+        × ((d : Disk) (plan : Plan) (h : List Deed) → IsPlaying d world.now plan h → IsOf overview.entry d (history_of h) → own ≡ all_mail_lines d (history_of h))) }
 {
     let mut own = Vec::new(alloc);
-    let entries = world.books().entries();
-    let events = world.history().events();
-    put_each(alloc, overview, entries, events, &mut own)?;
+    let given = given_by(alloc, world.history().events())?;
+    put_each(alloc, overview, world.books().entries(), &given, &mut own)?;
     text.extend_from_slice(&own)
 }
 
-/// Puts how each mail of these entries fares at the end of a text. The mails were started by these events, in order.
+/// Puts how each mail of these entries fares at the end of a text. Each was given the envelope at its place.
 fn put_each(
     alloc: Global,
     overview: Overview<'_>,
     entries: &[Entry],
-    events: &[Event],
+    given: &[Given<'_>],
     text: &mut Vec<u8>,
 ) -> Result<(), Memory>
     ensures { (books : Books) → AreFates overview.entry.fates.now books → All (λ e. IsUsed e.number) entries.now → OnOk result (text.new.items ≡ text.old.items
-        ++ flat_map (λ mail. entry_lines (view_at overview.entry books) mail.0 (recipients_of mail.1)) (zip entries.now (filter_map arguments_in events.now))) }
+        ++ flat_map (given_lines (view_at overview.entry books)) (zip entries.now given.now)) }
 {
-    let mut rest = entries;
-    for event in events {
-        if let Some(arguments) = arguments_of(event) {
-            let Some((entry, later)) = rest.split_first() else {
-                return Ok(());
-            };
-            overview.put_mail(alloc, text, entry, arguments)?;
-            rest = later;
-        }
+    for (entry, one) in entries.iter().zip(given) {
+        overview.put_mail(alloc, text, entry, one.envelope)?;
     }
     Ok(())
 }
 
-/// What the injector was started with that an event started.
-fn arguments_of(event: &Event) -> Option<&Arguments>
-    ensures { option_map (λ args. args.now) result ≡ arguments_in event.now }
+/// An injector, whether it is a child, and the envelope that it was given.
+#[derive(Clone, Copy)]
+struct Given<'a> {
+    actor: &'a ActorName,
+    is_child: bool,
+    envelope: &'a [u8],
+}
+
+/// The injectors that these events started, in order, with the envelopes that they were given: a child after its start.
+fn given_by<'a>(alloc: Global, events: &'a [Event]) -> Result<Vec<Given<'a>>, Memory>
+    ensures { IfOk result (λ given. reverse (map receiver given.items) ≡ receivers_in (reverse events.now)) }
 {
-    match event {
-        Event::Start { program, .. } => program.injection(),
-        _ => None,
+    let mut given = Vec::new(alloc);
+    for event in events {
+        match event {
+            Event::Start { actor, program } => begin(&mut given, actor, false, program)?,
+            Event::Child { child, program, .. } => begin(&mut given, child, true, program)?,
+            Event::Feed {
+                child,
+                envelope,
+                ..
+            } => give(&mut given, child, envelope.as_slice()),
+            _ => {}
+        }
+    }
+    Ok(given)
+}
+
+/// One injector more, if this program is one.
+fn begin<'a>(
+    given: &mut Vec<Given<'a>>,
+    actor: &'a ActorName,
+    is_child: bool,
+    program: &'a Program,
+) -> Result<(), Memory>
+    ensures { OnOk result (reverse (map receiver given.new.items)
+        ≡ received_by actor.now is_child (injection_of program.now) ++ reverse (map receiver given.old.items)) }
+{
+    let Some(arguments) = program.injection() else {
+        return Ok(());
+    };
+    given.push(Given {
+        actor,
+        is_child,
+        envelope: arguments.envelope.as_slice(),
+    })?;
+    Ok(())
+}
+
+/// The newest child of this name is given its envelope.
+fn give<'a>(given: &mut [Given<'a>], child: &ActorName, envelope: &'a [u8])
+    ensures { reverse (map receiver given.new) ≡ given_to child.now envelope.now (reverse (map receiver given.old)) }
+{
+    for place in (0..given.len()).rev() {
+        if given[place].is_child && given[place].actor.as_slice() == child.as_slice() {
+            given[place].envelope = envelope;
+            return;
+        }
     }
 }
 

@@ -1,11 +1,11 @@
 // Steps and runs of actors.
-ghost use Rattle.std.specs.Prelude.{◌≡◌, ◌≢◌, ◌++◌, ◌∷◌, [], List, ℕ, IfOk, IfErr, OnOk};
+ghost use Rattle.std.specs.Prelude.{◌≡◌, ◌≢◌, ◌++◌, ◌∷◌, [], List, IfOk, IfErr};
 ghost use Rattle.call_fs.specs.Disk.{Disk};
 ghost use Rattle.call_fs.specs.Plan.{Plan};
 ghost use Rattle.world_events.specs.declared.event.Event.{Event as Kept};
-ghost use Rattle.mail_world.specs.History.{Event as Happening};
+ghost use Rattle.scenario.specs.Deeds.{Deed};
 ghost use Rattle.mail_world.specs.Kept.{events_of};
-ghost use Rattle.scenario.specs.Playing.{IsPlaying, HasStepped, HasRun, AddsNoStart, IsRefusedAs, is_memory_of, is_waiting, lacked_memory, stepped_by};
+ghost use Rattle.scenario.specs.Playing.{IsPlaying, HasStepped, HasRun, IsRefusedAs, is_memory_of, is_waiting, lacked_memory, stepped_by};
 
 use crate::refusing::{put_refusal, refuse};
 use call_fs::{Answer, FsError, GotData};
@@ -48,12 +48,11 @@ pub fn step(
     world: &mut World<CrashDisk>,
     actor: &ActorName,
 ) -> Result<Stepped, WorldError>
-    ensures ok { IfOk result (λ how. (d : Disk) (plan : Plan) (h : List Happening) → IsPlaying d world.old plan h
+    ensures ok { IfOk result (λ how. (d : Disk) (plan : Plan) (h : List Deed) → IsPlaying d world.old plan h
         → HasStepped d world.new actor.now how plan h) }
-    ensures err { IfErr result (λ why. (d : Disk) (plan : Plan) (h : List Happening) → IsPlaying d world.old plan h
+    ensures err { IfErr result (λ why. (d : Disk) (plan : Plan) (h : List Deed) → IsPlaying d world.old plan h
         → IsRefusedAs why d plan actor.now h) }
     ensures same { IfErr result (λ why. why ≢ WorldError.Memory → world.new ≡ world.old) }
-    ensures starts { AddsNoStart world.old.events world.new.events }
 {
     let did = world.step(alloc, actor)?;
     if newest_lacked_memory(world.history()) {
@@ -78,10 +77,10 @@ fn lacked_memory(event: &Event) -> bool
     ensures { result ≡ lacked_memory event.now }
 {
     match event {
-        Event::Act { own, .. } => is_memory(&own.came),
-        Event::Start { .. } | Event::End { .. } => false,
-        Event::Stop { .. } | Event::Moment { .. } | Event::Halt { .. } => false,
-        Event::Generation { .. } | Event::Report { .. } => false,
+        Event::Act { own, .. } | Event::Child { own, .. } | Event::Feed { own, .. } => {
+            is_memory(&own.came)
+        }
+        _ => false,
     }
 }
 
@@ -91,9 +90,7 @@ fn is_memory(came: &GotData) -> bool
 {
     match came {
         GotData::Answered(told) => matches!(told.answer, Answer::Refused(FsError::Memory)),
-        GotData::Took(_) | GotData::End | GotData::Gave => false,
-        GotData::Ended(_) | GotData::Crashed | GotData::Started { .. } => false,
-        GotData::Failed | GotData::Memory => false,
+        _ => false,
     }
 }
 
@@ -101,11 +98,7 @@ fn is_memory(came: &GotData) -> bool
 fn is_waiting(why: &WorldError) -> bool
     ensures { result ≡ is_waiting why.now }
 {
-    match why {
-        WorldError::NotWaiting(_) => true,
-        WorldError::Alive(_) | WorldError::Gone(_, _) | WorldError::Unknown => false,
-        WorldError::Taken | WorldError::Past(_) | WorldError::Memory => false,
-    }
+    matches!(why, WorldError::NotWaiting(_))
 }
 
 /// Makes steps of an actor until it ends or waits, or until an idle turn of it has just ended, and puts the line of a refusal at the end
@@ -116,9 +109,8 @@ pub fn run(
     actor: &ActorName,
     text: &mut Vec<u8>,
 ) -> Result<bool, Memory>
-    ensures ran { IfOk result (λ idle. (d : Disk) (plan : Plan) (h : List Happening) → IsPlaying d world.old plan h
+    ensures { IfOk result (λ idle. (d : Disk) (plan : Plan) (h : List Deed) → IsPlaying d world.old plan h
         → HasRun d world.new actor.now idle text.old.items text.new.items plan h) }
-    ensures starts { AddsNoStart world.old.events world.new.events }
 {
     for _ in 0..MOST_STEPS {
         match step(alloc, world, actor) {

@@ -1,14 +1,14 @@
 // Turns, and the rounds of `settle`.
-ghost use Rattle.std.specs.Prelude.{◌≡◌, ◌+◌, ◌*◌, List, ℕ, drop, length, IfOk, OnOk};
+ghost use Rattle.std.specs.Prelude.{◌≡◌, ◌+◌, ◌*◌, List, drop, length, IfOk, OnOk};
 ghost use Rattle.std.specs.List.{sum_by, list_all};
 ghost use Rattle.call_fs.specs.Disk.{Disk};
 ghost use Rattle.call_fs.specs.Plan.{Plan};
 ghost use Rattle.mail_world.specs.Generations.{next_living};
-ghost use Rattle.mail_world.specs.History.{Event as Happening};
+ghost use Rattle.scenario.specs.Deeds.{Deed};
 ghost use Rattle.play_lines.specs.declared.line.Line.TheVariants as LineOf;
 ghost use Rattle.play_lines.specs.declared.keyword.Alone.TheVariants as AloneOf;
 ghost use Rattle.play_lines.specs.declared.keyword.OfLetter.TheVariants as OfLetterOf;
-ghost use Rattle.scenario.specs.Playing.{IsPlaying, HasPlayed, HasTurned, HasParted, HasRounded, HasReported, AddsNoStart, is_search_kept};
+ghost use Rattle.scenario.specs.Playing.{IsPlaying, HasPlayed, HasTurned, HasParted, HasRounded, HasReported, is_search_kept};
 ghost use Rattle.scenario.specs.Turns.{counted, is_search_call, NoneBefore};
 
 use crate::refusing::put_refusal;
@@ -31,7 +31,7 @@ pub fn play_turn(
     world: &mut World<CrashDisk>,
     text: &mut Vec<u8>,
 ) -> Result<(), Memory>
-    ensures { OnOk result ((d : Disk) (plan : Plan) (h : List Happening) → IsPlaying d world.old plan h
+    ensures { OnOk result ((d : Disk) (plan : Plan) (h : List Deed) → IsPlaying d world.old plan h
         → HasPlayed d world.new (LineOf.Alone AloneOf.Turn) text.old.items text.new.items plan h) }
 {
     turn(alloc, world, 0, text)?;
@@ -40,7 +40,7 @@ pub fn play_turn(
 
 /// Where the first living actor from this place on in the order of starts started; the place itself if none did.
 fn first_place(world: &World<CrashDisk>, from: u64) -> u64
-    ensures { (d : Disk) (plan : Plan) (h : List Happening) → IsPlaying d world.now plan h → NoneBefore d h from → NoneBefore d h result }
+    ensures { (d : Disk) (plan : Plan) (h : List Deed) → IsPlaying d world.now plan h → NoneBefore d h from → NoneBefore d h result }
 {
     match world.next_living(from) {
         Some((_, place)) => place,
@@ -56,7 +56,7 @@ fn turn(
     first: u64,
     text: &mut Vec<u8>,
 ) -> Result<bool, Memory>
-    ensures { IfOk result (λ idle. (d : Disk) (plan : Plan) (h : List Happening) → IsPlaying d world.old plan h → NoneBefore d h first
+    ensures { IfOk result (λ idle. (d : Disk) (plan : Plan) (h : List Deed) → IsPlaying d world.old plan h → NoneBefore d h first
         → HasTurned d world.new idle text.old.items text.new.items plan h) }
 {
     let start = text.len();
@@ -93,9 +93,8 @@ fn run_part(
     idle: bool,
     text: &mut Vec<u8>,
 ) -> Result<bool, Memory>
-    ensures ran { IfOk result (λ now. (d : Disk) (plan : Plan) (h : List Happening) → IsPlaying d world.old plan h
+    ensures { IfOk result (λ now. (d : Disk) (plan : Plan) (h : List Deed) → IsPlaying d world.old plan h
         → HasParted d world.new actor.now idle now text.old.items text.new.items plan h) }
-    ensures starts { AddsNoStart world.old.events world.new.events }
 {
     let before = kept_in(world);
     let ran = run(alloc, world, actor, text)?;
@@ -119,7 +118,7 @@ pub fn settle(
     letter: Letter,
     text: &mut Vec<u8>,
 ) -> Result<(), Memory>
-    ensures { OnOk result ((d : Disk) (plan : Plan) (h : List Happening) → IsPlaying d world.old plan h
+    ensures { OnOk result ((d : Disk) (plan : Plan) (h : List Deed) → IsPlaying d world.old plan h
         → HasPlayed d world.new (LineOf.Letter OfLetterOf.Settle letter) text.old.items text.new.items plan h) }
 {
     let mut first = 0;
@@ -140,10 +139,8 @@ fn most_rounds(entries: &[Entry]) -> Result<u64, Memory>
     for entry in entries {
         count = with_entry(count, entry)?;
     }
-    match count.checked_mul(MORE_ROUNDS) {
-        Some(more) => more.checked_add(FIRST_ROUNDS).ok_or(AllocError),
-        None => Err(AllocError),
-    }
+    let more = count.checked_mul(MORE_ROUNDS).ok_or(AllocError)?;
+    more.checked_add(FIRST_ROUNDS).ok_or(AllocError)
 }
 
 /// A count of mails and recipients with those of one more mail, if it was accepted.
@@ -153,10 +150,8 @@ fn with_entry(count: u64, entry: &Entry) -> Result<u64, Memory>
     if !entry.accepted {
         return Ok(count);
     }
-    match entry.recipients.checked_add(1) {
-        Some(more) => count.checked_add(more).ok_or(AllocError),
-        None => Err(AllocError),
-    }
+    let more = entry.recipients.checked_add(1).ok_or(AllocError)?;
+    count.checked_add(more).ok_or(AllocError)
 }
 
 /// One round: a turn, in which no actor runs that started before that first place, and then a report for each program of the remote spawner
@@ -168,7 +163,7 @@ fn round(
     letter: Letter,
     text: &mut Vec<u8>,
 ) -> Result<bool, Memory>
-    ensures { IfOk result (λ last. (d : Disk) (plan : Plan) (h : List Happening) → IsPlaying d world.old plan h → NoneBefore d h first
+    ensures { IfOk result (λ last. (d : Disk) (plan : Plan) (h : List Deed) → IsPlaying d world.old plan h → NoneBefore d h first
         → HasRounded d world.new letter last text.old.items text.new.items plan h) }
 {
     let start = text.len();
@@ -199,8 +194,7 @@ fn is_search(event: &Event) -> bool
         Event::Act { actor, own } => {
             actor.as_slice() == b"sender".as_slice() && is_search_call(&own.due)
         }
-        Event::Start { .. } | Event::Generation { .. } | Event::Report { .. } => false,
-        Event::End { .. } | Event::Stop { .. } | Event::Moment { .. } | Event::Halt { .. } => false,
+        _ => false,
     }
 }
 
@@ -216,7 +210,7 @@ fn is_search_call(due: &NeedData) -> bool
 
 /// Reports for each program of the living remote spawner that has no report, in order of its slot.
 fn report_all(alloc: Global, world: &mut World<CrashDisk>, letter: Letter) -> Result<(), Memory>
-    ensures { OnOk result ((d : Disk) (plan : Plan) (h : List Happening) → IsPlaying d world.old plan h
+    ensures { OnOk result ((d : Disk) (plan : Plan) (h : List Deed) → IsPlaying d world.old plan h
         → HasReported d world.new letter plan h) }
 {
     let mut from: u8 = 0;
@@ -224,10 +218,8 @@ fn report_all(alloc: Global, world: &mut World<CrashDisk>, letter: Letter) -> Re
         let Some(slot) = world.unreported(from) else {
             return Ok(());
         };
-        if world
-            .report(alloc, slot, letter.byte(), b"settled")
-            .is_err()
-        {
+        let told = world.report(alloc, slot, letter.byte(), b"settled");
+        if told.is_err() {
             return Err(AllocError);
         }
         match slot.checked_add(1) {

@@ -33,6 +33,10 @@ HasPlace books = vec_len books.entries < vec_capacity books.entries
 abbrev pub new_entry : List ℕ → Arguments → Entry
 new_entry a args = record { actor = a; pid = args.pid; number = None; recipients = length (recipients_of args); accepted = false; life = told.Alive }
 
+-- the entry of an injector that is given its input, with these arguments from then on
+abbrev pub fed_entry : Arguments → Entry → Entry
+fed_entry args e = record e { recipients = length (recipients_of args) }
+
 abbrev pub entry_by : List ℕ → Option Arguments → List Entry
 entry_by a None = []
 entry_by a (Some args) = new_entry a args ∷ []
@@ -41,6 +45,8 @@ entry_by a (Some args) = new_entry a args ∷ []
 abbrev pub entered_by : Kept → List Entry
 entered_by (kept.Start a program) = entry_by a (injection_of program)
 entered_by (kept.Act a own) = []
+entered_by (kept.Child a own b program) = entry_by b (injection_of program)
+entered_by (kept.Feed a own b message envelope) = []
 entered_by (kept.Generation start) = []
 entered_by (kept.Report slot letter text) = []
 entered_by (kept.End a read ready status) = []
@@ -95,6 +101,8 @@ noted (kept.Start a program) e = e
 noted (kept.Act a own) e = if bytes_eq a e.actor then acted_on own.due own.came e else e
 noted (kept.End a read ready status) e = if bytes_eq a e.actor then left_as (told.Ended status) e else e
 noted (kept.Stop a) e = if bytes_eq a e.actor then left_as told.Stopped e else e
+noted (kept.Child a own b program) e = e
+noted (kept.Feed a own b message envelope) e = e
 noted (kept.Generation start) e = e
 noted (kept.Report slot letter text) e = e
 noted (kept.Moment m) e = e

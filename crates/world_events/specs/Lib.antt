@@ -12,3 +12,5 @@ pub mod Starting
 pub mod Mails
 -- where each mail stands
 pub mod Places
+-- the input of children, which is given after their starts
+pub mod Inputs

@@ -16,6 +16,8 @@ starts_program due came = false
 abbrev pub starts_in : Kept → ℕ
 starts_in (kept.Start b program) = 1
 starts_in (kept.Act b own) = if starts_program own.due own.came then 1 else 0
+starts_in (kept.Child b own c program) = 1
+starts_in (kept.Feed b own c message envelope) = if starts_program own.due own.came then 1 else 0
 starts_in (kept.Generation start) = 4
 starts_in (kept.Report slot letter text) = 0
 starts_in (kept.End b read ready status) = 0

@@ -3,7 +3,8 @@ ghost use Rattle.std.specs.Prelude.{◌≡◌, ◌++◌, ◌∷◌, ◌<◌, [],
 ghost use Rattle.std.specs.List.{slice_get};
 ghost use Rattle.call_fs.specs.declared.past.NeedData.TheVariants.{File};
 ghost use Rattle.queue_inject.specs.Texts.{recipients_of};
-ghost use Rattle.world_events.specs.Books.{entries_of, HasPlace, new_entry, queues, queues_by, mess_number, linked_number, number_by, acted_on, left_as, cut_off, noted};
+ghost use Rattle.queue_inject.specs.declared.injection.Arguments.{Arguments as Given};
+ghost use Rattle.world_events.specs.Books.{entries_of, HasPlace, new_entry, fed_entry, queues, queues_by, mess_number, linked_number, number_by, acted_on, left_as, cut_off, noted};
 ghost use Rattle.queue_paths.specs.Names.{name_of};
 
 use crate::Event;
@@ -65,7 +66,7 @@ impl Entry {
             actor,
             pid: arguments.pid,
             number: None,
-            recipients: recipients(arguments),
+            recipients: recipients(arguments.envelope.as_slice()),
             accepted: false,
             life: Life::Alive,
         }
@@ -100,6 +101,7 @@ impl Entry {
             }
             Event::Halt { .. } => self.cut_off(),
             Event::Start { .. } | Event::Generation { .. } => {}
+            Event::Child { .. } | Event::Feed { .. } => {}
             Event::Report { .. } | Event::Moment { .. } => {}
         }
     }
@@ -164,6 +166,15 @@ impl Books {
         self.entries.push(entry).unwrap();
     }
 
+    /// The injector that has this place is given its input, with this envelope. Takes no memory. The condition: one has.
+    pub fn feed(&mut self, place: usize, envelope: &[u8])
+        requires { place < length (entries_of self.old) }
+        ensures { (e : Entry) (args : Given) → slice_get (entries_of self.old) place ≡ Some e → args.envelope ≡ envelope.now
+            → entries_of self.new ≡ set (entries_of self.old) place (fed_entry args e) }
+    {
+        self.entries[place].recipients = recipients(envelope);
+    }
+
     /// Takes one event more into account, of the actor that has this place. Takes no memory. The condition: an actor has.
     pub fn note(&mut self, place: usize, event: &Event)
         requires { place < length (entries_of self.old) }
@@ -190,11 +201,10 @@ fn cut_off_all(entries: &mut [Entry])
     }
 }
 
-/// How many recipients a mail has: none if no envelope ends within the limit.
-fn recipients(arguments: &Arguments) -> u64
-    ensures { result ≡ length (recipients_of arguments.now) }
+/// How many recipients a mail with this envelope has: none if no envelope ends within the limit.
+fn recipients(envelope: &[u8]) -> u64
+    ensures { (args : Given) → args.envelope ≡ envelope.now → result ≡ length (recipients_of args) }
 {
-    let envelope = arguments.envelope.as_slice();
     let read = &envelope[..MOST_BYTES.min(envelope.len())];
     let mut reader = EnvelopeReader::new();
     let mut count: u64 = 0;

@@ -67,6 +67,30 @@ pub enum Event {
         /// What it did, and what came of it.
         own: Own,
     },
+    /// An actor started another one, which is an event of its own past too.
+    Child {
+        /// Who started it.
+        actor: ActorName,
+        /// What that actor did, and what came of it.
+        own: Own,
+        /// Whom it started.
+        child: ActorName,
+        /// What the child runs, as one that was given nothing: its input has ended before its first byte.
+        program: Program,
+    },
+    /// An actor gave a child its whole input, which is an event of its own past too.
+    Feed {
+        /// Who gave it.
+        actor: ActorName,
+        /// What that actor did, and what came of it.
+        own: Own,
+        /// To whom it was given.
+        child: ActorName,
+        /// The message that was given.
+        message: ByteText,
+        /// The envelope that was given.
+        envelope: ByteText,
+    },
     /// A generation was started: the sender, the cleaner and the two spawners, together.
     Generation {
         /// The moment of its start.
@@ -107,6 +131,23 @@ pub enum Event {
         /// What survived of the files.
         how: Survival,
     },
+}
+
+impl Event {
+    ghost use Rattle.std.specs.Prelude.{◌≡◌, option_map};
+    ghost use Rattle.world_events.specs.Inputs.{own_in};
+
+    /// What the actor did whose event it is; `None` if it is no actor's, or the actor's start, end or stop.
+    pub fn own(&self) -> Option<&Own>
+        ensures { option_map (λ own. own.now) result ≡ own_in self.now }
+    {
+        match self {
+            Event::Act { own, .. } | Event::Child { own, .. } | Event::Feed { own, .. } => Some(
+                own,
+            ),
+            _ => None,
+        }
+    }
 }
 
 /// A history, the oldest event first.
@@ -173,9 +214,9 @@ pub fn started_by(event: &Event) -> u32
     ensures { result ≡ starts_in event.now }
 {
     match event {
-        Event::Start { .. } => 1,
+        Event::Start { .. } | Event::Child { .. } => 1,
         Event::Generation { .. } => 4,
-        Event::Act { own, .. } => starts(own),
+        Event::Act { own, .. } | Event::Feed { own, .. } => starts(own),
         _ => 0,
     }
 }

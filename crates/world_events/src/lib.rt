@@ -13,6 +13,6 @@ mod reads;
 pub use asked::need_data;
 pub use books::{Books, Entry, Life, number_by};
 pub use event::{Event, History, Program, started_by};
-pub use mail::{MAIL_USER, mail_of};
+pub use mail::{MAIL_USER, bounce_of, mail_of};
 pub use places::Places;
 pub use reads::{kept_read, room_to_read};

@@ -1,5 +1,6 @@
-// What the injector of a mail is started with.
+// What the injectors of mails and of bounces are started with.
 ghost use Rattle.std.specs.Prelude.{◌≡◌, IfOk};
+ghost use Rattle.world_events.specs.Inputs.{bounce};
 ghost use Rattle.world_events.specs.Mails.{mail};
 
 use mail_bytes::{ByteText, Memory};
@@ -10,7 +11,7 @@ use std::alloc::Global;
 /// The user whose mails a script starts.
 pub const MAIL_USER: u32 = 1000;
 
-/// What the injector of a mail is started with.
+/// What the injectors of mails and of bounces are started with.
 pub fn mail_of(
     alloc: Global,
     pid: u32,
@@ -32,4 +33,20 @@ pub fn mail_of(
         envelope,
         envelope_end: InputEnd::Whole,
     })
+}
+
+/// What the injector of a bounce is started with, which is given its input later. Takes no memory.
+pub fn bounce_of(alloc: Global, pid: u32, start: u64) -> Arguments
+    ensures { result ≡ bounce pid start }
+{
+    Arguments {
+        uid: 0,
+        pid,
+        invoked: Invoked::Bounce,
+        start,
+        message: ByteText::new(alloc),
+        message_end: InputEnd::Unread,
+        envelope: ByteText::new(alloc),
+        envelope_end: InputEnd::Unread,
+    }
 }

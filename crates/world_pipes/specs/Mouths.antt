@@ -1,17 +1,19 @@
--- The pipes that one actor takes from, by its ports, and the remote programs in its slots.
-use Rattle.std.specs.Prelude.{◌≡◌, ℕ, ◌<◌, ◌≤◌, length, Bool, true, false, Option, Some, None, option_map, if◌then◌else◌}
+-- The pipes that one actor takes from, by its ports, and the programs in its slots.
+use Rattle.std.specs.Prelude.{◌≡◌, ℕ, ◌<◌, ◌≤◌, ◌==◌, List, [], ◌∷◌, ◌++◌, codes, length, Bool, true, false, Option, Some, None, option_map, if◌then◌else◌}
 use Rattle.std.specs.List.{slice_get}
 use Rattle.call_fs.specs.declared.program.Port.{Port}
 use Rattle.call_fs.specs.declared.program.Port.TheVariants as port
 use Rattle.world_pipes.specs.declared.mouths.Mouths.{Mouths}
 use Rattle.world_pipes.specs.declared.mouths.Slot.{Slot}
-use Rattle.world_pipes.specs.Pipework.{Pipe, Tenant, fresh, is_port}
-use Rattle.world_pipes.specs.Pipework.Tenant.{Remote}
+use Rattle.world_pipes.specs.declared.mouths.Tenant.{Tenant as Kept}
+use Rattle.world_pipes.specs.declared.mouths.Tenant.TheVariants as kept
+use Rattle.world_pipes.specs.Pipework.{Pipe, Tenant, fresh, given, closed, is_port}
+use Rattle.world_pipes.specs.Pipework.Tenant.{Runs, Remote}
 use Rattle.world_pipes.specs.Pipes.{lies, HasRoom}
 
 -- a slot without a program, into whose output nothing was given
 pub record IsVacant (slot : Slot) : Type 0 where
-  pub free : slot.reported ≡ None
+  pub free : slot.tenant ≡ None
   pub empty : lies slot.output ≡ fresh
 
 -- what lies in the output of a slot; where there is no such slot, nothing
@@ -29,12 +31,21 @@ pipe_of m (port.Program d) = output_of (slice_get m.slots.items d)
 pipe_of m other = fresh
 
 -- the program in a slot
+abbrev pub tenant_kept : Kept → Tenant
+tenant_kept (kept.Actor name) = Runs name
+tenant_kept (kept.Remote reported) = Remote reported
+
 abbrev pub runs_in : Option Slot → Option Tenant
 runs_in None = None
-runs_in (Some slot) = option_map Remote slot.reported
+runs_in (Some slot) = option_map tenant_kept slot.tenant
 
 abbrev pub tenant_of : Mouths → ℕ → Option Tenant
 tenant_of m d = runs_in (slice_get m.slots.items d)
+
+-- the actor that runs there, if one does
+abbrev pub actor_of : Option Tenant → Option (List ℕ)
+actor_of (Some (Runs a)) = Some a
+actor_of other = None
 
 -- a remote program with its report, or one without
 abbrev pub is_remote : Bool → Option Tenant → Bool
@@ -72,3 +83,19 @@ HasRoomAt m other more = ⊥
 -- another content of the pipe by one port
 abbrev pub change_at : Port → (Pipe → Pipe) → (Port → Pipe) → Port → Pipe
 change_at at change pipes port = if is_port port at then change (pipes port) else pipes port
+
+-- the pipes and slots of one actor are as they were
+pub record IsSame (old new : Mouths) : Type 0 where
+  pub pipes : (port : Port) → pipe_of new port ≡ pipe_of old port
+  pub tenants : (d : ℕ) → tenant_of new d ≡ tenant_of old d
+  pub slots : length new.slots.items ≡ length old.slots.items
+
+-- the output of a remote program that its report stands for
+abbrev pub report_text : ℕ → List ℕ → List ℕ
+report_text letter text = codes "r" ++ (0 ∷ letter ∷ text ++ (0 ∷ []))
+
+-- the remote program in a slot has ended with this output
+pub record HasReport (old new : Mouths) (slot : ℕ) (output : List ℕ) : Type 0 where
+  pub pipes : (at : Port) → pipe_of new at ≡ change_at (port.Program slot) (λ pipe. closed (given output pipe)) (pipe_of old) at
+  pub tenants : (d : ℕ) → tenant_of new d ≡ (if d == slot then Some (Remote true) else tenant_of old d)
+  pub slots : length new.slots.items ≡ length old.slots.items

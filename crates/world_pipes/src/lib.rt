@@ -6,6 +6,8 @@
 
 mod mouths;
 mod pipe;
+mod reports;
 
-pub use mouths::{Mouths, Slot};
+pub use mouths::{Mouths, Slot, Tenant};
 pub use pipe::{Pipe, Taken};
+pub use reports::put_report;

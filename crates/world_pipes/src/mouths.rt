@@ -1,22 +1,35 @@
 // The pipes that one actor takes from.
-ghost use Rattle.std.specs.Prelude.{◌≡◌, ◌==◌, ◌≤◌, ◌<◌, ℕ, true, false, if◌then◌else◌, Some, None, IfOk, IsOk, OnOk, OnErr, All, length};
+ghost use Rattle.std.specs.Prelude.{◌≡◌, ◌==◌, ◌≤◌, ◌<◌, ℕ, true, false, if◌then◌else◌, Some, None, option_map, IfOk, IsOk, OnOk, OnErr, All, length};
 ghost use Rattle.call_fs.specs.declared.program.Port.{Port as Gate};
 ghost use Rattle.call_fs.specs.declared.program.Port.TheVariants.{Program};
 ghost use Rattle.world_pipes.specs.Pipework.{fresh, given, closed, is_ready};
-ghost use Rattle.world_pipes.specs.Pipework.Tenant.{Remote};
+ghost use Rattle.world_pipes.specs.Pipework.Tenant.{Runs, Remote};
 ghost use Rattle.world_pipes.specs.Pipes.{lies, told, offered, left_by};
-ghost use Rattle.world_pipes.specs.Mouths.{IsVacant, pipe_of, tenant_of, is_remote, IsLowest, HasPipe, HasRoomAt, change_at};
+ghost use Rattle.world_pipes.specs.Mouths.{IsVacant, pipe_of, runs_in, tenant_of, actor_of, is_remote, IsLowest, HasPipe, HasRoomAt, change_at};
 
 use crate::{Pipe, Taken};
+use actor_names::ActorName;
 use call_fs::Port;
 use mail_bytes::Memory;
 use std::alloc::Global;
 
+/// The program in a slot.
+#[derive(Drop)]
+pub enum Tenant {
+    /// An actor.
+    Actor(ActorName),
+    /// A remote program, which is none.
+    Remote {
+        /// Whether its report came.
+        reported: bool,
+    },
+}
+
 /// A slot of an actor.
 #[derive(Drop)]
 pub struct Slot {
-    /// Whether the report of the remote program in it came; `None` if there is no program.
-    reported: Option<bool>,
+    /// The program in it, if there is one.
+    tenant: Option<Tenant>,
     /// The output of its program, which stays when the slot is freed.
     output: Pipe,
 }
@@ -27,25 +40,35 @@ impl Slot {
         ensures { IsVacant result }
     {
         Slot {
-            reported: None,
+            tenant: None,
             output: Pipe::new(alloc),
         }
     }
 
     /// A program starts in it.
-    fn start(&mut self)
-        ensures runs { self.new.reported ≡ Some false }
+    fn start(&mut self, tenant: Tenant)
+        ensures runs { self.new.tenant ≡ Some tenant }
         ensures empty { lies self.new.output ≡ fresh }
     {
-        self.reported = Some(false);
+        self.tenant = Some(tenant);
         self.output.clear();
+    }
+
+    /// Whether a remote program is in it whose report came, or, if so asked, one whose report didn't come yet.
+    fn runs(&self, reported: bool) -> bool
+        ensures { result ≡ is_remote reported (runs_in (Some self.now)) }
+    {
+        match &self.tenant {
+            Some(Tenant::Remote { reported: came }) => *came == reported,
+            Some(Tenant::Actor(_)) | None => false,
+        }
     }
 
     /// No program is in it any more, and nothing lies in its output.
     fn clear(&mut self)
         ensures { IsVacant self.new }
     {
-        self.reported = None;
+        self.tenant = None;
         self.output.clear();
     }
 }
@@ -98,7 +121,7 @@ impl Mouths {
         ensures { result ≡ is_remote reported (tenant_of self.now slot) }
     {
         match self.slots.get(slot as usize) {
-            Some(slot) => slot.reported == Some(reported),
+            Some(slot) => slot.runs(reported),
             None => false,
         }
     }
@@ -216,7 +239,27 @@ impl Mouths {
         ensures tenants { (d : ℕ) → tenant_of self.new d ≡ (if d == slot then Some (Remote false) else tenant_of self.old d) }
         ensures slots { length self.new.slots.items ≡ length self.old.slots.items }
     {
-        self.slots[slot as usize].start();
+        self.slots[slot as usize].start(Tenant::Remote { reported: false });
+    }
+
+    /// An actor starts in this slot, and has given nothing. Takes no memory. The condition: there is such a slot.
+    pub fn start_actor(&mut self, slot: u8, actor: ActorName)
+        requires { slot < length self.old.slots.items }
+        ensures pipes { (at : Gate) → pipe_of self.new at ≡ change_at (Program slot) (λ _. fresh) (pipe_of self.old) at }
+        ensures tenants { (d : ℕ) → tenant_of self.new d ≡ (if d == slot then Some (Runs actor) else tenant_of self.old d) }
+        ensures slots { length self.new.slots.items ≡ length self.old.slots.items }
+    {
+        self.slots[slot as usize].start(Tenant::Actor(actor));
+    }
+
+    /// The actor in this slot.
+    pub fn actor_in(&self, slot: u8) -> Option<&ActorName>
+        ensures { option_map (λ name. name.now) result ≡ actor_of (tenant_of self.now slot) }
+    {
+        match &self.slots.get(slot as usize)?.tenant {
+            Some(Tenant::Actor(actor)) => Some(actor),
+            Some(Tenant::Remote { .. }) | None => None,
+        }
     }
 
     /// The remote program in this slot has ended: its report came. Takes no memory. The condition: there is such a slot.
@@ -226,7 +269,7 @@ impl Mouths {
         ensures tenants { (d : ℕ) → tenant_of self.new d ≡ (if d == slot then Some (Remote true) else tenant_of self.old d) }
         ensures slots { length self.new.slots.items ≡ length self.old.slots.items }
     {
-        self.slots[slot as usize].reported = Some(true);
+        self.slots[slot as usize].tenant = Some(Tenant::Remote { reported: true });
     }
 
     /// No program is in this slot any more; what it gave stays. Takes no memory. The condition: there is such a slot.
@@ -236,7 +279,7 @@ impl Mouths {
         ensures tenants { (d : ℕ) → tenant_of self.new d ≡ (if d == slot then None else tenant_of self.old d) }
         ensures slots { length self.new.slots.items ≡ length self.old.slots.items }
     {
-        self.slots[slot as usize].reported = None;
+        self.slots[slot as usize].tenant = None;
     }
 }
 

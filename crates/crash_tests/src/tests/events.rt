@@ -51,6 +51,14 @@ pub const FAILED: Base = Base {
     later: "halt keep\nmoment 129601\n",
 };
 
+/// The same, and what comes of the bounce, which fails too, and of the bounce of that.
+pub const RETURNED: Base = Base {
+    script: "trace\nmail a a@x b@y : hi%0A\nrun a\nsender\nsettle D\n",
+    put_in_b: "",
+    fate_of_b: "",
+    later: "",
+};
+
 /// What comes after each stop, and once more after the second one: a new generation does what is left to do. It tries each
 /// recipient that isn't done at once, also one that was deferred just before, since a generation doesn't know when a message
 /// was tried by another.
@@ -74,6 +82,7 @@ pub fn push_line(script: &mut String, event: &str) -> Result<(), Memory> {
         "a start" => script.push_str("mail a a@x b@y : hi%0A\n"),
         "b start" => script.push_str("mail b c@x d@y : ho\n"),
         "sender start" => script.push_str("sender\n"),
+        "b.1 start" | "b.2 start" => script.push_str("step sender\n"),
         "rspawn report 0 K" => script.push_str("report 0 K settled\n"),
         "rspawn report 0 Z" => script.push_str("report 0 Z settled\n"),
         "rspawn report 0 D" => script.push_str("report 0 D settled\n"),
@@ -108,7 +117,7 @@ fn is_made_line_by_line(rt: &HostRuntime, script: &str) -> Result<bool, Memory> 
 
 #[test]
 fn the_events_of_a_script_are_made_line_by_line(rt: HostRuntime) -> Result<(), Fail> {
-    for base in &[ONE, TWO, DEFERRED, FAILED] {
+    for base in &[ONE, TWO, DEFERRED, FAILED, RETURNED] {
         assert!(rt; is_made_line_by_line(&rt, base.script)?, "{}", base.script);
     }
     Ok(())

@@ -72,21 +72,27 @@ const DELIVERED: Outcome = Outcome {
     mail_a: &MAIL_A,
 };
 
-/// The failure of the one mail is noted once it is accepted. As long as a world starts no injector of a bounce it stays so.
-const NOTED: Outcome = Outcome {
+/// The one mail fails once it is accepted; so do the bounce that comes of it, and the double bounce, which is dropped.
+const RETURNED: Outcome = Outcome {
     generation: FAILING_GENERATION,
     left: &[
         ("a create pid/", "pid 1\n"),
         ("a link pid/", "pid 1\n1 S2\n"),
         ("a unlink pid/", "pid 0\n1 S2\n"),
         ("a create intd/", "pid 0\n1 S3\n"),
-        ("a link intd/", "pid 0\n1 S5\n"),
+        ("a link intd/", "pid 0\n"),
     ],
-    kept: &[("a link intd/", "1 S5\n")],
+    kept: &[],
     mail_a: &[
         ("a start", "a stopped\n"),
-        ("a link intd/", "a stopped\na.1 noted\n"),
-        ("a end 0", "a 0\na.1 noted\n"),
+        (
+            "a link intd/",
+            "a stopped\na.1 bounced\nb.1 0\nb.1.1 bounced\nb.2 0\nb.2.1 dropped\n",
+        ),
+        (
+            "a end 0",
+            "a 0\na.1 bounced\nb.1 0\nb.1.1 bounced\nb.2 0\nb.2.1 dropped\n",
+        ),
     ],
 };
 
@@ -226,7 +232,7 @@ fn a_machine_stop_after_any_event_of_a_failed_delivery_loses_no_note(
     let events = events_of(&rt, FAILED)?;
     for halt in &HALTS {
         assert_eq!(rt;
-            first_wrong(&rt, &events, FAILED, NOTED, halt)?.as_str(),
+            first_wrong(&rt, &events, FAILED, RETURNED, halt)?.as_str(),
             "",
             "{halt}"
         );

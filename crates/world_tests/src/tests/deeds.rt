@@ -1,6 +1,6 @@
 // What is done with a world, as data.
 
-use super::running::{report, run, settle, turn};
+use super::running::{report, run, settle, to_child, turn};
 use super::seen::{put, put_names, put_refusal};
 use mail_bytes::Memory;
 use mail_world::{ActorName, World, WorldError};
@@ -21,10 +21,14 @@ pub enum Deed {
     Run(&'static [u8]),
     /// It is stopped.
     Stop(&'static [u8]),
+    /// The sender makes steps until it has started a child.
+    ToChild,
     /// Each living actor runs.
     Turn,
     /// The remote program in this slot reports success.
     Report(u8),
+    /// The remote program in this slot reports that it failed for good.
+    Fail(u8),
     /// Rounds are made until one makes only an idle turn; each remote program reports success.
     Settle,
     /// The names in the queue are told.
@@ -70,7 +74,9 @@ fn act_on_all(alloc: Global, world: &mut World<MemFs>, deed: &Deed, seen: &mut V
         Deed::Turn => {
             turn(alloc, world, seen);
         }
-        Deed::Report(slot) => report(alloc, world, *slot, b"ok", seen),
+        Deed::Report(slot) => report(alloc, world, *slot, b'K', b"ok", seen),
+        Deed::Fail(slot) => report(alloc, world, *slot, b'D', b"no such user", seen),
+        Deed::ToChild => to_child(alloc, world, seen),
         Deed::Settle => settle(alloc, world, seen),
         Deed::Show => put_names(alloc, seen, world.disk()),
         _ => put(seen, &[b"a name\n"]),

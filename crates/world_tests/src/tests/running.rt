@@ -2,7 +2,7 @@
 
 use super::seen::{put, put_end, put_refusal};
 use call_fs::CallFs;
-use mail_world::{ActorName, Did, World, WorldError};
+use mail_world::{ActorName, Did, Event, World, WorldError};
 use std::alloc::Global;
 
 /// How many steps a run has at most, how many actors a turn, and how many rounds are made.
@@ -62,6 +62,28 @@ pub fn run<D: CallFs>(
     false
 }
 
+/// Whether the newest event is the start of a child.
+fn has_started<D: CallFs>(world: &World<D>) -> bool {
+    matches!(world.history().events().last(), Some(Event::Child { .. }))
+}
+
+/// Steps of the sender, until it has started a child.
+pub fn to_child<D: CallFs>(alloc: Global, world: &mut World<D>, seen: &mut Vec<u8>) {
+    let Some(sender) = ActorName::of(b"sender") else {
+        return;
+    };
+    for _ in 0..MOST_STEPS {
+        let led = step(alloc, world, &sender);
+        if has_started(world) {
+            return;
+        }
+        if !matches!(led, Led::On) {
+            break;
+        }
+    }
+    put(seen, &[b"no child\n"]);
+}
+
 /// Puts down where so many steps and one more led. Whether the actor only waits or idles.
 fn rests(seen: &mut Vec<u8>, actor: &ActorName, led: &Led, made: usize) -> bool {
     match led {
@@ -105,10 +127,11 @@ pub fn report<D: CallFs>(
     alloc: Global,
     world: &mut World<D>,
     slot: u8,
+    letter: u8,
     text: &[u8],
     seen: &mut Vec<u8>,
 ) {
-    if let Err(why) = world.report(alloc, slot, b'K', text) {
+    if let Err(why) = world.report(alloc, slot, letter, text) {
         put_refusal(seen, b"report", &why);
     }
 }
@@ -119,7 +142,7 @@ fn report_all<D: CallFs>(alloc: Global, world: &mut World<D>, seen: &mut Vec<u8>
         let Some(slot) = world.unreported(0) else {
             return made == 0;
         };
-        report(alloc, world, slot, b"settled", seen);
+        report(alloc, world, slot, b'K', b"settled", seen);
     }
     false
 }

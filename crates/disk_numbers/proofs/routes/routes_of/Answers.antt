@@ -1,8 +1,6 @@
-use Rattle.std.proofs.Common.{ℕ, List, [], ◌∷◌, ◌++◌, ◌+◌, ◌≡◌, take, length, min, sym, ap, ◌∙◌, subst}
+use Rattle.std.proofs.Common.{ℕ, List, [], ◌∷◌, ◌++◌, ◌+◌, ◌≡◌, take, refl, sym, ap, ◌∙◌, subst}
 use Rattle.std.proofs.lemmas.List.{take_more}
 use Rattle.envelope_records.specs.Envelope.{HasRead, read_envelope, reader_of, ended_address}
-use Rattle.queue_inject.specs.Texts.{recipients_of}
-use Rattle.queue_limits.specs.declared.lengths.TheConstants.{MOST_BYTES}
 use Rattle.disk_numbers.specs.declared.routes.Lanes.{Lanes}
 use Rattle.disk_numbers.specs.Routes.{AreLanes, routes_in}
 use Rattle.disk_numbers.proofs.Envelopes.{Holds, HeldBefore, Turn, turned, turn_other, held_start, recipient_held, held_whole, held_none, recipients_within}
@@ -17,16 +15,16 @@ loop-byte-init c = record {
 
 pub returns-in-End : goal.returns-in-End
 returns-in-End c =
-    let bytes : List ℕ = take c.min.result c.as_slice-envelope.result.now in
+    let bytes : List ℕ = take c.min.result c.args.envelope.now in
     let i : ℕ = c.loop-byte.byte-index in
     let lanes : List (List ℕ) → Type 0 = λ recipients. AreLanes c.args.controls.now recipients c.loop-byte.lanes in
-    let within = recipients_within c.args.arguments.now bytes c.min.result (ap (take c.min.result) c.as_slice-envelope.ensures) (c.min.ensures ∙ ap (λ (l : List ℕ). min MOST_BYTES (length l)) c.as_slice-envelope.ensures) in
+    let within = recipients_within c.args.envelope.now bytes c.min.result refl c.min.ensures in
     let whole = held_whole lanes bytes i c.feed.result c.loop-byte-test.true c.loop-byte.invariant.held (c.feed.ensures.step (take i bytes) c.loop-byte.invariant.read) c.in-End.is in
     ap (λ v. v.items) c.into_routed.ensures ∙ whole.routed ∙ ap (routes_in c.args.controls.now) within
 
 pub loop-byte-preserved : goal.loop-byte-preserved
 loop-byte-preserved c =
-    let bytes : List ℕ = take c.min.result c.as_slice-envelope.result.now in
+    let bytes : List ℕ = take c.min.result c.args.envelope.now in
     let i : ℕ = c.loop-byte.byte-index in
     let before : List (List ℕ) → Type 0 = λ recipients. AreLanes c.args.controls.now recipients c.loop-byte.lanes in
     let now : List ℕ = take (i + 1) bytes in
@@ -47,8 +45,8 @@ loop-byte-preserved c =
 
 pub returns : goal.returns
 returns c =
-    let bytes : List ℕ = take c.min.result c.as_slice-envelope.result.now in
+    let bytes : List ℕ = take c.min.result c.args.envelope.now in
     let lanes : List (List ℕ) → Type 0 = λ recipients. AreLanes c.args.controls.now recipients c.loop-byte.lanes in
-    let within = recipients_within c.args.arguments.now bytes c.min.result (ap (take c.min.result) c.as_slice-envelope.ensures) (c.min.ensures ∙ ap (λ (l : List ℕ). min MOST_BYTES (length l)) c.as_slice-envelope.ensures) in
+    let within = recipients_within c.args.envelope.now bytes c.min.result refl c.min.ensures in
     let none = held_none lanes bytes c.loop-byte.byte-index c.loop-byte-test.false c.loop-byte.invariant.held in
     c.new.ensures.items ∙ ap (routes_in c.args.controls.now) (sym none ∙ within)

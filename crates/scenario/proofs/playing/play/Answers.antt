@@ -1,4 +1,5 @@
 use Rattle.std.proofs.Common.{◌≡◌, ◌+◌, ◌<◌, ◌^◌, length, ◌++◌, ◌∷◌, [], List, reverse, take, drop, refl, sym, ap, ◌∙◌, subst, append_assoc}
+use Rattle.std.specs.List.{AllZip}
 use Rattle.std.proofs.lemmas.List.{append-nil, take-append-drop, take_all}
 use Rattle.std.proofs.lemmas.Result.{err_from_is_err_and}
 use Rattle.crash_fs.specs.Crash.{Crash, crash_disk, crash_plan}
@@ -11,6 +12,7 @@ use Rattle.mail_world.specs.World.{Seen}
 use Rattle.script_words.specs.declared.entry.Entry.{Entry}
 use Rattle.play_lines.specs.declared.line.Line.{Line}
 use Rattle.play_lines.specs.Contents.{HaveEntryPaths}
+use Rattle.scenario.specs.Deeds.{TellsDeed}
 use Rattle.scenario.specs.FirstDisk.{IsFirstDisk}
 use Rattle.scenario.specs.Text.{IsPlayed}
 use Rattle.scenario.specs.Traced.{traced_after}
@@ -36,6 +38,7 @@ loop-line-init g c =
     let first = subst (λ (l : List Entry). IsFirstDisk l d) entries.value c.in_ok-first_disk.ensures.disk in
     let playing : IsPlaying d c.in_ok-world.world no_plan [] = record {
       is = c.in_ok-world.ensures.begun (first_opens c.args.script.opening d (subst HaveEntryPaths entries.value entries.paths) first);
+      told = subst (λ (l : List Kept). AllZip TellsDeed (reverse l) []) (sym (ap (λ (w : Seen Crash). w.events) world)) tt;
       planned = ap (λ (w : Seen Crash). crash_plan w.disk) world ∙ c.in_ok-first_disk.ensures.plan;
       whole = subst (λ (l : List Kept). AreWholeGivings (reverse l)) (sym (ap (λ (w : Seen Crash). w.events) world)) tt;
       starts = tt;
@@ -91,7 +94,7 @@ returns-in_err-give-clause-begun g c =
     let one = c.line-item.result in
     let own = c.in_ok-text.text.items in
     let first = take i items ++ one ∷ [] in
-    let printed = c.in_ok-text.ensures so.disk so.left so.history so.playing in
+    let printed = c.in_ok-text.ensures so.disk so.left so.deeds so.playing in
     let next = play_goes_on c.args.script.opening (take i items) first one c.loop-line.world c.printed.new.world c.loop-line.traced (traced_after c.loop-line.traced one) own so printed refl refl in
     let whole : c.args.script.lines ≡ first ++ drop (i + 1) items =
     sym c.lines-line-items.ensures ∙ sym (take-append-drop (i + 1) items) ∙ ap (λ l. l ++ drop (i + 1) items) (with_next items i one c.loop-line-test.true c.line-item.is) in
@@ -112,7 +115,7 @@ loop-line-preserved g c =
     let items = c.lines-line-items.result.now in
     let i = c.loop-line.line-index in
     let one = c.line-item.result in
-    let printed = c.in_ok-text.ensures so.disk so.left so.history so.playing in
+    let printed = c.in_ok-text.ensures so.disk so.left so.deeds so.playing in
     let own = c.in_ok-text.text.items in (
       c.in_ok-give.ensures.unfailed ∙ c.loop-line.invariant.0,
       play_goes_on c.args.script.opening (take i items) (take (i + 1) items) one c.loop-line.world c.printed.new.world c.loop-line.traced c.traced_after-traced.result own so printed

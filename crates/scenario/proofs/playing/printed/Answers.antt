@@ -1,7 +1,7 @@
-use Rattle.std.proofs.Common.{◌≡◌, ◌++◌, length, ap, ◌∙◌, subst}
+use Rattle.std.proofs.Common.{◌≡◌, ◌++◌, length, drop, ap, ◌∙◌, subst}
 use Rattle.std.specs.Prelude.{flat_map}
 use Rattle.scenario.specs.Playing.{HasPlayed}
-use Rattle.scenario.specs.Traced.{event_line}
+use Rattle.trace_lines.specs.Events.{kept_line}
 use Rattle.scenario.proofs.Tracings.{traced_lines}
 use Rattle.scenario.proofs.playing.printed.Goals as goal
 
@@ -14,7 +14,6 @@ returns c = λ d plan h playing.
     let lines = rw (before, kept) at c.in_ok-put_events_after.ensures in
     rw c.if-not-traced.false
     (traced_lines d c.args.world.now c.play_line.new.world c.args.line.now own c.extend_from_slice.new.self.items plan h playing played
-    (λ added inside told.
-    c.in_ok-extend_from_slice.ensures.items
+    (c.in_ok-extend_from_slice.ensures.items
     ∙ ap (λ t. c.put_events_after.new.text.items ++ t) c.deref.ensures.value
-    ∙ ap (λ t. t ++ own) (lines added inside told ∙ ap (λ t. t ++ flat_map event_line added) c.new-text.ensures.items)))
+    ∙ ap (λ t. t ++ own) (lines ∙ ap (λ t. t ++ flat_map kept_line (drop (length c.args.world.now.events) c.play_line.new.world.events)) c.new-text.ensures.items)))

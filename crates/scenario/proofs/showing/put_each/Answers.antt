@@ -1,56 +1,38 @@
-use Rattle.std.proofs.Common.{◌≡◌, ◌++◌, List, ℕ, Some, None, All, Vec, Global, Bor, ◌+◌, ◌∷◌, sym, ap, ◌∙◌, subst, drop}
-use Rattle.std.proofs.lemmas.List.Elements.{All-head, All-tail}
-use Rattle.queue_inject.specs.Texts.{recipients_of}
+use Rattle.std.proofs.Common.{◌≡◌, Bor, ◌∙◌, ◌++◌, [], ◌∷◌, List, ℕ, length, sym, ap, subst, rules}
+use Rattle.std.specs.Iterator.Adapters.{zip_first, zip_second}
+use Rattle.std.specs.Slice.Iter.{iter_rest}
+use Rattle.std.proofs.lemmas.Slice.Zip.{zip_end, zip_turn}
 use Rattle.world_events.specs.declared.books.Entry.{Entry}
-use Rattle.world_events.specs.declared.event.Event.{Event as Kept}
-use Rattle.scenario.specs.Fates.{IsUsed, arguments_in}
-use Rattle.scenario.specs.Shown.{View, entry_lines}
-use Rattle.scenario.specs.Viewed.{view_at}
-use Rattle.scenario.proofs.EachMail.{left_lines, none_put, one_put, all_put}
-use Rattle.scenario.proofs.showing.put_each.Goals.{in-Some+in-Some-split_first+in_ok-put_mail, in_default}
+use Rattle.scenario.specs.declared.showing.Given.{Given}
+use Rattle.scenario.specs.Fates.{IsUsed}
+use Rattle.scenario.specs.Shown.{View}
+use Rattle.scenario.specs.Viewed.{given_lines, view_at}
+use Rattle.scenario.proofs.EachMail.{all_so_far, one_more, one_put, so_far}
 use Rattle.scenario.proofs.showing.put_each.Goals as goal
 
-pub loop-event-preserved : goal.loop-event-preserved
-loop-event-preserved c = λ books fates used.
-    let before = c.loop-event.invariant books fates used in
+pub loop-entry-preserved : goal.loop-entry-preserved
+loop-entry-preserved c = λ books fates used.
     let v : View = view_at c.args.overview books in
-    let i : ℕ = c.loop-event.event-index in
-    let events : List Kept = c.args.events.now in
-    let k : Kept = c.event-item.result in
-    let rest : List Entry = c.loop-event.rest.now in
-    let all : List ℕ = c.args.text.now.items ++ left_lines v c.args.entries.now events in
-    let used_entry : Entry → Type 0 = λ e. IsUsed e.number in
-    elim c.match-arguments_of.branch [
-      | in-Some+in-Some-split_first+in_ok-put_mail w ↦ (
-          let entry : Entry = w.in-Some-split_first.entry.now in
-          let later : List Entry = w.in-Some-split_first.later.now in
-          let first : rest ≡ entry ∷ later = w.in-Some-split_first.ensures.cases.0 in
-          let left : All used_entry (entry ∷ later) = subst (λ (r : List Entry). All used_entry r) first before.0 in
-          let args = w.in-Some.arguments.now in
-          let some : arguments_in k ≡ Some args = sym (w.in-Some.ensures) in
-          let put : w.put_mail.new.text.items ≡ c.loop-event.text.items ++ entry_lines v entry (recipients_of args) =
-          w.in_ok-put_mail.ensures books fates (All-head used_entry entry later left) in
-          let done : w.put_mail.new.text.items ++ left_lines v later (drop (i + 1) events) ≡ all =
-          one_put v rest later entry args events i k c.loop-event.text.items w.put_mail.new.text.items all c.loop-event-test.true c.event-item.is first some put before.1 in (
-            subst (λ (r : Bor (List Entry)). All used_entry r.now) (sym w.rest-is) (All-tail used_entry entry later left),
-            ap (λ (t : Vec ℕ Global). t.items ++ left_lines v c.match-arguments_of.rest.now (drop (i + 1) events)) w.text-is
-                ∙ ap (λ (r : Bor (List Entry)). w.put_mail.new.text.items ++ left_lines v r.now (drop (i + 1) events)) w.rest-is
-                ∙ done,
-          )
-          )
-      | in_default w ↦ (
-          let none : arguments_in k ≡ None = sym (w.in_default.ensures) in
-          let done : c.loop-event.text.items ++ left_lines v rest (drop (i + 1) events) ≡ all =
-          none_put v rest events i k c.loop-event.text.items all c.loop-event-test.true c.event-item.is none before.1 in (
-            subst (λ (r : Bor (List Entry)). All used_entry r.now) (sym w.rest-is) before.0,
-            ap (λ (t : Vec ℕ Global). t.items ++ left_lines v c.match-arguments_of.rest.now (drop (i + 1) events)) w.text-is
-                ∙ ap (λ (r : Bor (List Entry)). c.loop-event.text.items ++ left_lines v r.now (drop (i + 1) events)) w.rest-is
-                ∙ done,
-          )
-          )
-    ]
+    let ks = c.args.entries.now in
+    let vs = c.args.given.now in
+    let xs = c.loop-entry.yielded in
+    let s = c.into_iter-entry-iterator.result in
+    let first : iter_rest (zip_first s) ≡ ks = search rules in
+    let second : iter_rest (zip_second s) ≡ vs = search rules in
+    let p : Bor Entry × Bor Given = (c.in-Some.entry, c.in-Some.one) in
+    let at = zip_turn ks vs xs s c.loop-entry.entry-iterator c.next.new.self c.next.result first second c.loop-entry.yielded_by p c.in-Some.is c.next.ensures.steps in
+    let is_used : IsUsed c.in-Some.entry.now.number = subst (λ (e : Entry). IsUsed e.number) (sym (at.2 c.in-Some.entry.now)) (used (length xs) c.in-Some.entry.now at.0) in
+    one_put c.args.text.now.items c.loop-entry.text.items (so_far (given_lines v) ks vs (length xs)) c.put_mail.new.text.items (so_far (given_lines v) ks vs (length (xs ++ p ∷ [])))
+    (c.loop-entry.invariant books fates used) (given_lines v (c.in-Some.entry.now, c.in-Some.one.now)) (c.in_ok-put_mail.ensures books fates is_used) (one_more (given_lines v) ks vs xs p at)
 
 pub returns : goal.returns
 returns c = λ books fates used.
-    let before = c.loop-event.invariant books fates used in
-    all_put (view_at c.args.overview books) c.loop-event.rest.now c.args.events.now c.loop-event.event-index c.loop-event.text.items _ c.loop-event-test.false (before.1)
+    let v : View = view_at c.args.overview books in
+    let ks = c.args.entries.now in
+    let vs = c.args.given.now in
+    let xs = c.loop-entry.yielded in
+    let s = c.into_iter-entry-iterator.result in
+    let first : iter_rest (zip_first s) ≡ ks = search rules in
+    let second : iter_rest (zip_second s) ≡ vs = search rules in
+    let all = zip_end ks vs xs s c.loop-entry.entry-iterator c.next.new.self c.next.result first second c.loop-entry.yielded_by c.in-None.is c.next.ensures.steps in
+    c.loop-entry.invariant books fates used ∙ ap (λ (t : List ℕ). c.args.text.now.items ++ t) (all_so_far (given_lines v) ks vs (length xs) all)

@@ -3,6 +3,7 @@ use Rattle.std.proofs.lemmas.Result.{on_ok_weaker}
 use Rattle.crash_fs.specs.Crash.{crash_disk}
 use Rattle.world_events.specs.declared.event.Event.{Event as Kept}
 use Rattle.mail_world.specs.World.{IsHistory}
+use Rattle.scenario.specs.Deeds.{history_of}
 use Rattle.scenario.proofs.showing.put_mails.Goals as goal
 
 pub returns : goal.returns
@@ -12,7 +13,7 @@ returns c =
     (λ put. (
       put.0,
       put.1,
-      λ d plan h playing. put.2 d plan h playing (c.in_ok-fates.ensures d (crash_disk w.disk) w.present h
-          (subst (λ (ks : List Kept). IsHistory d (crash_disk w.disk) ks w.present h) (sym (c.events.ensures ∙ c.history.ensures.events)) playing.is) playing.starts),
+      λ d plan h playing. put.2 d plan h playing (c.in_ok-fates.ensures d (crash_disk w.disk) w.present (history_of h)
+          (subst (λ (ks : List Kept). IsHistory d (crash_disk w.disk) ks w.present (history_of h)) (sym (c.events.ensures ∙ c.history.ensures.events)) playing.is) playing.starts),
     ))
     c.put_fated.ensures

@@ -5,6 +5,7 @@ use Rattle.std.proofs.lemmas.Result.{on_ok_weaker}
 use Rattle.mail_bytes.specs.Decimal.{digits}
 use Rattle.call_fs.specs.Disk.{Disk}
 use Rattle.crash_fs.specs.Crash.{crash_disk}
+use Rattle.scenario.specs.Deeds.{history_of}
 use Rattle.scenario.specs.Shown.{AreNamesIn, AreNumbersIn, line_of, pid_line, number_line}
 use Rattle.scenario.proofs.Showings.{joined, is_shown}
 use Rattle.scenario.proofs.showing.show.Goals as goal
@@ -32,6 +33,6 @@ returns c =
       pid_line pids ++ (flat_map (number_line now) numbers ++ third.0),
       joined text c.put_count_line.new.text.items c.put_states.new.text.items c.put_mails.new.text.items (pid_line pids) (flat_map (number_line now) numbers) third.0
           first second third.1,
-      λ d plan h playing. is_shown d h now w.present w.events pids numbers third.0 playing.is are_pids are_numbers (third.2 d plan h playing),
+      λ d plan h playing. is_shown d (history_of h) now w.present w.events pids numbers third.0 playing.is are_pids are_numbers (third.2 d plan h playing),
     ))
     c.put_mails.ensures

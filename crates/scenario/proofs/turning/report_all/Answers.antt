@@ -21,9 +21,9 @@ returns-in_default c = λ d plan h playing.
 pub loop-slot-preserved : goal.loop-slot-preserved
 loop-slot-preserved c = λ d plan h playing.
     let ok = sym c.is_err.ensures.value ∙ c.if-is_err.false in
-    report_on d h c.args.letter c.loop-slot.world c.report.new.self plan c.loop-slot.from c.in-Some.slot c.in-Some-checked_add.next (c.loop-slot.invariant d plan h playing) c.in-Some.ensures
-    (if_no_err c.report.result ok c.report.ensures.reported ∙ ap (λ (b : ℕ). reported_world c.loop-slot.world c.in-Some.slot b (codes "settled")) c.byte.ensures)
-    (if_no_err c.report.result ok c.report.ensures.goes_on) c.in-Some-checked_add.ensures.1
+    report_on d h c.args.letter c.loop-slot.world c.report-told.new.self plan c.loop-slot.from c.in-Some.slot c.in-Some-checked_add.next (c.loop-slot.invariant d plan h playing) c.in-Some.ensures
+    (if_no_err c.report-told.result ok c.report-told.ensures.reported ∙ ap (λ (b : ℕ). reported_world c.loop-slot.world c.in-Some.slot b (codes "settled")) c.byte.ensures)
+    (if_no_err c.report-told.result ok c.report-told.ensures.goes_on) c.in-Some-checked_add.ensures.1
 
 pub loop-slot-smaller : goal.loop-slot-smaller
 loop-slot-smaller c =
@@ -36,7 +36,7 @@ returns-in-None c = λ d plan h playing.
     let ok = sym c.is_err.ensures.value ∙ c.if-is_err.false in
     let high = c.in-None.ensures in
     let low = slot_small c.loop-slot.from c.in-Some.slot (known c.loop-slot.world.events) c.in-Some.ensures in
-    reports_full d h c.args.letter c.report.new.self plan
-    (report_on d h c.args.letter c.loop-slot.world c.report.new.self plan c.loop-slot.from c.in-Some.slot 256 (c.loop-slot.invariant d plan h playing) c.in-Some.ensures
-    (if_no_err c.report.result ok c.report.ensures.reported ∙ ap (λ (b : ℕ). reported_world c.loop-slot.world c.in-Some.slot b (codes "settled")) c.byte.ensures)
-    (if_no_err c.report.result ok c.report.ensures.goes_on) (omega arith))
+    reports_full d h c.args.letter c.report-told.new.self plan
+    (report_on d h c.args.letter c.loop-slot.world c.report-told.new.self plan c.loop-slot.from c.in-Some.slot 256 (c.loop-slot.invariant d plan h playing) c.in-Some.ensures
+    (if_no_err c.report-told.result ok c.report-told.ensures.reported ∙ ap (λ (b : ℕ). reported_world c.loop-slot.world c.in-Some.slot b (codes "settled")) c.byte.ensures)
+    (if_no_err c.report-told.result ok c.report-told.ensures.goes_on) (omega arith))

@@ -3,7 +3,7 @@ use Rattle.scenario.specs.Steps.{plan_through}
 use Rattle.scenario.specs.Turns.{events_of}
 use Rattle.scenario.proofs.TurnRuns.{turn_begins}
 use Rattle.scenario.proofs.TurnParts.{turn_over, part_on, part_over}
-use Rattle.scenario.proofs.TurnStarts.{fewer_starts}
+use Rattle.scenario.proofs.TurnStarts.{next_rises}
 use Rattle.scenario.proofs.turning.turn.Goals as goal
 
 pub loop-actor-init : goal.loop-actor-init
@@ -16,17 +16,19 @@ returns-in_default c = λ d plan h playing none.
 pub returns-then-len-start : goal.returns-then-len-start
 returns-then-len-start c = λ d plan h playing none.
     let on = c.loop-actor.invariant d plan h playing none in
-    let part = c.in_ok-idle.ensures.ran d (plan_through plan (events_of on.1.parts)) (events_of on.1.parts ++ h) on.1.playing in
+    let part = c.in_ok-idle.ensures d (plan_through plan (events_of on.1.parts)) (events_of on.1.parts ++ h) on.1.playing in
     part_over d h plan c.loop-actor.world c.run_part.new.world c.loop-actor.idle _ c.loop-actor.from c.in-Some.place c.in-Some.actor
     c.args.text.now.items c.loop-actor.text.items c.run_part.new.text.items on c.in-Some.ensures part (omega arith)
 
 pub loop-actor-preserved : goal.loop-actor-preserved
 loop-actor-preserved c = λ d plan h playing none.
     let on = c.loop-actor.invariant d plan h playing none in
-    let part = c.in_ok-idle.ensures.ran d (plan_through plan (events_of on.1.parts)) (events_of on.1.parts ++ h) on.1.playing in
+    let part = c.in_ok-idle.ensures d (plan_through plan (events_of on.1.parts)) (events_of on.1.parts ++ h) on.1.playing in
     part_on d h plan c.loop-actor.world c.run_part.new.world c.loop-actor.idle _ c.loop-actor.from c.in-Some.place c.in-Some-checked_add.next c.in-Some.actor
     c.args.text.now.items c.loop-actor.text.items c.run_part.new.text.items on c.in-Some.ensures part (omega arith) c.in-Some-checked_add.ensures.1
 
 pub loop-actor-smaller : goal.loop-actor-smaller
 loop-actor-smaller c =
-    fewer_starts c.loop-actor.world.events c.run_part.new.world.events c.loop-actor.from c.in-Some.place c.in-Some-checked_add.next c.in-Some.actor (sym c.in-Some.ensures) c.run_part.ensures.starts c.in-Some-checked_add.ensures.1
+    let low = next_rises c.loop-actor.world.events c.loop-actor.from c.in-Some.place c.in-Some.actor (sym c.in-Some.ensures) in
+    let next = c.in-Some-checked_add.ensures in
+    omega arith

@@ -1,16 +1,15 @@
-use Rattle.std.proofs.Common.{◌-◌, List, length, reverse}
+use Rattle.std.proofs.Common.{◌-◌, List}
 use Rattle.call_fs.specs.Disk.{Disk}
 use Rattle.call_fs.specs.Plan.{Plan}
-use Rattle.mail_world.specs.Generations.{starts_of}
-use Rattle.mail_world.specs.History.{Event}
+use Rattle.scenario.specs.Deeds.{Deed}
 use Rattle.scenario.specs.Playing.{IsPlaying}
 use Rattle.scenario.specs.Turns.{NoneBefore}
 use Rattle.scenario.proofs.TurnParts.{GoesOnFrom}
 use Rattle.scenario.proofs.turning.turn.Given as goal
 
 abbrev pub invariant-loop-actor : goal.invariant-loop-actor
-invariant-loop-actor l = (d : Disk) (plan : Plan) (h : List Event) → IsPlaying d l.initial.world plan h → NoneBefore d h l.first
+invariant-loop-actor l = (d : Disk) (plan : Plan) (h : List Deed) → IsPlaying d l.initial.world plan h → NoneBefore d h l.first
     → GoesOnFrom d h plan l.world l.idle l.from l.initial.text.items l.text.items
 
 abbrev pub decreases-loop-actor : goal.decreases-loop-actor
-decreases-loop-actor l = length (starts_of (reverse l.world.events)) - l.from
+decreases-loop-actor l = 18446744073709551616 - l.from

@@ -10,15 +10,15 @@ pub loop-byte-init : goal.loop-byte-init
 loop-byte-init c = record { read = c.new-reader.ensures; counted = counted_start; low = omega arith }
 
 pub returns-in-End : goal.returns-in-End
-returns-in-End c =
-    let bytes : List ℕ = take c.min.result c.as_slice-envelope.result.now in
+returns-in-End c = λ args is.
+    let bytes : List ℕ = take c.min.result c.args.envelope.now in
     let i : ℕ = c.loop-byte.byte-index in
-    recipients_within c.args.arguments.now bytes c.loop-byte.count c.min.result (ap (take c.min.result) c.as_slice-envelope.ensures) (c.min.ensures ∙ ap (λ (l : List ℕ). min MOST_BYTES (length l)) c.as_slice-envelope.ensures)
+    recipients_within args bytes c.loop-byte.count c.min.result (ap (take c.min.result) (sym is)) (c.min.ensures ∙ ap (λ (l : List ℕ). min MOST_BYTES (length l)) (sym is))
     (counted_whole bytes i c.loop-byte.count c.feed.result c.loop-byte-test.true c.loop-byte.invariant.counted (c.feed.ensures.step (take i bytes) c.loop-byte.invariant.read) c.in-End.is)
 
 pub loop-byte-preserved : goal.loop-byte-preserved
 loop-byte-preserved c =
-    let bytes : List ℕ = take c.min.result c.as_slice-envelope.result.now in
+    let bytes : List ℕ = take c.min.result c.args.envelope.now in
     let i : ℕ = c.loop-byte.byte-index in
     let turn = counted_more bytes i c.loop-byte.count c.feed.result c.loop-byte-test.true c.loop-byte.invariant.counted (c.feed.ensures.step (take i bytes) c.loop-byte.invariant.read) in
     let read : HasRead (take (i + 1) bytes) c.feed.new.self = subst (λ l. HasRead l c.feed.new.self) (sym (take_more bytes i 0 c.loop-byte-test.true)) (c.feed.ensures.read (take i bytes) c.loop-byte.invariant.read) in
@@ -29,7 +29,7 @@ loop-byte-preserved c =
     ]
 
 pub returns : goal.returns
-returns c =
-    let bytes : List ℕ = take c.min.result c.as_slice-envelope.result.now in
-    recipients_within c.args.arguments.now bytes 0 c.min.result (ap (take c.min.result) c.as_slice-envelope.ensures) (c.min.ensures ∙ ap (λ (l : List ℕ). min MOST_BYTES (length l)) c.as_slice-envelope.ensures)
+returns c = λ args is.
+    let bytes : List ℕ = take c.min.result c.args.envelope.now in
+    recipients_within args bytes 0 c.min.result (ap (take c.min.result) (sym is)) (c.min.ensures ∙ ap (λ (l : List ℕ). min MOST_BYTES (length l)) (sym is))
     (counted_none bytes c.loop-byte.byte-index c.loop-byte.count c.loop-byte-test.false c.loop-byte.invariant.counted)

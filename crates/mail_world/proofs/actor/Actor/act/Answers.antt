@@ -1,4 +1,4 @@
-use Rattle.std.proofs.Common.{◌≡◌, inl, List, [], ◌∷◌, ◌++◌, length, Option, Some, Result, Ok, Err, refl, sym, ap, ◌∙◌, subst}
+use Rattle.std.proofs.Common.{◌≡◌, inl, ℕ, List, [], ◌∷◌, ◌++◌, length, false, Option, Some, Result, Ok, Err, refl, sym, ap, ◌∙◌, subst}
 use Rattle.call_fs.specs.declared.calls.Fd.{Fd}
 use Rattle.call_fs.specs.declared.past.NeedData.{NeedData}
 use Rattle.call_fs.specs.Program.{IsKind}
@@ -11,10 +11,11 @@ use Rattle.std.specs.Prelude.{IfOk, OnErr, IsNone}
 use Rattle.mail_bytes.specs.Told.{Meets}
 use Rattle.mail_world.specs.declared.world.Did.{Did}
 use Rattle.call_fs.specs.Disk.{Disk}
-use Rattle.mail_world.specs.Acting.{IsMade, IsUntouched, IsNoAct, IsStated, IsReadAt, HasStepped, due_by, opened_by, shut}
+use Rattle.mail_world.specs.Acting.{IsAct, IsMade, IsUntouched, IsNoAct, IsStated, IsReadAt, HasStepped, HaveShut, is_of_child, due_by, opened_by, shut}
 use Rattle.mail_world.proofs.Feeds.{shuts_after}
 use Rattle.mail_world.proofs.Machines.{own_is, call_kind, call_within}
-use Rattle.mail_world.proofs.Passed.{IsAsked, passed_result, told_idle}
+use Rattle.mail_world.proofs.Passes.{only_waits, gives_no_actor}
+use Rattle.mail_world.proofs.Passed.{HasAsked, passed_result, told_idle}
 use Rattle.mail_world.proofs.actor.Actor.act.Goals as goal
 use Rattle.mail_world.proofs.actor.Actor.act.Goals.{In-Due}
 
@@ -77,6 +78,8 @@ returns-in-Did-clause-acted g c =
       name = c.take_in-idle.ensures.name ∙ name;
       descriptors = c.take_in-idle.ensures.descriptors ∙ c.keep_open.ensures ∙ ap (λ (fds : List Fd). opened_by fds own.due own.came) asked.descriptors;
       ended = c.take_in-idle.ensures.ended ∙ asked.ended;
+      status = c.take_in-idle.ensures.status ∙ asked.status;
+      awaits = c.take_in-idle.ensures.awaits ∙ asked.awaits;
     })
 
 pub returns-in-Did-clause-idle : goal.returns-in-Did-clause-idle
@@ -95,7 +98,7 @@ returns-in-Did-clause-idle g c =
     (c.put.ensures.event ∙ ap (λ (k : Kept). c.args.history.now.events.items ++ k ∷ []) event))
 
 -- what the machine that looked is asked
-asked_of : (g : _) (c : In-Due g) → IsAsked c.args.self.now c.ask.new.self c.args.at.now c.args.at.ready c.in-Due.due
+asked_of : (g : _) (c : In-Due g) → HasAsked c.args.self.now c.ask.new.self c.args.at.now c.args.at.ready c.in-Due.due
 asked_of g c =
     let asked = c.in_ok-own.ensures in
     record {
@@ -106,11 +109,28 @@ asked_of g c =
       looked = asked.looked;
       need = asked.need ∙ ap due_by c.in-Due.is;
       takes = asked.takes;
+      awaits = asked.awaits;
       name = asked.name;
       descriptors = asked.descriptors;
       ended = asked.ended;
+      status = asked.status;
       owed = asked.owed;
     }
+
+pub pass-requires-clause-member : goal.pass-requires-clause-member
+pass-requires-clause-member g c =
+    let may = c.requires.may in
+    let next = c.in_ok-own.ensures.due may.program may.past may.follows ∙ ap due_by c.in-Due.is in
+    λ none. only_waits c.in-Due.due (subst IsAct next (may.acts none)) (subst IsStated c.in-Due.is c.in_ok-own.ensures.stated)
+
+-- nothing of a child is due
+pub pass-requires-clause-alone : goal.pass-requires-clause-alone
+pass-requires-clause-alone g c =
+    let may = c.requires.may in
+    let at = c.args.at in
+    let next = c.in_ok-own.ensures.due may.program may.past may.follows ∙ ap due_by c.in-Due.is in
+    λ i seated. gives_no_actor c.args.mouths.now.items i at.has_child c.in-Due.due c.requires.seat.one c.requires.child
+    (subst (λ (o : Option ℕ). is_of_child o at.has_child c.in-Due.due ≡ false) seated (subst (λ (due : NeedData). is_of_child at.seat at.has_child due ≡ false) next may.own))
 
 pub returns-in-Due-clause-acted : goal.returns-in-Due-clause-acted
 returns-in-Due-clause-acted g c =
@@ -154,9 +174,11 @@ returns-in-Ended-clause-acted g c =
         event = c.put-in-Ended.ensures.event ∙ ap (λ (k : Kept). c.args.history.now.events.items ++ k ∷ []) event;
         closed = subst (λ (t : Option Disk). Meets t new (λ d e. e ≡ shut x.descriptors.items d)) still
             (subst (λ (fds : List Fd). Meets (g.D.CallFs.disk c.ask.new.disk) new (λ d e. e ≡ shut fds d)) asked.descriptors c.end.ensures.closed);
-        shuts = shuts_after c.args.mouths.now.items c.shut_after.new.mouths.items x.name at.seat c.requires.seat.is c.requires.seat.many c.shut_after.ensures;
+        shuts = shuts_after c.args.mouths.now.items c.shut_after.new.mouths.items x.name at.seat c.requires.seat.is c.requires.seat.one c.requires.seat.many
+            (subst (λ (a : List ℕ). HaveShut at.seat a c.args.mouths.now.items c.shut_after.new.mouths.items) (c.as_slice.ensures ∙ c.end.ensures.name ∙ name) c.shut_after.ensures);
         name = c.end.ensures.name ∙ asked.name;
         descriptors = c.end.ensures.descriptors;
         ended = c.end.ensures.ended ∙ ap Some c.len-index.ensures;
+        status_is = c.end.ensures.status;
       };
     })

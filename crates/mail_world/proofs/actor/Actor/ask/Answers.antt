@@ -8,7 +8,7 @@ use Rattle.mail_bytes.specs.Told.{OnTold}
 use Rattle.mail_world.specs.History.{next_of}
 use Rattle.mail_world.specs.ByKind.{found_of}
 use Rattle.mail_world.specs.Acting.{MayMake}
-use Rattle.mail_world.proofs.Programs.{program_uses, machine_finds}
+use Rattle.mail_world.proofs.Programs.{program_uses}
 use Rattle.mail_world.proofs.Machines.{no_act, keeps_few, read_made}
 use Rattle.mail_world.proofs.actor.Actor.ask.Goals as goal
 use Rattle.mail_world.proofs.actor.Actor.ask.Goals.{After-need}
@@ -27,7 +27,7 @@ asks_held g c =
     subst (UsesHeld (held may.past)) (sym (asks_next g c)) (program_uses may.program may.past c.args.at.now c.args.at.ready may.run)
 
 pub look-requires-clause-given : goal.look-requires-clause-given
-look-requires-clause-given g c = machine_finds c.args.self.now.machine c.args.at.ready
+look-requires-clause-given g c = c.requires.may.found
 
 pub perform-answer-requires-clause-fits : goal.perform-answer-requires-clause-fits
 perform-answer-requires-clause-fits g c =

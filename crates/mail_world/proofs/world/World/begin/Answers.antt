@@ -13,10 +13,15 @@ use Rattle.mail_world.specs.Books.{new_entry}
 use Rattle.mail_world.specs.Places.{place_of}
 use Rattle.world_events.specs.declared.books.Entry.{Entry}
 use Rattle.queue_inject.specs.declared.injection.Arguments.{Arguments}
-use Rattle.mail_world.specs.ByKind.{Follows}
+use Rattle.mail_world.specs.ByKind.{Follows, awaits_of}
+use Rattle.fed_injector.specs.Inputs.{FedStands, with_input}
+use Rattle.queue_inject.specs.declared.injection.InputEnd.TheVariants.{Unread}
+use Rattle.received_line.specs.declared.line.Invoked.TheVariants.{Uid}
+use Rattle.mail_world.specs.Readiness.{is_awaiting}
 use Rattle.mail_world.specs.World.{mail, Seen, was_started}
 use Rattle.mail_world.specs.Inside.{IsWorld, among_all, known, living}
 use Rattle.mail_world.proofs.Histories.{goes_on}
+use Rattle.mail_world.proofs.Borne.{stranger_awaits}
 use Rattle.mail_world.proofs.Members.{mail_is_none}
 use Rattle.mail_world.proofs.Living.{living_push, room_less}
 use Rattle.mail_world.proofs.Booked.{start_booked}
@@ -47,40 +52,65 @@ started g c =
     let args = c.in_ok-arguments.ensures in
     let told : Kept = kept.Start c.copy-2.result (Injector c.in_ok-arguments.arguments) in
     let same : told ≡ kept.Start c.args.name.now (Injector (mail c.self.inside.next_pid c.self.inside.present c.args.message.now c.args.envelope.now)) = cc in
-    c.put.ensures.event ∙ ap (λ (l : List Kept). l ++ told ∷ []) c.in_ok-reserve-2.ensures.same ∙ ap (λ (k : Kept). c.self.inside.history.events.items ++ k ∷ []) same
+    c.put.ensures.event ∙ ap (λ (l : List Kept). l ++ told ∷ []) c.in_ok-reserve.ensures.same ∙ ap (λ (k : Kept). c.self.inside.history.events.items ++ k ∷ []) same
+
+-- an injector before it is fed
+abbrev unfed : ℕ → ℕ → Arguments
+unfed pid start = record { uid = 1000; pid = pid; invoked = Uid 1000; start = start; message = []; message_end = Unread; envelope = []; envelope_end = Unread }
+
+with_texts_is : (pid start : ℕ) (m e message envelope : List ℕ) → m ≡ message → e ≡ envelope → with_input m e (unfed pid start) ≡ mail pid start message envelope
+with_texts_is pid start m e message envelope one two = ap (λ (m : List ℕ). mail pid start m e) one ∙ ap (mail pid start message) two
+
+pub invariant_of-self : goal.invariant_of-self
+invariant_of-self g c = (
+  rw (c.in_err-reserve.ensures.same) c.self.invariant.0,
+  c.in_err-reserve.ensures.stays (living c.self.inside.actors.items) c.self.invariant.1,
+  rw (c.in_err-reserve.ensures.same) c.self.invariant.2,
+  rw (c.in_err-reserve.ensures.same) c.self.invariant.3,
+  rw (c.in_err-reserve.ensures.same) c.self.invariant.4,
+)
 
 pub invariant_of-self-in_err-reserve-2 : goal.invariant_of-self-in_err-reserve-2
 invariant_of-self-in_err-reserve-2 g c =
-    let items = c.in_ok-reserve.ensures.items in
-    let same = c.in_ok-make_room.ensures.same in (
-      rw (items, c.in_err-reserve-2.ensures.same) c.self.invariant.0,
-      rw (items) (c.in_err-reserve-2.ensures.stays (living c.self.inside.actors.items) c.self.invariant.1),
-      rw (items, c.in_err-reserve-2.ensures.same, same) c.self.invariant.2,
-      rw (items, c.in_err-reserve-2.ensures.same) c.self.invariant.3,
-      rw (c.in_err-reserve-2.ensures.same) c.self.invariant.4,
+    let items = c.in_err-reserve-2.ensures.items in (
+      rw (items, c.in_ok-reserve.ensures.same) c.self.invariant.0,
+      rw (items) (c.in_ok-reserve.ensures.stays (living c.self.inside.actors.items) c.self.invariant.1),
+      rw (items, c.in_ok-reserve.ensures.same) c.self.invariant.2,
+      rw (items, c.in_ok-reserve.ensures.same) c.self.invariant.3,
+      rw (c.in_ok-reserve.ensures.same) c.self.invariant.4,
+    )
+
+pub invariant_of-self-in_err-make_room : goal.invariant_of-self-in_err-make_room
+invariant_of-self-in_err-make_room g c =
+    let items = c.in_ok-reserve-2.ensures.items in (
+      rw (items, c.in_ok-reserve.ensures.same) c.self.invariant.0,
+      rw (items) (c.in_ok-reserve.ensures.stays (living c.self.inside.actors.items) c.self.invariant.1),
+      rw (items, c.in_ok-reserve.ensures.same, c.in_err-make_room.ensures.same) c.self.invariant.2,
+      rw (items, c.in_ok-reserve.ensures.same) c.self.invariant.3,
+      rw (c.in_ok-reserve.ensures.same) c.self.invariant.4,
     )
 
 pub invariant_of-self-in_err-make_room-2 : goal.invariant_of-self-in_err-make_room-2
 invariant_of-self-in_err-make_room-2 g c =
     let i = c.self.inside in
-    let items = c.in_ok-reserve.ensures.items in (
-      rw (items, c.in_ok-reserve-2.ensures.same) c.self.invariant.0,
-      rw (items) (c.in_ok-reserve-2.ensures.stays (living i.actors.items) c.self.invariant.1),
-      rw (items, c.in_ok-reserve-2.ensures.same, c.in_ok-make_room.ensures.same) c.self.invariant.2,
-      rw (items, c.in_ok-reserve-2.ensures.same) c.self.invariant.3,
-      rw (c.in_ok-reserve-2.ensures.same) (same_starts i.starts c.make_room-2.new.self i.crew (place_of i.places) (starts_of (reverse i.history.events.items)) c.in_err-make_room-2.ensures.same c.self.invariant.4),
+    let items = c.in_ok-reserve-2.ensures.items in (
+      rw (items, c.in_ok-reserve.ensures.same) c.self.invariant.0,
+      rw (items) (c.in_ok-reserve.ensures.stays (living i.actors.items) c.self.invariant.1),
+      rw (items, c.in_ok-reserve.ensures.same, c.in_ok-make_room.ensures.same) c.self.invariant.2,
+      rw (items, c.in_ok-reserve.ensures.same) c.self.invariant.3,
+      rw (c.in_ok-reserve.ensures.same) (same_starts i.starts c.make_room-2.new.self i.crew (place_of i.places) (starts_of (reverse i.history.events.items)) c.in_err-make_room-2.ensures.same c.self.invariant.4),
     )
 
 pub invariant_of-self-in_err-add : goal.invariant_of-self-in_err-add
 invariant_of-self-in_err-add g c =
     let i = c.self.inside in
-    let items = c.in_ok-reserve.ensures.items in
+    let items = c.in_ok-reserve-2.ensures.items in
     let places : ◌≡◌ {A = List ℕ → Option ℕ} (place_of i.places) (place_of c.add.new.self) = fun_ext (λ q. sym (c.in_err-add.ensures.err q)) in (
-      rw (items, c.in_ok-reserve-2.ensures.same) (subst (λ (f : List ℕ → Option ℕ). IsWorld (g.D.CallFs.disk i.disk) (among_all i.crew f) i.actors.items (known i.history.events.items) i.history.events.items i.present i.next_pid) places c.self.invariant.0),
-      rw (items) (c.in_ok-reserve-2.ensures.stays (living i.actors.items) c.self.invariant.1),
-      rw (items, c.in_ok-reserve-2.ensures.same, c.in_ok-make_room.ensures.same) c.self.invariant.2,
-      rw (items, c.in_ok-reserve-2.ensures.same) c.self.invariant.3,
-      rw (c.in_ok-reserve-2.ensures.same) (subst (λ (f : List ℕ → Option ℕ). AreStarts c.make_room-2.new.self i.crew f (starts_of (reverse i.history.events.items))) places
+      rw (items, c.in_ok-reserve.ensures.same) (subst (λ (f : List ℕ → Option ℕ). IsWorld (g.D.CallFs.disk i.disk) (among_all i.crew f) i.actors.items (known i.history.events.items) i.history.events.items i.present i.next_pid i.bounces) places c.self.invariant.0),
+      rw (items) (c.in_ok-reserve.ensures.stays (living i.actors.items) c.self.invariant.1),
+      rw (items, c.in_ok-reserve.ensures.same, c.in_ok-make_room.ensures.same) c.self.invariant.2,
+      rw (items, c.in_ok-reserve.ensures.same) c.self.invariant.3,
+      rw (c.in_ok-reserve.ensures.same) (subst (λ (f : List ℕ → Option ℕ). AreStarts c.make_room-2.new.self i.crew f (starts_of (reverse i.history.events.items))) places
           (same_starts i.starts c.make_room-2.new.self i.crew (place_of i.places) (starts_of (reverse i.history.events.items)) c.in_ok-make_room-2.ensures.same c.self.invariant.4)),
     )
 
@@ -93,17 +123,17 @@ invariant_of-self-2 g c =
     let args = mail i.next_pid i.present c.args.message.now c.args.envelope.now in
     let at = (goal.at.invariant_of-self-2 g c).After-saturating_add-self-inside in
     let new = new_name g at in
-    let held = c.in_ok-reserve.ensures.items in
+    let held = c.in_ok-reserve-2.ensures.items in
     let pushed = rw c.unwrap.ensures at c.push.ensures.items in
     let actors : c.push.new.self.items ≡ i.actors.items ++ c.new-actor.result ∷ [] = cc in
     let event = started g at in
     let name : c.new-actor.result.name ≡ a = c.new-actor.ensures.name ∙ c.copy.ensures in
-    let many : c.len-2.result ≡ length i.actors.items = c.len-2.ensures ∙ c.reserve.new.self.ok.0 ∙ ap length held in
+    let many : c.len-2.result ≡ length i.actors.items = c.len-2.ensures ∙ c.reserve-2.new.self.ok.0 ∙ ap length held in
     let within = c.self.invariant.3.many in
     let put : (b : List ℕ) → place_of c.add.new.self b ≡ put_at (place_of i.places) a (Some (length i.actors.items - i.crew)) b =
     λ b. c.in_ok-add.ensures.ok b ∙ ap (λ (n : List ℕ). put_at (place_of i.places) n (Some (c.len-2.result - i.crew)) b) c.as_slice.ensures ∙ ap (λ (n : ℕ). put_at (place_of i.places) a (Some (n - i.crew)) b) many in
     let placed = put_among i.crew (length i.actors.items) (place_of i.places) (place_of c.add.new.self) a (seat_none a other) within put in
-    let len : c.len.result ≡ length i.actors.items = c.len.ensures ∙ c.reserve.new.self.ok.0 ∙ ap length held in
+    let len : c.len.result ≡ length i.actors.items = c.len.ensures ∙ i.actors.ok.0 in
     let grown : length c.push.new.self.items ≡ length i.actors.items + 1 = ap length actors ∙ length-append i.actors.items (c.new-actor.result ∷ []) in
     let counted : c.len-3.result ≡ length c.push.new.self.items = c.len-3.ensures ∙ c.push.new.self.ok.0 in
     let last : c.len-3.result - i.crew - 1 + 4 ≡ length i.actors.items - i.crew + 4 = omega (arith, grown, counted, within) in
@@ -112,13 +142,21 @@ invariant_of-self-2 g c =
     let entry : c.add-2.new.self.entries.items ≡ i.books.entries.items ++ new_entry a args ∷ [] =
     c.add-2.ensures ∙ ap (λ (l : List Entry). l ++ new_entry a c.in_ok-arguments.arguments ∷ []) c.in_ok-make_room.ensures.same
     ∙ ap (λ (w : Arguments). i.books.entries.items ++ new_entry a w ∷ []) c.in_ok-arguments.ensures in
-    let machine = subst (λ (m : AnyMachine). Follows m (Injector args) []) (sym c.new-actor.ensures.machine) c.in_ok-mailer.ensures in (
-      rw (actors, event) (start_keeps (g.D.CallFs.disk i.disk) all (among_all i.crew (place_of c.add.new.self)) i.actors.items i.history.events.items i.present i.next_pid c.saturating_add-self-inside.result
-          c.new-actor.result a (Injector args) tt other c.self.invariant.0 new placed name c.new-actor.ensures.ended c.new-actor.ensures.owed c.new-actor.ensures.descriptors machine refl c.saturating_add-self-inside.ensures),
-      rw (actors) (c.put.ensures.room (living (i.actors.items ++ c.new-actor.result ∷ [])) (room_less c.reserve-2.new.self (c.len.result + 2) (living (i.actors.items ++ c.new-actor.result ∷ []) + 1)
-          (omega (arith, len, bound)) c.in_ok-reserve-2.ensures.room)),
+    let texts : with_input c.in_ok-message.message c.in_ok-from_slice.field-0 (unfed i.next_pid i.present) ≡ args = with_texts_is i.next_pid i.present _ _ _ _ c.in_ok-message.ensures c.in_ok-from_slice.ensures in
+    let waits = c.in_ok-injector.ensures.stands (unfed i.next_pid i.present) (record { uid_is = refl; pid_is = refl; invoked_is = refl; start_is = refl })
+    (record { message_is = refl; message_end = refl; envelope_is = refl; envelope_end = refl }) in
+    let fed : FedStands c.give.new.self args [] = subst (λ (args : Arguments). FedStands c.give.new.self args []) texts (c.give.ensures.stands (unfed i.next_pid i.present) [] waits) in
+    let machine = subst (λ (m : AnyMachine). Follows m (Injector args) []) (sym c.new-actor.ensures.machine) fed in
+    let stranger = c.self.invariant.0.kept.strangers a new in
+    let awaits : awaits_of c.new-actor.result.machine ≡ is_awaiting (known i.history.events.items) a =
+    ap awaits_of c.new-actor.ensures.machine ∙ c.give.ensures.given
+    ∙ sym (stranger_awaits i.crew i.mouths.items i.actors.items (known i.history.events.items) i.history.events.items a c.self.invariant.3 stranger.unknown) in (
+      rw (actors, event) (start_keeps (g.D.CallFs.disk i.disk) all (among_all i.crew (place_of c.add.new.self)) i.actors.items i.history.events.items i.present i.next_pid c.saturating_add-self-inside.result i.bounces
+          c.new-actor.result a (Injector args) tt other c.requires.named c.self.invariant.0 new placed name c.new-actor.ensures.ended c.new-actor.ensures.status c.new-actor.ensures.owed c.new-actor.ensures.descriptors machine awaits refl c.saturating_add-self-inside.ensures),
+      rw (actors) (c.put.ensures.room (living (i.actors.items ++ c.new-actor.result ∷ [])) (room_less c.reserve.new.self (c.len.result + 2) (living (i.actors.items ++ c.new-actor.result ∷ []) + 1)
+          (omega (arith, len, bound)) c.in_ok-reserve.ensures.room)),
       rw (actors, event, entry, mails) (start_booked (drop i.crew i.actors.items) i.history.events.items c.new-actor.result a args i.books.entries.items c.self.invariant.2 name),
-      rw (actors, event) (start_piped i.crew i.mouths.items i.actors.items i.history.events.items c.new-actor.result a (Injector args) c.self.invariant.3),
+      rw (actors, event) (start_piped i.crew i.mouths.items i.actors.items i.history.events.items c.new-actor.result a (Injector args) other stranger.unknown c.self.invariant.3),
       rw (event) (subst (AreStarts c.add_mail.new.self i.crew (place_of c.add.new.self)) (sym (starts_push i.history.events.items (kept.Start a (Injector args))))
           (mail_starts c.make_room-2.new.self c.add_mail.new.self i.crew (length i.actors.items) (place_of i.places) (place_of c.add.new.self) (starts_of (reverse i.history.events.items)) a within
           (c.add_mail.ensures.order ∙ ap (λ (n : ℕ). c.make_room-2.new.self.order.items ++ n ∷ []) last) c.add_mail.ensures.newest new placed
@@ -133,4 +171,4 @@ returns-clause-goes_on g c =
     let args = mail i.next_pid i.present c.args.message.now c.args.envelope.now in
     let at = (goal.at.returns-clause-goes_on g c).After-saturating_add-self-inside in
     rw (← c.self.view_is, started g at) (goes_on told told events (events ++ kept.Start c.args.name.now (Injector args) ∷ []) i.present i.present
-    (start_leads_on told (among_all i.crew (place_of i.places)) i.actors.items events i.present i.next_pid c.args.name.now (Injector args) tt c.self.invariant.0 (new_name g at)))
+    (start_leads_on told (among_all i.crew (place_of i.places)) i.actors.items events i.present i.next_pid i.bounces c.args.name.now (Injector args) tt c.self.invariant.0 (new_name g at)))

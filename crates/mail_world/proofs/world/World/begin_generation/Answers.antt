@@ -11,7 +11,7 @@ use Rattle.mail_world.specs.Starts.{AreStarts}
 use Rattle.mail_world.specs.Places.{place_of}
 use Rattle.mail_world.specs.World.{Seen}
 use Rattle.mail_world.specs.Inside.{known, living}
-use Rattle.mail_world.proofs.Begun.{begun_keeps, begun_leads_on, begun_piped}
+use Rattle.mail_world.proofs.Begun.{begun_keeps, begun_leads_on, begun_piped, sender_over}
 use Rattle.mail_world.proofs.Booked.{begun_booked}
 use Rattle.mail_world.proofs.Firsts.{lives_none}
 use Rattle.mail_world.proofs.Histories.{goes_on}
@@ -79,11 +79,13 @@ invariant_of-self-2 g c =
     pushed ∙ ap (λ (l : List Held). l ++ c.in_ok-mails.mails.items) c.in_ok-reserve.ensures.items ∙ ap (λ (l : List Held). four ++ l) c.in_ok-mails.ensures.tail in
     let len : c.len-2.result ≡ length i.actors.items = c.len-2.ensures ∙ i.actors.ok.0 in
     let bound = few i.crew four i.actors.items new in (
-      rw (actors, event) (begun_keeps told (place_of i.places) i.crew i.actors.items four events i.present i.next_pid c.saturating_add-self-inside.result c.self.invariant.0 none c.self.invariant.3.few new c.saturating_add-self-inside.ensures),
+      rw (actors, event) (begun_keeps told (place_of i.places) i.crew i.actors.items four events i.present i.next_pid c.saturating_add-self-inside.result i.bounces c.self.invariant.0 none c.self.invariant.3.few
+          c.self.invariant.3.wired.members new c.saturating_add-self-inside.ensures),
       rw (actors) (c.put.ensures.room (living (four ++ rest)) (room_less c.reserve-2.new.self (c.len-2.result + 5) (living (four ++ rest) + 1) (omega (arith, len, bound)) c.in_ok-reserve-2.ensures.room)),
       rw (actors, event) (subst (λ (l : List Held). AreBooked (entries_of i.books) l (events ++ kept.Generation i.present ∷ [])) (sym (mails_are four rest new))
           (begun_booked rest events i.present (entries_of i.books) c.self.invariant.2)),
-      rw (actors, event) (begun_piped i.crew i.mouths.items c.in_ok-mouths.mouths.items i.actors.items four events i.present c.self.invariant.3 new c.in_ok-mouths.ensures),
+      rw (actors, event) (begun_piped i.crew i.mouths.items c.in_ok-mouths.mouths.items i.actors.items four events i.present c.self.invariant.3
+          (sender_over told (place_of i.places) i.crew i.actors.items events i.present i.next_pid i.bounces c.self.invariant.0 none c.self.invariant.3.few) new c.in_ok-mouths.ensures),
       rw (event) (subst (AreStarts c.add_members.new.self 4 (place_of i.places)) (sym (starts_push events (kept.Generation i.present)))
           (members_start c.make_room.new.self c.add_members.new.self i.crew (place_of i.places) (starts_of (reverse events)) c.add_members.ensures.order c.add_members.ensures.newest
           (same_starts i.starts c.make_room.new.self i.crew (place_of i.places) (starts_of (reverse events)) c.in_ok-make_room.ensures.same c.self.invariant.4))),
@@ -98,4 +100,4 @@ returns-clause-goes_on g c =
     let event : c.put.new.self.events.items ≡ events ++ kept.Generation i.present ∷ [] =
     c.put.ensures.event ∙ ap (λ (l : List Kept). l ++ kept.Generation i.present ∷ []) c.in_ok-reserve-2.ensures.same in
     rw (← c.self.view_is, event) (goes_on told told events (events ++ kept.Generation i.present ∷ []) i.present i.present
-    (begun_leads_on told (place_of i.places) i.crew i.actors.items events i.present i.next_pid c.self.invariant.0 none c.self.invariant.3.few))
+    (begun_leads_on told (place_of i.places) i.crew i.actors.items events i.present i.next_pid i.bounces c.self.invariant.0 none c.self.invariant.3.few))

@@ -36,7 +36,7 @@ invariant_of-self-2 g c =
     let at = (goal.at.invariant_of-self-2 g c).After-put in
     let len : c.len.result ≡ length i.actors.items = c.len.ensures ∙ i.actors.ok.0 in
     let bound = living_within i.actors.items in (
-      rw (came g at) (moment_keeps (g.D.CallFs.disk i.disk) (among_all i.crew (place_of i.places)) i.actors.items i.history.events.items i.present c.args.moment i.next_pid c.requires (later g at) c.self.invariant.0),
+      rw (came g at) (moment_keeps (g.D.CallFs.disk i.disk) (among_all i.crew (place_of i.places)) i.actors.items i.history.events.items i.present c.args.moment i.next_pid i.bounces c.requires (later g at) c.self.invariant.0),
       c.put.ensures.room (living i.actors.items) (room_less c.reserve.new.self (c.len.result + 1) (living i.actors.items + 1) (omega (arith, len, bound)) c.in_ok-reserve.ensures.room),
       rw (came g at) (moment_booked (drop i.crew i.actors.items) i.history.events.items c.args.moment i.books.entries.items c.self.invariant.2),
       rw (came g at) (moment_piped i.crew i.mouths.items i.actors.items i.history.events.items c.args.moment c.self.invariant.3),

@@ -1,38 +1,46 @@
-use Rattle.std.proofs.Common.{◌≡◌, ℕ, ◌+◌, ◌-◌, ◌^◌, ◌<◌, min, List, length, set, arith, Option, Some, None, IsSomeAnd, Ok, Err, refl, sym, ap, ◌∙◌, subst, length-drop}
-use Rattle.std.specs.Prelude.{drop, IsNone, IfSome}
+use Rattle.std.proofs.Common.{◌≡◌, ℕ, ◌+◌, ◌-◌, ◌^◌, ◌<◌, min, List, [], ◌∷◌, ◌++◌, length, set, arith, Bool, true, false, Option, Some, None, IsSomeAnd, Ok, Err, is_some, codes, refl, sym, ap, ◌∙◌, subst, length-drop}
+use Rattle.std.specs.Prelude.{drop, IsNone, IfSome, IfOk, IfErr}
+use Rattle.std.proofs.lemmas.List.{length-set}
 use Rattle.std.proofs.lemmas.Result.{err_from_is_err_and}
 use Rattle.std.specs.List.{slice_get}
+use Rattle.call_fs.specs.declared.past.NeedData.{NeedData}
 use Rattle.call_fs.specs.declared.past.Own.{Own}
 use Rattle.world_events.specs.declared.event.Program.{Program}
 use Rattle.mail_world.specs.declared.actor.Actor.{Actor as Held}
 use Rattle.mail_world.specs.declared.world.Did.{Did}
 use Rattle.mail_world.specs.declared.error.WorldError.{WorldError}
+use Rattle.mail_world.specs.declared.error.WorldError.TheVariants as why
 use Rattle.world_events.specs.declared.event.Event.{Event as Kept}
 use Rattle.world_events.specs.declared.event.History.{History}
 use Rattle.world_pipes.specs.declared.mouths.Mouths.{Mouths}
 use Rattle.mail_world.specs.Books.{entries_of}
-use Rattle.mail_world.specs.ByKind.{Follows}
+use Rattle.mail_world.specs.ByKind.{Follows, awaits_of}
+use Rattle.mail_world.specs.Children.{IsDueOfChild, Serves, child_place, HasLeftIf}
 use Rattle.mail_world.specs.Crew.{IsFoundAt}
-use Rattle.mail_world.specs.Generations.{Waits}
+use Rattle.mail_world.specs.Generations.{Waits, has_idled}
+use Rattle.mail_world.specs.History.{next_of}
 use Rattle.mail_world.specs.Places.{place_of}
 use Rattle.mail_world.specs.Inside.{among_all, known, living, StandsFor, Owes}
-use Rattle.mail_world.specs.Acting.{IsNoLiving, IsSeated, MayAct, HasActed, HasStepped, HasIdled}
+use Rattle.mail_world.specs.Acting.{IsNoLiving, IsSeated, MayAct, HasActed, HasStepped, HasIdled, is_of_child}
+use Rattle.mail_world.specs.World.{IsStep, GoesOn, GoesByPlan}
 use Rattle.mail_world.proofs.Starting.{acted_starts}
 use Rattle.mail_world.proofs.Booked.{entry_within}
+use Rattle.mail_world.proofs.Leaving.{child_at}
 use Rattle.mail_world.proofs.Noted.{seat_of_place, is_seated}
 use Rattle.mail_world.proofs.Worlds.{StandsAt, stands_at, in_range, may_end}
 use Rattle.mail_world.proofs.Histories.{goes_on}
-use Rattle.mail_world.proofs.Living.{living_still, living_set, room_less}
-use Rattle.mail_world.proofs.Lists.{set_again}
+use Rattle.mail_world.proofs.Living.{living_still, living_within, left_many_if, room_less}
+use Rattle.mail_world.proofs.Lists.{written_back}
 use Rattle.mail_world.proofs.Refusals.{no_end, not_gone, gone_exactly, memory_other, ok_other}
-use Rattle.mail_world.proofs.Steps.{AreKept, turned_keeps, turned_stands, as_they_were, paid_turned, looked_turned, may_step, finds_by, acted_leads, acted_keeps, acted_step, acted_waits, waited_waits, acted_idle, no_living_waits, pipes_within}
+use Rattle.mail_world.proofs.Served.{other_error, if_ok, if_err, either_way, waits_or, step_waits, step_planned}
+use Rattle.mail_world.proofs.Steps.{AreKept, StandsReady, paid_stands, looked_stands, next_by, asks_child, paid_turned, looked_turned, turned_keeps, may_find, may_step, acted_leads, acted_keeps, acted_step, acted_waits, waited_waits, acted_idle, no_living_waits, pipes_within}
 use Rattle.mail_world.proofs.world.World.step.Goals as goal
-use Rattle.mail_world.proofs.world.World.step.Goals.{After-index_mut-acting, In_ok-pay, In_ok-did}
+use Rattle.mail_world.proofs.world.World.step.Goals.{After-index_mut-acting, After-is_some, In_ok-due, In-Some, In_default, After-serve, In_ok-did}
 
 -- what the world keeps
 keeps : (g : _) (c : After-index_mut-acting g) →
     AreKept (g.D.CallFs.disk c.self.inside.disk) c.self.inside.crew (place_of c.self.inside.places) c.self.inside.actors.items c.self.inside.mouths.items c.self.inside.books.entries.items
-    c.self.inside.history.events.items c.self.inside.present c.self.inside.next_pid
+    c.self.inside.history.events.items c.self.inside.present c.self.inside.next_pid c.self.inside.bounces
 keeps g c = record { world = c.self.invariant.0; booked = c.self.invariant.2; piped = c.self.invariant.3 }
 
 -- the actor that steps
@@ -43,27 +51,29 @@ acting g c =
     let i = c.self.inside in
     let place = c.in_ok-place.place in
     let ok = c.in_ok-place.ensures.ok in
-    stands_at (g.D.CallFs.disk i.disk) (among_all i.crew (place_of i.places)) i.actors.items (known i.history.events.items) i.history.events.items i.present i.next_pid place c.args.actor.now c.index_mut-acting.result.now
+    stands_at (g.D.CallFs.disk i.disk) (among_all i.crew (place_of i.places)) i.actors.items (known i.history.events.items) i.history.events.items i.present i.next_pid i.bounces place c.args.actor.now c.index_mut-acting.result.now
     c.self.invariant.0 ok.0 (subst (λ (l : List Held). IsSomeAnd (slice_get l place) (λ x. x.ended ≡ None)) c.deref.ensures.value ok.1) c.index_mut-acting.ensures.value
 
--- and once it was paid: what the world keeps, where it stands, that it owes nothing, and its name
-abbrev Paid : (g : _) (c : In_ok-pay g) → Type 0
-Paid g c =
-    AreKept (g.D.CallFs.disk c.self.inside.disk) c.self.inside.crew (place_of c.self.inside.places) (set c.self.inside.actors.items c.in_ok-place.place c.pay.new.self) c.self.inside.mouths.items c.self.inside.books.entries.items
-    c.self.inside.history.events.items c.self.inside.present c.self.inside.next_pid
-    × StandsAt (among_all c.self.inside.crew (place_of c.self.inside.places)) (set c.self.inside.actors.items c.in_ok-place.place c.pay.new.self) (known c.self.inside.history.events.items) c.self.inside.history.events.items
-    c.self.inside.present c.in_ok-place.place c.pay.new.self
-    × (c.pay.new.self.owed ≡ None) × (c.pay.new.self.name ≡ c.args.actor.now)
-
-paid : (g : _) (c : In_ok-pay g) →
-    AreKept (g.D.CallFs.disk c.self.inside.disk) c.self.inside.crew (place_of c.self.inside.places) c.self.inside.actors.items c.self.inside.mouths.items c.self.inside.books.entries.items
-    c.self.inside.history.events.items c.self.inside.present c.self.inside.next_pid
-    → StandsAt (among_all c.self.inside.crew (place_of c.self.inside.places)) c.self.inside.actors.items (known c.self.inside.history.events.items) c.self.inside.history.events.items c.self.inside.present c.in_ok-place.place c.index_mut-acting.result.now
-    × (c.index_mut-acting.result.now.name ≡ c.args.actor.now) → Paid g c
-paid g c w at =
+-- the place of the sender's child, if there is one
+placed : (g : _) (c : After-index_mut-acting g) → c.child_at-child.result ≡ child_place c.self.inside.mouths.items c.self.inside.crew (place_of c.self.inside.places)
+placed g c =
     let i = c.self.inside in
-    let told = g.D.CallFs.disk i.disk in
-    let places = place_of i.places in
+    subst (λ (l : List Mouths). c.child_at-child.result ≡ child_place l i.crew (place_of i.places)) c.deref-2.ensures.value c.child_at-child.ensures
+
+-- it was paid, and finds this ready
+abbrev Ready_at : (g : _) (c : After-is_some g) → Held → Type 0
+Ready_at g c y =
+    StandsReady (g.D.CallFs.disk c.self.inside.disk) c.self.inside.crew (place_of c.self.inside.places) c.self.inside.actors.items c.self.inside.mouths.items c.self.inside.books.entries.items c.self.inside.history.events.items c.self.inside.present c.self.inside.next_pid c.self.inside.bounces
+    c.in_ok-place.place c.args.actor.now y c.is_some.result c.ready_at.result
+
+ready : (g : _) (c : After-is_some g) →
+    AreKept (g.D.CallFs.disk c.self.inside.disk) c.self.inside.crew (place_of c.self.inside.places) c.self.inside.actors.items c.self.inside.mouths.items c.self.inside.books.entries.items
+    c.self.inside.history.events.items c.self.inside.present c.self.inside.next_pid c.self.inside.bounces
+    → StandsAt (among_all c.self.inside.crew (place_of c.self.inside.places)) c.self.inside.actors.items (known c.self.inside.history.events.items) c.self.inside.history.events.items c.self.inside.present c.in_ok-place.place c.index_mut-acting.result.now
+    × (c.index_mut-acting.result.now.name ≡ c.args.actor.now) → c.child_at-child.result ≡ child_place c.self.inside.mouths.items c.self.inside.crew (place_of c.self.inside.places)
+    → Ready_at g c c.pay.new.self
+ready g c w at child =
+    let i = c.self.inside in
     let events = i.history.events.items in
     let place = c.in_ok-place.place in
     let x = c.index_mut-acting.result.now in
@@ -71,25 +81,30 @@ paid g c w at =
     let done = c.in_ok-pay.ensures in
     let follows = subst (λ (l : List Kept). (program : Program) (past : List Own) → ((at : ℕ) → x.owed ≡ Some at → Owes x l past at) → StandsFor x program past → Follows z.machine program past)
     c.in_ok-reserve.ensures.same done.follows in
-    let turned = paid_turned (known events) events i.present x z at.0.member at.0.lives follows done.name done.ended done.paid done.descriptors in
-    let now = turned_keeps told i.crew places i.actors.items i.mouths.items i.mouths.items i.books.entries.items events i.present i.next_pid place x z w at.0 turned (as_they_were i.mouths.items) in (
-      now,
-      turned_stands told i.crew places i.actors.items i.mouths.items i.books.entries.items events i.present i.next_pid place x z now at.0 done.ended,
-      done.paid,
-      done.name ∙ at.1,
-    )
+    let turned = paid_turned (known events) events i.present x z at.0.member at.0.lives follows done.name done.ended done.status done.awaits done.paid done.descriptors in
+    let found : IsFoundAt i.mouths.items (seat_of_place place i.crew) (awaits_of z.machine) c.ready_at.result =
+    subst (λ (l : List Mouths). IsFoundAt l (seat_of_place place i.crew) (awaits_of z.machine) c.ready_at.result) c.deref-3.ensures.value
+    (subst (λ (o : Option ℕ). IsFoundAt c.deref-3.result.now o (awaits_of z.machine) c.ready_at.result) c.seat_at-seat.ensures
+    (subst (λ (t : Bool). IsFoundAt c.deref-3.result.now c.seat_at-seat.result t c.ready_at.result) c.awaits.ensures c.ready_at.ensures)) in
+    paid_stands (g.D.CallFs.disk i.disk) i.crew (place_of i.places) i.actors.items i.mouths.items i.books.entries.items events i.present i.next_pid i.bounces place c.args.actor.now c.is_some.result c.ready_at.result
+    x z c.child_at-child.result w at.0 at.1 turned child c.is_some.ensures found
 
--- what it finds
-found : (g : _) (c : In_ok-did g) → IsFoundAt c.self.inside.mouths.items (seat_of_place c.in_ok-place.place c.self.inside.crew) c.ready_at.result
-found g c =
-    subst (λ (l : List Mouths). IsFoundAt l (seat_of_place c.in_ok-place.place c.self.inside.crew) c.ready_at.result) c.deref-2.ensures.value
-    (subst (λ (o : Option ℕ). IsFoundAt c.deref-2.result.now o c.ready_at.result) c.seat_at-seat.ensures c.ready_at.ensures)
+-- and it looked
+asked : (g : _) (c : In_ok-due g) →
+    StandsReady (g.D.CallFs.disk c.self.inside.disk) c.self.inside.crew (place_of c.self.inside.places) c.self.inside.actors.items c.self.inside.mouths.items c.self.inside.books.entries.items c.self.inside.history.events.items c.self.inside.present c.self.inside.next_pid c.self.inside.bounces
+    c.in_ok-place.place c.args.actor.now c.pay.new.self c.is_some.result c.ready_at.result
+    → StandsReady (g.D.CallFs.disk c.self.inside.disk) c.self.inside.crew (place_of c.self.inside.places) c.self.inside.actors.items c.self.inside.mouths.items c.self.inside.books.entries.items c.self.inside.history.events.items c.self.inside.present c.self.inside.next_pid c.self.inside.bounces
+    c.in_ok-place.place c.args.actor.now c.asks.new.self c.is_some.result c.ready_at.result
+asked g c r =
+    let i = c.self.inside in
+    looked_stands (g.D.CallFs.disk i.disk) i.crew (place_of i.places) i.actors.items i.mouths.items i.books.entries.items i.history.events.items i.present i.next_pid i.bounces c.in_ok-place.place c.args.actor.now c.is_some.result c.ready_at.result
+    c.pay.new.self c.asks.new.self r c.in_ok-due.ensures.looked
 
 pub living-requires : goal.living-requires
 living-requires g c =
     let i = c.self.inside in
     λ k place. subst (λ (l : List Held). k < length l) (sym c.deref.ensures.value)
-    (in_range (g.D.CallFs.disk i.disk) (among_all i.crew (place_of i.places)) i.actors.items (known i.history.events.items) i.history.events.items i.present i.next_pid c.args.actor.now c.self.invariant.0 k place)
+    (in_range (g.D.CallFs.disk i.disk) (among_all i.crew (place_of i.places)) i.actors.items (known i.history.events.items) i.history.events.items i.present i.next_pid i.bounces c.args.actor.now c.self.invariant.0 k place)
 
 pub returns-in_err-place-clause-gone : goal.returns-in_err-place-clause-gone
 returns-in_err-place-clause-gone g c =
@@ -126,10 +141,19 @@ returns-in_err-reserve-clause-gone g c =
     rw (← c.self.view_is) (not_gone c.from_residual-in_err-reserve.result i.history.events.items c.args.actor.now (memory_other c.from_residual-in_err-reserve.result (p.1 ∙ ap (λ (why : WorldError). Err why) p.2))
     (no_end (among_all i.crew (place_of i.places)) i.actors.items (known i.history.events.items) i.history.events.items i.present c.args.actor.now c.in_ok-place.place c.self.invariant.0.kept ok.0 lives))
 
+pub child_at-child-requires : goal.child_at-child-requires
+child_at-child-requires g c =
+    let i = c.self.inside in
+    subst (λ (l : List Mouths). (k : ℕ) → child_place l i.crew (place_of i.places) ≡ Some k → k < 2 ^ 64) (sym c.deref-2.ensures.value)
+    (λ k at.
+    let there = child_at i.crew (place_of i.places) i.mouths.items i.actors.items (known i.history.events.items) i.history.events.items k c.self.invariant.3 at in
+    let within = in_range (g.D.CallFs.disk i.disk) (among_all i.crew (place_of i.places)) i.actors.items (known i.history.events.items) i.history.events.items i.present i.next_pid i.bounces there.name c.self.invariant.0 k there.at in
+    omega (arith, within, i.actors.ok.0))
+
 pub index_mut-acting-requires : goal.index_mut-acting-requires
 index_mut-acting-requires g c =
     let i = c.self.inside in
-    let within = in_range (g.D.CallFs.disk i.disk) (among_all i.crew (place_of i.places)) i.actors.items (known i.history.events.items) i.history.events.items i.present i.next_pid c.args.actor.now c.self.invariant.0 c.in_ok-place.place c.in_ok-place.ensures.ok.0 in
+    let within = in_range (g.D.CallFs.disk i.disk) (among_all i.crew (place_of i.places)) i.actors.items (known i.history.events.items) i.history.events.items i.present i.next_pid i.bounces c.args.actor.now c.self.invariant.0 c.in_ok-place.place c.in_ok-place.ensures.ok.0 in
     omega (arith, i.actors.ok.0)
 
 pub pay-requires : goal.pay-requires
@@ -153,57 +177,346 @@ pub ready_at-requires : goal.ready_at-requires
 ready_at-requires g c =
     let i = c.self.inside in
     let at = acting g (goal.at.ready_at-requires g c).After-index_mut-acting in
-    λ k seat. subst (λ (l : List Mouths). k < length l) (sym c.deref-2.ensures.value)
+    λ k seat. subst (λ (l : List Mouths). k < length l) (sym c.deref-3.ensures.value)
     (pipes_within i.crew i.mouths.items i.actors.items (known i.history.events.items) i.history.events.items c.in_ok-place.place c.index_mut-acting.result.now c.self.invariant.3 at.0.is at.0.lives k (sym c.seat_at-seat.ensures ∙ seat))
+
+pub asks-requires-clause-found : goal.asks-requires-clause-found
+asks-requires-clause-found g c =
+    let i = c.self.inside in
+    let here = (goal.at.asks-requires-clause-found g c).After-index_mut-acting in
+    let r = ready g (goal.at.asks-requires-clause-found g c).After-is_some (keeps g here) (acting g here) (placed g here) in
+    may_find (known i.history.events.items) i.history.events.items i.present c.pay.new.self c.ready_at.result r.at.member r.at.lives r.paid r.finds
+
+pub invariant_of-self-in_err-due : goal.invariant_of-self-in_err-due
+invariant_of-self-in_err-due g c =
+    let i = c.self.inside in
+    let told = g.D.CallFs.disk i.disk in
+    let place = c.in_ok-place.place in
+    let here = (goal.at.invariant_of-self-in_err-due g c).After-index_mut-acting in
+    let at = acting g here in
+    let r = ready g (goal.at.invariant_of-self-in_err-due g c).After-is_some (keeps g here) at (placed g here) in
+    let v = c.asks.new.self in
+    let looked = c.in_err-due.ensures.looked in
+    let q = looked_stands (g.D.CallFs.disk i.disk) i.crew (place_of i.places) i.actors.items i.mouths.items i.books.entries.items i.history.events.items i.present i.next_pid i.bounces c.in_ok-place.place c.args.actor.now c.is_some.result c.ready_at.result
+    c.pay.new.self c.asks.new.self r looked in
+    let same = c.in_ok-reserve.ensures.same in
+    let w = subst (λ (l : List Held). AreKept told i.crew (place_of i.places) l i.mouths.items i.books.entries.items i.history.events.items i.present i.next_pid i.bounces) q.here q.world in
+    let room = c.in_ok-reserve.ensures.stays (living i.actors.items) c.self.invariant.1 in (
+      rw (same) w.world,
+      rw (living_still i.actors.items place c.index_mut-acting.result.now v at.0.is (looked.ended ∙ c.in_ok-pay.ensures.ended)) room,
+      rw (same) w.booked,
+      rw (same) w.piped,
+      rw (same) c.self.invariant.4,
+    )
+
+pub returns-in_err-due-clause-gone : goal.returns-in_err-due-clause-gone
+returns-in_err-due-clause-gone g c =
+    let i = c.self.inside in
+    let p = err_from_is_err_and c.from_residual-in_err-due.result c.from_residual-in_err-due.ensures.1 in
+    let ok = c.in_ok-place.ensures.ok in
+    let lives = subst (λ (l : List Held). IsSomeAnd (slice_get l c.in_ok-place.place) (λ x. x.ended ≡ None)) c.deref.ensures.value ok.1 in
+    rw (← c.self.view_is) (not_gone c.from_residual-in_err-due.result i.history.events.items c.args.actor.now (memory_other c.from_residual-in_err-due.result (p.1 ∙ ap (λ (why : WorldError). Err why) p.2))
+    (no_end (among_all i.crew (place_of i.places)) i.actors.items (known i.history.events.items) i.history.events.items i.present c.args.actor.now c.in_ok-place.place c.self.invariant.0.kept ok.0 lives))
+
+pub invariant_of-self-in-Some : goal.invariant_of-self-in-Some
+invariant_of-self-in-Some g c =
+    let i = c.self.inside in
+    let told = g.D.CallFs.disk i.disk in
+    let place = c.in_ok-place.place in
+    let here = (goal.at.invariant_of-self-in-Some g c).After-index_mut-acting in
+    let at = acting g here in
+    let r = ready g (goal.at.invariant_of-self-in-Some g c).After-is_some (keeps g here) at (placed g here) in
+    let v = c.asks.new.self in
+    let looked = c.in_ok-due.ensures.looked in
+    let q = looked_stands (g.D.CallFs.disk i.disk) i.crew (place_of i.places) i.actors.items i.mouths.items i.books.entries.items i.history.events.items i.present i.next_pid i.bounces c.in_ok-place.place c.args.actor.now c.is_some.result c.ready_at.result
+    c.pay.new.self c.asks.new.self r looked in
+    let same = c.in_ok-reserve.ensures.same in
+    let w = subst (λ (l : List Held). AreKept told i.crew (place_of i.places) l i.mouths.items i.books.entries.items i.history.events.items i.present i.next_pid i.bounces) q.here q.world in
+    let room = c.in_ok-reserve.ensures.stays (living i.actors.items) c.self.invariant.1 in (
+      rw (same) w.world,
+      rw (living_still i.actors.items place c.index_mut-acting.result.now v at.0.is (looked.ended ∙ c.in_ok-pay.ensures.ended)) room,
+      rw (same) w.booked,
+      rw (same) w.piped,
+      rw (same) c.self.invariant.4,
+    )
+
+-- what of its child is due
+due_of_child : (g : _) (c : In-Some g) →
+    (r : StandsReady (g.D.CallFs.disk c.self.inside.disk) c.self.inside.crew (place_of c.self.inside.places) c.self.inside.actors.items c.self.inside.mouths.items c.self.inside.books.entries.items c.self.inside.history.events.items c.self.inside.present c.self.inside.next_pid c.self.inside.bounces
+    c.in_ok-place.place c.args.actor.now c.pay.new.self c.is_some.result c.ready_at.result)
+    (q : StandsReady (g.D.CallFs.disk c.self.inside.disk) c.self.inside.crew (place_of c.self.inside.places) c.self.inside.actors.items c.self.inside.mouths.items c.self.inside.books.entries.items c.self.inside.history.events.items c.self.inside.present c.self.inside.next_pid c.self.inside.bounces
+    c.in_ok-place.place c.args.actor.now c.asks.new.self c.is_some.result c.ready_at.result)
+    → IsDueOfChild (record { disk = c.self.inside.disk; events = c.self.inside.history.events.items; present = c.self.inside.present }) c.in-Some.due × (c.asks.new.self.name ≡ codes "sender")
+due_of_child g c r q =
+    let i = c.self.inside in
+    let events = i.history.events.items in
+    let place = c.in_ok-place.place in
+    let z = c.pay.new.self in
+    let v = c.asks.new.self in
+    let due = c.in-Some.due in
+    let next = subst (λ (o : Option NeedData). IfSome o (λ due. (program : Program) (past : List Own) → Follows z.machine program past → next_of program past i.present c.ready_at.result ≡ due)) c.in-Some.is c.in_ok-due.ensures.next in
+    let mine = subst (λ (o : Option NeedData). IfSome o (λ due. is_of_child c.seat_at-seat.result c.is_some.result due ≡ true)) c.in-Some.is c.in_ok-due.ensures.of_child in
+    asks_child i.disk (g.D.CallFs.disk i.disk) i.crew (place_of i.places) q.actors i.mouths.items i.books.entries.items events i.present i.next_pid i.bounces place v c.is_some.result c.ready_at.result due
+    q.world q.at q.finds q.has_is (ap (λ (o : Option ℕ). is_of_child o c.is_some.result due) (sym c.seat_at-seat.ensures) ∙ mine)
+    (next_by (g.D.CallFs.disk i.disk) i.crew (place_of i.places) i.actors.items i.mouths.items i.books.entries.items events i.present i.next_pid i.bounces place c.args.actor.now c.is_some.result c.ready_at.result
+    (λ d. d ≡ due) z v r q c.in_ok-due.ensures.looked.name next)
+
+pub serve-requires : goal.serve-requires
+serve-requires g c =
+    let i = c.self.inside in
+    let here = (goal.at.serve-requires g c).After-index_mut-acting in
+    let r = ready g (goal.at.serve-requires g c).After-is_some (keeps g here) (acting g here) (placed g here) in
+    let q = asked g (goal.at.serve-requires g c).In_ok-due r in
+    subst (λ (l : List Kept). IsDueOfChild (record { disk = i.disk; events = l; present = i.present }) c.in-Some.due) (sym c.in_ok-reserve.ensures.same)
+    (due_of_child g (goal.at.serve-requires g c).In-Some r q).0
+
+-- what the world did for it
+served : (g : _) (c : After-serve g) →
+    IfOk c.serve.result (λ did. Serves g.D.CallFs.disk (record { disk = c.self.inside.disk; events = c.self.inside.history.events.items; present = c.self.inside.present }) c.serve.new.self did)
+served g c =
+    let i = c.self.inside in
+    subst (λ (l : List Kept). IfOk c.serve.result (λ did. Serves g.D.CallFs.disk (record { disk = i.disk; events = l; present = i.present }) c.serve.new.self did)) c.in_ok-reserve.ensures.same c.serve.ensures.served
+
+pub returns-in-Some-clause-event : goal.returns-in-Some-clause-event
+returns-in-Some-clause-event g c =
+    let i = c.self.inside in
+    let events = i.history.events.items in
+    let is = served g (goal.at.returns-in-Some-clause-event g c).After-serve in
+    let here = (goal.at.returns-in-Some-clause-event g c).After-index_mut-acting in
+    let r = ready g (goal.at.returns-in-Some-clause-event g c).After-is_some (keeps g here) (acting g here) (placed g here) in
+    let q = asked g (goal.at.returns-in-Some-clause-event g c).In_ok-due r in
+    let due = due_of_child g (goal.at.returns-in-Some-clause-event g c).In-Some r q in
+    let name : c.args.actor.now ≡ codes "sender" = sym q.name ∙ due.1 in
+    rw (← c.self.view_is) (if_ok c.serve.result (λ did. Serves g.D.CallFs.disk (record { disk = i.disk; events = events; present = i.present }) c.serve.new.self did) (λ did. IsStep c.args.actor.now did.ended (record { disk = i.disk; events = events; present = i.present }) c.serve.new.self)
+    (λ did s. subst (λ (o : Option ℕ). IsStep c.args.actor.now o (record { disk = i.disk; events = events; present = i.present }) c.serve.new.self) (sym s.ended) (subst (λ (a : List ℕ). IsStep a None (record { disk = i.disk; events = events; present = i.present }) c.serve.new.self) (sym name) s.event)) is)
+
+pub returns-in-Some-clause-present : goal.returns-in-Some-clause-present
+returns-in-Some-clause-present g c =
+    let i = c.self.inside in
+    let events = i.history.events.items in
+    let is = served g (goal.at.returns-in-Some-clause-present g c).After-serve in
+    rw (← c.self.view_is) (either_way c.serve.result (c.serve.new.self.present ≡ i.present) (if_ok c.serve.result (λ did. Serves g.D.CallFs.disk (record { disk = i.disk; events = events; present = i.present }) c.serve.new.self did) (λ did. c.serve.new.self.present ≡ i.present) (λ did s. s.present) is)
+    (if_err c.serve.result (λ error. c.serve.new.self ≡ record { disk = i.disk; events = c.reserve.new.self.events.items; present = i.present }) (λ error. c.serve.new.self.present ≡ i.present) (λ error e. ap (λ w. w.present) e) c.serve.ensures.err))
+
+pub returns-in-Some-clause-at : goal.returns-in-Some-clause-at
+returns-in-Some-clause-at g c =
+    let i = c.self.inside in
+    let events = i.history.events.items in
+    let is = served g (goal.at.returns-in-Some-clause-at g c).After-serve in
+    rw (← c.self.view_is) (if_ok c.serve.result (λ did. Serves g.D.CallFs.disk (record { disk = i.disk; events = events; present = i.present }) c.serve.new.self did) (λ did. did.at ≡ length events) (λ did s. s.at) is)
+
+pub returns-in-Some-clause-idle : goal.returns-in-Some-clause-idle
+returns-in-Some-clause-idle g c =
+    let i = c.self.inside in
+    let events = i.history.events.items in
+    let is = served g (goal.at.returns-in-Some-clause-idle g c).After-serve in
+    rw (← c.self.view_is) (if_ok c.serve.result (λ did. Serves g.D.CallFs.disk (record { disk = i.disk; events = events; present = i.present }) c.serve.new.self did) (λ did. (event : Kept) → c.serve.new.self.events ≡ events ++ event ∷ [] → did.idle ≡ has_idled (known events) event) (λ did s. s.idle) is)
+
+pub returns-in-Some-clause-goes_on : goal.returns-in-Some-clause-goes_on
+returns-in-Some-clause-goes_on g c =
+    let i = c.self.inside in
+    let events = i.history.events.items in
+    let is = served g (goal.at.returns-in-Some-clause-goes_on g c).After-serve in
+    rw (← c.self.view_is) (if_ok c.serve.result (λ did. Serves g.D.CallFs.disk (record { disk = i.disk; events = events; present = i.present }) c.serve.new.self did) (λ did. GoesOn g.D.CallFs.disk (record { disk = i.disk; events = events; present = i.present }) c.serve.new.self) (λ did s. s.goes_on) is)
+
+pub returns-in-Some-clause-plan : goal.returns-in-Some-clause-plan
+returns-in-Some-clause-plan g c =
+    let i = c.self.inside in
+    let events = i.history.events.items in
+    let is = served g (goal.at.returns-in-Some-clause-plan g c).After-serve in
+    let here = (goal.at.returns-in-Some-clause-plan g c).After-index_mut-acting in
+    let r = ready g (goal.at.returns-in-Some-clause-plan g c).After-is_some (keeps g here) (acting g here) (placed g here) in
+    let q = asked g (goal.at.returns-in-Some-clause-plan g c).In_ok-due r in
+    let due = due_of_child g (goal.at.returns-in-Some-clause-plan g c).In-Some r q in
+    let name : c.args.actor.now ≡ codes "sender" = sym q.name ∙ due.1 in
+    rw (← c.self.view_is) (if_ok c.serve.result (λ did. Serves g.D.CallFs.disk (record { disk = i.disk; events = events; present = i.present }) c.serve.new.self did) (λ did. GoesByPlan g.D.CallFs.plan g.D.CallFs.disk i.disk c.serve.new.self.disk events c.serve.new.self.events)
+    (λ did s. step_planned g.D.CallFs.plan g.D.CallFs.disk (record { disk = i.disk; events = events; present = i.present }) c.serve.new.self c.in-Some.due due.0 s.event s.disk) is)
+
+pub returns-in-Some-clause-unknown : goal.returns-in-Some-clause-unknown
+returns-in-Some-clause-unknown g c =
+    let i = c.self.inside in
+    let events = i.history.events.items in
+    let is = served g (goal.at.returns-in-Some-clause-unknown g c).After-serve in
+    let started = c.self.invariant.0.kept.started c.args.actor.now ∙ ap is_some c.in_ok-place.ensures.ok.0 in
+    rw (← c.self.view_is) (
+      (λ e. absurd (other_error c.serve.result why.Unknown c.serve.ensures.others (λ f. cc) (λ f. cc) e)),
+      (λ f. let both : true ≡ false = sym started ∙ f in absurd (cc)),
+    )
+
+pub returns-in-Some-clause-gone : goal.returns-in-Some-clause-gone
+returns-in-Some-clause-gone g c =
+    let i = c.self.inside in
+    let events = i.history.events.items in
+    let is = served g (goal.at.returns-in-Some-clause-gone g c).After-serve in
+    let ok = c.in_ok-place.ensures.ok in
+    let lives = subst (λ (l : List Held). IsSomeAnd (slice_get l c.in_ok-place.place) (λ x. x.ended ≡ None)) c.deref.ensures.value ok.1 in
+    rw (← c.self.view_is) (not_gone c.serve.result events c.args.actor.now (λ name at. other_error c.serve.result (why.Gone name at) c.serve.ensures.others (λ f. cc) (λ f. cc))
+    (no_end (among_all i.crew (place_of i.places)) i.actors.items (known events) events i.present c.args.actor.now c.in_ok-place.place c.self.invariant.0.kept ok.0 lives))
+
+pub returns-in-Some-clause-waits : goal.returns-in-Some-clause-waits
+returns-in-Some-clause-waits g c =
+    let i = c.self.inside in
+    let events = i.history.events.items in
+    let is = served g (goal.at.returns-in-Some-clause-waits g c).After-serve in
+    let here = (goal.at.returns-in-Some-clause-waits g c).After-index_mut-acting in
+    let r = ready g (goal.at.returns-in-Some-clause-waits g c).After-is_some (keeps g here) (acting g here) (placed g here) in
+    let q = asked g (goal.at.returns-in-Some-clause-waits g c).In_ok-due r in
+    let due = due_of_child g (goal.at.returns-in-Some-clause-waits g c).In-Some r q in
+    let name : c.args.actor.now ≡ codes "sender" = sym q.name ∙ due.1 in
+    rw (← c.self.view_is) (λ other e.
+    let so = c.serve.ensures.waits other e in
+    let waits = subst (λ (l : List Kept). Waits (known l) i.present (codes "sender")) c.in_ok-reserve.ensures.same so.1 in
+    (so.0 ∙ sym name, subst (Waits (known events) i.present) (sym name) waits))
+
+pub returns-in-Some-clause-waiting : goal.returns-in-Some-clause-waiting
+returns-in-Some-clause-waiting g c =
+    let i = c.self.inside in
+    let events = i.history.events.items in
+    let is = served g (goal.at.returns-in-Some-clause-waiting g c).After-serve in
+    let here = (goal.at.returns-in-Some-clause-waiting g c).After-index_mut-acting in
+    let r = ready g (goal.at.returns-in-Some-clause-waiting g c).After-is_some (keeps g here) (acting g here) (placed g here) in
+    let q = asked g (goal.at.returns-in-Some-clause-waiting g c).In_ok-due r in
+    let due = due_of_child g (goal.at.returns-in-Some-clause-waiting g c).In-Some r q in
+    let name : c.args.actor.now ≡ codes "sender" = sym q.name ∙ due.1 in
+    rw (← c.self.view_is) (λ waits. waits_or c.serve.result c.args.actor.now name c.serve.ensures.others
+    (if_ok c.serve.result (λ did. Serves g.D.CallFs.disk (record { disk = i.disk; events = events; present = i.present }) c.serve.new.self did) (λ did. ⊥) (λ did s. step_waits (codes "sender") (record { disk = i.disk; events = events; present = i.present }) c.serve.new.self s.event (subst (Waits (known events) i.present) name waits)) is))
+
+pub returns-in-Some-clause-taken : goal.returns-in-Some-clause-taken
+returns-in-Some-clause-taken g c =
+    let i = c.self.inside in
+    let events = i.history.events.items in
+    let is = served g (goal.at.returns-in-Some-clause-taken g c).After-serve in
+    other_error c.serve.result why.Taken c.serve.ensures.others (λ f. cc) (λ f. cc)
+
+pub returns-in-Some-clause-alive : goal.returns-in-Some-clause-alive
+returns-in-Some-clause-alive g c =
+    let i = c.self.inside in
+    let events = i.history.events.items in
+    let is = served g (goal.at.returns-in-Some-clause-alive g c).After-serve in
+    λ other. other_error c.serve.result (why.Alive other) c.serve.ensures.others (λ f. cc) (λ f. cc)
+
+pub returns-in-Some-clause-past : goal.returns-in-Some-clause-past
+returns-in-Some-clause-past g c =
+    let i = c.self.inside in
+    let events = i.history.events.items in
+    let is = served g (goal.at.returns-in-Some-clause-past g c).After-serve in
+    λ now. other_error c.serve.result (why.Past now) c.serve.ensures.others (λ f. cc) (λ f. cc)
+
+pub returns-in-Some-clause-err : goal.returns-in-Some-clause-err
+returns-in-Some-clause-err g c =
+    let i = c.self.inside in
+    let events = i.history.events.items in
+    let is = served g (goal.at.returns-in-Some-clause-err g c).After-serve in
+    rw (← c.self.view_is) (subst (λ (l : List Kept). IfErr c.serve.result (λ error. c.serve.new.self ≡ record { disk = i.disk; events = l; present = i.present })) c.in_ok-reserve.ensures.same c.serve.ensures.err)
+
+none_due : (o : Option NeedData) → ((d : NeedData) → o ≡ Some d → ⊥) → IsNone o
+none_due None other = refl
+none_due (Some d) other = absurd (other d refl)
+
+-- nothing of a child is due to it
+none_asked : (g : _) (c : In_default g) →
+    (r : StandsReady (g.D.CallFs.disk c.self.inside.disk) c.self.inside.crew (place_of c.self.inside.places) c.self.inside.actors.items c.self.inside.mouths.items c.self.inside.books.entries.items c.self.inside.history.events.items c.self.inside.present c.self.inside.next_pid c.self.inside.bounces
+    c.in_ok-place.place c.args.actor.now c.pay.new.self c.is_some.result c.ready_at.result)
+    (q : StandsReady (g.D.CallFs.disk c.self.inside.disk) c.self.inside.crew (place_of c.self.inside.places) c.self.inside.actors.items c.self.inside.mouths.items c.self.inside.books.entries.items c.self.inside.history.events.items c.self.inside.present c.self.inside.next_pid c.self.inside.bounces
+    c.in_ok-place.place c.args.actor.now c.asks.new.self c.is_some.result c.ready_at.result)
+    → is_of_child (seat_of_place c.in_ok-place.place c.self.inside.crew) c.is_some.result (next_of q.at.member.actor.program q.at.member.actor.past c.self.inside.present c.ready_at.result) ≡ false
+none_asked g c r q =
+    let i = c.self.inside in
+    next_by (g.D.CallFs.disk i.disk) i.crew (place_of i.places) i.actors.items i.mouths.items i.books.entries.items i.history.events.items i.present i.next_pid i.bounces c.in_ok-place.place c.args.actor.now c.is_some.result c.ready_at.result
+    (λ due. is_of_child (seat_of_place c.in_ok-place.place i.crew) c.is_some.result due ≡ false) c.pay.new.self c.asks.new.self r q c.in_ok-due.ensures.looked.name
+    (λ program past f. ap (λ (o : Option ℕ). is_of_child o c.is_some.result (next_of program past i.present c.ready_at.result)) (sym c.seat_at-seat.ensures)
+    ∙ c.in_ok-due.ensures.none (none_due c.in_ok-due.field-0 c.in_default.not-Some) program past f)
 
 pub act-requires-clause-may : goal.act-requires-clause-may
 act-requires-clause-may g c =
     let i = c.self.inside in
+    let told = g.D.CallFs.disk i.disk in
+    let events = i.history.events.items in
+    let place = c.in_ok-place.place in
     let here = (goal.at.act-requires-clause-may g c).After-index_mut-acting in
-    let now = paid g (goal.at.act-requires-clause-may g c).In_ok-pay (keeps g here) (acting g here) in
-    let seen : IsFoundAt i.mouths.items (seat_of_place c.in_ok-place.place i.crew) c.ready_at.result =
-    subst (λ (l : List Mouths). IsFoundAt l (seat_of_place c.in_ok-place.place i.crew) c.ready_at.result) c.deref-2.ensures.value
-    (subst (λ (o : Option ℕ). IsFoundAt c.deref-2.result.now o c.ready_at.result) c.seat_at-seat.ensures c.ready_at.ensures) in
-    subst (λ (o : Option ℕ). MayAct (g.D.CallFs.disk i.disk) c.pay.new.self.machine o i.present c.ready_at.result) (sym c.seat_at-seat.ensures)
-    (may_step (g.D.CallFs.disk i.disk) i.crew (place_of i.places) (set i.actors.items c.in_ok-place.place c.pay.new.self) i.mouths.items i.books.entries.items i.history.events.items i.present i.next_pid
-    c.in_ok-place.place c.pay.new.self c.ready_at.result now.0 now.1 now.2 seen)
+    let r = ready g (goal.at.act-requires-clause-may g c).After-is_some (keeps g here) (acting g here) (placed g here) in
+    let q = asked g (goal.at.act-requires-clause-may g c).In_ok-due r in
+    let z = c.pay.new.self in
+    let v = c.asks.new.self in
+    subst (λ (o : Option ℕ). MayAct told v.machine o c.is_some.result i.present c.ready_at.result) (sym c.seat_at-seat.ensures)
+    (may_step told i.crew (place_of i.places) q.actors i.mouths.items i.books.entries.items events i.present i.next_pid i.bounces place v c.is_some.result c.ready_at.result q.world q.at q.paid q.finds
+    (none_asked g (goal.at.act-requires-clause-may g c).In_default r q))
+
+pub act-requires-clause-paid : goal.act-requires-clause-paid
+act-requires-clause-paid g c =
+    let i = c.self.inside in
+    let told = g.D.CallFs.disk i.disk in
+    let events = i.history.events.items in
+    let place = c.in_ok-place.place in
+    let here = (goal.at.act-requires-clause-paid g c).After-index_mut-acting in
+    let r = ready g (goal.at.act-requires-clause-paid g c).After-is_some (keeps g here) (acting g here) (placed g here) in
+    let q = asked g (goal.at.act-requires-clause-paid g c).In_ok-due r in
+    let z = c.pay.new.self in
+    let v = c.asks.new.self in
+    q.paid
 
 pub act-requires-clause-opens : goal.act-requires-clause-opens
 act-requires-clause-opens g c =
     let i = c.self.inside in
+    let told = g.D.CallFs.disk i.disk in
+    let events = i.history.events.items in
+    let place = c.in_ok-place.place in
     let here = (goal.at.act-requires-clause-opens g c).After-index_mut-acting in
-    let now = paid g (goal.at.act-requires-clause-opens g c).In_ok-pay (keeps g here) (acting g here) in
-    may_end (g.D.CallFs.disk i.disk) (among_all i.crew (place_of i.places)) (set i.actors.items c.in_ok-place.place c.pay.new.self) (known i.history.events.items) i.history.events.items i.present i.next_pid
-    c.in_ok-place.place c.pay.new.self now.0.world now.1
+    let r = ready g (goal.at.act-requires-clause-opens g c).After-is_some (keeps g here) (acting g here) (placed g here) in
+    let q = asked g (goal.at.act-requires-clause-opens g c).In_ok-due r in
+    let z = c.pay.new.self in
+    let v = c.asks.new.self in
+    may_end told (among_all i.crew (place_of i.places)) q.actors (known events) events i.present i.next_pid i.bounces place v q.world.world q.at
 
 pub act-requires-clause-seat : goal.act-requires-clause-seat
 act-requires-clause-seat g c =
     let i = c.self.inside in
+    let told = g.D.CallFs.disk i.disk in
+    let events = i.history.events.items in
+    let place = c.in_ok-place.place in
     let here = (goal.at.act-requires-clause-seat g c).After-index_mut-acting in
-    let now = paid g (goal.at.act-requires-clause-seat g c).In_ok-pay (keeps g here) (acting g here) in
-    subst (λ (o : Option ℕ). IsSeated o c.pay.new.self.name i.mouths.items) (sym c.seat_at-seat.ensures)
-    (is_seated i.crew (place_of i.places) i.mouths.items (set i.actors.items c.in_ok-place.place c.pay.new.self) (known i.history.events.items) i.history.events.items i.present c.in_ok-place.place c.pay.new.self
-    now.0.world.kept now.0.piped now.1.is now.1.lives)
+    let r = ready g (goal.at.act-requires-clause-seat g c).After-is_some (keeps g here) (acting g here) (placed g here) in
+    let q = asked g (goal.at.act-requires-clause-seat g c).In_ok-due r in
+    let z = c.pay.new.self in
+    let v = c.asks.new.self in
+    subst (λ (o : Option ℕ). IsSeated o v.name i.mouths.items) (sym c.seat_at-seat.ensures)
+    (is_seated i.crew (place_of i.places) i.mouths.items q.actors (known events) events i.present place v q.world.world.kept q.world.piped q.at.is q.at.lives)
+
+pub act-requires-clause-child : goal.act-requires-clause-child
+act-requires-clause-child g c =
+    let i = c.self.inside in
+    let told = g.D.CallFs.disk i.disk in
+    let events = i.history.events.items in
+    let place = c.in_ok-place.place in
+    let here = (goal.at.act-requires-clause-child g c).After-index_mut-acting in
+    let r = ready g (goal.at.act-requires-clause-child g c).After-is_some (keeps g here) (acting g here) (placed g here) in
+    let q = asked g (goal.at.act-requires-clause-child g c).In_ok-due r in
+    let z = c.pay.new.self in
+    let v = c.asks.new.self in
+    q.has_is
 
 pub invariant_of-self-in_err-did : goal.invariant_of-self-in_err-did
 invariant_of-self-in_err-did g c =
     let i = c.self.inside in
     let told = g.D.CallFs.disk i.disk in
+    let events = i.history.events.items in
     let place = c.in_ok-place.place in
     let here = (goal.at.invariant_of-self-in_err-did g c).After-index_mut-acting in
-    let at = acting g here in
-    let now = paid g (goal.at.invariant_of-self-in_err-did g c).In_ok-pay (keeps g here) at in
+    let r = ready g (goal.at.invariant_of-self-in_err-did g c).After-is_some (keeps g here) (acting g here) (placed g here) in
+    let q = asked g (goal.at.invariant_of-self-in_err-did g c).In_ok-due r in
     let z = c.pay.new.self in
+    let v = c.asks.new.self in
     let y = c.act.new.self in
+    let at = acting g here in
     let looked = c.in_err-did.ensures.looked in
     let disk = c.in_err-did.ensures.err in
     let same = ap (λ (h : History). h.events.items) c.in_err-did.ensures.same ∙ c.in_ok-reserve.ensures.same in
-    let w = subst (λ (l : List Held). AreKept told i.crew (place_of i.places) l c.act.new.mouths.items i.books.entries.items i.history.events.items i.present i.next_pid) (set_again i.actors.items place z y)
-    (turned_keeps told i.crew (place_of i.places) (set i.actors.items place z) i.mouths.items c.act.new.mouths.items i.books.entries.items i.history.events.items i.present i.next_pid place z y now.0 now.1
-    (looked_turned (known i.history.events.items) i.history.events.items i.present z y now.1.member now.1.lives now.2 looked) c.in_err-did.ensures.pipes) in
+    let w = subst (λ (l : List Held). AreKept told i.crew (place_of i.places) l c.act.new.mouths.items i.books.entries.items events i.present i.next_pid i.bounces) (q.same y)
+    (turned_keeps told i.crew (place_of i.places) q.actors i.mouths.items c.act.new.mouths.items i.books.entries.items events i.present i.next_pid i.bounces place v y q.world q.at
+    (looked_turned (known events) events i.present v y q.at.member q.at.lives q.paid looked) c.in_err-did.ensures.pipes) in
     let room = c.in_ok-reserve.ensures.stays (living i.actors.items) c.self.invariant.1 in (
       rw (same, disk) w.world,
-      rw (living_still i.actors.items place c.index_mut-acting.result.now y at.0.is (looked.ended ∙ c.in_ok-pay.ensures.ended), c.in_err-did.ensures.same) room,
+      rw (living_still i.actors.items place c.index_mut-acting.result.now y at.0.is (looked.ended ∙ c.in_ok-due.ensures.looked.ended ∙ c.in_ok-pay.ensures.ended), c.in_err-did.ensures.same) room,
       rw (same) w.booked,
       rw (same) w.piped,
       rw (same) c.self.invariant.4,
@@ -225,187 +538,214 @@ none_of (Some d) other = absurd (other d refl)
 no_did : (o : Option Did) → o ≡ None → IsNone o
 no_did o is = subst IsNone (sym is) refl
 
-pub invariant_of-self-in_default : goal.invariant_of-self-in_default
-invariant_of-self-in_default g c =
+pub invariant_of-self-in_default-did : goal.invariant_of-self-in_default-did
+invariant_of-self-in_default-did g c =
     let i = c.self.inside in
     let told = g.D.CallFs.disk i.disk in
+    let events = i.history.events.items in
     let place = c.in_ok-place.place in
-    let here = (goal.at.invariant_of-self-in_default g c).After-index_mut-acting in
-    let at = acting g here in
-    let now = paid g (goal.at.invariant_of-self-in_default g c).In_ok-pay (keeps g here) at in
+    let here = (goal.at.invariant_of-self-in_default-did g c).After-index_mut-acting in
+    let r = ready g (goal.at.invariant_of-self-in_default-did g c).After-is_some (keeps g here) (acting g here) (placed g here) in
+    let q = asked g (goal.at.invariant_of-self-in_default-did g c).In_ok-due r in
     let z = c.pay.new.self in
+    let v = c.asks.new.self in
     let y = c.act.new.self in
-    let is = none_of c.in_ok-did.did c.in_default.not-Some in
-    let waited = subst (λ (d : Option Did). HasStepped d told (g.D.CallFs.disk c.act.new.disk) i.mouths.items c.act.new.mouths.items i.next_pid z y c.reserve.new.self.events.items c.act.new.history.events.items i.present c.ready_at.result) is c.in_ok-did.ensures.acted in
+    let is = none_of c.in_ok-did.did c.in_default-did.not-Some in
+    let waited = subst (λ (d : Option Did). HasStepped d told (g.D.CallFs.disk c.act.new.disk) i.mouths.items c.act.new.mouths.items i.next_pid v y c.reserve.new.self.events.items c.act.new.history.events.items i.present c.ready_at.result) is c.in_ok-did.ensures.acted in
+    let at = acting g here in
     let still = c.in_ok-did.ensures.waits (no_did c.in_ok-did.did is) in
     let same = ap (λ (h : History). h.events.items) still.1 ∙ c.in_ok-reserve.ensures.same in
-    let w = subst (λ (l : List Held). AreKept told i.crew (place_of i.places) l c.act.new.mouths.items i.books.entries.items i.history.events.items i.present i.next_pid) (set_again i.actors.items place z y)
-    (turned_keeps told i.crew (place_of i.places) (set i.actors.items place z) i.mouths.items c.act.new.mouths.items i.books.entries.items i.history.events.items i.present i.next_pid place z y now.0 now.1
-    (looked_turned (known i.history.events.items) i.history.events.items i.present z y now.1.member now.1.lives now.2 waited.looked) waited.same) in
+    let w = subst (λ (l : List Held). AreKept told i.crew (place_of i.places) l c.act.new.mouths.items i.books.entries.items events i.present i.next_pid i.bounces) (q.same y)
+    (turned_keeps told i.crew (place_of i.places) q.actors i.mouths.items c.act.new.mouths.items i.books.entries.items events i.present i.next_pid i.bounces place v y q.world q.at
+    (looked_turned (known events) events i.present v y q.at.member q.at.lives q.paid waited.looked) waited.same) in
     let room = c.in_ok-reserve.ensures.stays (living i.actors.items) c.self.invariant.1 in (
       rw (same, still.0) w.world,
-      rw (living_still i.actors.items place c.index_mut-acting.result.now y at.0.is (waited.looked.ended ∙ c.in_ok-pay.ensures.ended), still.1) room,
+      rw (living_still i.actors.items place c.index_mut-acting.result.now y at.0.is (waited.looked.ended ∙ c.in_ok-due.ensures.looked.ended ∙ c.in_ok-pay.ensures.ended), still.1) room,
       rw (same) w.booked,
       rw (same) w.piped,
       rw (same) c.self.invariant.4,
     )
 
-pub returns-in_default-clause-gone : goal.returns-in_default-clause-gone
-returns-in_default-clause-gone g c =
+pub returns-in_default-did-clause-gone : goal.returns-in_default-did-clause-gone
+returns-in_default-did-clause-gone g c =
     let i = c.self.inside in
     let ok = c.in_ok-place.ensures.ok in
     let lives = subst (λ (l : List Held). IsSomeAnd (slice_get l c.in_ok-place.place) (λ x. x.ended ≡ None)) c.deref.ensures.value ok.1 in
     rw (← c.self.view_is) (not_gone _ i.history.events.items c.args.actor.now (λ name at e. absurd (cc))
     (no_end (among_all i.crew (place_of i.places)) i.actors.items (known i.history.events.items) i.history.events.items i.present c.args.actor.now c.in_ok-place.place c.self.invariant.0.kept ok.0 lives))
 
-pub returns-in_default-clause-waits : goal.returns-in_default-clause-waits
-returns-in_default-clause-waits g c =
+pub returns-in_default-did-clause-waits : goal.returns-in_default-did-clause-waits
+returns-in_default-did-clause-waits g c =
     let i = c.self.inside in
     let told = g.D.CallFs.disk i.disk in
+    let events = i.history.events.items in
     let place = c.in_ok-place.place in
-    let here = (goal.at.returns-in_default-clause-waits g c).After-index_mut-acting in
-    let now = paid g (goal.at.returns-in_default-clause-waits g c).In_ok-pay (keeps g here) (acting g here) in
+    let here = (goal.at.returns-in_default-did-clause-waits g c).After-index_mut-acting in
+    let r = ready g (goal.at.returns-in_default-did-clause-waits g c).After-is_some (keeps g here) (acting g here) (placed g here) in
+    let q = asked g (goal.at.returns-in_default-did-clause-waits g c).In_ok-due r in
     let z = c.pay.new.self in
+    let v = c.asks.new.self in
     let y = c.act.new.self in
-    let actors = set i.actors.items place z in
-    let is = none_of c.in_ok-did.did c.in_default.not-Some in
-    let waited = subst (λ (d : Option Did). HasStepped d told (g.D.CallFs.disk c.act.new.disk) i.mouths.items c.act.new.mouths.items i.next_pid z y c.reserve.new.self.events.items c.act.new.history.events.items i.present c.ready_at.result) is c.in_ok-did.ensures.acted in
-    let seated = is_seated i.crew (place_of i.places) i.mouths.items actors (known i.history.events.items) i.history.events.items i.present place z now.0.world.kept now.0.piped now.1.is now.1.lives in
-    let finds = finds_by i.crew (place_of i.places) i.mouths.items actors (known i.history.events.items) i.history.events.items i.present place z c.ready_at.result now.1.member now.0.piped seated.is
-    (found g (goal.at.returns-in_default-clause-waits g c).In_ok-did) in
-    let waits = waited_waits told (g.D.CallFs.disk c.act.new.disk) i.crew (place_of i.places) actors i.mouths.items c.act.new.mouths.items i.books.entries.items i.history.events.items c.act.new.history.events.items
-    i.present i.next_pid place z y c.ready_at.result now.0 now.1 now.2 finds waited in
+    let is = none_of c.in_ok-did.did c.in_default-did.not-Some in
+    let waited = subst (λ (d : Option Did). HasStepped d told (g.D.CallFs.disk c.act.new.disk) i.mouths.items c.act.new.mouths.items i.next_pid v y c.reserve.new.self.events.items c.act.new.history.events.items i.present c.ready_at.result) is c.in_ok-did.ensures.acted in
+    let own = none_asked g (goal.at.returns-in_default-did-clause-waits g c).In_default r q in
+    let waits = waited_waits told (g.D.CallFs.disk c.act.new.disk) i.crew (place_of i.places) q.actors i.mouths.items c.act.new.mouths.items i.books.entries.items events c.act.new.history.events.items
+    i.present i.next_pid i.bounces place v y c.is_some.result c.ready_at.result q.world q.at q.paid q.finds q.has_is own waited in
     rw (← c.self.view_is) (λ name e.
     let same : c.copy.result ≡ name = cc in
-    (sym same ∙ c.copy.ensures, subst (Waits (known i.history.events.items) i.present) now.3 waits))
+    (sym same ∙ c.copy.ensures, subst (Waits (known events) i.present) q.name waits))
 
 pub note-requires : goal.note-requires
 note-requires g c =
     let i = c.self.inside in
     let place = c.in_ok-place.place in
-    let within = in_range (g.D.CallFs.disk i.disk) (among_all i.crew (place_of i.places)) i.actors.items (known i.history.events.items) i.history.events.items i.present i.next_pid c.args.actor.now c.self.invariant.0 place c.in_ok-place.ensures.ok.0 in
+    let within = in_range (g.D.CallFs.disk i.disk) (among_all i.crew (place_of i.places)) i.actors.items (known i.history.events.items) i.history.events.items i.present i.next_pid i.bounces c.args.actor.now c.self.invariant.0 place c.in_ok-place.ensures.ok.0 in
     let less = length-drop i.crew i.actors.items in
     λ le. entry_within i.books.entries.items (drop i.crew i.actors.items) i.history.events.items (place - i.crew) c.self.invariant.2 (omega (arith, within, less, le))
 
 -- what a step left, of the events that there were before room was made
 acted_of : (g : _) (c : In_ok-did g) (did : Did) → c.in_ok-did.did ≡ Some did
     → HasActed did.ended (g.D.CallFs.disk c.self.inside.disk) (g.D.CallFs.disk c.act.new.disk) c.self.inside.mouths.items c.act.new.mouths.items c.self.inside.next_pid
-    c.pay.new.self c.act.new.self c.self.inside.history.events.items c.act.new.history.events.items c.self.inside.present c.ready_at.result
+    c.asks.new.self c.act.new.self c.self.inside.history.events.items c.act.new.history.events.items c.self.inside.present c.ready_at.result
 acted_of g c did is =
     subst (λ (l : List Kept). HasActed did.ended (g.D.CallFs.disk c.self.inside.disk) (g.D.CallFs.disk c.act.new.disk) c.self.inside.mouths.items c.act.new.mouths.items c.self.inside.next_pid
-    c.pay.new.self c.act.new.self l c.act.new.history.events.items c.self.inside.present c.ready_at.result) c.in_ok-reserve.ensures.same
+    c.asks.new.self c.act.new.self l c.act.new.history.events.items c.self.inside.present c.ready_at.result) c.in_ok-reserve.ensures.same
     (subst (λ (d : Option Did). HasStepped d (g.D.CallFs.disk c.self.inside.disk) (g.D.CallFs.disk c.act.new.disk) c.self.inside.mouths.items c.act.new.mouths.items c.self.inside.next_pid
-    c.pay.new.self c.act.new.self c.reserve.new.self.events.items c.act.new.history.events.items c.self.inside.present c.ready_at.result) is c.in_ok-did.ensures.acted)
+    c.asks.new.self c.act.new.self c.reserve.new.self.events.items c.act.new.history.events.items c.self.inside.present c.ready_at.result) is c.in_ok-did.ensures.acted)
+
+pub leave-requires : goal.leave-requires
+leave-requires g c =
+    let i = c.self.inside in
+    λ k at.
+    let place = c.in_ok-place.place in
+    let same = placed g (goal.at.leave-requires g c).After-index_mut-acting in
+    let there = child_at i.crew (place_of i.places) i.mouths.items i.actors.items (known i.history.events.items) i.history.events.items k c.self.invariant.3 (sym same ∙ at) in
+    let within = in_range (g.D.CallFs.disk i.disk) (among_all i.crew (place_of i.places)) i.actors.items (known i.history.events.items) i.history.events.items i.present i.next_pid i.bounces there.name c.self.invariant.0 k there.at in
+    subst (λ (l : List Held). k < length l) (sym c.deref_mut.ensures.value) (subst (λ (n : ℕ). k < n) (sym (length-set i.actors.items place c.act.new.self)) within)
 
 pub invariant_of-self-2 : goal.invariant_of-self-2
 invariant_of-self-2 g c =
     let i = c.self.inside in
     let told = g.D.CallFs.disk i.disk in
+    let events = i.history.events.items in
     let place = c.in_ok-place.place in
     let here = (goal.at.invariant_of-self-2 g c).After-index_mut-acting in
-    let now = paid g (goal.at.invariant_of-self-2 g c).In_ok-pay (keeps g here) (acting g here) in
+    let r = ready g (goal.at.invariant_of-self-2 g c).After-is_some (keeps g here) (acting g here) (placed g here) in
+    let q = asked g (goal.at.invariant_of-self-2 g c).In_ok-due r in
     let z = c.pay.new.self in
+    let v = c.asks.new.self in
     let y = c.act.new.self in
-    let actors = set i.actors.items place z in
-    let acted = acted_of g (goal.at.invariant_of-self-2 g c).In_ok-did c.in-Some.did c.in-Some.is in
-    let seated = is_seated i.crew (place_of i.places) i.mouths.items actors (known i.history.events.items) i.history.events.items i.present place z now.0.world.kept now.0.piped now.1.is now.1.lives in
-    let finds = finds_by i.crew (place_of i.places) i.mouths.items actors (known i.history.events.items) i.history.events.items i.present place z c.ready_at.result now.1.member now.0.piped seated.is
-    (found g (goal.at.invariant_of-self-2 g c).In_ok-did) in
-    let w = subst (λ (l : List Held). AreKept (g.D.CallFs.disk c.act.new.disk) i.crew (place_of i.places) l c.act.new.mouths.items c.note.new.books.entries.items c.act.new.history.events.items i.present c.saturating_add-self-inside.result)
-    (set_again i.actors.items place z y)
-    (acted_keeps told (g.D.CallFs.disk c.act.new.disk) i.crew (place_of i.places) actors i.mouths.items c.act.new.mouths.items i.books.entries.items i.history.events.items c.act.new.history.events.items
-    i.present i.next_pid place z y c.ready_at.result now.0 now.1 now.2 finds c.in-Some.did.ended i.next_pid acted c.note.new.books.entries.items c.saturating_add-self-inside.result c.newest-newest.result.now
+    let did = c.in-Some-did.did in
+    let acted = acted_of g (goal.at.invariant_of-self-2 g c).In_ok-did did c.in-Some-did.is in
+    let own = none_asked g (goal.at.invariant_of-self-2 g c).In_default r q in
+    let stands = set i.actors.items place y in
+    let stood = c.leave.new.actors in
+    let left : HasLeftIf (is_some did.ended) place c.child_at-child.result stands stood =
+    subst (λ (t : Bool). HasLeftIf t place c.child_at-child.result stands stood) c.is_some-2.ensures
+    (subst (λ (l : List Held). HasLeftIf c.is_some-2.result place c.child_at-child.result l stood) c.deref_mut.ensures.value c.leave.ensures) in
+    let many = left_many_if (is_some did.ended) place c.child_at-child.result stands stood left in
+    let items = written_back i.actors.len stands stood many (i.actors.ok.0 ∙ sym (length-set i.actors.items place y)) in
+    let w = acted_keeps told (g.D.CallFs.disk c.act.new.disk) i.crew (place_of i.places) q.actors i.mouths.items c.act.new.mouths.items i.books.entries.items events c.act.new.history.events.items
+    i.present i.next_pid i.bounces place v y c.is_some.result c.ready_at.result q.world q.at q.paid q.finds q.has_is own
+    did.ended i.next_pid acted c.note.new.books.entries.items c.saturating_add-self-inside.result c.newest-newest.result.now
     c.newest-newest.ensures (c.saturating_add-self-inside.ensures ∙ ap (λ (k : ℕ). min (i.next_pid + k) (2 ^ 32 - 1)) c.started_by.ensures)
-    (λ low. ap entries_of (c.note.ensures.member low)) c.note.ensures.mail) in
+    (λ low. ap entries_of (c.note.ensures.member low)) c.note.ensures.mail c.child_at-child.result stood (placed g here)
+    (subst (λ (l : List Held). HasLeftIf (is_some did.ended) place c.child_at-child.result l stood) (sym (q.same y)) left) in
     let len : c.len.result ≡ length i.actors.items = c.len.ensures ∙ i.actors.ok.0 in
-    let bound = living_set i.actors.items place y in (
-      w.world,
-      c.in_ok-did.ensures.room (living (set i.actors.items place y)) (room_less c.reserve.new.self (c.len.result + 1) (living (set i.actors.items place y) + 1)
-          (omega (arith, len, bound)) c.in_ok-reserve.ensures.room),
-      w.booked,
-      w.piped,
-      acted_starts i.starts i.crew (place_of i.places) c.in-Some.did.ended told (g.D.CallFs.disk c.act.new.disk) i.mouths.items c.act.new.mouths.items i.next_pid z y i.history.events.items c.act.new.history.events.items i.present c.ready_at.result acted c.self.invariant.4,
+    let grown = length-set i.actors.items place y in
+    let bound = living_within stood in (
+      rw (items) w.world,
+      rw (items) (c.in_ok-did.ensures.room (living stood) (room_less c.reserve.new.self (c.len.result + 1) (living stood + 1)
+          (omega (arith, len, bound, many, grown)) c.in_ok-reserve.ensures.room)),
+      rw (items) w.booked,
+      rw (items) w.piped,
+      acted_starts i.starts i.crew (place_of i.places) did.ended told (g.D.CallFs.disk c.act.new.disk) i.mouths.items c.act.new.mouths.items i.next_pid v y events c.act.new.history.events.items i.present c.ready_at.result acted c.self.invariant.4,
     )
 
 pub returns-clause-event : goal.returns-clause-event
 returns-clause-event g c =
     let i = c.self.inside in
     let told = g.D.CallFs.disk i.disk in
+    let events = i.history.events.items in
     let place = c.in_ok-place.place in
     let here = (goal.at.returns-clause-event g c).After-index_mut-acting in
-    let now = paid g (goal.at.returns-clause-event g c).In_ok-pay (keeps g here) (acting g here) in
+    let r = ready g (goal.at.returns-clause-event g c).After-is_some (keeps g here) (acting g here) (placed g here) in
+    let q = asked g (goal.at.returns-clause-event g c).In_ok-due r in
     let z = c.pay.new.self in
+    let v = c.asks.new.self in
     let y = c.act.new.self in
-    let actors = set i.actors.items place z in
-    let acted = acted_of g (goal.at.returns-clause-event g c).In_ok-did c.in-Some.did c.in-Some.is in
-    let seated = is_seated i.crew (place_of i.places) i.mouths.items actors (known i.history.events.items) i.history.events.items i.present place z now.0.world.kept now.0.piped now.1.is now.1.lives in
-    let finds = finds_by i.crew (place_of i.places) i.mouths.items actors (known i.history.events.items) i.history.events.items i.present place z c.ready_at.result now.1.member now.0.piped seated.is
-    (found g (goal.at.returns-clause-event g c).In_ok-did) in
-    rw (← c.self.view_is) (acted_step told (g.D.CallFs.disk c.act.new.disk) i.crew (place_of i.places) actors i.mouths.items c.act.new.mouths.items i.books.entries.items i.history.events.items c.act.new.history.events.items
-    i.present i.next_pid place z y c.ready_at.result now.0 now.1 now.2 finds i.disk c.act.new.disk c.args.actor.now c.in-Some.did.ended now.3
-    (subst (λ (pid : ℕ). HasActed c.in-Some.did.ended told (g.D.CallFs.disk c.act.new.disk) i.mouths.items c.act.new.mouths.items pid z y i.history.events.items c.act.new.history.events.items i.present c.ready_at.result)
+    let did = c.in-Some-did.did in
+    let acted = acted_of g (goal.at.returns-clause-event g c).In_ok-did did c.in-Some-did.is in
+    let own = none_asked g (goal.at.returns-clause-event g c).In_default r q in
+    rw (← c.self.view_is) (acted_step told (g.D.CallFs.disk c.act.new.disk) i.crew (place_of i.places) q.actors i.mouths.items c.act.new.mouths.items i.books.entries.items events c.act.new.history.events.items
+    i.present i.next_pid i.bounces place v y c.is_some.result c.ready_at.result q.world q.at q.paid q.finds q.has_is own
+    i.disk c.act.new.disk c.args.actor.now did.ended q.name
+    (subst (λ (pid : ℕ). HasActed did.ended told (g.D.CallFs.disk c.act.new.disk) i.mouths.items c.act.new.mouths.items pid v y events c.act.new.history.events.items i.present c.ready_at.result)
     c.self.invariant.0.pid acted))
 
 pub returns-clause-idle : goal.returns-clause-idle
 returns-clause-idle g c =
     let i = c.self.inside in
     let told = g.D.CallFs.disk i.disk in
+    let events = i.history.events.items in
     let place = c.in_ok-place.place in
     let here = (goal.at.returns-clause-idle g c).After-index_mut-acting in
-    let now = paid g (goal.at.returns-clause-idle g c).In_ok-pay (keeps g here) (acting g here) in
+    let r = ready g (goal.at.returns-clause-idle g c).After-is_some (keeps g here) (acting g here) (placed g here) in
+    let q = asked g (goal.at.returns-clause-idle g c).In_ok-due r in
     let z = c.pay.new.self in
+    let v = c.asks.new.self in
     let y = c.act.new.self in
-    let actors = set i.actors.items place z in
-    let acted = acted_of g (goal.at.returns-clause-idle g c).In_ok-did c.in-Some.did c.in-Some.is in
-    let idled : HasIdled c.in-Some.did.idle z i.history.events.items c.act.new.history.events.items =
-    subst (λ (l : List Kept). HasIdled c.in-Some.did.idle z l c.act.new.history.events.items) c.in_ok-reserve.ensures.same
-    (subst (λ (d : Option Did). IfSome d (λ d. HasIdled d.idle z c.reserve.new.self.events.items c.act.new.history.events.items)) c.in-Some.is c.in_ok-did.ensures.idle) in
-    let seated = is_seated i.crew (place_of i.places) i.mouths.items actors (known i.history.events.items) i.history.events.items i.present place z now.0.world.kept now.0.piped now.1.is now.1.lives in
-    let finds = finds_by i.crew (place_of i.places) i.mouths.items actors (known i.history.events.items) i.history.events.items i.present place z c.ready_at.result now.1.member now.0.piped seated.is
-    (found g (goal.at.returns-clause-idle g c).In_ok-did) in
-    rw (← c.self.view_is) (acted_idle told (g.D.CallFs.disk c.act.new.disk) i.crew (place_of i.places) actors i.mouths.items c.act.new.mouths.items i.books.entries.items i.history.events.items c.act.new.history.events.items
-    i.present i.next_pid place z y c.ready_at.result now.0 now.1 now.2 finds c.in-Some.did.ended i.next_pid c.in-Some.did.idle acted idled)
+    let did = c.in-Some-did.did in
+    let acted = acted_of g (goal.at.returns-clause-idle g c).In_ok-did did c.in-Some-did.is in
+    let own = none_asked g (goal.at.returns-clause-idle g c).In_default r q in
+    let idled : HasIdled did.idle v events c.act.new.history.events.items =
+    subst (λ (l : List Kept). HasIdled did.idle v l c.act.new.history.events.items) c.in_ok-reserve.ensures.same
+    (subst (λ (d : Option Did). IfSome d (λ d. HasIdled d.idle v c.reserve.new.self.events.items c.act.new.history.events.items)) c.in-Some-did.is c.in_ok-did.ensures.idle) in
+    rw (← c.self.view_is) (acted_idle told (g.D.CallFs.disk c.act.new.disk) i.crew (place_of i.places) q.actors i.mouths.items c.act.new.mouths.items i.books.entries.items events c.act.new.history.events.items
+    i.present i.next_pid i.bounces place v y c.is_some.result c.ready_at.result q.world q.at q.paid q.finds q.has_is own did.ended i.next_pid did.idle acted idled)
 
 pub returns-clause-goes_on : goal.returns-clause-goes_on
 returns-clause-goes_on g c =
     let i = c.self.inside in
     let told = g.D.CallFs.disk i.disk in
-    let later = g.D.CallFs.disk c.act.new.disk in
+    let events = i.history.events.items in
     let place = c.in_ok-place.place in
     let here = (goal.at.returns-clause-goes_on g c).After-index_mut-acting in
-    let now = paid g (goal.at.returns-clause-goes_on g c).In_ok-pay (keeps g here) (acting g here) in
+    let r = ready g (goal.at.returns-clause-goes_on g c).After-is_some (keeps g here) (acting g here) (placed g here) in
+    let q = asked g (goal.at.returns-clause-goes_on g c).In_ok-due r in
     let z = c.pay.new.self in
+    let v = c.asks.new.self in
     let y = c.act.new.self in
-    let actors = set i.actors.items place z in
-    let acted = acted_of g (goal.at.returns-clause-goes_on g c).In_ok-did c.in-Some.did c.in-Some.is in
-    let seated = is_seated i.crew (place_of i.places) i.mouths.items actors (known i.history.events.items) i.history.events.items i.present place z now.0.world.kept now.0.piped now.1.is now.1.lives in
-    let finds = finds_by i.crew (place_of i.places) i.mouths.items actors (known i.history.events.items) i.history.events.items i.present place z c.ready_at.result now.1.member now.0.piped seated.is
-    (found g (goal.at.returns-clause-goes_on g c).In_ok-did) in
-    rw (← c.self.view_is) (goes_on told later i.history.events.items c.act.new.history.events.items i.present i.present
-    (acted_leads told later i.crew (place_of i.places) actors i.mouths.items c.act.new.mouths.items i.books.entries.items i.history.events.items c.act.new.history.events.items
-    i.present i.next_pid place z y c.ready_at.result now.0 now.1 now.2 finds c.in-Some.did.ended i.next_pid acted))
+    let did = c.in-Some-did.did in
+    let acted = acted_of g (goal.at.returns-clause-goes_on g c).In_ok-did did c.in-Some-did.is in
+    let own = none_asked g (goal.at.returns-clause-goes_on g c).In_default r q in
+    rw (← c.self.view_is) (goes_on told (g.D.CallFs.disk c.act.new.disk) events c.act.new.history.events.items i.present i.present
+    (acted_leads told (g.D.CallFs.disk c.act.new.disk) i.crew (place_of i.places) q.actors i.mouths.items c.act.new.mouths.items i.books.entries.items events c.act.new.history.events.items
+    i.present i.next_pid i.bounces place v y c.is_some.result c.ready_at.result q.world q.at q.paid q.finds q.has_is own did.ended i.next_pid acted))
 
 pub returns-clause-gone : goal.returns-clause-gone
 returns-clause-gone g c =
     let i = c.self.inside in
     let ok = c.in_ok-place.ensures.ok in
     let lives = subst (λ (l : List Held). IsSomeAnd (slice_get l c.in_ok-place.place) (λ x. x.ended ≡ None)) c.deref.ensures.value ok.1 in
-    rw (← c.self.view_is) (not_gone (Ok c.in-Some.did) i.history.events.items c.args.actor.now (ok_other c.in-Some.did)
+    rw (← c.self.view_is) (not_gone (Ok c.in-Some-did.did) i.history.events.items c.args.actor.now (ok_other c.in-Some-did.did)
     (no_end (among_all i.crew (place_of i.places)) i.actors.items (known i.history.events.items) i.history.events.items i.present c.args.actor.now c.in_ok-place.place c.self.invariant.0.kept ok.0 lives))
 
 pub returns-clause-waiting : goal.returns-clause-waiting
 returns-clause-waiting g c =
     let i = c.self.inside in
     let told = g.D.CallFs.disk i.disk in
+    let events = i.history.events.items in
     let place = c.in_ok-place.place in
     let here = (goal.at.returns-clause-waiting g c).After-index_mut-acting in
-    let now = paid g (goal.at.returns-clause-waiting g c).In_ok-pay (keeps g here) (acting g here) in
+    let r = ready g (goal.at.returns-clause-waiting g c).After-is_some (keeps g here) (acting g here) (placed g here) in
+    let q = asked g (goal.at.returns-clause-waiting g c).In_ok-due r in
     let z = c.pay.new.self in
+    let v = c.asks.new.self in
     let y = c.act.new.self in
-    let actors = set i.actors.items place z in
-    let acted = acted_of g (goal.at.returns-clause-waiting g c).In_ok-did c.in-Some.did c.in-Some.is in
-    let seated = is_seated i.crew (place_of i.places) i.mouths.items actors (known i.history.events.items) i.history.events.items i.present place z now.0.world.kept now.0.piped now.1.is now.1.lives in
-    let finds = finds_by i.crew (place_of i.places) i.mouths.items actors (known i.history.events.items) i.history.events.items i.present place z c.ready_at.result now.1.member now.0.piped seated.is
-    (found g (goal.at.returns-clause-waiting g c).In_ok-did) in
-    rw (← c.self.view_is) (λ waits. absurd (acted_waits told (g.D.CallFs.disk c.act.new.disk) i.crew (place_of i.places) actors i.mouths.items c.act.new.mouths.items i.books.entries.items i.history.events.items c.act.new.history.events.items
-    i.present i.next_pid place z y c.ready_at.result now.0 now.1 now.2 finds c.in-Some.did.ended i.next_pid acted (subst (Waits (known i.history.events.items) i.present) (sym now.3) waits)))
+    let did = c.in-Some-did.did in
+    let acted = acted_of g (goal.at.returns-clause-waiting g c).In_ok-did did c.in-Some-did.is in
+    let own = none_asked g (goal.at.returns-clause-waiting g c).In_default r q in
+    rw (← c.self.view_is) (λ waits. absurd (acted_waits told (g.D.CallFs.disk c.act.new.disk) i.crew (place_of i.places) q.actors i.mouths.items c.act.new.mouths.items i.books.entries.items events c.act.new.history.events.items
+    i.present i.next_pid i.bounces place v y c.is_some.result c.ready_at.result q.world q.at q.paid q.finds q.has_is own
+    did.ended i.next_pid acted (subst (Waits (known events) i.present) (sym q.name) waits)))

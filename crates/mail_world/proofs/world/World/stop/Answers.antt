@@ -1,4 +1,4 @@
-use Rattle.std.proofs.Common.{◌≡◌, ℕ, ◌<◌, List, [], ◌∷◌, ◌++◌, length, reverse, set, arith, Option, None, IsSomeAnd, Ok, refl, sym, ap, ◌∙◌, subst}
+use Rattle.std.proofs.Common.{◌≡◌, ℕ, ◌<◌, ◌-◌, ◌^◌, List, [], ◌∷◌, ◌++◌, length, reverse, set, arith, Option, Some, None, IsSomeAnd, Ok, refl, sym, ap, ◌∙◌, subst}
 use Rattle.std.proofs.lemmas.Result.{err_from_is_err_and}
 use Rattle.std.specs.List.{slice_get}
 use Rattle.mail_world.specs.declared.actor.Actor.{Actor as Held}
@@ -7,7 +7,16 @@ use Rattle.mail_world.specs.Places.{place_of}
 use Rattle.mail_world.specs.Inside.{among_all, known, living}
 use Rattle.mail_world.specs.Acting.{IsNoLiving, IsSeated}
 use Rattle.mail_world.proofs.Histories.{goes_on}
-use Rattle.mail_world.proofs.Living.{living_less, living_some, room_less}
+use Rattle.std.proofs.lemmas.List.{length-set, length-drop}
+use Rattle.std.specs.Prelude.{drop}
+use Rattle.mail_world.proofs.Booked.{entry_within}
+use Rattle.world_pipes.specs.declared.mouths.Mouths.{Mouths}
+use Rattle.mail_world.specs.Children.{child_place, HasLeft}
+use Rattle.mail_world.specs.History.{finished}
+use Rattle.mail_world.proofs.Leaving.{leaves, child_at}
+use Rattle.mail_world.proofs.Lists.{written_back}
+use Rattle.mail_world.proofs.Living.{living_less, living_some, room_less, left_many, left_living}
+use Rattle.mail_world.proofs.Steps.{left_booked, left_piped}
 use Rattle.mail_world.specs.Books.{entries_of}
 use Rattle.mail_world.specs.History.Life.{Stopped}
 use Rattle.mail_world.proofs.Acts.{stop_finishes}
@@ -20,13 +29,13 @@ use Rattle.mail_world.proofs.Starting.{still_starts}
 use Rattle.mail_world.proofs.Worlds.{StandsAt, stopped_keeps, stopped_leads_on, stands_at, in_range, may_end}
 use Rattle.mail_world.proofs.Refusals.{no_end, not_gone, gone_exactly, ok_other}
 use Rattle.mail_world.proofs.world.World.stop.Goals as goal
-use Rattle.mail_world.proofs.world.World.stop.Goals.{After-index_mut-stopped}
+use Rattle.mail_world.proofs.world.World.stop.Goals.{After-index_mut-stopped, After-leave}
 
 pub living-requires : goal.living-requires
 living-requires g c =
     let i = c.self.inside in
     λ k place. subst (λ (l : List Held). k < length l) (sym c.deref.ensures.value)
-    (in_range (g.D.CallFs.disk i.disk) (among_all i.crew (place_of i.places)) i.actors.items (known i.history.events.items) i.history.events.items i.present i.next_pid c.args.actor.now c.self.invariant.0 k place)
+    (in_range (g.D.CallFs.disk i.disk) (among_all i.crew (place_of i.places)) i.actors.items (known i.history.events.items) i.history.events.items i.present i.next_pid i.bounces c.args.actor.now c.self.invariant.0 k place)
 
 pub returns-in_err-place-clause-gone : goal.returns-in_err-place-clause-gone
 returns-in_err-place-clause-gone g c =
@@ -40,7 +49,7 @@ returns-in_err-place-clause-gone g c =
 pub index_mut-stopped-requires : goal.index_mut-stopped-requires
 index_mut-stopped-requires g c =
     let i = c.self.inside in
-    let within = in_range (g.D.CallFs.disk i.disk) (among_all i.crew (place_of i.places)) i.actors.items (known i.history.events.items) i.history.events.items i.present i.next_pid c.args.actor.now c.self.invariant.0 c.in_ok-place.place c.in_ok-place.ensures.ok.0 in
+    let within = in_range (g.D.CallFs.disk i.disk) (among_all i.crew (place_of i.places)) i.actors.items (known i.history.events.items) i.history.events.items i.present i.next_pid i.bounces c.args.actor.now c.self.invariant.0 c.in_ok-place.place c.in_ok-place.ensures.ok.0 in
     omega (arith, i.actors.ok.0)
 
 -- the actor that is stopped
@@ -51,14 +60,14 @@ standing g c =
     let i = c.self.inside in
     let place = c.in_ok-place.place in
     let ok = c.in_ok-place.ensures.ok in
-    stands_at (g.D.CallFs.disk i.disk) (among_all i.crew (place_of i.places)) i.actors.items (known i.history.events.items) i.history.events.items i.present i.next_pid place c.args.actor.now c.index_mut-stopped.result.now
+    stands_at (g.D.CallFs.disk i.disk) (among_all i.crew (place_of i.places)) i.actors.items (known i.history.events.items) i.history.events.items i.present i.next_pid i.bounces place c.args.actor.now c.index_mut-stopped.result.now
     c.self.invariant.0 ok.0 (subst (λ (l : List Held). IsSomeAnd (slice_get l place) (λ x. x.ended ≡ None)) c.deref.ensures.value ok.1) c.index_mut-stopped.ensures.value
 
 pub stop-requires-clause-opens : goal.stop-requires-clause-opens
 stop-requires-clause-opens g c =
     let i = c.self.inside in
     let at = standing g (goal.at.stop-requires-clause-opens g c).After-index_mut-stopped in
-    may_end (g.D.CallFs.disk i.disk) (among_all i.crew (place_of i.places)) i.actors.items (known i.history.events.items) i.history.events.items i.present i.next_pid c.in_ok-place.place c.index_mut-stopped.result.now c.self.invariant.0 at.0
+    may_end (g.D.CallFs.disk i.disk) (among_all i.crew (place_of i.places)) i.actors.items (known i.history.events.items) i.history.events.items i.present i.next_pid i.bounces c.in_ok-place.place c.index_mut-stopped.result.now c.self.invariant.0 at.0
 
 pub stop-requires-clause-room : goal.stop-requires-clause-room
 stop-requires-clause-room g c =
@@ -74,25 +83,77 @@ stop-requires-clause-seat g c =
     (is_seated i.crew (place_of i.places) i.mouths.items i.actors.items (known i.history.events.items) i.history.events.items i.present c.in_ok-place.place c.index_mut-stopped.result.now
     c.self.invariant.0.kept c.self.invariant.3 at.0.is at.0.lives)
 
+pub note-requires : goal.note-requires
+note-requires g c =
+    let i = c.self.inside in
+    let place = c.in_ok-place.place in
+    let within = in_range (g.D.CallFs.disk i.disk) (among_all i.crew (place_of i.places)) i.actors.items (known i.history.events.items) i.history.events.items i.present i.next_pid i.bounces c.args.actor.now c.self.invariant.0 place c.in_ok-place.ensures.ok.0 in
+    let less = length-drop i.crew i.actors.items in
+    λ le. entry_within i.books.entries.items (drop i.crew i.actors.items) i.history.events.items (place - i.crew) c.self.invariant.2 (omega (arith, within, less, le))
+
+-- the place of the sender's child, if there is one
+placed : (g : _) (c : After-index_mut-stopped g) → c.child_at-child.result ≡ child_place c.self.inside.mouths.items c.self.inside.crew (place_of c.self.inside.places)
+placed g c =
+    let i = c.self.inside in
+    subst (λ (l : List Mouths). c.child_at-child.result ≡ child_place l i.crew (place_of i.places)) c.deref-2.ensures.value c.child_at-child.ensures
+
+pub child_at-child-requires : goal.child_at-child-requires
+child_at-child-requires g c =
+    let i = c.self.inside in
+    subst (λ (l : List Mouths). (k : ℕ) → child_place l i.crew (place_of i.places) ≡ Some k → k < 2 ^ 64) (sym c.deref-2.ensures.value)
+    (λ k at.
+    let there = child_at i.crew (place_of i.places) i.mouths.items i.actors.items (known i.history.events.items) i.history.events.items k c.self.invariant.3 at in
+    let within = in_range (g.D.CallFs.disk i.disk) (among_all i.crew (place_of i.places)) i.actors.items (known i.history.events.items) i.history.events.items i.present i.next_pid i.bounces there.name c.self.invariant.0 k there.at in
+    omega (arith, within, i.actors.ok.0))
+
+-- the actors before and after that child is given no input any more
+stood : (g : _) (c : After-leave g) → HasLeft c.in_ok-place.place c.child_at-child.result (set c.self.inside.actors.items c.in_ok-place.place c.stop.new.self) c.leave.new.actors
+stood g c =
+    subst (λ (l : List Held). HasLeft c.in_ok-place.place c.child_at-child.result l c.leave.new.actors) c.deref_mut.ensures.value c.leave.ensures
+
+pub leave-requires : goal.leave-requires
+leave-requires g c =
+    let i = c.self.inside in
+    λ k at.
+    let place = c.in_ok-place.place in
+    let same = placed g (goal.at.leave-requires g c).After-index_mut-stopped in
+    let there = child_at i.crew (place_of i.places) i.mouths.items i.actors.items (known i.history.events.items) i.history.events.items k c.self.invariant.3 (sym same ∙ at) in
+    let within = in_range (g.D.CallFs.disk i.disk) (among_all i.crew (place_of i.places)) i.actors.items (known i.history.events.items) i.history.events.items i.present i.next_pid i.bounces there.name c.self.invariant.0 k there.at in
+    subst (λ (l : List Held). k < length l) (sym c.deref_mut.ensures.value) (subst (λ (n : ℕ). k < n) (sym (length-set i.actors.items place c.stop.new.self)) within)
+
 pub invariant_of-self : goal.invariant_of-self
 invariant_of-self g c =
     let i = c.self.inside in
     let place = c.in_ok-place.place in
     let x = c.index_mut-stopped.result.now in
+    let y = c.stop.new.self in
+    let stands = set i.actors.items place y in
+    let events = i.history.events.items in
+    let later = c.stop.new.history.events.items in
     let at = standing g (goal.at.invariant_of-self g c).After-index_mut-stopped in
+    let left = stood g (goal.at.invariant_of-self g c).After-leave in
     let over = c.stop.ensures.stopped in
-    let fewer = living_less i.actors.items place x c.stop.new.self (length i.history.events.items) at.0.is at.0.lives over.ended in
+    let fewer = living_less i.actors.items place x y (length events) at.0.is at.0.lives over.ended in
+    let still = left_living place c.child_at-child.result stands c.leave.new.actors left in
+    let many = left_many place c.child_at-child.result stands c.leave.new.actors left in
+    let items = written_back i.actors.len stands c.leave.new.actors many (i.actors.ok.0 ∙ sym (length-set i.actors.items place y)) in
+    let m = at.0.member in
+    let t = finished (known events) x.name Stopped (Some m.actor) in
+    let leave = leaves i.crew (place_of i.places) i.mouths.items i.actors.items c.leave.new.actors (known events) events i.present x y Stopped m.actor c.self.invariant.0.kept c.self.invariant.3
+    place c.child_at-child.result at.0.is (placed g (goal.at.invariant_of-self g c).After-index_mut-stopped) left in
     let room = c.self.invariant.1 in (
-      stopped_keeps (g.D.CallFs.disk i.disk) (g.D.CallFs.disk c.stop.new.disk) (among_all i.crew (place_of i.places)) i.actors.items i.mouths.items c.stop.new.mouths.items i.history.events.items c.stop.new.history.events.items i.present i.next_pid
-          place x c.stop.new.self c.self.invariant.0 at.0 over,
-      c.stop.ensures.room (living (set i.actors.items place c.stop.new.self)) (omega (arith, fewer, room)),
-      one_booked i.crew (place_of i.places) i.actors.items (known i.history.events.items) i.history.events.items c.stop.new.history.events.items i.present place
-          x c.stop.new.self i.books.entries.items c.note.new.books.entries.items (kept.Stop x.name) c.newest.result.now c.self.invariant.0.kept c.self.invariant.2 at.0.is over.name refl over.event c.newest.ensures
-          (λ low. ap entries_of (c.note.ensures.member low)) c.note.ensures.mail,
-      finish_piped i.crew (g.D.CallFs.disk i.disk) (g.D.CallFs.disk c.stop.new.disk) i.mouths.items c.stop.new.mouths.items i.actors.items i.history.events.items c.stop.new.history.events.items i.present place x c.stop.new.self
-          (kept.Stop x.name) Stopped c.self.invariant.3 at.0.is at.0.member (stop_finishes x.name) tt over,
+      rw (items) (stopped_keeps (g.D.CallFs.disk i.disk) (g.D.CallFs.disk c.stop.new.disk) (among_all i.crew (place_of i.places)) i.actors.items c.leave.new.actors i.mouths.items c.stop.new.mouths.items events later
+          i.present i.next_pid i.bounces place x y c.self.invariant.0 at.0 over leave),
+      rw (items) (c.stop.ensures.room (living c.leave.new.actors) (omega (arith, fewer, still, room))),
+      rw (items) (left_booked i.crew i.actors.items c.leave.new.actors (known events) t later place x y c.note.new.books.entries.items leave
+          (one_booked i.crew (place_of i.places) i.actors.items (known events) events later i.present place
+          x y i.books.entries.items c.note.new.books.entries.items (kept.Stop x.name) c.newest.result.now c.self.invariant.0.kept c.self.invariant.2 at.0.is over.name refl over.event c.newest.ensures
+          (λ low. ap entries_of (c.note.ensures.member low)) c.note.ensures.mail)),
+      rw (items) (left_piped i.crew c.stop.new.mouths.items i.actors.items c.leave.new.actors (known events) t (known later) later place x y leave
+          (finish_piped i.crew (g.D.CallFs.disk i.disk) (g.D.CallFs.disk c.stop.new.disk) i.mouths.items c.stop.new.mouths.items i.actors.items events later i.present place x y
+          (kept.Stop x.name) Stopped None c.self.invariant.3 at.0.is m (stop_finishes x.name) tt (λ other b awaits. tt) over)),
       subst (λ (l : List Kept). AreStarts i.starts i.crew (place_of i.places) (starts_of (reverse l))) (sym over.event)
-          (still_starts i.starts i.crew (place_of i.places) i.history.events.items (kept.Stop x.name) refl c.self.invariant.4),
+          (still_starts i.starts i.crew (place_of i.places) events (kept.Stop x.name) refl c.self.invariant.4),
     )
 
 pub returns-clause-event : goal.returns-clause-event
@@ -110,7 +171,7 @@ returns-clause-goes_on g c =
     let before = i.history.events.items in
     let now_kept = c.stop.new.history.events.items in
     rw (← c.self.view_is) (goes_on old new before now_kept i.present i.present
-    (stopped_leads_on old new (among_all i.crew (place_of i.places)) i.actors.items i.mouths.items c.stop.new.mouths.items before now_kept i.present i.next_pid
+    (stopped_leads_on old new (among_all i.crew (place_of i.places)) i.actors.items i.mouths.items c.stop.new.mouths.items before now_kept i.present i.next_pid i.bounces
     c.in_ok-place.place c.index_mut-stopped.result.now c.stop.new.self c.self.invariant.0 at.0 c.stop.ensures.stopped))
 
 pub returns-clause-gone : goal.returns-clause-gone

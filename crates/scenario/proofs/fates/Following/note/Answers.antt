@@ -1,8 +1,25 @@
-use Rattle.std.proofs.Common.{Some, ⊎_elim, refl}
+use Rattle.std.proofs.Common.{ℕ, List, Some, ⊎_elim, refl}
+use Rattle.std.proofs.lemmas.Result.{on_ok_weaker}
+use Rattle.call_fs.specs.declared.past.Own.{Own}
 use Rattle.world_events.specs.declared.event.Event.TheVariants as kept
 use Rattle.scenario.specs.declared.fates.Following.{Following}
-use Rattle.scenario.proofs.Followed.{generation_told, other_told}
+use Rattle.scenario.proofs.Followed.{bred_told, generation_told, other_told, own_told}
 use Rattle.scenario.proofs.fates.Following.note.Goals as goal
+
+pub returns-in-Act : goal.returns-in-Act
+returns-in-Act c =
+    let a : List ℕ = c.in-Act.actor in
+    let own : Own = c.in-Act.own in
+    let new : Following = c.act.new.self in
+    on_ok_weaker c.act.result
+    (λ did s e named moment mail may tells h. ⊎_elim
+    (λ w. own_told new s c.args.event.now e (kept.Act a own) a own w (λ read same. same) tells may (λ wrote done. did s wrote named moment done h))
+    (λ more. ⊎_elim
+    (λ w. bred_told new s c.args.event.now e a own w.0 w.1 w.2 tells mail may (λ wrote done. did s wrote named moment done h))
+    (λ w. own_told new s c.args.event.now e (kept.Feed a own w.0 w.1 w.2) a own w.3 (λ read same. same) tells may (λ wrote done. did s wrote named moment done h))
+    more)
+    c.in-Act.is)
+    c.act.ensures
 
 pub returns-in_ok-new-in-Generation : goal.returns-in_ok-new-in-Generation
 returns-in_ok-new-in-Generation c = λ s e named moment mail may tells h.
@@ -11,29 +28,6 @@ returns-in_ok-new-in-Generation c = λ s e named moment mail may tells h.
     let new : Following = record { fates = old.fates; sender = Some m } in
     generation_told old new s c.args.event.now e c.in-Generation.start m c.in-Generation.is tells refl refl c.in_ok-new-in-Generation.ensures.stands h
 
-pub returns-in-Start : goal.returns-in-Start
-returns-in-Start c = λ s e named moment mail may tells h. ⊎_elim
-    (λ w. other_told c.args.self.now s c.args.event.now e (kept.Start w.0 w.1) w.2 tt tells mail h)
-    (λ more. ⊎_elim
-    (λ w. other_told c.args.self.now s c.args.event.now e (kept.Report w.0 w.1 w.2) w.3 tt tells mail h)
-    (λ w. other_told c.args.self.now s c.args.event.now e (kept.End w.0 w.1 w.2 w.3) w.4 tt tells mail h)
-    more)
-    c.in-Start.is
-
-pub returns-in-Start-3 : goal.returns-in-Start-3
-returns-in-Start-3 c = λ s e named moment mail may tells h. ⊎_elim
-    (λ w. other_told c.args.self.now s c.args.event.now e (kept.Start w.0 w.1) w.2 tt tells mail h)
-    (λ more. ⊎_elim
-    (λ w. other_told c.args.self.now s c.args.event.now e (kept.Report w.0 w.1 w.2) w.3 tt tells mail h)
-    (λ w. other_told c.args.self.now s c.args.event.now e (kept.End w.0 w.1 w.2 w.3) w.4 tt tells mail h)
-    more)
-    c.in-Start.is
-
-pub returns-in-Stop : goal.returns-in-Stop
-returns-in-Stop c = λ s e named moment mail may tells h. ⊎_elim
-    (λ w. other_told c.args.self.now s c.args.event.now e (kept.Stop w.0) w.1 tt tells mail h)
-    (λ more. ⊎_elim
-    (λ w. other_told c.args.self.now s c.args.event.now e (kept.Moment w.0) w.1 tt tells mail h)
-    (λ w. other_told c.args.self.now s c.args.event.now e (kept.Halt w.0) w.1 tt tells mail h)
-    more)
-    c.in-Stop.is
+pub returns-in_default : goal.returns-in_default
+returns-in_default c = λ s e named moment mail may tells h.
+    other_told c.args.self.now s c.args.event.now e c.in_default.not-Act c.in_default.not-Child c.in_default.not-Feed c.in_default.not-Generation tells mail h

@@ -1,0 +1,137 @@
+-- What the world does for a sender and its child, as a step of the sender.
+use Rattle.std.proofs.Common.{◌≡◌, ◌≢◌, ◌⊎◌, inl, inr, ℕ, List, Bool, true, false, Option, Some, None, Result, Ok, Err, codes, refl, sym, ap, ◌∙◌, subst, ⊎_elim}
+use Rattle.std.specs.Prelude.{IfErr, IfOk, is_some}
+use Rattle.call_fs.specs.Disk.{Disk}
+use Rattle.call_fs.specs.Plan.{Plan}
+use Rattle.call_fs.specs.declared.past.ChildData.TheVariants as child
+use Rattle.call_fs.specs.declared.past.GotData.{GotData}
+use Rattle.call_fs.specs.declared.past.GotData.TheVariants.{Started, Gave}
+use Rattle.call_fs.specs.declared.past.NeedData.{NeedData}
+use Rattle.call_fs.specs.declared.past.NeedData.TheVariants as needs
+use Rattle.call_fs.specs.declared.past.Own.{Own}
+use Rattle.call_fs.specs.declared.program.Port.TheVariants as port
+use Rattle.world_events.specs.declared.event.Event.{Event as Kept}
+use Rattle.world_events.specs.declared.event.Event.TheVariants as kept
+use Rattle.world_events.specs.declared.event.Program.{Program}
+use Rattle.world_pipes.specs.Pipework.{Tenant}
+use Rattle.world_pipes.specs.Pipework.Tenant.{Runs, Remote}
+use Rattle.world_pipes.specs.Mouths.{actor_of}
+use Rattle.mail_world.specs.declared.error.WorldError.{WorldError}
+use Rattle.mail_world.specs.declared.error.WorldError.TheVariants as why
+use Rattle.mail_world.specs.declared.world.Did.{Did}
+use Rattle.mail_world.specs.Acting.{is_due_of_child}
+use Rattle.mail_world.specs.Children.{IsDueOfChild}
+use Rattle.mail_world.specs.Generations.{CanNot, Waits}
+use Rattle.mail_world.specs.History.{Actor, Life, State, IsStatusOf, TenantEnds, next_of}
+use Rattle.mail_world.specs.History.Life.{Alive, Over, Stopped}
+use Rattle.mail_world.specs.Known.{known}
+use Rattle.mail_world.specs.Readiness.{has_ended, is_gone, is_over, found_in}
+use Rattle.mail_world.specs.World.{Seen, IsPlannedOwn, IsPlannedEvent, GoesByPlan, ComesWhole, IsKeptBy, IsKeptGiving, IsStep, most_of, next_pid, bounces_in}
+use Rattle.mail_world.proofs.Lasts.{same_last}
+use Rattle.mail_world.proofs.Steps.{none_ready}
+
+-- It waited for nothing
+
+status_over : (life : Life) (came : GotData) → IsStatusOf life came → is_over life ≡ true
+status_over Alive came is = absurd is
+status_over (Over status) came is = refl
+status_over Stopped came is = refl
+
+tenant_ended : (s : State) (o : Option Tenant) (came : GotData) → TenantEnds s o came → has_ended s o ≡ true
+tenant_ended s None came ends = absurd ends
+tenant_ended s (Some (Runs a)) came ends = ap is_gone ends.1 ∙ status_over ends.0.life came ends.2
+tenant_ended s (Some (Remote true)) came ends = refl
+tenant_ended s (Some (Remote false)) came ends = absurd ends
+
+came_can : (s : State) (pid : ℕ) (a : List ℕ) (program : Program) (due : NeedData) (came : GotData) → ComesWhole s pid a program due came → CanNot s a due → ⊥
+came_can s pid a program (needs.File c) came whole can = can
+came_can s pid a program (needs.Take (port.Status d)) came whole can = let both : true ≡ false = sym (tenant_ended s (s.pipework.programs a d) came whole) ∙ can in cc
+came_can s pid a program (needs.Take port.Input) came whole can = none_ready (most_of program) (s.pipework.pipes a port.Input) came can whole
+came_can s pid a program (needs.Take port.Output) came whole can = none_ready (most_of program) (s.pipework.pipes a port.Output) came can whole
+came_can s pid a program (needs.Take port.Clean) came whole can = none_ready (most_of program) (s.pipework.pipes a port.Clean) came can whole
+came_can s pid a program (needs.Take port.Lspawn) came whole can = none_ready (most_of program) (s.pipework.pipes a port.Lspawn) came can whole
+came_can s pid a program (needs.Take port.Rspawn) came whole can = none_ready (most_of program) (s.pipework.pipes a port.Rspawn) came can whole
+came_can s pid a program (needs.Take port.Todo) came whole can = none_ready (most_of program) (s.pipework.pipes a port.Todo) came can whole
+came_can s pid a program (needs.Take (port.Program d)) came whole can = none_ready (most_of program) (s.pipework.pipes a (port.Program d)) came can whole
+came_can s pid a program (needs.Give port bytes) came whole can = can
+came_can s pid a program (needs.Start asked) came whole can = can
+came_can s pid a program (needs.Command bytes) came whole can = can
+came_can s pid a program needs.Wait came whole can = absurd whole
+came_can s pid a program (needs.Ended status) came whole can = can
+
+pub step_waits : {D : Type 0} (a : List ℕ) (old new : Seen D) → IsStep a None old new → Waits (known old.events) old.present a → ⊥
+step_waits a old new step waits =
+    let of = step.2 in
+    let both : ◌≡◌ {A = Option Actor} (Some of.actor) (Some waits.actor) = sym of.is ∙ waits.is in
+    let same : of.actor ≡ waits.actor = cc in
+    let due : next_of waits.actor.program waits.actor.past old.present (found_in (known old.events) a) ≡ step.0.due =
+    ap (λ (x : Actor). next_of x.program x.past old.present (found_in (known old.events) a)) (sym same) ∙ of.due in
+    came_can (known old.events) (next_pid old.events) a of.actor.program step.0.due step.0.came of.came (subst (CanNot (known old.events) a) due waits.due)
+
+-- It makes no call, so that it uses up no plan
+
+own_planned : (has : Bool) (due : NeedData) (came : GotData) (plan after : Option Plan) (disk later : Option Disk) → is_due_of_child has due ≡ true → after ≡ plan → IsPlannedOwn due came plan after disk later
+own_planned has (needs.Start asked) came plan after disk later of_child same = same
+own_planned has (needs.Give to bytes) came plan after disk later of_child same = same
+own_planned has (needs.Take from) came plan after disk later of_child same = same
+own_planned has (needs.File c) came plan after disk later of_child same = absurd cc
+own_planned has (needs.Command bytes) came plan after disk later of_child same = absurd cc
+own_planned has needs.Wait came plan after disk later of_child same = absurd cc
+own_planned has (needs.Ended status) came plan after disk later of_child same = absurd cc
+
+kept_giving : (o : Option Tenant) (a : List ℕ) (own : Own) (bytes : List ℕ) (k : Kept) (P : Kept → Type 0) → IsKeptGiving o a own bytes k → P (kept.Act a own)
+    → ((c message envelope : List ℕ) → P (kept.Feed a own c message envelope)) → P k
+kept_giving None a own bytes k P is act feed = subst P (sym is) act
+kept_giving (Some (Remote reported)) a own bytes k P is act feed = subst P (sym is) act
+kept_giving (Some (Runs c)) a own bytes k P is act feed = subst P (sym is.3) (feed c is.0 is.1)
+
+kept_by : (s : State) (bounces : ℕ) (a : List ℕ) (own : Own) (due : NeedData) (came : GotData) (k : Kept) (P : Kept → Type 0) → IsKeptBy s bounces a own due came k → P (kept.Act a own)
+    → ((c : List ℕ) (program : Program) → P (kept.Child a own c program)) → ((c message envelope : List ℕ) → P (kept.Feed a own c message envelope)) → P k
+kept_by s bounces a own (needs.Start (child.Bounce room)) (Started pid) k P is act born feed = subst P (sym is) (born _ _)
+kept_by s bounces a own (needs.Give (port.Program d) bytes) Gave k P is act born feed = kept_giving (s.pipework.programs a d) a own bytes k P is act feed
+kept_by s bounces a own due came k P is act born feed = subst P (sym is) act
+
+pub step_planned : {D : Type 0} (plan : D → Option Plan) (tells : D → Option Disk) (old new : Seen D) (due : NeedData) → IsDueOfChild old due → IsStep (codes "sender") None old new → new.disk ≡ old.disk
+    → GoesByPlan plan tells old.disk new.disk old.events new.events
+step_planned plan tells old new due asked step same e event =
+    let of = step.2 in
+    let own = step.0 in
+    let is : step.1 ≡ e = same_last old.events step.1 e (sym step.4 ∙ event) in
+    let both : ◌≡◌ {A = Option Actor} (Some of.actor) (Some asked.actor) = sym of.is ∙ asked.is in
+    let one : of.actor ≡ asked.actor = cc in
+    let due_is : own.due ≡ due = sym of.due ∙ ap (λ (x : Actor). next_of x.program x.past old.present (found_in (known old.events) (codes "sender"))) one ∙ asked.due_is in
+    let has : Bool = is_some (actor_of ((known old.events).pipework.programs (codes "sender") 0)) in
+    let kept_plan : plan new.disk ≡ plan old.disk = ap plan same in
+    subst (λ (e : Kept). IsPlannedEvent e (plan old.disk) (plan new.disk) (tells old.disk) (tells new.disk)) is
+    (kept_by (known old.events) (bounces_in old.events) (codes "sender") own own.due own.came step.1 (λ e. IsPlannedEvent e (plan old.disk) (plan new.disk) (tells old.disk) (tells new.disk)) step.3
+    (own_planned has own.due own.came (plan old.disk) (plan new.disk) (tells old.disk) (tells new.disk) (ap (is_due_of_child has) due_is ∙ asked.of_child) kept_plan)
+    (λ c program. kept_plan) (λ c message envelope. kept_plan))
+
+-- It is refused for want of memory, or since the child has not ended
+
+abbrev pub IsServed : WorldError → Type 0
+IsServed error = (error ≡ why.Memory) ⊎ (error ≡ why.NotWaiting (codes "sender"))
+
+pub other_error : (r : Result Did WorldError) (bad : WorldError) → IfErr r IsServed → (why.Memory ≢ bad) → (why.NotWaiting (codes "sender") ≢ bad) → r ≢ Err bad
+other_error (Ok did) bad served memory waits is = absurd cc
+other_error (Err error) bad served memory waits is =
+    let same : error ≡ bad = cc in ⊎_elim (λ f. memory (sym f ∙ same)) (λ f. waits (sym f ∙ same)) served
+
+-- by either outcome
+pub if_ok : (r : Result Did WorldError) (P Q : Did → Type 0) → ((did : Did) → P did → Q did) → IfOk r P → IfOk r Q
+if_ok (Ok did) P Q f is = f did is
+if_ok (Err error) P Q f is = tt
+
+pub if_err : (r : Result Did WorldError) (P Q : WorldError → Type 0) → ((error : WorldError) → P error → Q error) → IfErr r P → IfErr r Q
+if_err (Ok did) P Q f is = tt
+if_err (Err error) P Q f is = f error is
+
+pub either_way : (r : Result Did WorldError) (X : Type 0) → IfOk r (λ _. X) → IfErr r (λ _. X) → X
+either_way (Ok did) X ok err = ok
+either_way (Err error) X ok err = err
+
+pub waits_or : (r : Result Did WorldError) (a : List ℕ) → a ≡ codes "sender" → IfErr r IsServed → IfOk r (λ _. ⊥) → (r ≡ Err (why.NotWaiting a)) ⊎ (r ≡ Err why.Memory)
+waits_or (Ok did) a is served none = absurd none
+waits_or (Err error) a is served none = ⊎_elim (λ f. inr (ap failed f)) (λ f. inl (ap failed (f ∙ ap why.NotWaiting (sym is)))) served where
+  failed : WorldError → Result Did WorldError
+  failed error = Err error

@@ -1,5 +1,0 @@
-use Rattle.mail_world.proofs.Programs.{program_uses}
-use Rattle.mail_world.proofs.mailer.MailerMachine.uses_held.Goals as goal
-
-pub returns : goal.returns
-returns c = record { uses = program_uses }

@@ -1,0 +1,253 @@
+use Rattle.std.proofs.Common.{◌≡◌, ℕ, ◌+◌, ◌<◌, ◌^◌, List, [], ◌∷◌, ◌++◌, length, set, Option, Some, None, codes, get_or, refl, sym, ap, ◌∙◌, subst, arith}
+use Rattle.std.specs.Prelude.{IsSome}
+use Rattle.std.specs.List.{slice_get}
+use Rattle.std.proofs.lemmas.Option.{slice_get_read, get_or_from_slice_get}
+use Rattle.call_fs.specs.declared.past.GotData.{GotData}
+use Rattle.call_fs.specs.declared.past.NeedData.TheVariants as needs
+use Rattle.call_fs.specs.declared.past.Own.{Own}
+use Rattle.call_fs.specs.declared.program.Port.TheVariants as port
+use Rattle.mail_bytes.specs.Moments.{IsMoment}
+use Rattle.world_events.specs.declared.event.Event.{Event as Kept}
+use Rattle.world_events.specs.declared.event.Event.TheVariants as kept
+use Rattle.world_pipes.specs.declared.mouths.Mouths.{Mouths}
+use Rattle.mail_world.specs.declared.actor.Actor.{Actor as Held}
+use Rattle.mail_world.specs.Acting.{status_of}
+use Rattle.mail_world.specs.Books.{entries_of}
+use Rattle.mail_world.specs.Children.{IsDueOfChild, child_place}
+use Rattle.mail_world.specs.Inside.{known, living}
+use Rattle.mail_world.specs.Places.{place_of}
+use Rattle.mail_world.specs.Readiness.{found_in}
+use Rattle.mail_world.specs.World.{Seen}
+use Rattle.mail_world.proofs.Lists.{set_same}
+use Rattle.mail_world.proofs.Living.{living_set, room_less}
+use Rattle.mail_world.proofs.Serving.{alive_lives, first_is, sender_owes, at_setting, may_take, may_at, was_served, taken_at}
+use Rattle.mail_world.proofs.Starting.{still_starts}
+use Rattle.mail_world.proofs.Statuses.{IsTaking, taking, status_own, status_waits, status_kind, status_within, status_keeps, status_booked, status_piped, status_serves}
+use Rattle.mail_world.proofs.world.World.take_status.Goals as goal
+use Rattle.mail_world.proofs.world.World.take_status.Goals.{After-setting-at, After-child_at, After-unwrap-child, After-index, In-Some, After-own_at-own, After-index_mut, After-put}
+
+-- what is due, and whose status it is
+due_here : (g : _) (c : After-setting-at g) →
+    IsTaking c.self.inside.crew (place_of c.self.inside.places) c.self.inside.mouths.items c.self.inside.actors.items c.self.inside.history.events.items c.self.inside.present c.args.due
+due_here g c =
+    let i = c.self.inside in
+    taking i.disk (g.D.CallFs.disk i.disk) i.crew (place_of i.places) i.actors.items i.mouths.items i.history.events.items i.present i.next_pid i.bounces c.args.due c.self.invariant.0 c.self.invariant.3
+    (subst (λ (w : Seen _). IsDueOfChild w c.args.due) (sym c.self.view_is) c.requires.due) c.requires.take
+
+pub setting-at-requires : goal.setting-at-requires
+setting-at-requires g c =
+    let asked = c.requires.due in
+    alive_lives _ asked.actor asked.is asked.alive
+
+pub child_at-requires : goal.child_at-requires
+child_at-requires g c =
+    let i = c.self.inside in
+    let k = due_here g (goal.at.child_at-requires g c).After-setting-at in
+    let within = k.within in
+    subst (λ (l : List Mouths). (j : ℕ) → child_place l i.crew (place_of i.places) ≡ Some j → j < 2 ^ 64) (sym c.deref.ensures.value)
+    (λ j at.
+    let both : ◌≡◌ {A = Option ℕ} (Some (i.crew + k.here.at)) (Some j) = sym k.found ∙ at in
+    let same : i.crew + k.here.at ≡ j = cc in
+    omega (arith, within, same, i.actors.ok.0))
+
+-- the child's place
+place_is : (g : _) (c : After-child_at g) (at : ℕ) → child_place c.self.inside.mouths.items c.self.inside.crew (place_of c.self.inside.places) ≡ Some at → c.child_at.result ≡ Some at
+place_is g c at found =
+    let i = c.self.inside in
+    subst (λ (l : List Mouths). c.child_at.result ≡ child_place l i.crew (place_of i.places)) c.deref.ensures.value c.child_at.ensures ∙ found
+
+pub unwrap-child-requires : goal.unwrap-child-requires
+unwrap-child-requires g c =
+    let at = goal.at.unwrap-child-requires g c in
+    let k = due_here g at.After-setting-at in
+    subst IsSome (sym (place_is g at.After-child_at _ k.found)) refl
+
+child_is : (g : _) (c : After-unwrap-child g) (at : ℕ) → c.child_at.result ≡ Some at → c.unwrap-child.result ≡ at
+child_is g c at found =
+    let both : ◌≡◌ {A = Option ℕ} (Some c.unwrap-child.result) (Some at) = sym c.unwrap-child.ensures ∙ found in cc
+
+pub index-requires : goal.index-requires
+index-requires g c =
+    let at = goal.at.index-requires g c in
+    let k = due_here g at.After-setting-at in
+    let within = k.within in
+    let same = child_is g at.After-unwrap-child _ (place_is g at.After-child_at _ k.found) in
+    omega (arith, within, same, c.self.inside.actors.ok.0)
+
+-- who is read there
+read_is : (g : _) (c : After-index g) (at : ℕ) (x : Held) → c.unwrap-child.result ≡ at → slice_get c.self.inside.actors.items at ≡ Some x → x ≡ c.index.result.now
+read_is g c at x same is =
+    let l = c.self.inside.actors.items in
+    let y = c.index.result.now in
+    sym (get_or_from_slice_get l at x y is) ∙ ap (λ (j : ℕ). get_or l j y) (sym same) ∙ sym c.index.ensures
+
+none_of : (o : Option GotData) → ((came : GotData) → o ≡ Some came → ⊥) → o ≡ None
+none_of None other = refl
+none_of (Some came) other = absurd (other came refl)
+
+pub returns-in_default-clause-waits : goal.returns-in_default-clause-waits
+returns-in_default-clause-waits g c =
+    let at = goal.at.returns-in_default-clause-waits g c in
+    let i = c.self.inside in
+    let k = due_here g at.After-setting-at in
+    let read = read_is g at.After-index _ k.here.held (child_is g at.After-unwrap-child _ (place_is g at.After-child_at _ k.found)) k.here.is in
+    let none : status_of k.here.held.ended k.here.held.status ≡ None = ap (λ (x : Held). status_of x.ended x.status) read ∙ sym c.status_of.ensures ∙ none_of c.status_of.result c.in_default.not-Some in
+    rw (← c.self.view_is) (λ is. (status_waits i.crew (place_of i.places) i.actors.items i.history.events.items i.present k.asks.sender k.child k.asks.is k.asks.alive (k.asks.next ∙ k.due_is) k.runs k.here none, refl))
+
+pub invariant_of-self : goal.invariant_of-self
+invariant_of-self g c =
+    let at = goal.at.invariant_of-self g c in
+    let i = c.self.inside in
+    let a = (due_here g at.After-setting-at).asks in
+    let l = i.actors.items in
+    let x = c.index_mut-sender.result.now in
+    let read = first_is l (known i.history.events.items) i.history.events.items i.present a.sender a.here x c.index_mut-sender.ensures.value in
+    let still : set l 0 c.pay_sender.new.sender ≡ l = ap (set l 0) (c.in_err-pay_sender.ensures.err ∙ sym read) ∙ set_same l 0 a.here.held a.here.is in
+    let same = c.in_err-pay_sender.ensures.same in (
+      rw (still, same) c.self.invariant.0,
+      rw (still) (c.in_err-pay_sender.ensures.stays (living l) c.self.invariant.1),
+      rw (still, same) c.self.invariant.2,
+      rw (still, same) c.self.invariant.3,
+      rw (same) c.self.invariant.4,
+    )
+
+pub index_mut-sender-requires : goal.index_mut-sender-requires
+index_mut-sender-requires g c =
+    let k = due_here g (goal.at.index_mut-sender-requires g c).After-setting-at in
+    let within = k.within in
+    omega (arith, within, c.self.inside.actors.ok.0)
+
+pub pay_sender-requires : goal.pay_sender-requires
+pay_sender-requires g c =
+    let i = c.self.inside in
+    let x = c.index_mut-sender.result.now in
+    let a = (due_here g (goal.at.pay_sender-requires g c).After-setting-at).asks in
+    let s = known i.history.events.items in
+    sender_owes i.actors.items s i.history.events.items i.present a.sender a.here x (first_is i.actors.items s i.history.events.items i.present a.sender a.here x c.index_mut-sender.ensures.value)
+
+-- where it is taken
+now_is : (g : _) (c : After-setting-at g) → c.setting-at.result.now ≡ c.self.inside.present
+now_is g c = c.setting-at.ensures.now ∙ ap (λ (w : Seen _). w.present) (sym c.self.view_is)
+
+ready_is : (g : _) (c : After-setting-at g) → c.setting-at.result.ready ≡ found_in (known c.self.inside.history.events.items) (codes "sender")
+ready_is g c = c.setting-at.ensures.ready ∙ ap (λ (w : Seen _). found_in (known w.events) (codes "sender")) (sym c.self.view_is)
+
+-- what is taken
+own_is : (g : _) (c : After-own_at-own g) → c.setting-at.result.now ≡ c.self.inside.present → c.setting-at.result.ready ≡ found_in (known c.self.inside.history.events.items) (codes "sender")
+    → c.own_at-own.result ≡ status_own c.self.inside.history.events.items c.self.inside.present c.in-Some.came
+own_is g c at ready =
+    let i = c.self.inside in
+    at_setting c.setting-at.result.now i.present c.setting-at.result.ready (found_in (known i.history.events.items) (codes "sender")) (needs.Take (port.Status 0)) (needs.Take (port.Status 0)) c.in-Some.came c.own_at-own.result
+    c.own_at-own.ensures at ready refl
+
+came_is : (g : _) (c : In-Some g) (x : Held) → x ≡ c.index.result.now → status_of x.ended x.status ≡ Some c.in-Some.came
+came_is g c x read = ap (λ (x : Held). status_of x.ended x.status) read ∙ sym c.status_of.ensures ∙ c.in-Some.is
+
+pub take_in-did-requires-clause-moment : goal.take_in-did-requires-clause-moment
+take_in-did-requires-clause-moment g c = subst IsMoment (sym (now_is g (goal.at.take_in-did-requires-clause-moment g c).After-setting-at)) c.self.invariant.0.moment
+
+pub take_in-did-requires-clause-paid : goal.take_in-did-requires-clause-paid
+take_in-did-requires-clause-paid g c = c.in_ok-pay_sender.ensures.paid.paid
+
+pub take_in-did-requires-clause-may : goal.take_in-did-requires-clause-may
+take_in-did-requires-clause-may g c =
+    let at = goal.at.take_in-did-requires-clause-may g c in
+    let i = c.self.inside in
+    let events = i.history.events.items in
+    let s = known events in
+    let k = due_here g at.After-setting-at in
+    let a = k.asks in
+    let h = k.here.held in
+    let x = c.index_mut-sender.result.now in
+    let own = status_own events i.present c.in-Some.came in
+    let paid = c.in_ok-pay_sender.ensures.paid in
+    let ended = came_is g at.In-Some h (read_is g at.After-index _ h (child_is g at.After-unwrap-child _ (place_is g at.After-child_at _ k.found)) k.here.is) in
+    may_at c.pay_sender.new.sender.machine c.setting-at.result.now i.present c.setting-at.result.ready (found_in s (codes "sender")) c.own_at-own.result own (now_is g at.After-setting-at) (ready_is g at.After-setting-at) (own_is g at.After-own_at-own (now_is g at.After-setting-at) (ready_is g at.After-setting-at))
+    (may_take i.actors.items s events i.present a.sender a.here a.is x c.pay_sender.new.sender (first_is i.actors.items s events i.present a.sender a.here x c.index_mut-sender.ensures.value) paid.follows paid.awaits
+    own a.sends refl refl (a.next ∙ k.due_is) (status_kind h.ended h.status c.in-Some.came ended) (status_within h.ended h.status c.in-Some.came ended))
+
+pub index_mut-requires : goal.index_mut-requires
+index_mut-requires g c =
+    let k = due_here g (goal.at.index_mut-requires g c).After-setting-at in
+    let many = k.many in
+    omega (arith, many, c.self.inside.mouths.ok.0)
+
+-- its pipes and slots
+mouth_is : (g : _) (c : After-index_mut g) → length c.self.inside.mouths.items ≡ 4 → slice_get c.self.inside.mouths.items 0 ≡ Some c.index_mut.result.now
+mouth_is g c many =
+    let l = c.self.inside.mouths.items in
+    slice_get_read l (length l) 0 c.index_mut.result.now (omega arith) (omega (arith, many)) c.index_mut.ensures.value
+
+pub free-requires : goal.free-requires
+free-requires g c =
+    let at = goal.at.free-requires g c in
+    let k = due_here g at.After-setting-at in
+    let slots = c.self.invariant.3.slots 0 c.index_mut.result.now (mouth_is g at.After-index_mut k.many) in
+    omega (arith, slots)
+
+-- the event that was put
+put_is : (g : _) (c : After-put g) (own : Own) → c.own_at-own.result ≡ own → c.put.new.self.events.items ≡ c.self.inside.history.events.items ++ kept.Act (codes "sender") own ∷ []
+put_is g c own same =
+    let events = c.self.inside.history.events.items in
+    c.put.ensures.event ∙ ap (λ (l : List Kept). l ++ kept.Act c.named.result c.own_at-own.result ∷ []) c.in_ok-pay_sender.ensures.same
+    ∙ ap (λ (a : List ℕ). events ++ kept.Act a c.own_at-own.result ∷ []) c.named.ensures ∙ ap (λ (own : Own). events ++ kept.Act (codes "sender") own ∷ []) same
+
+pub invariant_of-self-2 : goal.invariant_of-self-2
+invariant_of-self-2 g c =
+    let at = goal.at.invariant_of-self-2 g c in
+    let i = c.self.inside in
+    let told = g.D.CallFs.disk i.disk in
+    let places = place_of i.places in
+    let events = i.history.events.items in
+    let s = known events in
+    let k = due_here g at.After-setting-at in
+    let a = k.asks in
+    let h = k.here in
+    let x = c.index_mut-sender.result.now in
+    let z = c.pay_sender.new.sender in
+    let y = c.take_in-did.new.sender in
+    let came = c.in-Some.came in
+    let own = status_own events i.present came in
+    let ended = came_is g at.In-Some h.held (read_is g at.After-index _ h.held (child_is g at.After-unwrap-child _ (place_is g at.After-child_at _ k.found)) h.is) in
+    let same = own_is g at.After-own_at-own (now_is g at.After-setting-at) (ready_is g at.After-setting-at) in
+    let index = c.len.ensures ∙ ap (λ (l : List Kept). length l) c.in_ok-pay_sender.ensures.same in
+    let paid = c.in_ok-pay_sender.ensures.paid in
+    let got = was_served i.actors.items s events i.present a.sender a.here a.is x z (first_is i.actors.items s events i.present a.sender a.here x c.index_mut-sender.ensures.value) paid.follows paid.awaits
+    y own c.take_in-did.result.idle paid.name paid.descriptors paid.ended paid.status (taken_at z y c.own_at-own.result own _ (length events) c.take_in-did.result.idle same index c.take_in-did.ensures.taken) in
+    let event = put_is g at.After-put own same in
+    let len : c.len-room.result ≡ length i.actors.items = c.len-room.ensures ∙ i.actors.ok.0 in
+    let bound = living_set i.actors.items 0 y in
+    let first = mouth_is g at.After-index_mut k.many in (
+      rw (event) (status_keeps told i.crew places i.actors.items i.mouths.items i.books.entries.items events i.present i.next_pid i.bounces a.sender c.self.invariant.0 c.self.invariant.3 a.is a.alive a.here k.child k.runs h came ended (a.next ∙ k.due_is) y got.0),
+      c.put.ensures.room (living (set i.actors.items 0 y)) (room_less c.pay_sender.new.history (c.len-room.result + 1) (living (set i.actors.items 0 y) + 1) (omega (arith, len, bound)) c.in_ok-pay_sender.ensures.holds),
+      rw (event) (status_booked told i.crew places i.actors.items i.mouths.items (entries_of i.books) events i.present i.next_pid i.bounces a.sender c.self.invariant.0 c.self.invariant.3 a.is a.alive a.here k.child k.runs h came ended (a.next ∙ k.due_is) y got.0 c.self.invariant.2),
+      rw (event) (status_piped told i.crew places i.actors.items i.mouths.items i.books.entries.items events i.present i.next_pid i.bounces a.sender c.self.invariant.0 c.self.invariant.3 a.is a.alive a.here k.child k.runs h came ended (a.next ∙ k.due_is) y got.0
+          c.index_mut.result.now c.free.new.self first c.free.ensures.pipes c.free.ensures.tenants c.free.ensures.slots),
+      rw (event) (still_starts i.starts i.crew places events (kept.Act (codes "sender") own) refl c.self.invariant.4),
+    )
+
+pub returns-clause-served : goal.returns-clause-served
+returns-clause-served g c =
+    let at = goal.at.returns-clause-served g c in
+    let i = c.self.inside in
+    let told = g.D.CallFs.disk i.disk in
+    let places = place_of i.places in
+    let events = i.history.events.items in
+    let s = known events in
+    let k = due_here g at.After-setting-at in
+    let a = k.asks in
+    let h = k.here in
+    let x = c.index_mut-sender.result.now in
+    let z = c.pay_sender.new.sender in
+    let y = c.take_in-did.new.sender in
+    let came = c.in-Some.came in
+    let own = status_own events i.present came in
+    let ended = came_is g at.In-Some h.held (read_is g at.After-index _ h.held (child_is g at.After-unwrap-child _ (place_is g at.After-child_at _ k.found)) h.is) in
+    let same = own_is g at.After-own_at-own (now_is g at.After-setting-at) (ready_is g at.After-setting-at) in
+    let index = c.len.ensures ∙ ap (λ (l : List Kept). length l) c.in_ok-pay_sender.ensures.same in
+    let paid = c.in_ok-pay_sender.ensures.paid in
+    let got = was_served i.actors.items s events i.present a.sender a.here a.is x z (first_is i.actors.items s events i.present a.sender a.here x c.index_mut-sender.ensures.value) paid.follows paid.awaits
+    y own c.take_in-did.result.idle paid.name paid.descriptors paid.ended paid.status (taken_at z y c.own_at-own.result own _ (length events) c.take_in-did.result.idle same index c.take_in-did.ensures.taken) in
+    let did = c.take_in-did.ensures.did in
+    rw (← c.self.view_is, put_is g at.After-put own same) (status_serves told i.crew places i.actors.items i.mouths.items i.books.entries.items events i.present i.next_pid i.bounces a.sender c.self.invariant.0 c.self.invariant.3 a.is a.alive a.here k.child k.runs h came ended
+    (a.next ∙ k.due_is) g.D.CallFs.disk i.disk refl c.take_in-did.result (did.0 ∙ index) did.1 got.1)

@@ -1,0 +1,137 @@
+-- The child of a sender, as a world keeps it.
+use Rattle.std.specs.Prelude.{◌≡◌, ℕ, zero, ◌+◌, List, [], ◌∷◌, ◌++◌, length, set, Bool, true, false, Option, Some, None, is_some, codes}
+use Rattle.std.specs.List.{slice_get}
+use Rattle.call_fs.specs.declared.past.ChildData.TheVariants as child
+use Rattle.call_fs.specs.declared.past.NeedData.{NeedData}
+use Rattle.call_fs.specs.declared.past.NeedData.TheVariants as needs
+use Rattle.call_fs.specs.declared.past.Own.{Own}
+use Rattle.call_fs.specs.declared.program.Port.TheVariants as port
+use Rattle.call_fs.specs.declared.program.Ready.{Ready}
+use Rattle.call_fs.specs.Program.{IsKind, IsWithin}
+use Rattle.call_fs.specs.Disk.{Disk}
+use Rattle.world_events.specs.declared.event.Event.{Event as Kept}
+use Rattle.world_events.specs.declared.event.Program.{Program}
+use Rattle.world_events.specs.Inputs.{with_texts}
+use Rattle.mail_world.specs.declared.world.Did.{Did}
+use Rattle.world_pipes.specs.declared.mouths.Mouths.{Mouths}
+use Rattle.world_pipes.specs.Mouths.{actor_of}
+use Rattle.mail_world.specs.declared.actor.Actor.{Actor as Held}
+use Rattle.mail_world.specs.declared.any_machine.AnyMachine.{AnyMachine}
+use Rattle.mail_world.specs.History.{Actor, next_of, IsSender}
+use Rattle.mail_world.specs.History.Life.{Alive}
+use Rattle.mail_world.specs.ByKind.{Follows, CanFind, awaits_of}
+use Rattle.mail_world.specs.Wired.{tenant_in}
+use Rattle.mail_world.specs.Known.{known}
+use Rattle.mail_world.specs.Readiness.{found_in}
+use Rattle.mail_world.specs.World.{Seen, GoesOn, IsStep}
+use Rattle.mail_world.specs.Inside.{StandsFor, Owes}
+use Rattle.mail_world.specs.Generations.{idled_in, has_idled}
+use Rattle.mail_world.specs.Acting.{is_due_of_child, IsOwed}
+-- what is due gives an injector two texts
+pub use Rattle.fed_injector.specs.Texts.{GivesTexts, GivesTwo}
+
+-- this is due to the living sender of a world, and its child's
+pub record IsDueOfChild {D : Type 0} (w : Seen D) (due : NeedData) : Type 0 where
+  pub actor : Actor
+  pub is : (known w.events).actors (codes "sender") ≡ Some actor
+  pub alive : actor.life ≡ Alive
+  pub due_is : next_of actor.program actor.past w.present (found_in (known w.events) (codes "sender")) ≡ due
+  pub of_child : is_due_of_child (is_some (actor_of ((known w.events).pipework.programs (codes "sender") 0))) due ≡ true
+
+-- it is the start of a bounce, the whole input of a child, or its status
+abbrev pub IsStart : NeedData → Type 0
+IsStart (needs.Start (child.Bounce room)) = Unit {0}
+IsStart other = ⊥
+
+abbrev pub IsGive : NeedData → Type 0
+IsGive (needs.Give (port.Program d) bytes) = Unit {0}
+IsGive other = ⊥
+
+abbrev pub IsTake : NeedData → Type 0
+IsTake (needs.Take (port.Status d)) = Unit {0}
+IsTake other = ⊥
+
+-- the place among all of the child in the first slot of the first member, if there is one
+abbrev pub place_by_name : ℕ → (List ℕ → Option ℕ) → Option (List ℕ) → Option ℕ
+place_by_name crew places None = None
+place_by_name crew places (Some c) = place_so (places c) where
+  place_so : Option ℕ → Option ℕ
+  place_so None = None
+  place_so (Some i) = Some (crew + i)
+
+abbrev pub child_place : List Mouths → ℕ → (List ℕ → Option ℕ) → Option ℕ
+child_place mouths crew places = place_by_name crew places (actor_of (tenant_in (slice_get mouths 0) 0))
+
+-- its machine was handed what it owed
+pub record IsPaid (x z : Held) (events : List Kept) : Type 0 where
+  pub follows : (program : Program) (past : List Own) → ((at : ℕ) → x.owed ≡ Some at → Owes x events past at) → StandsFor x program past → Follows z.machine program past
+  pub name : z.name ≡ x.name
+  pub ended : z.ended ≡ x.ended
+  pub status : z.status ≡ x.status
+  pub awaits : awaits_of z.machine ≡ awaits_of x.machine
+  pub paid : z.owed ≡ None
+  pub descriptors : z.descriptors.items ≡ x.descriptors.items
+
+-- an actor whose machine is given no input any more
+pub record IsCut (x y : Held) : Type 0 where
+  pub follows : (program : Program) (past : List Own) → Follows x.machine program past → Follows y.machine program past
+  pub awaits : awaits_of y.machine ≡ false
+  pub same : awaits_of x.machine ≡ false → y.machine ≡ x.machine
+  pub name : y.name ≡ x.name
+  pub descriptors : y.descriptors.items ≡ x.descriptors.items
+  pub ended : y.ended ≡ x.ended
+  pub status : y.status ≡ x.status
+  pub owed : y.owed ≡ x.owed
+
+-- an actor that was given this input, if it awaited it
+pub record IsFed (message envelope : List ℕ) (x y : Held) : Type 0 where
+  pub stands : awaits_of x.machine ≡ true → (program : Program) (past : List Own) → Follows x.machine program past → Follows y.machine (with_texts message envelope program) past
+  pub awaits : awaits_of y.machine ≡ false
+  pub name : y.name ≡ x.name
+  pub descriptors : y.descriptors.items ≡ x.descriptors.items
+  pub ended : y.ended ≡ x.ended
+  pub status : y.status ≡ x.status
+  pub owed : y.owed ≡ x.owed
+
+-- the actor at this place is over: if it is the sender, its child, which has that place, is given no input any more
+abbrev pub HasLeft : ℕ → Option ℕ → List Held → List Held → Type 0
+HasLeft zero (Some child) old new = (x : Held) × (y : Held) × (slice_get old child ≡ Some x) × (new ≡ set old child y) × IsCut x y
+HasLeft place child old new = new ≡ old
+
+abbrev pub HasLeftIf : Bool → ℕ → Option ℕ → List Held → List Held → Type 0
+HasLeftIf true place child old new = HasLeft place child old new
+HasLeftIf false place child old new = new ≡ old
+
+-- This is due to a sender at this moment, with this ready, and came: its machine may be handed it.
+pub record MayTakeIn (machine : AnyMachine) (now : ℕ) (ready : Ready) (own : Own) : Type 0 where
+  pub program : Program
+  pub past : List Own
+  pub sends : IsSender program
+  pub follows : Follows machine program past
+  pub found : CanFind machine ready
+  pub read : own.read ≡ now
+  pub ready_is : own.ready ≡ ready
+  pub due : next_of program past now ready ≡ own.due
+  pub kind : IsKind own.due own.came
+  pub within : (most : ℕ) → IsWithin most own.came
+
+-- the sender was handed what came of this event of its own, which will have this index, or owes it; and an idle turn ended, or not
+pub record HasTakenIn (x y : Held) (own : Own) (index : ℕ) (idle : Bool) : Type 0 where
+  pub follows : (program : Program) (past : List Own) → Follows x.machine program past → StandsFor y program (own ∷ past)
+  pub idled : (program : Program) (past : List Own) → Follows x.machine program past → idle ≡ idled_in program past own
+  pub owes : (at : ℕ) → y.owed ≡ Some at → IsOwed y own index at
+  pub name : y.name ≡ x.name
+  pub descriptors : y.descriptors.items ≡ x.descriptors.items
+  pub ended : y.ended ≡ x.ended
+  pub status : y.status ≡ x.status
+  pub awaits : awaits_of y.machine ≡ awaits_of x.machine
+
+-- A step of the sender that concerns its child appended one event, and went on from what happened before. Nothing was made of the disk.
+pub record Serves {D : Type 0} (tells : D → Option Disk) (old new : Seen D) (did : Did) : Type 0 where
+  pub event : IsStep (codes "sender") None old new
+  pub goes_on : GoesOn tells old new
+  pub present : new.present ≡ old.present
+  pub disk : new.disk ≡ old.disk
+  pub at : did.at ≡ length old.events
+  pub ended : did.ended ≡ None
+  pub idle : (event : Kept) → new.events ≡ old.events ++ event ∷ [] → did.idle ≡ has_idled (known old.events) event

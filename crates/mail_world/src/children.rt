@@ -1,0 +1,186 @@
+// The sender's child: its place, its start, its input, and what the sender is handed of it.
+ghost use Rattle.std.specs.Prelude.{◌≡◌, ◌<◌, ◌^◌, [], List, ℕ, Some, None, true, length, IfOk, OnOk, OnErr, vec_len, vec_capacity};
+ghost use Rattle.actor_names.specs.BounceNames.{bounce_name};
+ghost use Rattle.call_fs.specs.declared.past.Own.{Own as Done};
+ghost use Rattle.call_fs.specs.Maps.{put_at};
+ghost use Rattle.fed_injector.specs.Inputs.{FedStands, IsNoInput, awaits};
+ghost use Rattle.mail_bytes.specs.Moments.{IsMoment};
+ghost use Rattle.queue_inject.specs.declared.injection.Arguments.{Arguments};
+ghost use Rattle.queue_inject.specs.Stands.{IsStartedBy};
+ghost use Rattle.world_events.specs.Books.{HasPlace};
+ghost use Rattle.mail_world.specs.Books.{entries_of};
+ghost use Rattle.mail_world.specs.Children.{IsStart, GivesTexts, GivesTwo, child_place, IsPaid, IsCut, IsFed, HasLeftIf, MayTakeIn, HasTakenIn};
+ghost use Rattle.mail_world.specs.Inside.{Owes};
+ghost use Rattle.mail_world.specs.Kept.{events_of, HasRoom};
+ghost use Rattle.mail_world.specs.Places.{place_of};
+ghost use Rattle.mail_world.specs.Starts.{IsSameOrder, HasRoomFor};
+
+use crate::actor::{Actor, Setting};
+use crate::starts::Starts;
+use crate::{Books, Did, History};
+use actor_names::bounce_name;
+use call_fs::{ChildData, GotData, Machine, NeedData, Own};
+use fed_injector::{FedInjector, texts_to_give};
+use mail_bytes::{ByteText, Memory};
+use received_line::Invoked;
+use std::alloc::Global;
+use world_events::Places;
+use world_pipes::Mouths;
+
+/// The place of the child in the sender's slot, if there is one. The condition: it is one of a usize.
+pub fn child_at(mouths: &[Mouths], places: &Places, crew: usize) -> Option<usize>
+    requires { (i : ℕ) → child_place mouths.now crew (place_of places.now) ≡ Some i → i < 2 ^ 64 }
+    ensures { result ≡ child_place mouths.now crew (place_of places.now) }
+{
+    let name = mouths.first()?.actor_in(0)?;
+    Some(crew + places.find(name.as_slice())?)
+}
+
+/// If the actor at this place is over, and it is the sender, its child, which has that place, is given no input any more. Takes no
+/// memory. The condition: the child's place is one of the actors'.
+pub fn leave(actors: &mut [Actor], over: bool, place: usize, child: Option<usize>)
+    requires { (i : ℕ) → child ≡ Some i → i < length actors.old }
+    ensures { HasLeftIf over place child actors.old actors.new }
+{
+    if let (true, 0, Some(child)) = (over, place, child) {
+        cut_off_input(&mut actors[child]);
+    }
+}
+
+/// Nobody gives this actor any input any more. Takes no memory.
+fn cut_off_input(actor: &mut Actor)
+    ensures { IsCut actor.old actor.new }
+{
+    if actor.machine.awaits() {
+        actor.machine.cut();
+    }
+}
+
+/// This actor is given this input, if it awaits it. Takes no memory.
+pub fn give_input(actor: &mut Actor, message: ByteText, envelope: ByteText)
+    ensures { IsFed message envelope actor.old actor.new }
+{
+    if actor.machine.awaits() {
+        actor.machine.give(message, envelope);
+    }
+}
+
+/// The room that the injector of a bounce asks for. The condition: its start is due.
+pub fn room_of(due: NeedData) -> u64
+    requires { IsStart due }
+    ensures { due ≡ NeedData.Start (ChildData.Bounce result) }
+{
+    let NeedData::Start(ChildData::Bounce { room }) = due else {
+        unreachable!()
+    };
+    room
+}
+
+/// Makes room for so many events, and hands the sender the event that it owes. After `Memory` it is as before, and so is what happened.
+/// The condition: the history has that event.
+pub fn pay_sender(
+    alloc: Global,
+    history: &mut History,
+    sender: &mut Actor,
+    room: usize,
+) -> Result<(), Memory>
+    requires { (at : ℕ) → sender.old.owed ≡ Some at → (past : List Done) × Owes sender.old (events_of history.old) past at }
+    ensures same { events_of history.new ≡ events_of history.old }
+    ensures stays { (more : ℕ) → HasRoom history.old more → HasRoom history.new more }
+    ensures holds { OnOk result (HasRoom history.new room) }
+    ensures paid { OnOk result (IsPaid sender.old sender.new (events_of history.old)) }
+    ensures err { OnErr result (sender.new ≡ sender.old) }
+{
+    history.reserve(room)?;
+    sender.pay(alloc, history)?;
+    Ok(())
+}
+
+/// Makes room for one actor more, for its entry and for its start.
+pub fn room_for_one(
+    actors: &mut Vec<Actor>,
+    books: &mut Books,
+    starts: &mut Starts,
+) -> Result<(), Memory>
+    ensures actors { actors.new.items ≡ actors.old.items }
+    ensures books { entries_of books.new ≡ entries_of books.old }
+    ensures starts { IsSameOrder starts.old starts.new }
+    ensures room { OnOk result (vec_len actors.new < vec_capacity actors.new) }
+    ensures entry { OnOk result (HasPlace books.new) }
+    ensures start { OnOk result (HasRoomFor starts.new 1) }
+{
+    actors.reserve(1)?;
+    books.make_room()?;
+    starts.make_room(1)
+}
+
+/// The injector of the bounce of this number, which awaits its input; its name gets this place. After `Memory` no name has another
+/// place. The condition: a clock may tell the moment.
+pub fn injector_at(
+    alloc: Global,
+    places: &mut Places,
+    number: u64,
+    place: usize,
+    at: Setting,
+) -> Result<FedInjector, Memory>
+    requires { IsMoment at.now }
+    ensures stands { IfOk result (λ fed. (args : Arguments) → IsStartedBy args 0 at.pid Invoked.Bounce at.now → IsNoInput args → FedStands fed args []) }
+    ensures awaits { IfOk result (λ fed. awaits fed ≡ true) }
+    ensures ok { OnOk result ((q : List ℕ) → place_of places.new q ≡ put_at (place_of places.old) (bounce_name number) (Some place) q) }
+    ensures err { OnErr result ((q : List ℕ) → place_of places.new q ≡ place_of places.old q) }
+{
+    let injector = FedInjector::new(alloc, 0, at.pid, Invoked::Bounce, at.now)?;
+    places.add(alloc, bounce_name(number).as_slice(), place)?;
+    Ok(injector)
+}
+
+/// The texts with which a child is given its input, each twice; with room for so many events, and the event that the sender owes handed
+/// to it. After `Memory` it is as before, and so is what happened. The conditions: this gives two texts, and as above.
+pub fn ready_to_feed(
+    alloc: Global,
+    history: &mut History,
+    sender: &mut Actor,
+    room: usize,
+    due: &NeedData,
+) -> Result<(ByteText, ByteText, ByteText, ByteText), Memory>
+    requires gives { GivesTwo due.now }
+    requires owes { (at : ℕ) → sender.old.owed ≡ Some at → (past : List Done) × Owes sender.old (events_of history.old) past at }
+    ensures texts { IfOk result (λ texts. GivesTexts due.now texts.0 texts.1) }
+    ensures message { IfOk result (λ texts. texts.2 ≡ texts.0) }
+    ensures envelope { IfOk result (λ texts. texts.3 ≡ texts.1) }
+    ensures same { events_of history.new ≡ events_of history.old }
+    ensures stays { (more : ℕ) → HasRoom history.old more → HasRoom history.new more }
+    ensures holds { OnOk result (HasRoom history.new room) }
+    ensures paid { OnOk result (IsPaid sender.old sender.new (events_of history.old)) }
+    ensures err { OnErr result (sender.new ≡ sender.old) }
+{
+    let texts = texts_to_give(alloc, due)?;
+    pay_sender(alloc, history, sender, room)?;
+    Ok(texts)
+}
+
+/// The sender looks, and is handed what came of this event, which will have this index, or owes it. The conditions: it owes none, and
+/// this was due, and came.
+pub fn take_in(alloc: Global, sender: &mut Actor, own: &Own, at: Setting, index: usize) -> Did
+    requires moment { IsMoment at.now }
+    requires paid { sender.old.owed ≡ None }
+    requires may { MayTakeIn sender.old.machine at.now at.ready own.now }
+    ensures did { (result.at ≡ index) × (result.ended ≡ None) }
+    ensures taken { HasTakenIn sender.old sender.new own.now index result.idle }
+{
+    sender.machine.look(at.now, at.ready);
+    let idle = sender.take_in(alloc, own, index as u64);
+    Did::new(index as u64, None, idle)
+}
+
+/// What was due in this setting, and came.
+pub fn own_at(at: Setting, due: NeedData, came: GotData) -> Own
+    ensures { result ≡ record { read = at.now; ready = at.ready; due = due; came = came } }
+{
+    Own {
+        read: at.now,
+        ready: at.ready,
+        due,
+        came,
+    }
+}

@@ -1,0 +1,2 @@
+-- lists of open descriptors
+pub mod Descriptors

@@ -1,0 +1,2 @@
+-- what an actor has open
+pub mod Opened
