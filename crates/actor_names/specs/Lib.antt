@@ -1,4 +1,4 @@
 -- the names of mails, and those of the queue's own programs
 pub mod MailNames
--- the names of the injectors of bounces
-pub mod BounceNames
+-- the names of children: bounces, deliveries and forwards
+pub mod ChildNames

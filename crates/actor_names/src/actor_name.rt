@@ -1,5 +1,5 @@
 // The name of an actor.
-ghost use Rattle.std.specs.Prelude.{◌≡◌, ◌≤◌, ◌<◌, ◌↔◌, [], List, ℕ, length, take, IfSome, IsNone, IsTrue};
+ghost use Rattle.std.specs.Prelude.{◌≡◌, ◌≤◌, ◌<◌, ◌↔◌, [], List, ℕ, length, take, set, IfSome, IsNone, IsTrue};
 
 use std::marker::Model;
 
@@ -48,6 +48,18 @@ impl ActorName {
     {
         ActorName {
             bytes: self.bytes,
+            len: self.len,
+        }
+    }
+
+    /// The same name with this as its first byte; the empty name has none. Takes no memory.
+    pub(crate) fn with_first(&self, byte: u8) -> ActorName
+        ensures { result ≡ set self.now 0 byte }
+    {
+        let mut bytes = self.bytes;
+        bytes[0] = byte;
+        ActorName {
+            bytes,
             len: self.len,
         }
     }

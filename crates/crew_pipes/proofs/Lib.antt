@@ -6,4 +6,11 @@ pub mod Seats
 pub mod Lists
 -- what an event changes of the pipes that are kept
 pub mod Wires
+-- and of the slots
+pub mod Keeps
+-- what an actor does with them
 pub mod Feeds
+-- what is shut when it is over
+pub mod Shuts
+-- with what commands exit
+pub mod Exits

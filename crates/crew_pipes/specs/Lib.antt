@@ -1,6 +1,8 @@
--- the pipes that are kept, against those of the model
+-- the pipes that are kept, and where, against those of the model
 pub mod Wired
 -- what an actor does with them
 pub mod Exchanges
--- what a member finds ready, and what of a child is due to it
+-- what an actor finds ready, and what of a child is due to it
 pub mod Seating
+-- with what the command of a user exits
+pub mod Commands

@@ -1,11 +1,18 @@
-//! The pipes of the members of a generation: what each finds ready by them, what an actor takes, gives and starts by them, and what is
-//! shut when it is over.
+//! The pipes of actors: what each finds ready by them, what it takes, gives and starts by them, and what is shut when it is over; and how
+//! the command of a user ends.
 //!
-//! Each member has its pipes at its seat. What is done with them is what the pipework of the model says (`specs/Exchanges.antt`).
+//! A member of a generation has its pipes at its seat, and any other actor that has some after the members'. What is done with them is what
+//! the pipework of the model says (`specs/Exchanges.antt`).
+//! No shell runs: the exit status of a command is read off its text (`specs/Commands.antt`).
 #![tactic(auto)]
 
+mod commands;
 mod feeding;
+pub mod laws;
+mod reports;
 mod seating;
 
+pub use commands::command_exits;
 pub use feeding::{exchange, shut_after};
+pub use reports::{first_unreported, is_unreported};
 pub use seating::{is_of_child, pipes, ready_at, seat};

@@ -1,8 +1,8 @@
-// The members of a generation: their seats, their pipes, what each finds ready, and what of a child is due to one.
+// Where actors have their pipes, what each finds ready by them, and what of a child is due to one.
 ghost use Rattle.std.specs.Prelude.{◌≡◌, ◌<◌, ℕ, Some, IfOk, length};
 ghost use Rattle.call_fs.specs.Program.{due_of};
 ghost use Rattle.crew_pipes.specs.Wired.{seat};
-ghost use Rattle.crew_pipes.specs.Seating.{AreFresh, IsFoundAt, input_of, is_of_child};
+ghost use Rattle.crew_pipes.specs.Seating.{AreFresh, IsFoundAt, input_of, has_actor, is_due_of_child};
 
 use call_fs::{Child, INPUT_READY, Need, Port, Ready};
 use mail_bytes::Memory;
@@ -49,17 +49,17 @@ pub fn pipes(alloc: Global) -> Result<Vec<Mouths>, Memory>
     Ok(mouths)
 }
 
-/// What a member finds ready; or an injector, whose input is ready unless it is still awaited. The condition: there are pipes of the
-/// member.
-pub fn ready_at(mouths: &[Mouths], seat: Option<usize>, awaits: bool) -> Ready
-    requires { (i : ℕ) → seat ≡ Some i → i < length mouths.now }
-    ensures { IsFoundAt mouths.now seat awaits result }
+/// What an actor finds ready that has its pipes at this place; or an injector, which has none, and whose input is ready unless it is
+/// still awaited. The condition: there is such a place.
+pub fn ready_at(mouths: &[Mouths], wire: Option<usize>, awaits: bool) -> Ready
+    requires { (i : ℕ) → wire ≡ Some i → i < length mouths.now }
+    ensures { IsFoundAt mouths.now wire awaits result }
 {
-    let Some(seat) = seat else {
+    let Some(at) = wire else {
         return if awaits { NOT_READY } else { INPUT_READY };
     };
-    let mouths = &mouths[seat];
-    match seat {
+    let mouths = &mouths[at];
+    match at {
         0 => Ready {
             links: [
                 mouths.is_ready(Port::Clean),
@@ -69,8 +69,8 @@ pub fn ready_at(mouths: &[Mouths], seat: Option<usize>, awaits: bool) -> Ready
             ],
             child: None,
         },
-        1 | 2 => input_ready(mouths, None),
-        _ => input_ready(mouths, mouths.lowest(0, true)),
+        1 => input_ready(mouths, None),
+        _ => input_ready(mouths, mouths.lowest_ended()),
     }
 }
 
@@ -84,16 +84,28 @@ fn input_ready(mouths: &Mouths, child: Option<u8>) -> Ready
     }
 }
 
-/// Whether this is due to the sender and a child's: its start, or, if there is one, its input or its status.
-pub fn is_of_child(seat: Option<usize>, has_child: bool, need: &Need<'_>) -> bool
-    ensures { result ≡ is_of_child seat has_child (due_of need.now) }
+/// Whether this is due to an actor that has its pipes at this place and is a child's: its start, or, if there is one in that slot, its
+/// input or its status.
+pub fn is_of_child(mouths: &[Mouths], wire: Option<usize>, need: &Need<'_>) -> bool
+    ensures { result ≡ is_due_of_child (has_actor mouths.now wire) (due_of need.now) }
 {
-    if seat != Some(0) {
-        return false;
-    }
     match need {
         Need::Start(Child::Bounce { .. }) => true,
-        Need::Give(Port::Program(0), _) | Need::Take(Port::Status(0)) => has_child,
+        Need::Give(Port::Program(slot), _) => has_actor(mouths, wire, *slot),
+        Need::Take(Port::Status(slot)) => has_actor(mouths, wire, *slot),
         _ => false,
+    }
+}
+
+/// Whether an actor runs in this slot of the one that has its pipes at this place.
+fn has_actor(mouths: &[Mouths], wire: Option<usize>, slot: u8) -> bool
+    ensures { result ≡ has_actor mouths.now wire slot }
+{
+    let Some(at) = wire else {
+        return false;
+    };
+    match mouths.get(at) {
+        Some(mouths) => mouths.actor_in(slot).is_some(),
+        None => false,
     }
 }

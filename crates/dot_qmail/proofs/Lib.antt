@@ -8,3 +8,5 @@ pub mod Places
 pub mod Ranking
 -- the name that ranks best is the first that is there
 pub mod Choosing
+-- paths of maildirs end in `/`
+pub mod Directories

@@ -13,12 +13,12 @@ use Rattle.dot_qmail.specs.Ranks.{is_stem, stem_of, default_rank, rank_of}
 abbrev default : List ℕ
 default = codes "default"
 
-starts_decides : (full stem : List ℕ) → Decides (starts_with nat_eq full stem) ((rest : List ℕ) × (full ≡ stem ++ rest))
+pub starts_decides : (full stem : List ℕ) → Decides (starts_with nat_eq full stem) ((rest : List ℕ) × (full ≡ stem ++ rest))
 starts_decides full stem =
     let s = starts_is Decides-eqb full stem (starts_with nat_eq full stem) refl in
     (λ e. (drop (length stem) full, s.0 e), λ h. s.1 h.0 h.1)
 
-ends_decides : (text end : List ℕ) → Decides (ends_with nat_eq text end) ((front : List ℕ) × (text ≡ front ++ end))
+pub ends_decides : (text end : List ℕ) → Decides (ends_with nat_eq text end) ((front : List ℕ) × (text ≡ front ++ end))
 ends_decides text end =
     let s = ends_is Decides-eqb text end (ends_with nat_eq text end) refl in
     (λ e. (take (length text - length end) text, s.0 e), λ h. s.1 h.0 h.1)

@@ -495,6 +495,13 @@ whys args (event ∷ before) run =
     subst (λ x. WhyAt args (record { read = event.read; ready = event.ready; due = x; came = event.came } ∷ before) (act args event.read p.row event.came p)) run.1.0
     (step args event.read event.ready before p p.row event.came refl (holds args before run.0) (whys args before run.0) may)
 
+-- where a drop is at work, the lines that are followed are those of the instructions
+pub told_at_drop : (args : LocalArgs) (past : List Own) (it : Drop) → IsRunBy (Next args) past → (place_after args past).row ≡ at.Drop → (place_after args past).dropping ≡ Some it
+    → instructions args past ≡ Some (lines_of (place_after args past).course)
+told_at_drop args past it run is drops =
+    let p : Place = place_after args past in
+    (subst (AtSome args past p) drops (subst (λ row. Why args past row p) is (whys args past run))).told
+
 -- of a delivery that has ended
 ended_so : (args : LocalArgs) (past : List Own) (p : Place) (row : Row) (status : ℕ) → Inv args (deeds_of past) row p → Why args past row p → due_at args row p ≡ needs.Ended status
     → OrDone args past status

@@ -18,5 +18,7 @@ pub mod Carrying
 pub mod Dropped
 -- links are of files that are whole
 pub mod Whole
+-- how the injector of forwards gets its input
+pub mod Forwards
 -- why a delivery has ended as it did
 pub mod Causing

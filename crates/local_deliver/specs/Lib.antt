@@ -14,7 +14,11 @@ pub mod DropAfter
 pub mod Deeds
 -- when instructions were carried out
 pub mod Carried
+-- what a delivery rests on while a drop is at work
+pub mod Writes
 -- why a delivery has ended as it did
 pub mod Causes
+-- how the injector of forwards gets its input
+pub mod Forwards
 -- worked runs
 pub mod Worked

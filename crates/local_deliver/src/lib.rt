@@ -4,7 +4,8 @@
 //! It is a machine: `look` tells it the moment and what is ready, `need` says what it does next, and `done` hands in what
 //! came of that. Its contract: what it needs is what its table says of its own past, which it doesn't store. The table is
 //! in `specs/Table.antt`. `success_is_carried_out` says that a delivery that ends with 0 has carried out its instructions, and
-//! `links_are_of_whole_files` what it has linked into maildirs; `statuses_have_causes` why one has ended.
+//! `links_are_of_whole_files` what it has linked into maildirs; `deliveries_write_on` that other programs may change the disk
+//! meanwhile; `forwards_are_single` and `forwards_are_fed` how it forwards; `statuses_have_causes` why one has ended.
 #![tactic(auto)]
 
 mod dropping;
@@ -20,7 +21,8 @@ mod steps;
 
 pub use dropping::Dropping;
 pub use laws::{
-    links_are_of_whole_files, statuses_have_causes, success_is_carried_out, worked_runs,
+    deliveries_write_on, forwards_are_fed, forwards_are_single, links_are_of_whole_files,
+    statuses_have_causes, success_is_carried_out, worked_runs,
 };
 pub use local_steps::LocalArgs;
 pub use machine::Local;

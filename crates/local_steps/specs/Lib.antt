@@ -1,3 +1,5 @@
+-- what a delivery is started with
+pub mod Arguments
 -- bytes in blocks
 pub mod Blocks
 -- the names of a home

@@ -1,6 +1,10 @@
 // What a local delivery is started with.
+ghost use Rattle.std.specs.Prelude.{◌≡◌, IfOk};
+ghost use Rattle.local_steps.specs.Arguments.{local_args};
 
-use mail_bytes::ByteText;
+use call_fs::DeliveryWordsData;
+use mail_bytes::{ByteText, Memory};
+use std::alloc::Global;
 
 /// What a local delivery is started with: the words of its command line (qmail-local(8)), the user's number, and its own
 /// process number.
@@ -26,4 +30,29 @@ pub struct LocalArgs {
     pub uid: u32,
     /// Its process number, for the names of files in maildirs.
     pub pid: u32,
+}
+
+impl LocalArgs {
+    /// What the delivery with these words is started with, for this user and with this process number. The words are copied.
+    pub fn of(
+        alloc: Global,
+        words: &DeliveryWordsData,
+        uid: u32,
+        pid: u32,
+    ) -> Result<LocalArgs, Memory>
+        ensures { IfOk result (λ args. args ≡ local_args words.now uid pid) }
+    {
+        Ok(LocalArgs {
+            user: ByteText::from_slice(alloc, words.user.as_slice())?,
+            home: ByteText::from_slice(alloc, words.home.as_slice())?,
+            local: ByteText::from_slice(alloc, words.local.as_slice())?,
+            dash: ByteText::from_slice(alloc, words.dash.as_slice())?,
+            ext: ByteText::from_slice(alloc, words.ext.as_slice())?,
+            domain: ByteText::from_slice(alloc, words.domain.as_slice())?,
+            sender: ByteText::from_slice(alloc, words.sender.as_slice())?,
+            line: ByteText::from_slice(alloc, words.line.as_slice())?,
+            uid,
+            pid,
+        })
+    }
 }

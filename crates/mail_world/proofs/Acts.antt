@@ -29,7 +29,8 @@ use Rattle.mail_world.specs.Readiness.{is_awaiting}
 use Rattle.world_events.specs.Inputs.{own_in}
 use Rattle.mail_world.specs.Inside.{event_of, RunsAt, unowed, StandsFor, span_by, life_by, IsMember, IsStranger, is_by}
 use Rattle.mail_world.proofs.Known.{IsPlain}
-use Rattle.mail_world.specs.Acting.{IsOwed}
+use Rattle.mail_world.specs.Acting.{IsOwed, HaveShut}
+use Rattle.world_pipes.specs.declared.mouths.Mouths.{Mouths}
 use Rattle.call_fs.proofs.Maps.{put_same, put_other, put_at_same, put_at_other}
 use Rattle.queue_law.proofs.Tests.{same_text, other_text}
 use Rattle.mail_world.proofs.Spans.{span_push, span_stays, span_begins, span_ends}
@@ -236,3 +237,9 @@ look_member s events p x y m alive name ended status awaits paid follows = recor
   spans = ap (λ (a : List ℕ). span_of a (reverse events)) name ∙ m.spans ∙ ap span_by (sym ended);
   closed = λ at e. let both : ◌≡◌ {A = Option ℕ} None (Some at) = sym (ended ∙ alive) ∙ e in absurd (cc);
 }
+
+-- what was shut after an actor was over, by the same place, slot and name
+pub shut_of : (mouths later : List Mouths) (wire at : Option ℕ) (slot own : Option (ℕ × ℕ)) (a b : List ℕ) → wire ≡ at → slot ≡ own → a ≡ b → HaveShut wire slot a mouths later → HaveShut at own b mouths later
+shut_of mouths later wire at slot own a b wire_is slot_is name shut =
+    subst (λ (o : Option ℕ). HaveShut o own b mouths later) wire_is
+    (subst (λ (o : Option (ℕ × ℕ)). HaveShut wire o b mouths later) slot_is (subst (λ (c : List ℕ). HaveShut wire slot c mouths later) name shut))

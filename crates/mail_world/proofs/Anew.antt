@@ -21,7 +21,7 @@ use Rattle.queue_law.specs.Books.{Child as Bouncer, Books}
 use Rattle.world_pipes.specs.Pipework.{Pipework, Tenant, is_member, programs_after, with_child, with_generation}
 use Rattle.world_pipes.specs.Pipework.Tenant.{Runs, Remote}
 use Rattle.world_events.specs.declared.event.Program.{Program}
-use Rattle.world_events.specs.declared.event.Program.TheVariants.{Injector, Cleaner, Sender, LocalSpawner, RemoteSpawner}
+use Rattle.world_events.specs.declared.event.Program.TheVariants.{Injector, Cleaner, Sender, LocalSpawner, RemoteSpawner, Delivery}
 use Rattle.mail_world.specs.History.{Event, Actor, Life, State, Allowed, MayRead, MayFind, MayRun, MayDo, MayBear, MayEnd, MayReport, MayBegin, MayStart, IsLiving, TenantEnds, IsStatusOf, IsFed, IsProgramOf, ComesOf, EachAllowed, after, happens, acted, finished, begins, bouncer_in, bouncer_at, books_after, newborn, stopped, cut_off, start_of, slot_by}
 use Rattle.mail_world.specs.History.Event.{Start, Act, Child, Generation, Report, End, Stop, Moment, Halt}
 use Rattle.mail_world.specs.History.Life.{Alive, Over, Stopped}
@@ -177,6 +177,7 @@ runs_alone (Cleaner start) q same = absurd same
 runs_alone (Sender start) q same = absurd same
 runs_alone (LocalSpawner start) q same = absurd same
 runs_alone (RemoteSpawner start) q same = absurd same
+runs_alone (Delivery start args) q same = absurd same
 
 module _ (parent c : List ℕ) (p q : Program) (same : IsSameButInput p q) where
   abbrev Alike : State → State → Type 0
@@ -201,6 +202,7 @@ module _ (parent c : List ℕ) (p q : Program) (same : IsSameButInput p q) where
     finds a (Sender start) past ready h = h
     finds a (LocalSpawner start) past ready h = h
     finds a (RemoteSpawner start) past ready h = h
+    finds a (Delivery start args) past ready h = h
 
     runner_ends : (b : List ℕ) (came : GotData) → TenantEnds s (Some (Runs b)) came → TenantEnds t (Some (Runs b)) came
     runner_ends b came h = ⊎_elim
@@ -498,6 +500,7 @@ module _ (parent c : List ℕ) (p q : Program) (same : IsSameButInput p q) where
   program_of : (asked : ChildData) (pid : ℕ) (x y : Program) → IsSameButInput x y → IsProgramOf asked pid x → IsProgramOf asked pid y
   program_of (child.Bounce room) pid (Injector args) (Injector others) alike is = (alike.invoked_is ∙ is.0, alike.uid_is ∙ is.1, alike.pid_is ∙ is.2)
   program_of (child.Forward uid room) pid (Injector args) (Injector others) alike is = (alike.invoked_is ∙ is.0, alike.uid_is ∙ is.1, alike.pid_is ∙ is.2)
+  program_of (child.Local slot words uid) pid (Delivery start args) y alike is = absurd alike
   program_of (child.Local slot words uid) pid x y alike is = absurd is
   program_of (child.Remote slot domain sender recipient) pid x y alike is = absurd is
   program_of asked pid x y alike is = absurd alike

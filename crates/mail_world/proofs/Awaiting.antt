@@ -28,13 +28,13 @@ use Rattle.world_events.specs.declared.event.Program.TheVariants.{Injector}
 use Rattle.mail_world.specs.declared.actor.Actor.{Actor as Held}
 use Rattle.mail_world.specs.declared.any_machine.AnyMachine.{AnyMachine}
 use Rattle.mail_world.specs.declared.any_machine.AnyMachine.TheVariants.{Mail, Clean, Send, Local, Remote as RemoteSpawns}
-use Rattle.mail_world.specs.ByKind.{Follows, Mails, CanFind, awaits_of, need_of}
+use Rattle.mail_world.specs.ByKind.{IsMail, Follows, Mails, CanFind, awaits_of, need_of}
 use Rattle.mail_world.specs.History.{Actor, Life, State, acted, finished, happens, next_of, report_text}
 use Rattle.mail_world.specs.History.Event.{Report}
 use Rattle.mail_world.specs.Inside.{Owes}
 use Rattle.mail_world.specs.Readiness.{input_alone, is_awaiting, found_by}
 use Rattle.mail_world.proofs.Members.{whether, other_than}
-use Rattle.queue_law.proofs.Tests.{text_cases, other_text}
+use Rattle.queue_law.proofs.Tests.{text_cases, same_text, other_text}
 
 -- what is given to a slot is given to no actor
 abbrev pub GivesToNone : Pipework → List ℕ → NeedData → Type 0
@@ -154,10 +154,10 @@ own_awaits s a x own members none alone b = ⊎_elim
 
 -- An end or a stop
 
--- who awaits is a child of the sender
-pub record AwaitsSender (s : State) (b : List ℕ) : Type 0 where
+-- a child in the first slot of that parent
+pub record IsChildOf (s : State) (parent b : List ℕ) : Type 0 where
   pub named : is_member b ≡ false
-  pub slot : s.pipework.slots b ≡ Some (record { parent = codes "sender"; number = 0 })
+  pub slot : s.pipework.slots b ≡ Some (record { parent = parent; number = 0 })
 
 closed_ready : (pipe : Pipe) → is_ready (closed pipe) ≡ true
 closed_ready pipe = or-true (not (length pipe.bytes == 0))
@@ -171,34 +171,29 @@ pub finish_less : (s : State) (a : List ℕ) (x : Actor) (life : Life) (b : List
 finish_less s a x life b is =
     shut_not (is_some (s.pipework.slots b)) (is_writer a (feeder s.pipework b)) (s.pipework.pipes b port.Input) is
 
-fed_by_sender : (w : Pipework) (b : List ℕ) → is_member b ≡ false → w.slots b ≡ Some (record { parent = codes "sender"; number = 0 }) → feeder w b ≡ Some (codes "sender")
-fed_by_sender w b named slot =
-    ap (λ (t : Bool). if t then Some (codes "sender") else option_map (λ slot. slot.parent) (w.slots b)) named ∙ ap (option_map (λ slot. slot.parent)) slot
+fed_by_parent : (s : State) (parent b : List ℕ) → IsChildOf s parent b → feeder s.pipework b ≡ Some parent
+fed_by_parent s parent b of =
+    ap (λ (t : Bool). if t then Some (codes "sender") else option_map (λ slot. slot.parent) (s.pipework.slots b)) of.named ∙ ap (option_map (λ slot. slot.parent)) of.slot
 
-module _ (s : State) (x : Actor) (life : Life) (children : (b : List ℕ) → is_awaiting s b ≡ true → AwaitsSender s b) where
-  -- of another actor than the sender
-  pub finish_other : (a : List ℕ) → a ≢ codes "sender" → (b : List ℕ) → is_awaiting (finished s a life (Some x)) b ≡ is_awaiting s b
-  finish_other a apart b = ⊎_elim
-      (λ awaits.
-      let of = children b awaits in
-      let by : is_writer a (feeder s.pipework b) ≡ false = ap (is_writer a) (fed_by_sender s.pipework b of.named of.slot) ∙ other_text a (codes "sender") apart in
-      awaits_same s (finished s a life (Some x)) b refl (ap (λ (t : Bool). if t then closed (s.pipework.pipes b port.Input) else s.pipework.pipes b port.Input) by))
-      (λ none. ⊎_elim
+module _ (s : State) (x : Actor) (life : Life) (a b : List ℕ) where
+  -- of another actor than its parent
+  pub finish_other : (parent : List ℕ) → IsChildOf s parent b → a ≢ parent → is_awaiting (finished s a life (Some x)) b ≡ is_awaiting s b
+  finish_other parent of apart =
+      let by : is_writer a (feeder s.pipework b) ≡ false = ap (is_writer a) (fed_by_parent s parent b of) ∙ other_text a parent apart in
+      awaits_same s (finished s a life (Some x)) b refl (ap (λ (t : Bool). if t then closed (s.pipework.pipes b port.Input) else s.pipework.pipes b port.Input) by)
+
+  -- of its parent
+  pub finish_parent : IsChildOf s a b → is_awaiting (finished s a life (Some x)) b ≡ false
+  finish_parent of =
+      let by : is_writer a (feeder s.pipework b) ≡ true = ap (is_writer a) (fed_by_parent s a b of) ∙ same_text a in
+      ap (λ (t : Bool). is_some (s.pipework.slots b) && not (is_ready (if t then closed (s.pipework.pipes b port.Input) else s.pipework.pipes b port.Input))) by
+      ∙ ap (λ (v : Bool). is_some (s.pipework.slots b) && not v) (closed_ready (s.pipework.pipes b port.Input)) ∙ and_false (is_some (s.pipework.slots b))
+
+  -- who awaits nothing still awaits nothing
+  pub finish_none : is_awaiting s b ≡ false → is_awaiting (finished s a life (Some x)) b ≡ false
+  finish_none none = ⊎_elim
       (λ awaits. let both : false ≡ true = sym none ∙ finish_less s a x life b awaits in absurd (cc))
-      (λ still. still ∙ sym none)
-      (whether (is_awaiting (finished s a life (Some x)) b)))
-      (whether (is_awaiting s b))
-
-  -- of the sender
-  pub finish_sender : (a : List ℕ) → a ≡ codes "sender" → (b : List ℕ) → is_awaiting (finished s a life (Some x)) b ≡ false
-  finish_sender a same b = ⊎_elim
-      (λ awaits.
-      let of = children b (finish_less s a x life b awaits) in
-      let by : is_writer a (feeder s.pipework b) ≡ true = ap (is_writer a) (fed_by_sender s.pipework b of.named of.slot) ∙ ap (λ (c : List ℕ). bytes_eq c (codes "sender")) same in
-      let shut = ap (λ (t : Bool). is_some (s.pipework.slots b) && not (is_ready (if t then closed (s.pipework.pipes b port.Input) else s.pipework.pipes b port.Input))) by
-      ∙ ap (λ (v : Bool). is_some (s.pipework.slots b) && not v) (closed_ready (s.pipework.pipes b port.Input)) ∙ and_false (is_some (s.pipework.slots b)) in
-      shut)
-      (λ none. none)
+      (λ still. still)
       (whether (is_awaiting (finished s a life (Some x)) b))
 
 -- The report of a remote program
@@ -233,6 +228,13 @@ it_waits (Clean m) program past f awaits = absurd cc
 it_waits (Send m) program past f awaits = absurd cc
 it_waits (Local m) program past f awaits = absurd cc
 it_waits (RemoteSpawns m) program past f awaits = absurd cc
+
+-- who is no mail awaits nothing
+pub none_awaits : (m : AnyMachine) (program : Program) (past : List Own) → Follows m program past → (IsMail program → ⊥) → awaits_of m ≡ false
+none_awaits m program past follows other = ⊎_elim
+    (λ awaits. absurd (other (subst IsMail (sym (it_waits m program past follows awaits).runs) tt)))
+    (λ none. none)
+    (whether (awaits_of m))
 
 -- so it owes nothing
 pub owes_none : (x : Held) (events : List Kept) (program : Program) (past rest : List Own) (at : ℕ) → Owes x events past at → Follows x.machine program rest → awaits_of x.machine ≡ true → ⊥

@@ -7,12 +7,10 @@ use Rattle.world_events.specs.declared.event.Event.{Event as Kept}
 use Rattle.world_events.specs.declared.event.Event.TheVariants as kept
 use Rattle.world_events.specs.declared.event.Program.{Program}
 use Rattle.world_events.specs.declared.event.Program.TheVariants.{Injector, Cleaner, Sender, LocalSpawner, RemoteSpawner}
-use Rattle.call_fs.specs.declared.past.Own.{Own}
 use Rattle.call_fs.specs.declared.program.Port.TheVariants as port
 use Rattle.world_pipes.specs.declared.mouths.Mouths.{Mouths}
+use Rattle.world_pipes.specs.Mouths.{tenant_of}
 use Rattle.mail_world.specs.declared.actor.Actor.{Actor as Held}
-use Rattle.mail_world.specs.declared.any_machine.AnyMachine.{AnyMachine}
-use Rattle.mail_world.specs.declared.any_machine.AnyMachine.TheVariants as machine
 use Rattle.mail_world.specs.Pipework.{Tenant, is_member}
 use Rattle.mail_world.specs.Pipework.Tenant.{Runs}
 use Rattle.mail_world.specs.Readiness.{is_awaiting}
@@ -21,25 +19,26 @@ use Rattle.mail_world.specs.History.Event.{Generation}
 use Rattle.mail_world.specs.History.Life.{Alive}
 use Rattle.mail_world.specs.World.{Span, span_of, span_after, starts, was_started, starts_in}
 use Rattle.mail_world.specs.World.Span.{Unborn, Lasting, OverAt}
-use Rattle.mail_world.specs.ByKind.{IsMail, Follows, awaits_of}
+use Rattle.mail_world.specs.ByKind.{IsMail, Follows}
 use Rattle.std.specs.Prelude.{All}
 use Rattle.call_fs.specs.declared.program.Port.{Port}
 use Rattle.world_pipes.specs.Pipework.{fresh}
-use Rattle.mail_world.specs.Wired.{seat, pipe_in, tenant_in, kept_at}
+use Rattle.mail_world.specs.Wired.{seat, pipe_in, tenant_in, kept_at, IsSlotOf}
 use Rattle.mail_world.specs.Crew.{IsNew, AreNew, IsFresh, AreFresh}
 use Rattle.mail_world.specs.Generations.{IsNoneAlive}
 use Rattle.call_fs.specs.Past.{held}
 use Rattle.std.proofs.Math.Bool.{or-false, or-true}
 use Rattle.std.proofs.lemmas.Bool.{lt-ltb, le-ltb, ltb-true}
 use Rattle.std.proofs.lemmas.List.Elements.{All-nil, All-cons, All-head, All-tail}
+use Rattle.std.proofs.lemmas.Option.{slice_get_within}
 use Rattle.mail_world.specs.Inside.{known, RunsAt, unowed, span_by, life_by, is_by, has, AreApart, Owns, place_by, among_all, HasBorneLast, IsMember, IsStranger, HasOpen, IsOpenTo, IsWorld, ArePiped}
-use Rattle.mail_world.proofs.Awaiting.{awaits_same, no_slot}
+use Rattle.mail_world.proofs.Awaiting.{awaits_same, no_slot, none_awaits}
 use Rattle.mail_world.proofs.Crew.{started_push, owes_still, member_over}
 use Rattle.mail_world.proofs.Histories.{LeadsOn, generation_told, led_still}
 use Rattle.mail_world.proofs.Bounces.{bounce_begun}
 use Rattle.mail_world.proofs.Known.{known_push}
 use Rattle.mail_world.proofs.Lists.{get_drop, some_at}
-use Rattle.mail_world.proofs.Members.{whether, four_other, four_sender, four_clean, four_lspawn, four_rspawn}
+use Rattle.mail_world.proofs.Members.{whether, member_cases, four_other, four_sender, four_clean, four_lspawn, four_rspawn}
 use Rattle.mail_world.proofs.Seats.{HasSeat, seat_some, seat_none, no_seat, by_seat}
 use Rattle.mail_world.proofs.Spans.{span_push, span_stays}
 use Rattle.mail_world.proofs.Piped.{whole_push}
@@ -82,15 +81,6 @@ again : (a : List ℕ) (k : Kept) (n : ℕ) (span : Span) → starts a k ≡ tru
 again a k n Unborn starts_it over = ap (λ (b : Bool). if b then Lasting else Unborn) starts_it
 again a k n Lasting starts_it over = absurd (over refl)
 again a k n (OverAt at) starts_it over = ap (λ (b : Bool). if b then Lasting else OverAt at) starts_it
-
--- whose machine is no injector awaits no input
-none_awaits : (m : AnyMachine) (program : Program) (past : List Own) → Follows m program past → (IsMail program → ⊥) → awaits_of m ≡ false
-none_awaits (machine.Mail injector) (Injector args) past follows other = absurd (other tt)
-none_awaits (machine.Mail injector) program past follows other = absurd follows
-none_awaits (machine.Clean cleaner) program past follows other = refl
-none_awaits (machine.Send sender) program past follows other = refl
-none_awaits (machine.Local spawner) program past follows other = refl
-none_awaits (machine.Remote spawner) program past follows other = refl
 
 -- a member that has just started
 new_member : (t : State) (events : List Kept) (p : ℕ) (x : Held) (name : List ℕ) (program : ℕ → Program) → IsNew x name program
@@ -357,45 +347,68 @@ begun_keeps told places crew actors four events p n q b w none few slots new nex
           });
     }
 
--- the sender of the generation before is over
-pub sender_over : (told : Option Disk) (places : List ℕ → Option ℕ) (crew : ℕ) (actors : List Held) (events : List Kept) (p n b : ℕ)
+-- the members of the generation before are over
+pub members_over : (told : Option Disk) (places : List ℕ → Option ℕ) (crew : ℕ) (actors : List Held) (events : List Kept) (p n b : ℕ)
     → IsWorld told (among_all crew places) actors (known events) events p n b → NoneLives crew actors → (crew ≡ 0) ⊎ (crew ≡ 4)
-    → (x : Actor) → (known events).actors (codes "sender") ≡ Some x → x.life ≢ Alive
-sender_over told places crew actors events p n b w none few x is = ((was_over told places crew actors events p n b w none few (codes "sender") refl).dead x is).0
+    → (a : List ℕ) (x : Actor) → is_member a ≡ true → (known events).actors a ≡ Some x → x.life ≢ Alive
+members_over told places crew actors events p n b w none few a x member is = ((was_over told places crew actors events p n b w none few a member).dead x is).0
 
 -- the new pipes are those of the model
 pub begun_piped : (crew : ℕ) (mouths fresh_ones : List Mouths) (actors four : List Held) (events : List Kept) (p : ℕ)
-    → ArePiped crew mouths actors (known events) events → ((x : Actor) → (known events).actors (codes "sender") ≡ Some x → x.life ≢ Alive) → AreNew four → AreFresh fresh_ones
+    → ArePiped crew mouths actors (known events) events → ((a : List ℕ) (x : Actor) → is_member a ≡ true → (known events).actors a ≡ Some x → x.life ≢ Alive) → AreNew four → AreFresh fresh_ones
     → ArePiped 4 fresh_ones (four ++ drop crew actors) (known (events ++ kept.Generation p ∷ [])) (events ++ kept.Generation p ∷ [])
 begun_piped crew mouths fresh_ones actors four events p piped over new is_fresh =
     subst (λ (t : State). ArePiped 4 fresh_ones (four ++ drop crew actors) t (events ++ kept.Generation p ∷ [])) (sym (known_push events (kept.Generation p) tt)) (record {
+      wires = piped.wires;
       wired = record {
-        pipes = λ a q member. ap (λ (t : Bool). if t then fresh else s.pipework.pipes a q) member ∙ sym (fresh_pipe (kept_at (seat a) fresh_ones) q (fresh_at (seat a)));
+        pipes = λ a i q of own. ap (λ (t : Bool). if t then fresh else s.pipework.pipes a q) (has_pipes a i of) ∙ sym (fresh_pipe (slice_get fresh_ones i) q (fresh_at (Some i)));
         programs = λ a d. ⊎_elim
-            (λ member. ap (λ (t : Bool). if t then None else s.pipework.programs a d) member ∙ sym (fresh_tenant (kept_at (seat a) fresh_ones) d (fresh_at (seat a))))
-            (λ other. ap (λ (t : Bool). if t then None else s.pipework.programs a d) other ∙ piped.wired.programs a d
-            ∙ ap (λ (o : Option ℕ). tenant_in (kept_at o mouths) d) (seat_none a other) ∙ sym (ap (λ (o : Option ℕ). tenant_in (kept_at o fresh_ones) d) (seat_none a other)))
+            (λ member. ap (λ (t : Bool). if t then None else s.pipework.programs a d) member ∙ sym (fresh_tenant (kept_at (piped.wires a) fresh_ones) d (fresh_at (piped.wires a))))
+            (λ other. ap (λ (t : Bool). if t then None else s.pipework.programs a d) other ∙ no_programs a d other
+            ∙ sym (ap (λ (o : Option ℕ). tenant_in (kept_at o fresh_ones) d) (piped.alone a other)))
             (whether (is_member a));
+        seats = piped.wired.seats;
         members = piped.wired.members;
+        others = λ a i of other. let was = piped.wired.others a i of other in record { high = was.high; number = was.number; slot = was.slot };
+        within = λ a i of other. let both : ◌≡◌ {A = Option ℕ} None (Some i) = sym (piped.alone a other) ∙ of in absurd (cc);
+        apart = piped.wired.apart;
+        owned = λ i low. owner i (subst (λ (n : ℕ). i < n) is_fresh.many low);
+        children = λ a d c runs. absurd (nobody_runs a d c runs);
       };
-      slots = λ i m at. (all_at fresh_ones i m is_fresh.each at).slots;
-      one = λ i m d c at is. let both : ◌≡◌ {A = Option Tenant} None (Some (Runs c)) = sym ((all_at fresh_ones i m is_fresh.each at).tenants d) ∙ is in absurd (cc);
-      children = λ c is. let both : ◌≡◌ {A = Option Tenant} None (Some (Runs c)) = is in absurd (cc);
+      slots = λ i m at.
+          let low = slice_get_within fresh_ones i m at in
+          let many = is_fresh.many in
+          (all_at fresh_ones i m is_fresh.each at).slots ∙ sym (ap (λ (t : Bool). if t then 256 else 1) (lt-ltb i 4 (omega (arith, low, many))));
+      children = λ i m d c at is. absurd (nobody_in i m d c at is);
+      over = λ i m d c at is. absurd (nobody_in i m d c at is);
+      places = λ j z at lives. each_stands (λ (z : Held). piped.wires z.name ≡ z.wire)
+          (λ x name program is. ap piped.wires is.0.name_is ∙ piped.wired.seats name is.1 ∙ sym is.0.wire) piped.places j z at lives;
+      stands = λ j z at lives. each_stands (λ (z : Held). IsSlotOf piped.wires (s.pipework.slots z.name) z.slot)
+          (λ x name program is. subst (IsSlotOf piped.wires (s.pipework.slots x.name)) (sym is.0.slot) (ap s.pipework.slots is.0.name_is ∙ piped.wired.members name is.1)) piped.stands j z at lives;
+      alone = piped.alone;
+      born = λ a d c runs. absurd (nobody_runs a d c runs);
       whole = whole_push events (kept.Generation p) piped.whole tt;
       fresh = λ a unknown other. ap (λ (t : Bool). if t then fresh else s.pipework.pipes a port.Input) other
           ∙ piped.fresh a (sym (four_other s.actors (Sender p) (Cleaner p) (LocalSpawner p) (RemoteSpawner p) a other) ∙ unknown) other;
-      fed = λ x is alive borne.
-          let both : ◌≡◌ {A = Option Actor} (Some (newborn (Sender p))) (Some x) = sym (four_sender s.actors (Sender p) (Cleaner p) (LocalSpawner p) (RemoteSpawner p)) ∙ is in
-          let same : newborn (Sender p) ≡ x = cc in
-          let none : HasBorneLast (newborn (Sender p)).past = subst (λ (x : Actor). HasBorneLast x.past) (sym same) borne in absurd none;
+      fed = λ a x is alive borne. ⊎_elim
+          (λ member. absurd (subst HasBorneLast (no_past a x member is) borne))
+          (λ other.
+          let was = piped.fed a x (sym (four_other s.actors (Sender p) (Cleaner p) (LocalSpawner p) (RemoteSpawner p) a other) ∙ is) alive borne in
+          absurd (no_tenant a 0 was.child other was.runs))
+          (whether (is_member a));
       awaited = λ c is. ⊎_elim
           (λ member. let both : false ≡ true = sym (no_slot t c (piped.wired.members c member)) ∙ is in absurd (cc))
-          (λ other. let was = piped.awaited c (sym (begun_awaiting s p c other) ∙ is) in absurd (over was.sender was.is was.alive))
+          (λ other.
+          let was = piped.awaited c (sym (begun_awaiting s p c other) ∙ is) in
+          ⊎_elim
+          (λ member. absurd (over was.parent was.actor member was.is was.alive))
+          (λ named. absurd (no_tenant was.parent 0 c named was.runs))
+          (whether (is_member was.parent)))
           (whether (is_member c));
-      most = let many = is_fresh.many in omega (arith, many);
+      count = let many = is_fresh.many in inr (omega (arith, many), refl);
       few = inr refl;
       many = subst (λ (l : List Held). 4 ≤ length (l ++ drop crew actors)) (sym new.are) (omega arith);
-      seated = λ j z low at lives. is_fresh.many;
+      seated = λ j z low at lives. let many = is_fresh.many in omega (arith, many);
     })
   where
     s : State
@@ -420,3 +433,58 @@ begun_piped crew mouths fresh_ones actors four events p piped over new is_fresh 
     fresh_tenant : (o : Option Mouths) (d : ℕ) → ((m : Mouths) → o ≡ Some m → IsFresh m) → tenant_in o d ≡ None
     fresh_tenant None d each = refl
     fresh_tenant (Some m) d each = (each m refl).tenants d
+
+    nobody_in : (i : ℕ) (m : Mouths) (d : ℕ) (c : List ℕ) → slice_get fresh_ones i ≡ Some m → tenant_of m d ≡ Some (Runs c) → ⊥
+    nobody_in i m d c at is = let both : ◌≡◌ {A = Option Tenant} None (Some (Runs c)) = sym ((all_at fresh_ones i m is_fresh.each at).tenants d) ∙ is in cc
+
+    -- who has pipes is a member
+    has_pipes : (a : List ℕ) (i : ℕ) → piped.wires a ≡ Some i → is_member a ≡ true
+    has_pipes a i of = ⊎_elim
+        (λ member. member)
+        (λ other. let both : ◌≡◌ {A = Option ℕ} None (Some i) = sym (piped.alone a other) ∙ of in absurd (cc))
+        (whether (is_member a))
+
+    no_programs : (a : List ℕ) (d : ℕ) → is_member a ≡ false → s.pipework.programs a d ≡ None
+    no_programs a d other = piped.wired.programs a d ∙ ap (λ (o : Option ℕ). tenant_in (kept_at o mouths) d) (piped.alone a other)
+
+    no_tenant : (a : List ℕ) (d : ℕ) (c : List ℕ) → is_member a ≡ false → s.pipework.programs a d ≡ Some (Runs c) → ⊥
+    no_tenant a d c other runs = let both : ◌≡◌ {A = Option Tenant} None (Some (Runs c)) = sym (no_programs a d other) ∙ runs in cc
+
+    nobody_runs : (a : List ℕ) (d : ℕ) (c : List ℕ) → t.pipework.programs a d ≡ Some (Runs c) → ⊥
+    nobody_runs a d c runs = ⊎_elim
+        (λ member.
+        let both : ◌≡◌ {A = Option Tenant} None (Some (Runs c)) = sym (ap (λ (t : Bool). if t then None else s.pipework.programs a d) member) ∙ runs in cc)
+        (λ other. no_tenant a d c other (sym (ap (λ (t : Bool). if t then None else s.pipework.programs a d) other) ∙ runs))
+        (whether (is_member a))
+
+    owner : (i : ℕ) → i < 4 → (a : List ℕ) × (piped.wires a ≡ Some i)
+    owner zero low = (codes "sender", piped.wired.seats (codes "sender") refl)
+    owner (suc zero) low = (codes "clean", piped.wired.seats (codes "clean") refl)
+    owner (suc (suc zero)) low = (codes "lspawn", piped.wired.seats (codes "lspawn") refl)
+    owner (suc (suc (suc zero))) low = (codes "rspawn", piped.wired.seats (codes "rspawn") refl)
+    owner (suc (suc (suc (suc i)))) low = absurd (omega (arith, low))
+
+    -- a member has done nothing
+    no_past : (a : List ℕ) (x : Actor) → is_member a ≡ true → t.actors a ≡ Some x → x.past ≡ []
+    no_past a x member is = ⊎_elim
+        (λ f. newly (Sender p) (sym (ap t.actors f ∙ four_sender s.actors (Sender p) (Cleaner p) (LocalSpawner p) (RemoteSpawner p)) ∙ is))
+        (λ f. ⊎_elim
+        (λ g. newly (Cleaner p) (sym (ap t.actors g ∙ four_clean s.actors (Sender p) (Cleaner p) (LocalSpawner p) (RemoteSpawner p)) ∙ is))
+        (λ g. ⊎_elim
+        (λ h. newly (LocalSpawner p) (sym (ap t.actors h ∙ four_lspawn s.actors (Sender p) (Cleaner p) (LocalSpawner p) (RemoteSpawner p)) ∙ is))
+        (λ h. newly (RemoteSpawner p) (sym (ap t.actors h ∙ four_rspawn s.actors (Sender p) (Cleaner p) (LocalSpawner p) (RemoteSpawner p)) ∙ is))
+        g) f)
+        (member_cases a member)
+      where
+        newly : (program : Program) → ◌≡◌ {A = Option Actor} (Some (newborn program)) (Some x) → x.past ≡ []
+        newly program both = let same : newborn program ≡ x = cc in ap (λ (x : Actor). x.past) (sym same)
+
+    -- what holds of the new members and of those that lived holds of all
+    each_stands : (P : Held → Type 0) → ((x : Held) (name : List ℕ) (program : ℕ → Program) → IsNew x name program × (is_member name ≡ true) → P x)
+        → ((i : ℕ) (x : Held) → slice_get actors i ≡ Some x → x.ended ≡ None → P x) → (j : ℕ) (z : Held) → slice_get (four ++ drop crew actors) j ≡ Some z → z.ended ≡ None → P z
+    each_stands P newly old j z at lives =
+        each_of (λ i (x : Held). x.ended ≡ None → P x) new.sender new.clean new.lspawn new.rspawn (drop crew actors)
+        (λ e. newly new.sender (codes "sender") Sender (new.sender_is, refl)) (λ e. newly new.clean (codes "clean") Cleaner (new.clean_is, refl))
+        (λ e. newly new.lspawn (codes "lspawn") LocalSpawner (new.lspawn_is, refl)) (λ e. newly new.rspawn (codes "rspawn") RemoteSpawner (new.rspawn_is, refl))
+        (λ i x is e. old (crew + i) x (sym (get_drop crew actors i) ∙ is) e)
+        j z (subst (λ (l : List Held). slice_get (l ++ drop crew actors) j ≡ Some z) new.are at) lives

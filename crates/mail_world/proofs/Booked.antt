@@ -1,11 +1,14 @@
 -- The books of a world, as one event more comes.
-use Rattle.std.proofs.Common.{◌≡◌, ◌≢◌, ℕ, ◌-◌, ◌<◌, zero, suc, List, [], ◌∷◌, ◌++◌, length, set, map, get_or, reverse, Bool, true, false, Option, Some, None, refl, sym, ap, ◌∙◌, subst, arith, append-nil, bytes_eq}
-use Rattle.std.specs.Prelude.{if◌then◌else◌}
+use Rattle.std.proofs.Common.{◌≡◌, ◌≢◌, ℕ, ◌+◌, ◌-◌, ◌<◌, ◌≤◌, zero, suc, List, [], ◌∷◌, ◌++◌, length, set, map, get_or, reverse, Bool, true, false, Option, Some, None, refl, sym, ap, ◌∙◌, subst, ⊎_elim, arith, append-nil, bytes_eq}
+use Rattle.std.specs.Prelude.{if◌then◌else◌, drop}
 use Rattle.std.specs.List.{slice_get}
 use Rattle.std.specs.Option.{option_map}
-use Rattle.std.proofs.lemmas.List.{map-append, length-append, length-map}
-use Rattle.std.proofs.lemmas.Option.{slice_get-map, get_or_from_slice_get}
+use Rattle.std.proofs.lemmas.List.{length-append, length-map}
+use Rattle.std.proofs.lemmas.Option.{slice_get-map, get_or_from_slice_get, slice_get_within}
 use Rattle.call_fs.specs.declared.crash_file_system.Survival.{Survival}
+use Rattle.call_fs.specs.declared.past.NeedData.{NeedData}
+use Rattle.call_fs.specs.declared.past.NeedData.TheVariants as needs
+use Rattle.call_fs.specs.declared.past.GotData.{GotData}
 use Rattle.call_fs.specs.declared.past.Own.{Own}
 use Rattle.queue_inject.specs.declared.injection.Arguments.{Arguments}
 use Rattle.queue_inject.specs.declared.injection.InputEnd.TheVariants.{Whole}
@@ -17,6 +20,7 @@ use Rattle.mail_world.specs.declared.actor.Actor.{Actor as Held}
 use Rattle.world_events.specs.declared.books.Entry.{Entry}
 use Rattle.world_events.specs.declared.books.Life.TheVariants as told
 use Rattle.mail_world.specs.Acting.{AreCutOff}
+use Rattle.mail_world.specs.Crew.{AreNew}
 use Rattle.world_events.specs.Books.{fed_entry}
 use Rattle.world_events.specs.Inputs.{with_texts, start_with, with_inputs}
 use Rattle.mail_world.specs.Books.{new_entry, entered_by, acted_on, left_as, cut_off, noted, books_of, AreBooked}
@@ -24,8 +28,8 @@ use Rattle.mail_world.specs.ByKind.{IsMail}
 use Rattle.mail_world.specs.Inside.{HasJustStarted}
 use Rattle.mail_world.proofs.Known.{IsPlain, inputs_push, inputs_fed, start_in}
 use Rattle.mail_world.proofs.Tests.{other_text}
-use Rattle.mail_world.proofs.Lists.{some_last, some_at}
-use Rattle.mail_world.proofs.Crew.{apart_by}
+use Rattle.mail_world.proofs.Lists.{some_last, some_at, get_push, get_still, get_last, get_drop}
+use Rattle.mail_world.proofs.Owns.{IsPass}
 
 -- each actor stands at its place
 abbrev pub ArePlaced : (List ℕ → Option ℕ) → List Held → Type 0
@@ -158,21 +162,53 @@ books_more entries events k plain are none =
     let before = books_of (with_inputs (reverse events)) in
     ap (map (noted k)) are ∙ sym (append-nil (map (noted k) before)) ∙ ap (λ l. map (noted k) before ++ l) (sym none) ∙ sym (books_push events k plain)
 
--- one actor acts, ends or is stopped
-note_keeps : (places : List ℕ → Option ℕ) (actors : List Held) (events : List Kept) (p i : ℕ) (x y : Held) (entries : List Entry) (e : Entry) (k : Kept)
-    → ArePlaced places actors → AreBooked entries actors events → slice_get actors i ≡ Some x → y.name ≡ x.name → IsOwnOf x.name k → slice_get entries i ≡ Some e
-    → AreBooked (set entries i (noted k e)) (set actors i y) (events ++ k ∷ [])
-note_keeps places actors events p i x y entries e k crew booked is name mine at =
+-- what an actor is called, and which entry is its own
+abbrev both_held : List ℕ → Option ℕ → List ℕ × Option ℕ
+both_held name entry = (name, entry)
+
+abbrev held_by : Held → List ℕ × Option ℕ
+held_by x = both_held x.name x.entry
+
+same_held : (x y : Held) → y.name ≡ x.name → y.entry ≡ x.entry → held_by y ≡ held_by x
+same_held x y name entry = ap (λ (n : List ℕ). both_held n y.entry) name ∙ ap (both_held x.name) entry
+
+name_of : (n m : List ℕ) (k j : Option ℕ) → both_held n k ≡ both_held m j → n ≡ m
+name_of n m k j same = ap (λ (p : List ℕ × Option ℕ). p.0) same
+
+entry_of : (n m : List ℕ) (k j : Option ℕ) → both_held n k ≡ both_held m j → k ≡ j
+entry_of n m k j same = ap (λ (p : List ℕ × Option ℕ). p.1) same
+
+-- the books of other events, with entries of the same actors, who have the same names and entries
+booked_alike : (crew : ℕ) (entries now : List Entry) (actors stood : List Held) (events later : List Kept) → AreBooked crew entries actors events
+    → now ≡ books_of (with_inputs (reverse later)) → map (λ (e : Entry). e.actor) now ≡ map (λ (e : Entry). e.actor) entries → map held_by stood ≡ map held_by actors → AreBooked crew now stood later
+booked_alike crew entries now actors stood events later booked are told held =
     let actor : Entry → List ℕ = λ e. e.actor in
-    let named : Held → List ℕ = λ x. x.name in
-    let others = λ (j : ℕ) (z : Entry) (apart : j ≢ i) (there : slice_get entries j ≡ Some z).
-    let w = paired actor named entries actors j z booked.names there in
-    let other : w.0.name ≢ x.name = apart_by places x.name w.0.name i j (crew i x is) (crew j w.0 w.1) apart in
-    noted_other k x.name z mine (λ same. other (sym w.2 ∙ same)) in
     record {
-      are = set_is_map (noted k) entries i e at others ∙ books_more entries events k (own_plain k x.name mine) booked.are (begins_none k x.name mine);
-      names = map_set_same actor entries i e (noted k e) at (noted_actor k e) ∙ booked.names ∙ sym (map_set_same named actors i x y is name);
+      are = are;
+      here = λ i k x is entry.
+          let v = paired held_by held_by stood actors i x held is in
+          let w = booked.here i k v.0 v.1 (sym (entry_of x.name v.0.name x.entry v.0.entry v.2) ∙ entry) in
+          let u = paired actor actor entries now k w.0 (sym told) w.1 in
+          (u.0, u.1, sym u.2 ∙ w.2 ∙ sym (name_of x.name v.0.name x.entry v.0.entry v.2));
+      owned = λ k e at.
+          let u = paired actor actor now entries k e told at in
+          let w = booked.owned k u.0 u.1 in
+          let x = w.1 in
+          let v = paired held_by held_by actors stood (crew + w.0) x (sym held) w.2 in
+          (w.0, v.0, v.1, sym (name_of x.name v.0.name x.entry v.0.entry v.2) ∙ w.3 ∙ sym u.2, sym (entry_of x.name v.0.name x.entry v.0.entry v.2) ∙ w.4);
     }
+
+-- an entry of an actor that has a place is the one that is its own
+pub its_entry : (places : List ℕ → Option ℕ) (crew : ℕ) (entries : List Entry) (actors : List Held) (events : List Kept) (i k : ℕ) (x : Held) (e : Entry)
+    → ArePlaced places actors → AreBooked crew entries actors events → slice_get actors i ≡ Some x → slice_get entries k ≡ Some e → e.actor ≡ x.name → x.entry ≡ Some k
+its_entry places crew entries actors events i k x e placed booked is at mine =
+    let w = booked.owned k e at in
+    let z = w.1 in
+    let both : ◌≡◌ {A = Option ℕ} (Some (crew + w.0)) (Some i) = sym (placed (crew + w.0) z w.2) ∙ ap places (w.3 ∙ mine) ∙ placed i x is in
+    let same : crew + w.0 ≡ i = cc in
+    let one : ◌≡◌ {A = Option Held} (Some z) (Some x) = sym w.2 ∙ ap (slice_get actors) same ∙ is in
+    let is_it : z ≡ x = cc in
+    ap (λ (x : Held). x.entry) (sym is_it) ∙ w.4
 
 -- the newest of some events
 pub newest_is : (events before : List Kept) (k r : Kept) → events ≡ before ++ k ∷ [] → r ≡ get_or events (length events - 1) r → r ≡ k
@@ -183,110 +219,156 @@ newest_is events before k r is read =
     read ∙ ap (λ (l : List Kept). get_or l (length l - 1) r) is ∙ ap (λ (n : ℕ). get_or (before ++ k ∷ []) n r) at
     ∙ get_or_from_slice_get (before ++ k ∷ []) (length before) last.0 r last.1 ∙ last.2
 
--- there is an entry at each actor's place
-pub entry_within : (entries : List Entry) (actors : List Held) (events : List Kept) (i : ℕ) → AreBooked entries actors events → i < length actors → i < length entries
-entry_within entries actors events i booked within =
-    let many : length entries ≡ length actors =
-    sym (length-map entries (λ (e : Entry). e.actor)) ∙ ap (λ (l : List (List ℕ)). length l) booked.names ∙ length-map actors (λ (x : Held). x.name) in
-    omega arith
+-- there is an entry at each place that is an actor's
+pub entry_within : (crew : ℕ) (entries : List Entry) (actors : List Held) (events : List Kept) (i k : ℕ) (x : Held) → AreBooked crew entries actors events → slice_get actors i ≡ Some x → x.entry ≡ Some k → k < length entries
+entry_within crew entries actors events i k x booked is entry = let e = booked.here i k x is entry in slice_get_within entries k e.0 e.1
+
+-- what the books took into account is one event more, of that actor
+noted_is : (places : List ℕ → Option ℕ) (crew : ℕ) (actors : List Held) (events : List Kept) (i : ℕ) (x : Held) (entries now : List Entry) (k : Kept)
+    → ArePlaced places actors → AreBooked crew entries actors events → slice_get actors i ≡ Some x → IsOwnOf x.name k → (x.entry ≡ None → now ≡ entries)
+    → ((m : ℕ) (e : Entry) → x.entry ≡ Some m → slice_get entries m ≡ Some e → now ≡ set entries m (noted k e)) → (o : Option ℕ) → x.entry ≡ o → now ≡ map (noted k) entries
+noted_is places crew actors events i x entries now k placed booked is mine none own None entry =
+    none entry ∙ sym (map_still (noted k) entries (λ j e at. noted_other k x.name e mine (λ same.
+    let both : ◌≡◌ {A = Option ℕ} None (Some j) = sym entry ∙ its_entry places crew entries actors events i j x e placed booked is at same in cc)))
+noted_is places crew actors events i x entries now k placed booked is mine none own (Some m) entry =
+    let e = booked.here i m x is entry in
+    own m e.0 entry e.1 ∙ set_is_map (noted k) entries m e.0 e.1 (λ j f apart at. noted_other k x.name f mine (λ same.
+    let both : ◌≡◌ {A = Option ℕ} (Some m) (Some j) = sym entry ∙ its_entry places crew entries actors events i j x f placed booked is at same in
+    let one : m ≡ j = cc in apart (sym one)))
 
 -- the books took the newest event into account, which is that actor's
-own_keeps : (places : List ℕ → Option ℕ) (actors : List Held) (events later : List Kept) (p i : ℕ) (x y : Held) (entries now : List Entry) (k r : Kept)
-    → ArePlaced places actors → AreBooked entries actors events → slice_get actors i ≡ Some x → y.name ≡ x.name → IsOwnOf x.name k → later ≡ events ++ k ∷ []
-    → r ≡ get_or later (length later - 1) r → ((e : Entry) → slice_get entries i ≡ Some e → now ≡ set entries i (noted r e)) → AreBooked now (set actors i y) later
-own_keeps places actors events later p i x y entries now k r crew booked is name mine event read noted_it =
-    let at = paired (λ (x : Held). x.name) (λ (e : Entry). e.actor) actors entries i x (sym booked.names) is in
+pub one_booked : (places : List ℕ → Option ℕ) (crew : ℕ) (actors : List Held) (events later : List Kept) (i : ℕ) (x y : Held) (entries now : List Entry) (k r : Kept)
+    → ArePlaced places actors → AreBooked crew entries actors events → slice_get actors i ≡ Some x → y.name ≡ x.name → y.entry ≡ x.entry → IsOwnOf x.name k → later ≡ events ++ k ∷ []
+    → r ≡ get_or later (length later - 1) r → (x.entry ≡ None → now ≡ entries)
+    → ((m : ℕ) (e : Entry) → x.entry ≡ Some m → slice_get entries m ≡ Some e → now ≡ set entries m (noted r e)) → AreBooked crew now (set actors i y) later
+one_booked places crew actors events later i x y entries now k r placed booked is name entry mine event read none own =
     let newest : r ≡ k = newest_is later events k r event read in
-    let here : now ≡ set entries i (noted k at.0) = noted_it at.0 at.1 ∙ ap (λ (k : Kept). set entries i (noted k at.0)) newest in
-    subst (λ (l : List Kept). AreBooked now (set actors i y) l) (sym event)
-    (subst (λ (l : List Entry). AreBooked l (set actors i y) (events ++ k ∷ [])) (sym here)
-    (note_keeps places actors events p i x y entries at.0 k crew booked is name mine at.1))
+    let now_is : now ≡ map (noted k) entries = noted_is places crew actors events i x entries now k placed booked is mine none
+    (λ m e at there. own m e at there ∙ ap (λ (k : Kept). set entries m (noted k e)) newest) x.entry refl in
+    booked_alike crew entries now actors (set actors i y) events later booked
+    (now_is ∙ books_more entries events k (own_plain k x.name mine) booked.are (begins_none k x.name mine) ∙ ap (λ (l : List Kept). books_of (with_inputs (reverse l))) (sym event))
+    (ap (map (λ (e : Entry). e.actor)) now_is ∙ map_after (noted k) (λ (e : Entry). e.actor) entries (noted_actor k))
+    (map_set_same held_by actors i x y is (same_held x y name entry))
 
--- a mail did something, ended or was stopped
-pub mail_booked : (places : List ℕ → Option ℕ) (actors : List Held) (events later : List Kept) (p i : ℕ) (x y : Held) (entries now : List Entry) (k r : Kept)
-    → ArePlaced places actors → AreBooked entries actors events → slice_get actors i ≡ Some x → y.name ≡ x.name → IsOwnOf x.name k → later ≡ events ++ k ∷ []
-    → r ≡ get_or later (length later - 1) r → ((e : Entry) → slice_get entries i ≡ Some e → now ≡ set entries i (noted r e)) → AreBooked now (set actors i y) later
-mail_booked places actors events later p i x y entries now k r placed booked is name mine event read noted_it =
-    own_keeps places actors events later p i x y entries now k r placed booked is name mine event read noted_it
+-- an event that leaves each entry as it was
+still_booked : (crew : ℕ) (actors : List Held) (events : List Kept) (entries : List Entry) (k : Kept) → IsPlain k → entered_by k ≡ [] → ((e : Entry) → noted k e ≡ e)
+    → AreBooked crew entries actors events → AreBooked crew entries actors (events ++ k ∷ [])
+still_booked crew actors events entries k plain enters still booked =
+    booked_alike crew entries entries actors actors events (events ++ k ∷ []) booked (sym (map_still (noted k) entries (λ i e at. still e)) ∙ books_more entries events k plain booked.are enters) refl refl
 
--- a member of a generation did something, ended or was stopped
-pub other_booked : (mails : List Held) (events later : List Kept) (a : List ℕ) (entries : List Entry) (k : Kept)
-    → AreBooked entries mails events → ((j : ℕ) (z : Held) → slice_get mails j ≡ Some z → z.name ≢ a) → IsOwnOf a k → later ≡ events ++ k ∷ [] → AreBooked entries mails later
-other_booked mails events later a entries k booked apart mine event =
-    subst (λ (l : List Kept). AreBooked entries mails l) (sym event) (record {
-      are = sym (map_still (noted k) entries (λ i e h.
-          let w = paired (λ (e : Entry). e.actor) (λ (x : Held). x.name) entries mails i e booked.names h in
-          noted_other k a e mine (λ same. apart i w.0 w.1 (sym w.2 ∙ same))))
-          ∙ books_more entries events k (own_plain k a mine) booked.are (begins_none k a mine);
-      names = booked.names;
-    })
+-- what passes between programs changes no entry
+noted_if : (t : Bool) (e f : Entry) → f ≡ e → (if t then f else e) ≡ e
+noted_if true e f h = h
+noted_if false e f h = refl
 
--- a generation started
-pub begun_booked : (mails : List Held) (events : List Kept) (p : ℕ) (entries : List Entry) → AreBooked entries mails events → AreBooked entries mails (events ++ kept.Generation p ∷ [])
-begun_booked mails events p entries booked = record {
-  are = sym (map_still (noted (kept.Generation p)) entries (λ i e h. refl)) ∙ books_more entries events (kept.Generation p) tt booked.are refl;
-  names = booked.names;
-}
+acted_none : (due : NeedData) (came : GotData) (e : Entry) → IsPass due → acted_on due came e ≡ e
+acted_none (needs.Take port) came e pass = refl
+acted_none (needs.Give port bytes) came e pass = refl
+acted_none (needs.Start asked) came e pass = refl
+acted_none (needs.Command bytes) came e pass = refl
+acted_none (needs.File call) came e pass = absurd pass
+acted_none needs.Wait came e pass = absurd pass
+acted_none (needs.Ended status) came e pass = absurd pass
 
--- the report of a remote program came
-pub report_booked : (mails : List Held) (events : List Kept) (slot letter : ℕ) (text : List ℕ) (entries : List Entry)
-    → AreBooked entries mails events → AreBooked entries mails (events ++ kept.Report slot letter text ∷ [])
-report_booked mails events slot letter text entries booked = record {
-  are = sym (map_still (noted (kept.Report slot letter text)) entries (λ i e h. refl)) ∙ books_more entries events (kept.Report slot letter text) tt booked.are refl;
-  names = booked.names;
-}
+noted_pass : (a : List ℕ) (own : Own) (e : Entry) → IsPass own.due → noted (kept.Act a own) e ≡ e
+noted_pass a own e pass = noted_if (bytes_eq a e.actor) e (acted_on own.due own.came e) (acted_none own.due own.came e pass)
+
+pub pass_booked : (crew : ℕ) (actors : List Held) (events : List Kept) (entries : List Entry) (a : List ℕ) (own : Own) → IsPass own.due → AreBooked crew entries actors events
+    → AreBooked crew entries actors (events ++ kept.Act a own ∷ [])
+pass_booked crew actors events entries a own pass booked = still_booked crew actors events entries (kept.Act a own) tt refl (λ e. noted_pass a own e pass) booked
 
 -- an actor's machine looked
-pub look_booked : (actors : List Held) (events : List Kept) (i : ℕ) (x y : Held) (entries : List Entry)
-    → AreBooked entries actors events → slice_get actors i ≡ Some x → y.name ≡ x.name → AreBooked entries (set actors i y) events
-look_booked actors events i x y entries booked is name = record {
-  are = booked.are;
-  names = booked.names ∙ sym (map_set_same (λ (x : Held). x.name) actors i x y is name);
-}
+pub look_booked : (crew : ℕ) (actors : List Held) (events : List Kept) (i : ℕ) (x y : Held) (entries : List Entry)
+    → AreBooked crew entries actors events → slice_get actors i ≡ Some x → y.name ≡ x.name → y.entry ≡ x.entry → AreBooked crew entries (set actors i y) events
+look_booked crew actors events i x y entries booked is name entry =
+    booked_alike crew entries entries actors (set actors i y) events events booked booked.are refl (map_set_same held_by actors i x y is (same_held x y name entry))
+
+-- a generation started: the mails are after its members
+module _ (crew : ℕ) (actors four : List Held) (events : List Kept) (entries : List Entry) (new : AreNew four) (booked : AreBooked crew entries actors events) where
+  abbrev mails : List Held
+  mails = drop crew actors
+
+  after_four : (j : ℕ) → slice_get (four ++ mails) (4 + j) ≡ slice_get actors (crew + j)
+  after_four j =
+      let e : 4 + j ≡ suc (suc (suc (suc j))) = omega arith in
+      ap (λ (l : List Held). slice_get (l ++ mails) (4 + j)) new.are ∙ ap (slice_get (new.sender ∷ new.clean ∷ new.lspawn ∷ new.rspawn ∷ mails)) e ∙ get_drop crew actors j
+
+  no_entry : {T : Type 0} (x z : Held) (k : ℕ) → ◌≡◌ {A = Option Held} (Some z) (Some x) → z.entry ≡ None → x.entry ≡ Some k → T
+  no_entry x z k same none some =
+      let is : z ≡ x = cc in
+      let both : ◌≡◌ {A = Option ℕ} None (Some k) = sym none ∙ ap (λ (x : Held). x.entry) is ∙ some in absurd (cc)
+
+  in_four : (i k : ℕ) (x : Held) → slice_get (new.sender ∷ new.clean ∷ new.lspawn ∷ new.rspawn ∷ mails) i ≡ Some x → x.entry ≡ Some k → (e : Entry) × (slice_get entries k ≡ Some e) × (e.actor ≡ x.name)
+  in_four zero k x is entry = no_entry x new.sender k is new.sender_is.entry entry
+  in_four (suc zero) k x is entry = no_entry x new.clean k is new.clean_is.entry entry
+  in_four (suc (suc zero)) k x is entry = no_entry x new.lspawn k is new.lspawn_is.entry entry
+  in_four (suc (suc (suc zero))) k x is entry = no_entry x new.rspawn k is new.rspawn_is.entry entry
+  in_four (suc (suc (suc (suc j)))) k x is entry = booked.here (crew + j) k x (sym (get_drop crew actors j) ∙ is) entry
+
+  pub begun_booked : (p : ℕ) → AreBooked 4 entries (four ++ mails) (events ++ kept.Generation p ∷ [])
+  begun_booked p = record {
+    are = (still_booked crew actors events entries (kept.Generation p) tt refl (λ e. refl) booked).are;
+    here = λ i k x is entry. in_four i k x (ap (λ (l : List Held). slice_get (l ++ mails) i) (sym new.are) ∙ is) entry;
+    owned = λ k e at. let w = booked.owned k e at in (w.0, w.1, after_four w.0 ∙ w.2, w.3, w.4);
+  }
+
+-- the report of a remote program came
+pub report_booked : (crew : ℕ) (actors : List Held) (events : List Kept) (slot letter : ℕ) (text : List ℕ) (entries : List Entry)
+    → AreBooked crew entries actors events → AreBooked crew entries actors (events ++ kept.Report slot letter text ∷ [])
+report_booked crew actors events slot letter text entries booked = still_booked crew actors events entries (kept.Report slot letter text) tt refl (λ e. refl) booked
 
 -- a moment came
-pub moment_booked : (actors : List Held) (events : List Kept) (m : ℕ) (entries : List Entry)
-    → AreBooked entries actors events → AreBooked entries actors (events ++ kept.Moment m ∷ [])
-moment_booked actors events m entries booked = record {
-  are = sym (map_still (noted (kept.Moment m)) entries (λ i e h. refl)) ∙ books_more entries events (kept.Moment m) tt booked.are refl;
-  names = booked.names;
-}
+pub moment_booked : (crew : ℕ) (actors : List Held) (events : List Kept) (m : ℕ) (entries : List Entry)
+    → AreBooked crew entries actors events → AreBooked crew entries actors (events ++ kept.Moment m ∷ [])
+moment_booked crew actors events m entries booked = still_booked crew actors events entries (kept.Moment m) tt refl (λ e. refl) booked
 
 -- the machine stopped
-pub halt_booked : (at : ℕ) (actors stood : List Held) (events : List Kept) (how : Survival) (entries : List Entry)
-    → AreBooked entries actors events → AreCutOff at actors stood
-    → AreBooked (map (λ e. left_as (cut_off e.life) e) entries) stood (events ++ kept.Halt how ∷ [])
-halt_booked at actors stood events how entries booked cut = record {
-  are = books_more entries events (kept.Halt how) tt booked.are refl;
-  names = map_after (λ (e : Entry). left_as (cut_off e.life) e) (λ (e : Entry). e.actor) entries (λ e. refl) ∙ booked.names
-      ∙ sym (map_alike (λ (x : Held). x.name) actors stood cut.many (λ i x y here there. (cut.each i x y here there).name));
-}
+pub halt_booked : (crew at : ℕ) (actors stood : List Held) (events : List Kept) (how : Survival) (entries : List Entry)
+    → AreBooked crew entries actors events → AreCutOff at actors stood
+    → AreBooked crew (map (λ e. left_as (cut_off e.life) e) entries) stood (events ++ kept.Halt how ∷ [])
+halt_booked crew at actors stood events how entries booked cut =
+    booked_alike crew entries (map (λ e. left_as (cut_off e.life) e) entries) actors stood events (events ++ kept.Halt how ∷ []) booked (books_more entries events (kept.Halt how) tt booked.are refl)
+    (map_after (λ (e : Entry). left_as (cut_off e.life) e) (λ (e : Entry). e.actor) entries (λ e. refl))
+    (map_alike held_by actors stood cut.many (λ i x y here there. let w = cut.each i x y here there in same_held x y w.name w.entry))
 
--- an actor started, with an event that leaves each entry as it was
-born_booked : (actors : List Held) (events : List Kept) (y : Held) (a : List ℕ) (args : Arguments) (entries : List Entry) (k : Kept)
-    → IsPlain k → entered_by k ≡ new_entry a args ∷ [] → ((e : Entry) → noted k e ≡ e) → AreBooked entries actors events → y.name ≡ a
-    → AreBooked (entries ++ new_entry a args ∷ []) (actors ++ y ∷ []) (events ++ k ∷ [])
-born_booked actors events y a args entries k plain enters still booked name =
-    let actor : Entry → List ℕ = λ e. e.actor in
-    let named : Held → List ℕ = λ x. x.name in
+-- a mail started, with an event that leaves each entry as it was
+born_booked : (crew : ℕ) (actors : List Held) (events : List Kept) (y : Held) (a : List ℕ) (args : Arguments) (entries : List Entry) (k : Kept)
+    → IsPlain k → entered_by k ≡ new_entry a args ∷ [] → ((e : Entry) → noted k e ≡ e) → crew ≤ length actors → AreBooked crew entries actors events → y.name ≡ a → y.entry ≡ Some (length entries)
+    → AreBooked crew (entries ++ new_entry a args ∷ []) (actors ++ y ∷ []) (events ++ k ∷ [])
+born_booked crew actors events y a args entries k plain enters still within booked name entry =
+    let whole : crew + (length actors - crew) ≡ length actors = omega (arith, within) in
     record {
       are = ap (λ (l : List Entry). l ++ new_entry a args ∷ []) (sym (map_still (noted k) entries (λ i e h. still e)) ∙ ap (map (noted k)) booked.are)
           ∙ ap (λ (l : List Entry). map (noted k) (books_of (with_inputs (reverse events))) ++ l) (sym enters) ∙ sym (books_push events k plain);
-      names = map-append actor entries (new_entry a args ∷ []) ∙ ap (λ (l : List (List ℕ)). l ++ a ∷ []) booked.names
-          ∙ ap (λ (n : List ℕ). map named actors ++ n ∷ []) (sym name) ∙ sym (map-append named actors (y ∷ []));
+      here = λ i m x is has. ⊎_elim
+          (λ f.
+          let both : ◌≡◌ {A = Option ℕ} (Some (length entries)) (Some m) = sym entry ∙ ap (λ (x : Held). x.entry) f.1 ∙ has in
+          let same : length entries ≡ m = cc in
+          (new_entry a args, ap (slice_get (entries ++ new_entry a args ∷ [])) (sym same) ∙ get_last entries (new_entry a args), sym name ∙ ap (λ (x : Held). x.name) f.1))
+          (λ f.
+          let w = booked.here i m x f has in
+          (w.0, get_still entries (new_entry a args) m w.0 w.1, w.2))
+          (get_push actors y i x is);
+      owned = λ m e at. ⊎_elim
+          (λ f. (length actors - crew, y, ap (slice_get (actors ++ y ∷ [])) whole ∙ get_last actors y, name ∙ ap (λ (e : Entry). e.actor) f.1, entry ∙ ap Some (sym f.0)))
+          (λ f.
+          let w = booked.owned m e f in
+          (w.0, w.1, get_still actors y (crew + w.0) w.1 w.2, w.3, w.4))
+          (get_push entries (new_entry a args) m e at);
     }
 
-pub start_booked : (actors : List Held) (events : List Kept) (y : Held) (a : List ℕ) (args : Arguments) (entries : List Entry)
-    → AreBooked entries actors events → y.name ≡ a
-    → AreBooked (entries ++ new_entry a args ∷ []) (actors ++ y ∷ []) (events ++ kept.Start a (Injector args) ∷ [])
-start_booked actors events y a args entries booked name = born_booked actors events y a args entries (kept.Start a (Injector args)) tt refl (λ e. refl) booked name
+pub start_booked : (crew : ℕ) (actors : List Held) (events : List Kept) (y : Held) (a : List ℕ) (args : Arguments) (entries : List Entry)
+    → crew ≤ length actors → AreBooked crew entries actors events → y.name ≡ a → y.entry ≡ Some (length entries)
+    → AreBooked crew (entries ++ new_entry a args ∷ []) (actors ++ y ∷ []) (events ++ kept.Start a (Injector args) ∷ [])
+start_booked crew actors events y a args entries within booked name entry =
+    born_booked crew actors events y a args entries (kept.Start a (Injector args)) tt refl (λ e. refl) within booked name entry
 
--- a child of a member started
-pub child_booked : (actors : List Held) (events : List Kept) (y : Held) (parent : List ℕ) (own : Own) (c : List ℕ) (args : Arguments) (entries : List Entry)
-    → AreBooked entries actors events → y.name ≡ c
-    → AreBooked (entries ++ new_entry c args ∷ []) (actors ++ y ∷ []) (events ++ kept.Child parent own c (Injector args) ∷ [])
-child_booked actors events y parent own c args entries booked name =
-    born_booked actors events y c args entries (kept.Child parent own c (Injector args)) tt refl (λ e. refl) booked name
+-- a child started
+pub child_booked : (crew : ℕ) (actors : List Held) (events : List Kept) (y : Held) (parent : List ℕ) (own : Own) (c : List ℕ) (args : Arguments) (entries : List Entry)
+    → crew ≤ length actors → AreBooked crew entries actors events → y.name ≡ c → y.entry ≡ Some (length entries)
+    → AreBooked crew (entries ++ new_entry c args ∷ []) (actors ++ y ∷ []) (events ++ kept.Child parent own c (Injector args) ∷ [])
+child_booked crew actors events y parent own c args entries within booked name entry =
+    born_booked crew actors events y c args entries (kept.Child parent own c (Injector args)) tt refl (λ e. refl) within booked name entry
 
 -- A child was given its input
 
@@ -363,52 +445,56 @@ fed_books message envelope parent own c (Injector args) later before mail =
     (given_texts message envelope args, refl, books_fed parent own c args (given_texts message envelope args) later before refl)
 fed_books message envelope parent own c other later before mail = absurd mail
 
--- the books of the events with that input are those of the events with the giving, if its giver has no entry
-fed_more : (entries : List Entry) (events : List Kept) (a : List ℕ) (own : Own) (c message envelope : List ℕ)
-    → entries ≡ books_of (start_with c message envelope (with_inputs (reverse events))) → map (noted (kept.Act a own)) entries ≡ entries
-    → entries ≡ books_of (with_inputs (reverse (events ++ kept.Feed a own c message envelope ∷ [])))
-fed_more entries events a own c message envelope are still =
-    sym still ∙ ap (map (noted (kept.Act a own))) are ∙ sym (append-nil (map (noted (kept.Act a own)) (books_of (start_with c message envelope (with_inputs (reverse events))))))
+-- the books of the events with that input are those of the events with the giving
+fed_more : (entries : List Entry) (events : List Kept) (a : List ℕ) (own : Own) (c message envelope : List ℕ) → IsPass own.due
+    → entries ≡ books_of (start_with c message envelope (with_inputs (reverse events))) → entries ≡ books_of (with_inputs (reverse (events ++ kept.Feed a own c message envelope ∷ [])))
+fed_more entries events a own c message envelope pass are =
+    sym (map_still (noted (kept.Act a own)) entries (λ j e h. noted_pass a own e pass)) ∙ ap (map (noted (kept.Act a own))) are
+    ∙ sym (append-nil (map (noted (kept.Act a own)) (books_of (start_with c message envelope (with_inputs (reverse events))))))
     ∙ ap books_of (sym (inputs_fed events a own c message envelope))
 
--- what is kept then, by the place of the child
-fed_at : (places : List ℕ → Option ℕ) (actors : List Held) (i : ℕ) (x : Held) (entries now old new : List Entry) (n : ℕ) (c : List ℕ) (args : Arguments)
-    → AreFed old new n c args → ArePlaced places actors → entries ≡ old → map (λ (e : Entry). e.actor) entries ≡ map (λ (x : Held). x.name) actors → slice_get actors i ≡ Some x → x.name ≡ c
-    → ((e : Entry) → slice_get entries i ≡ Some e → now ≡ set entries i (fed_entry args e)) → (now ≡ new) × (map (λ (e : Entry). e.actor) now ≡ map (λ (x : Held). x.name) actors)
-fed_at places actors i x entries now old new n c args fed placed are names is name noted_it =
-    let actor : Entry → List ℕ = λ e. e.actor in
-    let named : Held → List ℕ = λ x. x.name in
-    let here : slice_get entries n ≡ Some fed.entry = ap (λ (l : List Entry). slice_get l n) are ∙ fed.here in
-    let w = paired actor named entries actors n fed.entry names here in
-    let both : ◌≡◌ {A = Option ℕ} (Some n) (Some i) = sym (placed n w.0 w.1) ∙ ap places (sym w.2 ∙ fed.named ∙ sym name) ∙ placed i x is in
-    let same : n ≡ i = cc in
-    let there : slice_get entries i ≡ Some fed.entry = ap (slice_get entries) (sym same) ∙ here in
-    let now_is : now ≡ set entries i (fed_entry args fed.entry) = noted_it fed.entry there in (
-      now_is ∙ ap (λ (i : ℕ). set entries i (fed_entry args fed.entry)) (sym same) ∙ ap (λ (l : List Entry). set l n (fed_entry args fed.entry)) are ∙ sym fed.are,
-      ap (map actor) now_is ∙ map_set_same actor entries i fed.entry (fed_entry args fed.entry) there refl ∙ names,
-    )
+-- what a child, which has just started, has: an entry, of which this becomes
+module _ (places : List ℕ → Option ℕ) (crew : ℕ) (actors : List Held) (events : List Kept) (i : ℕ) (x : Held) (entries : List Entry) (a c message envelope : List ℕ) (just : HasJustStarted events a c)
+    (placed : ArePlaced places actors) (booked : AreBooked crew entries actors events) (is : slice_get actors i ≡ Some x) (name : x.name ≡ c) (mail : IsMail just.program) where
+  abbrev old : List Kept
+  old = just.later ++ kept.Child a just.own c just.program ∷ just.before
 
--- a child of a member, which has this place, was given its input
-pub fed_booked : (places : List ℕ → Option ℕ) (actors : List Held) (events : List Kept) (i : ℕ) (x : Held) (entries now : List Entry) (a c message envelope : List ℕ) (own : Own) (just : HasJustStarted events a c)
-    → ArePlaced places actors → AreBooked entries actors events → ((j : ℕ) (z : Held) → slice_get actors j ≡ Some z → z.name ≢ a) → slice_get actors i ≡ Some x → x.name ≡ c → IsMail just.program
-    → ((e : Entry) (args : Arguments) → slice_get entries i ≡ Some e → args.envelope ≡ envelope → now ≡ set entries i (fed_entry args e))
-    → AreBooked now actors (events ++ kept.Feed a own c message envelope ∷ [])
-fed_booked places actors events i x entries now a c message envelope own just placed booked apart is name mail noted_it =
-    let old = just.later ++ kept.Child a just.own c just.program ∷ just.before in
-    let new = just.later ++ kept.Child a just.own c (with_texts message envelope just.program) ∷ just.before in
-    let fed = fed_books message envelope a just.own c just.program just.later just.before mail in
-    let at = fed_at places actors i x entries now (books_of old) (books_of new) (length (books_of just.before)) c fed.0 fed.2 placed
-    (subst (λ (l : List Kept). entries ≡ books_of l) just.are booked.are) booked.names is name (λ e there. noted_it e fed.0 there fed.1) in
-    let filled : start_with c message envelope (with_inputs (reverse events)) ≡ new =
-    subst (λ (l : List Kept). start_with c message envelope l ≡ new) (sym just.are) (start_in c message envelope a just.own just.program just.later just.before just.apart) in
-    record {
-      are = fed_more now events a own c message envelope (subst (λ (l : List Kept). now ≡ books_of l) (sym filled) at.0)
-          (map_still (noted (kept.Act a own)) now (λ j e h.
-          let v = paired (λ (e : Entry). e.actor) (λ (x : Held). x.name) now actors j e at.1 h in
-          noted_other (kept.Act a own) a e refl (λ mine. apart j v.0 v.1 (sym v.2 ∙ mine))));
-      names = at.1;
-    }
+  abbrev filled : List Kept
+  filled = just.later ++ kept.Child a just.own c (with_texts message envelope just.program) ∷ just.before
+
+  abbrev number : ℕ
+  number = length (books_of just.before)
+
+  fed : (args : Arguments) × (args.envelope ≡ envelope) × AreFed (books_of old) (books_of filled) number c args
+  fed = fed_books message envelope a just.own c just.program just.later just.before mail
+
+  are_old : entries ≡ books_of old
+  are_old = subst (λ (l : List Kept). entries ≡ books_of l) just.are booked.are
+
+  there : slice_get entries number ≡ Some fed.2.entry
+  there = ap (λ (l : List Entry). slice_get l number) are_old ∙ fed.2.here
+
+  pub entry_of_child : x.entry ≡ Some number
+  entry_of_child = its_entry places crew entries actors events i number x fed.2.entry placed booked is there (fed.2.named ∙ sym name)
+
+  pub fed_booked : (own : Own) (now : List Entry) (m : ℕ) → IsPass own.due → x.entry ≡ Some m
+      → ((e : Entry) (args : Arguments) → slice_get entries m ≡ Some e → args.envelope ≡ envelope → now ≡ set entries m (fed_entry args e))
+      → AreBooked crew now actors (events ++ kept.Feed a own c message envelope ∷ [])
+  fed_booked own now m pass entry noted_it =
+      let args = fed.0 in
+      let e = fed.2.entry in
+      let both : ◌≡◌ {A = Option ℕ} (Some m) (Some number) = sym entry ∙ entry_of_child in
+      let same : m ≡ number = cc in
+      let here : slice_get entries m ≡ Some e = ap (slice_get entries) same ∙ there in
+      let now_is : now ≡ set entries m (fed_entry args e) = noted_it e args here fed.1 in
+      let now_new : now ≡ books_of filled = now_is ∙ ap (λ (n : ℕ). set entries n (fed_entry args e)) same ∙ ap (λ (l : List Entry). set l number (fed_entry args e)) are_old ∙ sym fed.2.are in
+      let with_input : start_with c message envelope (with_inputs (reverse events)) ≡ filled =
+      subst (λ (l : List Kept). start_with c message envelope l ≡ filled) (sym just.are) (start_in c message envelope a just.own just.program just.later just.before just.apart) in
+      booked_alike crew entries now actors actors events (events ++ kept.Feed a own c message envelope ∷ []) booked
+      (fed_more now events a own c message envelope pass (subst (λ (l : List Kept). now ≡ books_of l) (sym with_input) now_new))
+      (ap (map (λ (e : Entry). e.actor)) now_is ∙ map_set_same (λ (e : Entry). e.actor) entries m e (fed_entry args e) here refl)
+      refl
 
 -- no actor yet
-pub none_booked : AreBooked [] [] []
-none_booked = record { are = refl; names = refl }
+pub none_booked : AreBooked 0 [] [] []
+none_booked = record { are = refl; here = λ i k x is. absurd (cc); owned = λ k e at. absurd (cc) }

@@ -1,47 +1,23 @@
--- The child in the sender's slot.
-use Rattle.std.proofs.Common.{◌≡◌, ◌⊎◌, ℕ, zero, suc, ◌≤◌, ◌<◌, List, [], ◌∷◌, ◌++◌, length, true, false, ◌&&◌, not, Option, Some, None, IsSome, is_some, refl, sym, ap, ◌∙◌, subst, ⊎_elim, codes, arith}
-use Rattle.std.specs.List.{slice_get}
-use Rattle.std.proofs.lemmas.List.Elements.{All-cons}
-use Rattle.std.proofs.lemmas.Option.{slice_get_within}
+-- A child in the first slot of its parent, which awaits its input.
+use Rattle.std.proofs.Common.{◌≡◌, ◌≢◌, ℕ, List, [], ◌∷◌, ◌++◌, Bool, true, false, ◌&&◌, not, Option, Some, None, IsSome, is_some, refl, sym, ap, ◌∙◌, subst, ⊎_elim, bytes_eq}
+use Rattle.std.specs.Prelude.{All, if◌then◌else◌}
+use Rattle.std.proofs.lemmas.List.{reverse-append}
+use Rattle.std.proofs.lemmas.List.Elements.{All-cons, All-head, All-tail}
+use Rattle.call_fs.specs.declared.past.Own.{Own}
 use Rattle.world_events.specs.declared.event.Event.{Event as Kept}
+use Rattle.world_events.specs.declared.event.Event.TheVariants as kept
+use Rattle.world_events.specs.declared.event.Program.{Program}
+use Rattle.world_events.specs.Inputs.{start_with, with_inputs, with_texts}
 use Rattle.world_pipes.specs.declared.mouths.Mouths.{Mouths}
-use Rattle.world_pipes.specs.Mouths.{tenant_of}
-use Rattle.mail_world.specs.Pipework.{Pipe, Pipework, Slot, is_ready, is_member}
+use Rattle.mail_world.specs.Pipework.{Pipe, Slot, is_ready, is_member}
 use Rattle.mail_world.specs.Pipework.Tenant.{Runs}
-use Rattle.mail_world.specs.Wired.{seat, tenant_in, kept_at, AreWired, HaveOneChild}
 use Rattle.mail_world.specs.declared.actor.Actor.{Actor as Held}
 use Rattle.mail_world.specs.History.{Actor, State}
 use Rattle.mail_world.specs.Readiness.{is_awaiting}
 use Rattle.mail_world.specs.Inside.{IsApart, HasJustStarted, MayFeed, ArePiped}
 use Rattle.mail_world.proofs.Known.{IsPlain, inputs_push}
 use Rattle.mail_world.proofs.Members.{whether}
-
--- It is the only one, if the pipes are those of the same model
-
-runs_in : (o : Option Mouths) (d : ℕ) (c : List ℕ) → tenant_in o d ≡ Some (Runs c) → (m : Mouths) × (o ≡ Some m) × (tenant_of m d ≡ Some (Runs c))
-runs_in None d c is = absurd cc
-runs_in (Some m) d c is = (m, refl, is)
-
-module _ (old new : List Mouths) (w v : Pipework) (was : AreWired old w) (wired : AreWired new v) (one : HaveOneChild old)
-    (ran : (a : List ℕ) (d : ℕ) (c : List ℕ) → v.programs a d ≡ Some (Runs c) → w.programs a d ≡ Some (Runs c)) where
-  one_at : (a : List ℕ) (i : ℕ) (m : Mouths) (d : ℕ) (c : List ℕ) → seat a ≡ Some i → slice_get new i ≡ Some m → tenant_of m d ≡ Some (Runs c) → (i ≡ 0) × (d ≡ 0) × (is_member c ≡ false)
-  one_at a i m d c at is runs =
-      let runs_now : v.programs a d ≡ Some (Runs c) = wired.programs a d ∙ ap (λ (o : Option ℕ). tenant_in (kept_at o new) d) at ∙ ap (λ (o : Option Mouths). tenant_in o d) is ∙ runs in
-      let there : tenant_in (slice_get old i) d ≡ Some (Runs c) = sym (was.programs a d ∙ ap (λ (o : Option ℕ). tenant_in (kept_at o old) d) at) ∙ ran a d c runs_now in
-      let r = runs_in (slice_get old i) d c there in
-      one i r.0 d c r.1 r.2
-
-  one_by : (i : ℕ) (m : Mouths) (d : ℕ) (c : List ℕ) → i < 4 → slice_get new i ≡ Some m → tenant_of m d ≡ Some (Runs c) → (i ≡ 0) × (d ≡ 0) × (is_member c ≡ false)
-  one_by zero m d c low is runs = one_at (codes "sender") 0 m d c refl is runs
-  one_by (suc zero) m d c low is runs = one_at (codes "clean") 1 m d c refl is runs
-  one_by (suc (suc zero)) m d c low is runs = one_at (codes "lspawn") 2 m d c refl is runs
-  one_by (suc (suc (suc zero))) m d c low is runs = one_at (codes "rspawn") 3 m d c refl is runs
-  one_by (suc (suc (suc (suc i)))) m d c low is runs = absurd (omega (arith, low))
-
-  pub one_kept : (crew : ℕ) → length new ≤ crew → (crew ≡ 0) ⊎ (crew ≡ 4) → HaveOneChild new
-  one_kept crew most few i m d c is runs =
-      let low = slice_get_within new i m is in
-      ⊎_elim (λ none. absurd (omega (arith, low, most, none))) (λ four. one_by i m d c (omega (arith, low, most, four)) is runs) few
+use Rattle.queue_law.proofs.Tests.{other_text}
 
 -- It has just started, as one event comes that is neither its own nor its parent's
 
@@ -55,22 +31,93 @@ just_push events k parent c plain apart just = record {
   apart = All-cons (IsApart parent c) k just.later apart just.apart;
 }
 
--- what the sender gives it next it may give it then too
-pub feed_push : (s t : State) (events : List Kept) (k : Kept) → IsPlain k → ((c : List ℕ) → s.pipework.programs (codes "sender") 0 ≡ Some (Runs c) → is_awaiting s c ≡ true → IsApart (codes "sender") c k)
-    → t.pipework.programs (codes "sender") 0 ≡ s.pipework.programs (codes "sender") 0 → ((c : List ℕ) → is_awaiting s c ≡ true → is_awaiting t c ≡ true)
-    → MayFeed s events → MayFeed t (events ++ k ∷ [])
-feed_push s t events k plain apart same awaits may = record {
+-- The event gives another child its input, and its parent is another one
+
+-- it begins with another input in the events before
+record BeginsElse (b message envelope : List ℕ) (parent c : List ℕ) (own : Own) (program : Program) (later before : List Kept) : Type 0 where
+  now : List Kept
+  rest : List Kept
+  are : start_with b message envelope (later ++ kept.Child parent own c program ∷ before) ≡ now ++ kept.Child parent own c program ∷ rest
+  apart : All (IsApart parent c) later → All (IsApart parent c) now
+
+module _ (b message envelope : List ℕ) (parent c : List ℕ) (own : Own) (program : Program) (before : List Kept) (other : b ≢ c) where
+  -- one event more, which starts no child
+  passed_over : (event : Kept) (later : List Kept)
+      → start_with b message envelope (event ∷ later ++ kept.Child parent own c program ∷ before) ≡ event ∷ start_with b message envelope (later ++ kept.Child parent own c program ∷ before)
+      → BeginsElse b message envelope parent c own program later before → BeginsElse b message envelope parent c own program (event ∷ later) before
+  passed_over event later over w = record {
+    now = event ∷ w.now;
+    rest = w.rest;
+    are = over ∙ ap (λ (l : List Kept). event ∷ l) w.are;
+    apart = λ all. All-cons (IsApart parent c) event w.now (All-head (IsApart parent c) event later all) (w.apart (All-tail (IsApart parent c) event later all));
+  }
+
+  -- one that starts a child
+  passed_child : (a : List ℕ) (did : Own) (d : List ℕ) (runs : Program) (later : List Kept) (t : Bool) → bytes_eq d b ≡ t
+      → BeginsElse b message envelope parent c own program later before → BeginsElse b message envelope parent c own program (kept.Child a did d runs ∷ later) before
+  passed_child a did d runs later true is w = record {
+    now = kept.Child a did d (with_texts message envelope runs) ∷ later;
+    rest = before;
+    are = ap (λ (t : Bool). if t then kept.Child a did d (with_texts message envelope runs) ∷ later ++ kept.Child parent own c program ∷ before
+        else (kept.Child a did d runs ∷ start_with b message envelope (later ++ kept.Child parent own c program ∷ before))) is;
+    apart = λ all. All-cons (IsApart parent c) (kept.Child a did d (with_texts message envelope runs)) later (All-head (IsApart parent c) (kept.Child a did d runs) later all)
+        (All-tail (IsApart parent c) (kept.Child a did d runs) later all);
+  }
+  passed_child a did d runs later false is w = passed_over (kept.Child a did d runs) later
+      (ap (λ (t : Bool). if t then kept.Child a did d (with_texts message envelope runs) ∷ later ++ kept.Child parent own c program ∷ before
+      else (kept.Child a did d runs ∷ start_with b message envelope (later ++ kept.Child parent own c program ∷ before))) is) w
+
+  begins_else : (later : List Kept) → BeginsElse b message envelope parent c own program later before
+  begins_else [] = record {
+    now = [];
+    rest = start_with b message envelope before;
+    are = ap (λ (t : Bool). if t then kept.Child parent own c (with_texts message envelope program) ∷ before else (kept.Child parent own c program ∷ start_with b message envelope before))
+        (other_text c b (λ e. other (sym e)));
+    apart = λ all. all;
+  }
+  begins_else ((kept.Child a did d runs) ∷ later) = passed_child a did d runs later (bytes_eq d b) refl (begins_else later)
+  begins_else ((kept.Start a runs) ∷ later) = passed_over (kept.Start a runs) later refl (begins_else later)
+  begins_else ((kept.Act a did) ∷ later) = passed_over (kept.Act a did) later refl (begins_else later)
+  begins_else ((kept.Feed a did d m e) ∷ later) = passed_over (kept.Feed a did d m e) later refl (begins_else later)
+  begins_else ((kept.Generation start) ∷ later) = passed_over (kept.Generation start) later refl (begins_else later)
+  begins_else ((kept.Report slot letter text) ∷ later) = passed_over (kept.Report slot letter text) later refl (begins_else later)
+  begins_else ((kept.End a read ready status) ∷ later) = passed_over (kept.End a read ready status) later refl (begins_else later)
+  begins_else ((kept.Stop a) ∷ later) = passed_over (kept.Stop a) later refl (begins_else later)
+  begins_else ((kept.Moment m) ∷ later) = passed_over (kept.Moment m) later refl (begins_else later)
+  begins_else ((kept.Halt how) ∷ later) = passed_over (kept.Halt how) later refl (begins_else later)
+
+pub just_fed : (events : List Kept) (a : List ℕ) (own : Own) (b message envelope : List ℕ) (parent c : List ℕ) → b ≢ c → a ≢ parent → a ≢ c → HasJustStarted events parent c
+    → HasJustStarted (events ++ kept.Feed a own b message envelope ∷ []) parent c
+just_fed events a own b message envelope parent c other far beside just =
+    let w = begins_else b message envelope parent c just.own just.program just.before other just.later in
+    record {
+      later = kept.Act a own ∷ w.now;
+      own = just.own;
+      program = just.program;
+      before = w.rest;
+      are = ap with_inputs (reverse-append events (kept.Feed a own b message envelope ∷ [])) ∙ ap (λ (l : List Kept). kept.Act a own ∷ start_with b message envelope l) just.are
+          ∙ ap (λ (l : List Kept). kept.Act a own ∷ l) w.are;
+      apart = All-cons (IsApart parent c) (kept.Act a own) w.now (far, beside) (w.apart just.apart);
+    }
+
+-- what its parent gives it next it may give it then too
+pub feed_push : (s t : State) (events : List Kept) (k : Kept) (parent : List ℕ) → IsPlain k → ((c : List ℕ) → s.pipework.programs parent 0 ≡ Some (Runs c) → is_awaiting s c ≡ true → IsApart parent c k)
+    → t.pipework.programs parent 0 ≡ s.pipework.programs parent 0 → ((c : List ℕ) → is_awaiting s c ≡ true → is_awaiting t c ≡ true)
+    → MayFeed s events parent → MayFeed t (events ++ k ∷ []) parent
+feed_push s t events k parent plain apart same awaits may = record {
   child = may.child;
   runs = same ∙ may.runs;
   awaiting = awaits may.child may.awaiting;
-  just = just_push events k (codes "sender") may.child plain (apart may.child may.runs may.awaiting) may.just;
+  just = just_push events k parent may.child plain (apart may.child may.runs may.awaiting) may.just;
 }
 
 -- who is unknown awaits nothing
 pub stranger_awaits : (crew : ℕ) (mouths : List Mouths) (actors : List Held) (s : State) (events : List Kept) (a : List ℕ) → ArePiped crew mouths actors s events → s.actors a ≡ None
     → is_awaiting s a ≡ false
 stranger_awaits crew mouths actors s events a piped unknown = ⊎_elim
-    (λ awaits. let both : IsSome {T = Actor} None = subst (λ (o : Option Actor). IsSome o) unknown (piped.children a (piped.awaited a awaits).runs).0 in absurd (cc))
+    (λ awaits.
+    let it = piped.awaited a awaits in
+    let both : IsSome {T = Actor} None = subst (λ (o : Option Actor). IsSome o) unknown (piped.born it.parent 0 a it.runs).known in absurd (cc))
     (λ none. none)
     (whether (is_awaiting s a))
 

@@ -1,23 +1,19 @@
 -- The names of the injectors of bounces.
-use Rattle.std.proofs.Common.{◌≡◌, ◌≢◌, ℕ, ◌+◌, List, false, Option, Some, None, refl, sym, subst, ⊎_elim, arith}
+use Rattle.std.proofs.Common.{◌≡◌, ◌≢◌, ℕ, ◌+◌, List, false, Option, Some, None, refl}
 use Rattle.std.specs.Option.{option_map}
-use Rattle.mail_bytes.specs.Decimal.{digits}
-use Rattle.mail_bytes.proofs.Digits.{digits_injective}
-use Rattle.actor_names.specs.BounceNames.{bounce_name}
-use Rattle.actor_names.specs.MailNames.{IsLetterOrDigit, IsMailName}
+use Rattle.actor_names.specs.ChildNames.{bounce_name}
+use Rattle.actor_names.specs.MailNames.{IsMailName}
+use Rattle.actor_names.proofs.Children.{same_number, no_mail}
 use Rattle.mail_world.specs.Inside.{among_all}
 use Rattle.mail_world.specs.Pipework.{is_member}
-use Rattle.mail_world.proofs.Known.{all_first}
 
--- no mail has such a name, for it has a dot
+-- no mail has such a name
 pub mail_no_bounce : (a : List ℕ) (n : ℕ) → IsMailName a → bounce_name n ≢ a
-mail_no_bounce a n is same =
-    let named : IsMailName (bounce_name n) = subst IsMailName (sym same) is in
-    ⊎_elim (λ w. let low = w.0 in omega (arith, low)) (λ w. let low = w.0 in omega (arith, low)) (all_first IsLetterOrDigit 46 (digits n) named.1)
+mail_no_bounce a n is = no_mail 98 n a is
 
 -- each has another one
 pub bounce_other : (m n : ℕ) → bounce_name m ≡ bounce_name n → m ≡ n
-bounce_other m n same = let rest : digits m ≡ digits n = cc in digits_injective m n rest
+bounce_other m n same = same_number 98 m n same
 
 -- no member has one
 pub bounce_mail : (n : ℕ) → is_member (bounce_name n) ≡ false

@@ -1,13 +1,13 @@
--- The sender gives its child its whole input.
-use Rattle.std.proofs.Common.{◌≡◌, ◌≢◌, ⊎_elim, ℕ, ◌+◌, ◌≤◌, List, [], ◌∷◌, ◌++◌, length, set, Bool, true, false, if◌then◌else◌, Option, Some, None, is_some, refl, sym, ap, ◌∙◌, subst, arith, codes, reverse}
-use Rattle.std.specs.Prelude.{drop, nat_lt, not, ◌&&◌, ◌==◌}
+-- An actor gives its child its whole input.
+use Rattle.std.proofs.Common.{◌≡◌, ◌≢◌, ⊎_elim, ℕ, ◌+◌, ◌≤◌, List, [], ◌∷◌, ◌++◌, length, set, Bool, true, false, if◌then◌else◌, Option, Some, None, is_some, refl, sym, ap, ◌∙◌, subst, arith, bytes_eq, reverse}
+use Rattle.std.specs.Prelude.{nat_lt, not, ◌&&◌, ◌==◌}
 use Rattle.std.proofs.Math.Bool.{or-true}
 use Rattle.std.specs.Option.{IsSome}
 use Rattle.std.specs.List.{slice_get}
 use Rattle.std.proofs.lemmas.List.{length-set}
 use Rattle.call_fs.specs.Disk.{Disk}
 use Rattle.call_fs.proofs.Maps.{put_at_same, put_at_other}
-use Rattle.call_fs.specs.Past.{IsRunBy, held}
+use Rattle.call_fs.specs.Past.{held}
 use Rattle.call_fs.specs.declared.past.GotData.TheVariants as got
 use Rattle.call_fs.specs.declared.past.NeedData.{NeedData}
 use Rattle.call_fs.specs.declared.past.NeedData.TheVariants as needs
@@ -21,93 +21,101 @@ use Rattle.world_events.specs.declared.books.Entry.{Entry}
 use Rattle.world_events.specs.declared.event.Event.{Event as Kept}
 use Rattle.world_events.specs.declared.event.Event.TheVariants as kept
 use Rattle.world_events.specs.declared.event.Program.{Program}
-use Rattle.world_events.specs.declared.event.Program.TheVariants.{Injector, Sender}
+use Rattle.world_events.specs.declared.event.Program.TheVariants.{Injector}
 use Rattle.world_pipes.specs.declared.mouths.Mouths.{Mouths}
-use Rattle.world_pipes.specs.Mouths.{actor_of}
 use Rattle.mail_world.specs.declared.actor.Actor.{Actor as Held}
 use Rattle.mail_world.specs.Anew.{idle}
-use Rattle.mail_world.specs.Books.{AreBooked}
-use Rattle.mail_world.specs.ByKind.{IsMail, Follows, awaits_of}
+use Rattle.mail_world.specs.Books.{AreBooked, books_of}
+use Rattle.mail_world.specs.ByKind.{IsFeeder, IsMail, Follows, awaits_of}
 use Rattle.mail_world.specs.History.{Actor, Life, State, netstring, acted, latest, next_of, start_of}
 use Rattle.mail_world.specs.History.Life.{Alive}
-use Rattle.mail_world.specs.Inside.{known, place_by, among_all, RunsAt, unowed, span_by, HasJustStarted, HasBorneLast, IsMember, HasOpen, IsOpenTo, IsWorld, ArePiped}
-use Rattle.mail_world.specs.Pipework.{Pipe, Pipework, Tenant, is_member, is_ready, is_port, closed, given, mouth, put_pipe, input_of, pipework_after}
+use Rattle.mail_world.specs.Inside.{known, place_by, among_all, RunsAt, unowed, span_by, HasJustStarted, HasBorneLast, MayFeed, IsAwaited, IsMember, HasOpen, IsOpenTo, IsWorld, ArePiped}
+use Rattle.mail_world.specs.Pipework.{Pipe, Pipework, Slot, Tenant, is_ready, is_port, closed, given, given as with_bytes, mouth, put_pipe, input_of, pipework_after}
 use Rattle.mail_world.specs.Pipework.Tenant.{Runs}
-use Rattle.mail_world.specs.Readiness.{is_awaiting, found_in}
-use Rattle.mail_world.specs.Wired.{seat, AreWired}
-use Rattle.mail_world.specs.Acting.{is_due_of_child}
+use Rattle.mail_world.specs.Readiness.{is_awaiting, is_gone, found_in}
+use Rattle.mail_world.specs.Wired.{seat, slot_in, AreWired, IsSlotOf}
+use Rattle.mail_world.specs.Acting.{is_due_of_child, StaysAt}
 use Rattle.mail_world.specs.Children.{IsDueOfChild, IsGive, IsFed, GivesTexts, GivesTwo, Serves, child_place}
 use Rattle.mail_world.specs.Generations.{idled_by}
 use Rattle.mail_world.specs.World.{IsKeptGiving, span_of}
 use Rattle.mail_world.specs.declared.world.Did.{Did}
-use Rattle.mail_world.proofs.Awaiting.{awaits_same, no_slot}
-use Rattle.mail_world.proofs.Booked.{look_booked, fed_booked}
+use Rattle.mail_world.proofs.Awaiting.{awaits_same}
+use Rattle.mail_world.proofs.Booked.{look_booked, entry_of_child, fed_booked}
+use Rattle.mail_world.proofs.Borne.{just_fed}
 use Rattle.mail_world.proofs.Crew.{apart_by, life_same}
+use Rattle.mail_world.proofs.Feeders.{feeder_gives, no_mail_feeds}
+use Rattle.crew_pipes.proofs.Keeps.{over_alike}
 use Rattle.mail_world.proofs.Histories.{LeadsOn, feed_told, led_still}
 use Rattle.mail_world.proofs.Known.{IsRefilled, known_fed, just_idle}
-use Rattle.mail_world.proofs.Lists.{each_set, get_set, get_drop, drop_set, drop_before}
-use Rattle.mail_world.proofs.Members.{other_than}
+use Rattle.mail_world.proofs.Lists.{each_set, get_set}
 use Rattle.std.proofs.lemmas.Bool.{ltb-true}
 use Rattle.mail_world.proofs.Passes.{passing}
 use Rattle.mail_world.proofs.Seats.{seat_none}
-use Rattle.mail_world.proofs.ReturnSteps.{AreTexts, gives_texts}
-use Rattle.mail_world.proofs.Serving.{IsAsking, HasSender, HasServed, HasChild, LeavesBeside, with_deed, served_member, crew_feeds, deed_open, idle_open, beside_open, all_open, acting_sender, sender_began, sender_finds, sender_runs, give_is, serves, seated_still, whole_more, asking, has_child, child_found}
+use Rattle.mail_world.proofs.ReturnSteps.{AreTexts}
+use Rattle.mail_world.proofs.Serving.{IsAsking, HasParent, HasServed, HasChild, LeavesBeside, with_deed, served_member, crew_feeds, deed_open, idle_open, beside_open, all_open, acting_parent, parent_finds, parent_runs, parent_awaits, get_beside, has_in, give_is, serves, seated_still, places_still, stands_still, whole_more, asking, has_child, child_beside, child_found}
 use Rattle.mail_world.proofs.Spans.{span_stays}
+use Rattle.mail_world.proofs.Wires.{wired_beside}
 use Rattle.mail_world.proofs.Worlds.{on_told, pid_push, still_pid, still_count}
 use Rattle.queue_law.proofs.Tests.{text_cases, same_text, other_text}
 
 -- What is due
 
-pub record IsFeeding (s : State) (events : List Kept) (due : NeedData) : Type 0 where
+pub record IsFeeding (s : State) (events : List Kept) (a : List ℕ) (due : NeedData) : Type 0 where
   pub bytes : List ℕ
   pub due_is : due ≡ needs.Give (port.Program 0) bytes
   pub texts : AreTexts bytes
   pub child : List ℕ
-  pub runs : s.pipework.programs (codes "sender") 0 ≡ Some (Runs child)
+  pub runs : s.pipework.programs a 0 ≡ Some (Runs child)
   pub awaiting : is_awaiting s child ≡ true
-  pub just : HasJustStarted events (codes "sender") child
+  pub just : HasJustStarted events a child
 
--- the sender has just started the child, and gives it two texts
-pub feeding : (crew : ℕ) (mouths : List Mouths) (actors : List Held) (events : List Kept) (p : ℕ) (due : NeedData) → IsAsking crew actors events p due → ArePiped crew mouths actors (known events) events → IsGive due
-    → is_due_of_child (is_some (actor_of ((known events).pipework.programs (codes "sender") 0))) due ≡ true → IsFeeding (known events) events due
-feeding crew mouths actors events p due a piped gives of_child =
+-- the parent has just started the child, and gives it two texts
+pub feeding : (crew : ℕ) (places : List ℕ → Option ℕ) (mouths : List Mouths) (actors : List Held) (events : List Kept) (p : ℕ) (a : List ℕ) (due : NeedData) → IsAsking crew places actors events p a due
+    → ArePiped crew mouths actors (known events) events → IsGive due → is_due_of_child (has_in (known events) a) due ≡ true → IsFeeding (known events) events a due
+feeding crew places mouths actors events p a due it piped gives of_child =
     let s = known events in
-    let w = give_is s due gives of_child in
-    let began = sender_began crew mouths actors events p a.sender a.here a.is a.alive in
-    let run : IsRunBy (next_of (Sender began.0)) a.sender.past =
-    subst (λ (program : Program). IsRunBy (next_of program) a.sender.past) began.1 (sender_runs crew mouths actors events p a.sender a.here a.is a.alive) in
-    let next : next_of (Sender began.0) a.sender.past p (found_in s (codes "sender")) ≡ needs.Give (port.Program 0) w.0 =
-    ap (λ (program : Program). next_of program a.sender.past p (found_in s (codes "sender"))) (sym began.1) ∙ a.next ∙ w.1 in
-    let g = gives_texts began.0 a.sender.past p (found_in s (codes "sender")) 0 w.0 run next in
-    let may = piped.fed a.sender a.is a.alive g.borne in
+    let w = give_is crew mouths actors s events a due piped gives of_child in
+    let feeds = (piped.born a 0 w.2.child w.2.runs).feeds it.parent it.is in
+    let run = parent_runs crew mouths actors events p a it.at it.parent it.here it.is it.alive in
+    let g = feeder_gives it.parent.program it.parent.past p (found_in s a) 0 w.0 feeds run (it.next ∙ w.1) in
+    let may = piped.fed a it.parent it.is it.alive g.borne in
     record { bytes = w.0; due_is = w.1; texts = g.texts; child = may.child; runs = may.runs; awaiting = may.awaiting; just = may.just }
 
-pub gives_two : (s : State) (events : List Kept) (due : NeedData) → IsFeeding s events due → GivesTwo due
-gives_two s events due f = record {
+pub gives_two : (s : State) (events : List Kept) (a : List ℕ) (due : NeedData) → IsFeeding s events a due → GivesTwo due
+gives_two s events a due f = record {
   message = f.texts.message;
   envelope = f.texts.envelope;
   are = subst (λ (due : NeedData). GivesTexts due f.texts.message f.texts.envelope) (sym f.due_is) f.texts.are;
 }
 
--- the sender is asked to feed its child, which stands at its place
-pub record CanFeed (crew : ℕ) (places : List ℕ → Option ℕ) (actors : List Held) (mouths : List Mouths) (events : List Kept) (p : ℕ) (due : NeedData) : Type 0 where
-  pub asks : IsAsking crew actors events p due
-  pub feeds : IsFeeding (known events) events due
+-- an actor is asked to feed its child, which stands at its place
+pub record CanFeed (crew : ℕ) (places : List ℕ → Option ℕ) (actors : List Held) (mouths : List Mouths) (events : List Kept) (p : ℕ) (a : List ℕ) (due : NeedData) : Type 0 where
+  pub asks : IsAsking crew places actors events p a due
+  pub feeds : IsFeeding (known events) events a due
   pub child : HasChild crew places actors (known events) events p feeds.child
-  pub found : child_place mouths crew places ≡ Some (crew + child.at)
+  pub found : child_place mouths asks.here.held.wire crew places ≡ Some (crew + child.at)
+  pub apart : (a ≢ feeds.child) × (crew + child.at ≢ asks.at)
 
-pub can_feed : {D : Type 0} (d : D) (told : Option Disk) (crew : ℕ) (places : List ℕ → Option ℕ) (actors : List Held) (mouths : List Mouths) (events : List Kept) (p n b : ℕ) (due : NeedData)
-    → IsWorld told (among_all crew places) actors (known events) events p n b → ArePiped crew mouths actors (known events) events → IsDueOfChild (record { disk = d; events = events; present = p }) due → IsGive due
-    → CanFeed crew places actors mouths events p due
-can_feed d told crew places actors mouths events p n b due w piped asked gives =
-    let a = asking d told crew places actors mouths events p n b due w piped asked in
-    let f = feeding crew mouths actors events p due a piped gives asked.of_child in
-    let h = has_child crew places mouths actors (known events) events p f.child w.kept piped f.runs in
-    record { asks = a; feeds = f; child = h; found = child_found crew places mouths actors (known events) events p f.child piped.wired f.runs h }
+pub can_feed : {D : Type 0} (d : D) (told : Option Disk) (crew : ℕ) (places : List ℕ → Option ℕ) (actors : List Held) (mouths : List Mouths) (events : List Kept) (p n b : ℕ) (a : List ℕ) (due : NeedData)
+    → IsWorld told (among_all crew places) actors (known events) events p n b → ArePiped crew mouths actors (known events) events → IsDueOfChild (record { disk = d; events = events; present = p }) a due → IsGive due
+    → CanFeed crew places actors mouths events p a due
+can_feed d told crew places actors mouths events p n b a due w piped asked gives =
+    let s = known events in
+    let it = asking d told crew places actors events p n b a due w asked in
+    let f = feeding crew places mouths actors events p a due it piped gives asked.of_child in
+    let h = has_child crew places mouths actors s events p a f.child w.kept piped f.runs in
+    let of : piped.wires a ≡ it.here.held.wire = ap piped.wires (sym it.here.name) ∙ piped.places it.at it.here.held it.here.is it.here.lives in
+    record {
+      asks = it;
+      feeds = f;
+      child = h;
+      found = child_found crew places mouths actors s events p a f.child it.here.held.wire piped.wires piped.wired of f.runs h;
+      apart = child_beside crew places mouths actors s events p a f.child it.at it.parent w.kept piped it.here f.runs h;
+    }
 
-pub found_at : (crew : ℕ) (places : List ℕ → Option ℕ) (actors : List Held) (mouths : List Mouths) (events : List Kept) (p : ℕ) (due : NeedData) (w : CanFeed crew places actors mouths events p due) (o : Option ℕ) (i : ℕ)
-    → o ≡ Some i → o ≡ child_place mouths crew places → i ≡ crew + w.child.at
-found_at crew places actors mouths events p due w o i is found =
+pub found_at : (crew : ℕ) (places : List ℕ → Option ℕ) (actors : List Held) (mouths : List Mouths) (events : List Kept) (p : ℕ) (a : List ℕ) (due : NeedData) (w : CanFeed crew places actors mouths events p a due) (o : Option ℕ) (i : ℕ)
+    → o ≡ Some i → o ≡ child_place mouths w.asks.here.held.wire crew places → i ≡ crew + w.child.at
+found_at crew places actors mouths events p a due w o i is found =
     let both : ◌≡◌ {A = Option ℕ} (Some i) (Some (crew + w.child.at)) = sym is ∙ found ∙ w.found in cc
 
 -- what was due, with the texts that were read of it
@@ -125,6 +133,7 @@ pub record HasBeenFed (z w : Held) (message envelope : List ℕ) : Type 0 where
   pub ended : w.ended ≡ z.ended
   pub status : w.status ≡ z.status
   pub owed : w.owed ≡ z.owed
+  pub stays : StaysAt z w
 
 pub been_fed : (crew : ℕ) (places : List ℕ → Option ℕ) (actors : List Held) (s : State) (events : List Kept) (p : ℕ) (c : List ℕ) (h : HasChild crew places actors s events p c) (w : Held) (message envelope : List ℕ)
     → is_awaiting s c ≡ true → IsFed message envelope h.held w → HasBeenFed h.held w message envelope
@@ -136,24 +145,25 @@ been_fed crew places actors s events p c h w message envelope awaiting fed = rec
   ended = fed.ended;
   status = fed.status;
   owed = fed.owed;
+  stays = fed.stays;
 }
 
-abbrev pub feed_own : List Kept → ℕ → List ℕ → List ℕ → Own
-feed_own events p message envelope = record {
+abbrev pub feed_own : List Kept → ℕ → List ℕ → List ℕ → List ℕ → Own
+feed_own events p a message envelope = record {
   read = p;
-  ready = found_in (known events) (codes "sender");
+  ready = found_in (known events) a;
   due = needs.Give (port.Program 0) (netstring message ++ netstring envelope);
   came = got.Gave;
 }
 
 -- what it does to the pipes
 abbrev fed_pipes : Pipework → List ℕ → List ℕ → Pipework
-fed_pipes w c bytes = record { pipes = put_pipe w.pipes (Some (mouth c port.Input)) (λ pipe. closed (given bytes pipe)); programs = w.programs; slots = w.slots }
+fed_pipes w c bytes = record { pipes = put_pipe w.pipes (Some (mouth c port.Input)) (λ pipe. closed (with_bytes bytes pipe)); programs = w.programs; slots = w.slots }
 
-fed_is : (w v : Pipework) (c bytes : List ℕ) → v ≡ w → w.programs (codes "sender") 0 ≡ Some (Runs c) → pipework_after v (codes "sender") (needs.Give (port.Program 0) bytes) got.Gave 0 ≡ fed_pipes w c bytes
-fed_is w v c bytes same runs =
-    ap (λ (w : Pipework). pipework_after w (codes "sender") (needs.Give (port.Program 0) bytes) got.Gave 0) same
-    ∙ ap (λ (o : Option Tenant). record { pipes = put_pipe w.pipes (input_of o) (λ pipe. closed (given bytes pipe)); programs = w.programs; slots = w.slots }) runs
+fed_is : (w v : Pipework) (a c bytes : List ℕ) → v ≡ w → w.programs a 0 ≡ Some (Runs c) → pipework_after v a (needs.Give (port.Program 0) bytes) got.Gave 0 ≡ fed_pipes w c bytes
+fed_is w v a c bytes same runs =
+    ap (λ (w : Pipework). pipework_after w a (needs.Give (port.Program 0) bytes) got.Gave 0) same
+    ∙ ap (λ (o : Option Tenant). record { pipes = put_pipe w.pipes (input_of o) (λ pipe. closed (with_bytes bytes pipe)); programs = w.programs; slots = w.slots }) runs
 
 input_beside : (w : Pipework) (c bytes b : List ℕ) (q : Port) → b ≢ c → (fed_pipes w c bytes).pipes b q ≡ w.pipes b q
 input_beside w c bytes b q far = ap (λ (t : Bool). if t && is_port q port.Input then closed (given bytes (w.pipes b q)) else w.pipes b q) (other_text b c far)
@@ -199,12 +209,11 @@ placed_after crew i places a is = by_seat (seat a) (places a) is where
   by_seat None (Some j) is = let same : crew + j ≡ crew + i = cc in ap Some (omega (arith, same))
 
 -- what the books took into account
-pub fed_at : (entries now : List Entry) (j k : ℕ) (read envelope : List ℕ) → j ≡ k → read ≡ envelope
-    → ((e : Entry) (args : Given) → slice_get entries j ≡ Some e → args.envelope ≡ read → now ≡ set entries j (fed_entry args e))
-    → (e : Entry) (args : Given) → slice_get entries k ≡ Some e → args.envelope ≡ envelope → now ≡ set entries k (fed_entry args e)
-fed_at entries now j k read envelope at is noted =
-    subst (λ (j : ℕ). (e : Entry) (args : Given) → slice_get entries j ≡ Some e → args.envelope ≡ envelope → now ≡ set entries j (fed_entry args e)) at
-    (subst (λ (text : List ℕ). (e : Entry) (args : Given) → slice_get entries j ≡ Some e → args.envelope ≡ text → now ≡ set entries j (fed_entry args e)) is noted)
+pub fed_by : (entries now : List Entry) (m : ℕ) (read envelope : List ℕ) → read ≡ envelope
+    → ((e : Entry) (args : Given) → slice_get entries m ≡ Some e → args.envelope ≡ read → now ≡ set entries m (fed_entry args e))
+    → (e : Entry) (args : Given) → slice_get entries m ≡ Some e → args.envelope ≡ envelope → now ≡ set entries m (fed_entry args e)
+fed_by entries now m read envelope is noted =
+    subst (λ (text : List ℕ). (e : Entry) (args : Given) → slice_get entries m ≡ Some e → args.envelope ≡ text → now ≡ set entries m (fed_entry args e)) is noted
 
 -- the event that was put
 pub fed_event : (events : List Kept) (a parent : List ℕ) (own same : Own) (c child m message e envelope : List ℕ) → a ≡ parent → own ≡ same → c ≡ child → m ≡ message → e ≡ envelope
@@ -212,17 +221,17 @@ pub fed_event : (events : List Kept) (a parent : List ℕ) (own same : Own) (c c
 fed_event events a parent own same c child m message e envelope parent_is own_is child_is message_is envelope_is =
     let told : kept.Feed a own c m e ≡ kept.Feed parent same child message envelope = cc in ap (λ (k : Kept). events ++ k ∷ []) told
 
-module _ (told : Option Disk) (crew : ℕ) (places : List ℕ → Option ℕ) (actors : List Held) (mouths : List Mouths) (events : List Kept) (p n b : ℕ) (sender : Actor)
+module _ (told : Option Disk) (crew : ℕ) (places : List ℕ → Option ℕ) (actors : List Held) (mouths : List Mouths) (events : List Kept) (p n b : ℕ) (a : List ℕ) (i : ℕ) (parent : Actor)
     (w : IsWorld told (among_all crew places) actors (known events) events p n b) (piped : ArePiped crew mouths actors (known events) events)
-    (is : (known events).actors (codes "sender") ≡ Some sender) (alive : sender.life ≡ Alive) (here : HasSender actors (known events) events p sender)
-    (c : List ℕ) (runs : (known events).pipework.programs (codes "sender") 0 ≡ Some (Runs c)) (h : HasChild crew places actors (known events) events p c)
-    (just : HasJustStarted events (codes "sender") c) (four : crew ≡ 4) (message envelope : List ℕ)
-    (due : next_of sender.program sender.past p (found_in (known events) (codes "sender")) ≡ needs.Give (port.Program 0) (netstring message ++ netstring envelope)) where
+    (is : (known events).actors a ≡ Some parent) (alive : parent.life ≡ Alive) (here : HasParent actors (known events) events p a i parent)
+    (c : List ℕ) (runs : (known events).pipework.programs a 0 ≡ Some (Runs c)) (h : HasChild crew places actors (known events) events p c)
+    (awaiting : is_awaiting (known events) c ≡ true) (just : HasJustStarted events a c) (message envelope : List ℕ)
+    (due : next_of parent.program parent.past p (found_in (known events) a) ≡ needs.Give (port.Program 0) (netstring message ++ netstring envelope)) where
   abbrev own : Own
-  own = feed_own events p message envelope
+  own = feed_own events p a message envelope
 
   abbrev k : Kept
-  k = kept.Feed (codes "sender") own c message envelope
+  k = kept.Feed a own c message envelope
 
   abbrev later : List Kept
   later = events ++ k ∷ []
@@ -230,45 +239,65 @@ module _ (told : Option Disk) (crew : ℕ) (places : List ℕ → Option ℕ) (a
   abbrev bytes : List ℕ
   bytes = netstring message ++ netstring envelope
 
-  apart : codes "sender" ≢ c
-  apart e = let both : true ≡ false = ap is_member e ∙ h.named in absurd (cc)
+  beside_it : (a ≢ c) × (crew + h.at ≢ i)
+  beside_it = child_beside crew places mouths actors (known events) events p a c i parent w.kept piped here runs h
+
+  abbrev apart : a ≢ c
+  apart = beside_it.0
+
+  feeds : IsFeeder parent.program
+  feeds = (piped.born a 0 c runs).feeds parent is
+
+  quiet : is_awaiting (known events) a ≡ false
+  quiet = parent_awaits crew mouths actors events p a i parent here is alive feeds
+
+  -- the child is an injector
+  mail_held : IsMail h.member.actor.program
+  mail_held = subst (λ (o : Option ℕ). RunsAt o h.member.actor.program) (seat_none c h.named) (subst (λ (a : List ℕ). RunsAt (seat a) h.member.actor.program) h.name h.member.runs)
+
+  mail_just : IsMail just.program
+  mail_just =
+      let one = just_idle events a c just h.named in
+      let both : ◌≡◌ {A = Option Actor} (Some h.member.actor) (Some (idle just.program one.0)) = sym h.member.is ∙ ap (known events).actors h.name ∙ one.1 in
+      let same : h.member.actor ≡ idle just.program one.0 = cc in
+      subst (λ (a : Actor). IsMail a.program) same mail_held
 
   pub feed_leads : LeadsOn told told events later p p
-  feed_leads = feed_told told events p (codes "sender") sender own 0 c message envelope piped.whole (acting_sender crew mouths actors events p sender here is alive)
-      (sender_finds crew mouths actors events p sender here is alive) refl due refl refl runs apart just
+  feed_leads = feed_told told events p a parent own 0 c message envelope piped.whole (acting_parent crew mouths actors events p a i parent here is alive)
+      (parent_finds crew mouths actors events p a i parent here is alive) refl due refl refl runs apart just mail_just
 
-  pub feed_serves : {D : Type 0} (tells : D → Option Disk) (d : D) → tells d ≡ told → (did : Did) → did.at ≡ length events → did.ended ≡ None → did.idle ≡ idled_by ((known events).actors (codes "sender")) own
-      → Serves tells (record { disk = d; events = events; present = p }) (record { disk = d; events = later; present = p }) did
-  feed_serves tells d same did at over idle = serves tells d events p own k did
-      (record { actor = sender; is = is; read = refl; ready = refl; due = due; came = refl })
-      (subst (λ (o : Option Tenant). IsKeptGiving o (codes "sender") own bytes k) (sym runs) (message, envelope, refl, refl))
+  pub feed_serves : {D : Type 0} (tells : D → Option Disk) (d : D) → tells d ≡ told → (did : Did) → did.at ≡ length events → did.ended ≡ None → did.idle ≡ idled_by ((known events).actors a) own
+      → Serves tells a (record { disk = d; events = events; present = p }) (record { disk = d; events = later; present = p }) did
+  feed_serves tells d same did at over idle = serves tells d events p a own k did
+      (record { actor = parent; is = is; read = refl; ready = refl; due = due; came = refl })
+      (subst (λ (o : Option Tenant). IsKeptGiving o a own bytes k) (sym runs) (message, envelope, refl, refl))
       (subst (λ (o : Option Disk). LeadsOn o o events later p p) (sym same) feed_leads) at over idle refl
 
   -- what is known before the giving, but for the input of the child
-  filled : (r : State) × IsRefilled c message envelope (known events) r × (known later ≡ acted r (codes "sender") own 0 (r.actors (codes "sender")))
-  filled = known_fed events (codes "sender") c message envelope own just h.named
+  filled : (r : State) × IsRefilled c message envelope (known events) r × (known later ≡ acted r a own 0 (r.actors a))
+  filled = known_fed events a c message envelope own just h.named
 
   module _ (r : State) (fed : IsRefilled c message envelope (known events) r) where
     abbrev t : State
-    t = acted r (codes "sender") own 0 (Some sender)
+    t = acted r a own 0 (Some parent)
 
-    still : r.actors (codes "sender") ≡ Some sender
-    still = fed.others (codes "sender") apart ∙ is
+    still : r.actors a ≡ Some parent
+    still = fed.others a apart ∙ is
 
-    acts : t.actors (codes "sender") ≡ Some (with_deed sender own)
-    acts = put_at_same r.actors (codes "sender") _
+    acts : t.actors a ≡ Some (with_deed parent own)
+    acts = put_at_same r.actors a _
 
-    beside : (a : List ℕ) → a ≢ codes "sender" → a ≢ c → t.actors a ≡ (known events).actors a
-    beside a far other = put_at_other r.actors (codes "sender") _ a far ∙ fed.others a other
+    beside : (b : List ℕ) → b ≢ a → b ≢ c → t.actors b ≡ (known events).actors b
+    beside b far other = put_at_other r.actors a _ b far ∙ fed.others b other
 
     child_is : t.actors c ≡ Some (idle (with_texts message envelope fed.program) fed.life)
-    child_is = put_at_other r.actors (codes "sender") _ c (λ e. apart (sym e)) ∙ fed.is
+    child_is = put_at_other r.actors a _ c (λ e. apart (sym e)) ∙ fed.is
 
     work : t.pipework ≡ fed_pipes (known events).pipework c bytes
-    work = fed_is (known events).pipework r.pipework c bytes fed.pipework runs
+    work = fed_is (known events).pipework r.pipework a c bytes fed.pipework runs
 
-    same_awaits : (a : List ℕ) → a ≢ c → is_awaiting t a ≡ is_awaiting (known events) a
-    same_awaits a far = awaits_same (known events) t a (ap (λ (w : Pipework). w.slots a) work) (ap (λ (w : Pipework). w.pipes a port.Input) work ∙ input_beside (known events).pipework c bytes a port.Input far)
+    same_awaits : (b : List ℕ) → b ≢ c → is_awaiting t b ≡ is_awaiting (known events) b
+    same_awaits b far = awaits_same (known events) t b (ap (λ (w : Pipework). w.slots b) work) (ap (λ (w : Pipework). w.pipes b port.Input) work ∙ input_beside (known events).pipework c bytes b port.Input far)
 
     child_awaits : is_awaiting t c ≡ false
     child_awaits = ap (λ (w : Pipework). is_some (w.slots c) && not (is_ready (w.pipes c port.Input))) work ∙ fed_ready (known events).pipework c bytes
@@ -278,21 +307,22 @@ module _ (told : Option Disk) (crew : ℕ) (places : List ℕ → Option ℕ) (a
         let both : ◌≡◌ {A = Option Actor} (Some h.member.actor) (Some (idle fed.program fed.life)) = sym h.member.is ∙ ap (known events).actors h.name ∙ fed.was in cc
 
     mail : IsMail fed.program
-    mail = subst (λ (a : Actor). IsMail a.program) was
-        (subst (λ (o : Option ℕ). RunsAt o h.member.actor.program) (seat_none c h.named) (subst (λ (a : List ℕ). RunsAt (seat a) h.member.actor.program) h.name h.member.runs))
+    mail = subst (λ (a : Actor). IsMail a.program) was mail_held
 
-    leaves : LeavesBeside (codes "sender") c (known events) t k
-    leaves = record { actors = beside; holder = fed.holder; no_start = λ a other. refl; no_end = λ a. refl }
+    -- it has an entry
+    entry_is : (entries : List Entry) → AreBooked crew entries actors events → (m : ℕ) × (h.held.entry ≡ Some m)
+    entry_is entries booked =
+        (length (books_of just.before), entry_of_child (among_all crew places) crew actors events (crew + h.at) h.held entries a c message envelope just w.kept.placed booked h.is h.name mail_just)
 
-    module _ (y z : Held) (served : HasServed here.held y own (length events) sender) (given : HasBeenFed h.held z message envelope) where
+    leaves : LeavesBeside a c (known events) t k
+    leaves = record { actors = beside; holder = fed.holder; no_start = λ b other. refl; no_end = λ b. refl }
+
+    module _ (y z : Held) (served : HasServed here.held y own (length events) parent) (given : HasBeenFed h.held z message envelope) where
       abbrev now_actors : List Held
-      now_actors = set (set actors 0 y) (crew + h.at) z
+      now_actors = set (set actors i y) (crew + h.at) z
 
-      sender_member : IsMember t later p y
-      sender_member =
-          let none : (known events).pipework.slots (codes "sender") ≡ None = piped.wired.members (codes "sender") refl in
-          served_member actors (known events) t events k p sender here y own served refl refl refl acts refl due tt
-          (no_slot (known events) (codes "sender") none) (no_slot t (codes "sender") (ap (λ (w : Pipework). w.slots (codes "sender")) work ∙ none))
+      parent_member : IsMember t later p y
+      parent_member = served_member actors (known events) t events k p a i parent here y own served refl refl refl acts refl due tt quiet (same_awaits a apart ∙ quiet)
 
       child_member : IsMember t later p z
       child_member =
@@ -323,18 +353,18 @@ module _ (told : Option Disk) (crew : ℕ) (places : List ℕ → Option ℕ) (a
       opens d o =
           let s = known events in
           let x = here.held in
-          let far : (j : ℕ) (v : Held) → j ≢ 0 → slice_get actors j ≡ Some v → v.name ≢ codes "sender" =
-          λ j v other at e. apart_by (among_all crew places) x.name v.name 0 j (w.kept.placed 0 x here.is) (w.kept.placed j v at) other (e ∙ sym here.name) in
+          let far : (j : ℕ) (v : Held) → j ≢ i → slice_get actors j ≡ Some v → v.name ≢ a =
+          λ j v other at e. apart_by (among_all crew places) x.name v.name i j (w.kept.placed i x here.is) (w.kept.placed j v at) other (e ∙ sym here.name) in
           let far_child : (j : ℕ) (v : Held) → j ≢ crew + h.at → slice_get actors j ≡ Some v → v.name ≢ c =
           λ j v other at e. apart_by (among_all crew places) h.held.name v.name (crew + h.at) j (w.kept.placed (crew + h.at) h.held h.is) (w.kept.placed j v at) other (e ∙ sym h.name) in
-          all_open d actors now_actors s t fed.holder o (each_set (λ (j : ℕ) (v : Held). HasOpen d t v) (set actors 0 y) (crew + h.at) z
+          all_open d actors now_actors s t fed.holder o (each_set (λ (j : ℕ) (v : Held). HasOpen d t v) (set actors i y) (crew + h.at) z
           (idle_open d s t h.held z (with_texts message envelope fed.program) fed.life fed.holder given.name given.descriptors (ap t.actors h.name ∙ child_is) (o.each (crew + h.at) h.held h.is))
           (λ j v other at. ⊎_elim
-          (λ (f : (j ≡ 0) × (y ≡ v)). subst (λ (v : Held). HasOpen d t v) f.1
-          (deed_open d s t x y own sender fed.holder served.name served.descriptors (ap s.actors here.name ∙ is) alive (ap t.actors here.name ∙ acts)
-          ((passing (needs.Give (port.Program 0) bytes) got.Gave tt).held (held sender.past)) (o.each 0 x here.is)))
+          (λ (f : (j ≡ i) × (y ≡ v)). subst (λ (v : Held). HasOpen d t v) f.1
+          (deed_open d s t x y own parent fed.holder served.name served.descriptors (ap s.actors here.name ∙ is) alive (ap t.actors here.name ∙ acts)
+          ((passing (needs.Give (port.Program 0) bytes) got.Gave tt).held (held parent.past)) (o.each i x here.is)))
           (λ f. beside_open d s t v fed.holder (beside v.name (far j v f.0 f.1) (far_child j v other f.1)) (o.each j v f.1))
-          (get_set actors 0 y j v at)))
+          (get_set actors i y j v at)))
 
       keeps : (known later ≡ t) → IsWorld told (among_all crew places) now_actors (known later) later p n b
       keeps now =
@@ -345,83 +375,162 @@ module _ (told : Option Disk) (crew : ℕ) (places : List ℕ → Option ℕ) (a
             pid = w.pid ∙ sym (pid_push events k ∙ still_pid events k refl);
             count = w.count ∙ sym (still_count events k refl);
             unborn = w.unborn;
-            kept = crew_feeds s t events k p (codes "sender") c leaves (among_all crew places) actors (crew + h.at) here.held y h.held z w.kept here.is here.name h.is h.name served.name given.name apart
-                (λ a. refl) (λ v far other lives awaits. awaits ∙ sym (same_awaits v.name other)) sender_member child_member;
+            kept = crew_feeds s t events k p a c leaves (among_all crew places) actors i (crew + h.at) here.held y h.held z w.kept here.is here.name h.is h.name served.name given.name apart
+                (λ b. refl) (λ v far other lives awaits. awaits ∙ sym (same_awaits v.name other)) parent_member child_member;
             opens = on_told told (λ d. IsOpenTo d actors s) (λ d. IsOpenTo d now_actors t) opens w.opens;
             led = led_still told events later p p feed_leads w.led;
           })
 
+      -- who is gone was
+      gone_same : (b : List ℕ) → is_gone (t.actors b) ≡ is_gone ((known events).actors b)
+      gone_same b = ⊎_elim
+          (λ (f : (b ≡ a) × (bytes_eq b a ≡ true)). ap (λ (b : List ℕ). is_gone (t.actors b)) f.0 ∙ ap is_gone acts ∙ sym (ap is_gone is) ∙ ap (λ (b : List ℕ). is_gone ((known events).actors b)) (sym f.0))
+          (λ f. ⊎_elim
+          (λ (g : (b ≡ c) × (bytes_eq b c ≡ true)). ap (λ (b : List ℕ). is_gone (t.actors b)) g.0 ∙ ap is_gone child_is ∙ sym (ap is_gone fed.was) ∙ ap (λ (b : List ℕ). is_gone ((known events).actors b)) (sym g.0))
+          (λ g. ap is_gone (beside b f.0 g.0))
+          (text_cases b c))
+          (text_cases b a)
+
+      -- who is known was, with a program of the same kind
+      known_still : (b : List ℕ) → IsSome ((known events).actors b) → IsSome (t.actors b)
+      known_still b some = ⊎_elim
+          (λ (f : (b ≡ a) × (bytes_eq b a ≡ true)). subst (λ (o : Option Actor). IsSome o) (sym (ap t.actors f.0 ∙ acts)) refl)
+          (λ f. ⊎_elim
+          (λ (g : (b ≡ c) × (bytes_eq b c ≡ true)). subst (λ (o : Option Actor). IsSome o) (sym (ap t.actors g.0 ∙ child_is)) refl)
+          (λ g. subst (λ (o : Option Actor). IsSome o) (sym (beside b f.0 g.0)) some)
+          (text_cases b c))
+          (text_cases b a)
+
+      feeds_still : (b : List ℕ) (x : Actor) → ((x : Actor) → (known events).actors b ≡ Some x → IsFeeder x.program) → t.actors b ≡ Some x → IsFeeder x.program
+      feeds_still b x was at = ⊎_elim
+          (λ (f : (b ≡ a) × (bytes_eq b a ≡ true)).
+          let both : ◌≡◌ {A = Option Actor} (Some (with_deed parent own)) (Some x) = sym acts ∙ ap t.actors (sym f.0) ∙ at in
+          let same : with_deed parent own ≡ x = cc in
+          subst (λ (x : Actor). IsFeeder x.program) same feeds)
+          (λ f. ⊎_elim
+          (λ (g : (b ≡ c) × (bytes_eq b c ≡ true)). absurd (no_mail_feeds fed.program (was (idle fed.program fed.life) (ap (known events).actors g.0 ∙ fed.was)) mail))
+          (λ g. was x (sym (beside b f.0 g.0) ∙ at))
+          (text_cases b c))
+          (text_cases b a)
+
+      runs_then : (b : List ℕ) (d : ℕ) → t.pipework.programs b d ≡ (known events).pipework.programs b d
+      runs_then b d = ap (λ (w : Pipework). w.programs b d) work
+
+      fed_still : (b : List ℕ) (x : Actor) → t.actors b ≡ Some x → x.life ≡ Alive → HasBorneLast x.past → MayFeed t later b
+      fed_still b x at lives borne = ⊎_elim
+          (λ (f : (b ≡ a) × (bytes_eq b a ≡ true)).
+          let both : ◌≡◌ {A = Option Actor} (Some (with_deed parent own)) (Some x) = sym acts ∙ ap t.actors (sym f.0) ∙ at in
+          let same : with_deed parent own ≡ x = cc in
+          absurd (subst (λ (x : Actor). HasBorneLast x.past) (sym same) borne))
+          (λ f. ⊎_elim
+          (λ (g : (b ≡ c) × (bytes_eq b c ≡ true)).
+          let both : ◌≡◌ {A = Option Actor} (Some (idle (with_texts message envelope fed.program) fed.life)) (Some x) = sym child_is ∙ ap t.actors (sym g.0) ∙ at in
+          let same : idle (with_texts message envelope fed.program) fed.life ≡ x = cc in
+          absurd (subst (λ (x : Actor). HasBorneLast x.past) (sym same) borne))
+          (λ g.
+          let may = piped.fed b x (sym (beside b f.0 g.0) ∙ at) lives borne in
+          let other : may.child ≢ c = λ same. one_parent b f.0 (may.runs ∙ ap (λ (c : List ℕ). Some (Runs c)) same) in
+          record {
+            child = may.child;
+            runs = runs_then b 0 ∙ may.runs;
+            awaiting = same_awaits may.child other ∙ may.awaiting;
+            just = just_fed events a own c message envelope b may.child (λ same. other (sym same)) (λ same. f.0 (sym same))
+                (λ same. let both : false ≡ true = sym quiet ∙ ap (is_awaiting (known events)) same ∙ may.awaiting in cc) may.just;
+          })
+          (text_cases b c))
+          (text_cases b a)
+        where
+          -- a child has one parent
+          one_parent : (b : List ℕ) → b ≢ a → (known events).pipework.programs b 0 ≡ Some (Runs c) → ⊥
+          one_parent b far its =
+              let both : ◌≡◌ {A = Option Slot} (Some (slot_in b 0)) (Some (slot_in a 0)) = sym (piped.wired.children b 0 c its) ∙ piped.wired.children a 0 c runs in
+              let same : slot_in b 0 ≡ slot_in a 0 = cc in
+              far (ap (λ (slot : Slot). slot.parent) same)
+
+      awaited_still : (b : List ℕ) → is_awaiting t b ≡ true → IsAwaited t b
+      awaited_still b awaits = ⊎_elim
+          (λ (f : (b ≡ c) × (bytes_eq b c ≡ true)). let both : true ≡ false = sym awaits ∙ ap (is_awaiting t) f.0 ∙ child_awaits in absurd (cc))
+          (λ f.
+          let it = piped.awaited b (sym (same_awaits b f.0) ∙ awaits) in
+          let far : it.parent ≢ a = λ same.
+          let both : ◌≡◌ {A = Option Tenant} (Some (Runs b)) (Some (Runs c)) = sym it.runs ∙ ap (λ (a : List ℕ). (known events).pipework.programs a 0) same ∙ runs in
+          let one : b ≡ c = cc in f.0 one in
+          let other : it.parent ≢ c = λ same.
+          no_mail_feeds fed.program ((piped.born it.parent 0 b it.runs).feeds (idle fed.program fed.life) (ap (known events).actors same ∙ fed.was)) mail in
+          record {
+            parent = it.parent;
+            runs = runs_then it.parent 0 ∙ it.runs;
+            actor = it.actor;
+            is = beside it.parent far other ∙ it.is;
+            alive = it.alive;
+            borne = it.borne;
+          })
+          (text_cases b c)
+
       are_piped : (known later ≡ t) → ArePiped crew mouths now_actors (known later) later
       are_piped now =
           let s = known events in
+          let middle = set actors i y in
+          let beside_mid : slice_get middle (crew + h.at) ≡ Some h.held = get_beside actors i y (crew + h.at) h.held beside_it.1 h.is in
           subst (λ (s : State). ArePiped crew mouths now_actors s later) (sym now) (record {
-            wired = subst (AreWired mouths) (sym work) (record {
-              pipes = λ a q member. input_beside s.pipework c bytes a q (λ e. let both : true ≡ false = sym member ∙ ap is_member e ∙ h.named in absurd (cc)) ∙ piped.wired.pipes a q member;
-              programs = piped.wired.programs;
-              members = piped.wired.members;
-            });
+            wires = piped.wires;
+            wired = subst (AreWired piped.wires mouths) (sym work) (wired_beside piped.wires mouths s.pipework c port.Input (λ pipe. closed (with_bytes bytes pipe)) piped.wired (piped.alone c h.named));
             slots = piped.slots;
-            one = piped.one;
-            children = λ a r.
-                let before : s.pipework.programs (codes "sender") 0 ≡ Some (Runs a) = ap (λ (w : Pipework). w.programs (codes "sender") 0) (sym work) ∙ r in
-                let both : ◌≡◌ {A = Option Tenant} (Some (Runs c)) (Some (Runs a)) = sym runs ∙ before in
-                let same : c ≡ a = cc in (
-                  subst (λ (a : List ℕ). IsSome (t.actors a)) same (ap is_some child_is),
-                  ap (λ (w : Pipework). w.slots a) work ∙ (piped.children a before).1,
-                );
+            children = piped.children;
+            over = over_alike (λ b. is_gone (s.actors b)) (λ b. is_gone (t.actors b)) mouths (λ j u d e at runs. gone_same e) piped.over;
+            places = places_still piped.wires middle (crew + h.at) h.held z beside_mid given.name given.ended given.stays
+                (places_still piped.wires actors i here.held y here.is served.name served.ended served.stays piped.places);
+            stands = λ j v at lives. subst (λ (o : Option Slot). IsSlotOf piped.wires o v.slot) (sym (ap (λ (w : Pipework). w.slots v.name) work))
+                (stands_still piped.wires s.pipework.slots middle (crew + h.at) h.held z beside_mid given.name given.ended given.stays
+                (stands_still piped.wires s.pipework.slots actors i here.held y here.is served.name served.ended served.stays piped.stands) j v at lives);
+            alone = piped.alone;
+            born = λ b d e r.
+                let was = piped.born b d e (sym (runs_then b d) ∙ r) in
+                record { known = known_still e was.known; first = was.first; feeds = λ x at. feeds_still b x was.feeds at };
             whole = whole_more events k piped.whole tt;
-            fresh = λ a none named.
-                let far : a ≢ codes "sender" = other_than a (codes "sender") named refl in
-                let other : a ≢ c = λ e. let both : ◌≡◌ {A = Option Actor} None (Some (idle (with_texts message envelope fed.program) fed.life)) = sym none ∙ ap t.actors e ∙ child_is in absurd (cc) in
-                ap (λ (w : Pipework). w.pipes a port.Input) work ∙ input_beside s.pipework c bytes a port.Input other ∙ piped.fresh a (sym (beside a far other) ∙ none) named;
-            fed = λ x at lives borne.
-                let both : ◌≡◌ {A = Option Actor} (Some (with_deed sender own)) (Some x) = sym acts ∙ at in
-                let same : with_deed sender own ≡ x = cc in
-                absurd (subst (λ (a : Actor). HasBorneLast a.past) (sym same) borne);
-            awaited = λ a awaits. ⊎_elim
-                (λ f. let both : true ≡ false = sym awaits ∙ ap (is_awaiting t) f.0 ∙ child_awaits in absurd (cc))
-                (λ f.
-                let it = piped.awaited a (sym (same_awaits a f.0) ∙ awaits) in
-                let both : ◌≡◌ {A = Option Tenant} (Some (Runs a)) (Some (Runs c)) = sym it.runs ∙ runs in
-                let same : a ≡ c = cc in absurd (f.0 same))
-                (text_cases a c);
-            most = piped.most;
+            fresh = λ b none named.
+                let far : b ≢ a = λ e. let both : ◌≡◌ {A = Option Actor} None (Some (with_deed parent own)) = sym none ∙ ap t.actors e ∙ acts in absurd (cc) in
+                let other : b ≢ c = λ e. let both : ◌≡◌ {A = Option Actor} None (Some (idle (with_texts message envelope fed.program) fed.life)) = sym none ∙ ap t.actors e ∙ child_is in absurd (cc) in
+                ap (λ (w : Pipework). w.pipes b port.Input) work ∙ input_beside s.pipework c bytes b port.Input other ∙ piped.fresh b (sym (beside b far other) ∙ none) named;
+            fed = fed_still;
+            awaited = awaited_still;
+            count = piped.count;
             few = piped.few;
-            many = subst (λ (l : ℕ). crew ≤ l) (sym (length-set (set actors 0 y) (crew + h.at) z ∙ length-set actors 0 y)) piped.many;
+            many = subst (λ (l : ℕ). crew ≤ l) (sym (length-set middle (crew + h.at) z ∙ length-set actors i y)) piped.many;
             seated = λ j v low at lives. ⊎_elim
                 (λ (f : (j ≡ crew + h.at) × (z ≡ v)). absurd (omega (arith, f.0, low)))
-                (λ f. seated_still crew (length mouths) actors here.held y here.is served.ended piped.seated j v low f.1 lives)
-                (get_set (set actors 0 y) (crew + h.at) z j v at);
+                (λ f. seated_still crew (length mouths) i actors here.held y here.is served.ended piped.seated j v low f.1 lives)
+                (get_set middle (crew + h.at) z j v at);
           })
 
-      booked : (entries later_entries : List Entry) → AreBooked entries (drop crew actors) events
-          → ((e : Entry) (args : Given) → slice_get entries h.at ≡ Some e → args.envelope ≡ envelope → later_entries ≡ set entries h.at (fed_entry args e)) → AreBooked later_entries (drop crew now_actors) later
-      booked entries later_entries before noted_it =
-          let mails = drop crew actors in
-          let old : (j : ℕ) (v : Held) → slice_get mails j ≡ Some v → slice_get actors (crew + j) ≡ Some v = λ j v at. sym (get_drop crew actors j) ∙ at in
-          let there : slice_get mails h.at ≡ Some h.held = get_drop crew actors h.at ∙ h.is in
-          let same : drop crew now_actors ≡ set mails h.at z = drop_set crew (set actors 0 y) h.at z ∙ ap (λ (l : List Held). set l h.at z) (drop_before crew actors 0 y (omega (arith, four))) in
-          let idle_is = just_idle events (codes "sender") c just h.named in
-          let program : fed.program ≡ just.program = same_idle fed.program just.program fed.life idle_is.0 (sym fed.was ∙ idle_is.1) in
-          subst (λ (l : List Held). AreBooked later_entries l later) (sym same) (look_booked mails later h.at h.held z later_entries
-          (fed_booked places mails events h.at h.held entries later_entries (codes "sender") c message envelope own just
-          (λ j v at. placed_after crew j places v.name (w.kept.placed (crew + j) v (old j v at))) before
-          (λ j v at e. apart_by (among_all crew places) here.held.name v.name 0 (crew + j) (w.kept.placed 0 here.held here.is) (w.kept.placed (crew + j) v (old j v at)) (λ same. omega (arith, same, four)) (e ∙ sym here.name))
-          there h.name (subst IsMail program mail) noted_it)
-          there given.name)
+      booked : (entries later_entries : List Entry) (m : ℕ) → AreBooked crew entries actors events → h.held.entry ≡ Some m
+          → ((e : Entry) (args : Given) → slice_get entries m ≡ Some e → args.envelope ≡ envelope → later_entries ≡ set entries m (fed_entry args e)) → AreBooked crew later_entries now_actors later
+      booked entries later_entries m before entry noted_it =
+          let middle = set actors i y in
+          let before_it = look_booked crew actors events i here.held y entries before here.is served.name served.stays.entry in
+          let mid_placed : (j : ℕ) (v : Held) → slice_get middle j ≡ Some v → among_all crew places v.name ≡ Some j =
+          each_set (λ (j : ℕ) (v : Held). among_all crew places v.name ≡ Some j) actors i y (ap (among_all crew places) served.name ∙ w.kept.placed i here.held here.is) (λ j v other at. w.kept.placed j v at) in
+          let there : slice_get middle (crew + h.at) ≡ Some h.held = get_beside actors i y (crew + h.at) h.held beside_it.1 h.is in
+          look_booked crew middle later (crew + h.at) h.held z later_entries
+          (fed_booked (among_all crew places) crew middle events (crew + h.at) h.held entries a c message envelope just mid_placed before_it there h.name mail_just own later_entries m tt entry noted_it)
+          there given.name given.stays.entry
+
+  -- the child has an entry
+  pub fed_entry_is : (entries : List Entry) → AreBooked crew entries actors events → (m : ℕ) × (h.held.entry ≡ Some m)
+  fed_entry_is = entry_is filled.0 filled.1
 
   -- so the world keeps what it keeps
-  module _ (y z : Held) (served : HasServed here.held y own (length events) sender) (given : HasBeenFed h.held z message envelope) where
-    now_is : known later ≡ acted filled.0 (codes "sender") own 0 (Some sender)
-    now_is = filled.2 ∙ ap (acted filled.0 (codes "sender") own 0) (still filled.0 filled.1)
+  module _ (y z : Held) (served : HasServed here.held y own (length events) parent) (given : HasBeenFed h.held z message envelope) where
+    now_is : known later ≡ acted filled.0 a own 0 (Some parent)
+    now_is = filled.2 ∙ ap (acted filled.0 a own 0) (still filled.0 filled.1)
 
-    pub feed_keeps : IsWorld told (among_all crew places) (set (set actors 0 y) (crew + h.at) z) (known later) later p n b
+    pub feed_keeps : IsWorld told (among_all crew places) (set (set actors i y) (crew + h.at) z) (known later) later p n b
     feed_keeps = keeps filled.0 filled.1 y z served given now_is
 
-    pub feed_piped : ArePiped crew mouths (set (set actors 0 y) (crew + h.at) z) (known later) later
+    pub feed_piped : ArePiped crew mouths (set (set actors i y) (crew + h.at) z) (known later) later
     feed_piped = are_piped filled.0 filled.1 y z served given now_is
 
-    pub feed_booked : (entries later_entries : List Entry) → AreBooked entries (drop crew actors) events
-        → ((e : Entry) (args : Given) → slice_get entries h.at ≡ Some e → args.envelope ≡ envelope → later_entries ≡ set entries h.at (fed_entry args e))
-        → AreBooked later_entries (drop crew (set (set actors 0 y) (crew + h.at) z)) later
+    pub feed_booked : (entries later_entries : List Entry) (m : ℕ) → AreBooked crew entries actors events → h.held.entry ≡ Some m
+        → ((e : Entry) (args : Given) → slice_get entries m ≡ Some e → args.envelope ≡ envelope → later_entries ≡ set entries m (fed_entry args e))
+        → AreBooked crew later_entries (set (set actors i y) (crew + h.at) z) later
     feed_booked = booked filled.0 filled.1 y z served given

@@ -1,6 +1,6 @@
 -- What an actor finds by the pipes that are kept is what it finds by the state.
-use Rattle.std.proofs.Common.{◌≡◌, ℕ, zero, suc, ◌+◌, ◌-◌, ◌<◌, ◌≤◌, List, [], ◌∷◌, length, Bool, true, false, not, Option, Some, None, refl, sym, ap, ◌∙◌, subst, arith}
-use Rattle.std.specs.Prelude.{if◌then◌else◌, nat_lt, position}
+use Rattle.std.proofs.Common.{◌≡◌, ℕ, zero, suc, ◌+◌, ◌-◌, ◌<◌, ◌≤◌, List, [], ◌∷◌, length, Bool, true, false, not, Option, Some, None, refl, sym, ap, ◌∙◌, arith}
+use Rattle.std.specs.Prelude.{if◌then◌else◌, nat_lt, option_map, position}
 use Rattle.std.specs.List.{slice_get, range_with_len, prefix_len}
 use Rattle.std.proofs.lemmas.Bool.{lt-ltb, le-ltb, ltb-true, ltb-false}
 use Rattle.call_fs.specs.declared.program.Port.{Port}
@@ -11,19 +11,20 @@ use Rattle.world_events.specs.declared.event.Program.{Program}
 use Rattle.world_events.specs.declared.event.Program.TheVariants.{Injector, Cleaner, Sender, LocalSpawner, RemoteSpawner}
 use Rattle.world_pipes.specs.declared.mouths.Mouths.{Mouths}
 use Rattle.world_pipes.specs.declared.mouths.Slot.{Slot}
-use Rattle.world_pipes.specs.Mouths.{pipe_of, tenant_of, runs_in, is_remote, IsLowest}
+use Rattle.world_pipes.specs.declared.mouths.Tenant.{Tenant as Held}
+use Rattle.world_pipes.specs.declared.mouths.Tenant.TheVariants as held
+use Rattle.world_pipes.specs.Mouths.{pipe_of, tenant_kept, is_ended, ended_in, ended_of, runs_in, is_remote, IsLowest}
 use Rattle.world_pipes.specs.Pipework.{Pipe, Tenant, is_ready}
 use Rattle.world_pipes.specs.Pipework.Tenant.{Runs, Remote}
 use Rattle.mail_world.specs.History.{State}
-use Rattle.mail_world.specs.Readiness.{has_ended, lowest_ended, input_alone, is_awaiting, found_by}
-use Rattle.mail_world.specs.Wired.{seat, AreWired, HaveOneChild, HaveSlots}
+use Rattle.mail_world.specs.Readiness.{is_gone, has_ended, lowest_ended, input_alone, input_or_child, is_awaiting, found_by}
+use Rattle.mail_world.specs.Wired.{IsOwnPort, AreWired, AreOver, slots_at, HaveSlots}
 use Rattle.mail_world.specs.Inside.{RunsAt}
 use Rattle.mail_world.specs.ByKind.{IsMail}
 use Rattle.mail_world.specs.Crew.{FindsBy, IsFoundAt, input_of}
 use Rattle.mail_world.proofs.Feeds.{own_pipe, own_tenant}
 use Rattle.mail_world.proofs.Lists.{some_at}
 use Rattle.std.proofs.lemmas.Option.{slice_get_within}
-use Rattle.mail_world.proofs.Seats.{seat_member}
 
 -- The first of some numbers that passes a test
 
@@ -86,9 +87,26 @@ ended_remote s (Some (Runs c)) none = absurd (none c refl)
 ended_remote s (Some (Remote true)) none = refl
 ended_remote s (Some (Remote false)) none = refl
 
-some_slot : (o : Option Slot) → is_remote true (runs_in o) ≡ true → (slot : Slot) × (o ≡ Some slot)
+-- and any program, if who is over is marked so
+module _ (s : State) where
+  by_tenant : (t : Option Held) → ((c : List ℕ) → option_map tenant_kept t ≡ Some (Runs c) → is_ended t ≡ is_gone (s.actors c)) → has_ended s (option_map tenant_kept t) ≡ is_ended t
+  by_tenant None over = refl
+  by_tenant (Some (held.Actor name gone)) over = sym (over name refl)
+  by_tenant (Some (held.Remote reported)) over = refl
+
+  by_slot : (o : Option Slot) → ((c : List ℕ) → runs_in o ≡ Some (Runs c) → ended_in o ≡ is_gone (s.actors c)) → has_ended s (runs_in o) ≡ ended_in o
+  by_slot None over = refl
+  by_slot (Some slot) over = by_tenant slot.tenant over
+
+some_slot : (o : Option Slot) → ended_in o ≡ true → (slot : Slot) × (o ≡ Some slot)
 some_slot None is = absurd cc
 some_slot (Some slot) is = (slot, refl)
+
+few_slots : (i : ℕ) → slots_at i ≤ 256
+few_slots i = by_low (nat_lt i 4) where
+  by_low : (t : Bool) → (if t then 256 else 1) ≤ 256
+  by_low true = omega arith
+  by_low false = omega arith
 
 position_alike : (t u : ℕ → Bool) (xs : List ℕ) → ((d : ℕ) → t d ≡ u d) → prefix_len (λ d. not (t d)) xs ≡ prefix_len (λ d. not (u d)) xs
 position_alike t u [] same = refl
@@ -96,14 +114,18 @@ position_alike t u (x ∷ xs) same =
     ap (λ (b : Bool). if not b then 1 + prefix_len (λ d. not (t d)) xs else 0) (same x)
     ∙ ap (λ (n : ℕ). if not (u x) then 1 + n else 0) (position_alike t u xs same)
 
-lowest_found : (s : State) (mouths : List Mouths) (a : List ℕ) (i : ℕ) (m : Mouths) (child : Option ℕ) → AreWired mouths s.pipework → seat a ≡ Some i → slice_get mouths i ≡ Some m → length m.slots.items ≡ 256
-    → ((d : ℕ) (c : List ℕ) → tenant_of m d ≡ Some (Runs c) → ⊥) → IsLowest (λ d. is_remote true (tenant_of m d)) 0 child → lowest_ended s a ≡ child
-lowest_found s mouths a i m child wired at is slots alone low =
+lowest_found : (s : State) (wires : List ℕ → Option ℕ) (mouths : List Mouths) (a : List ℕ) (i : ℕ) (m : Mouths) (child : Option ℕ) → AreWired wires mouths s.pipework → HaveSlots mouths
+    → AreOver (λ c. is_gone (s.actors c)) mouths → wires a ≡ Some i → slice_get mouths i ≡ Some m → IsLowest (ended_of m) 0 child → lowest_ended s a ≡ child
+lowest_found s wires mouths a i m child wired slots over at is low =
     ap (λ (p : ℕ). if nat_lt p (length (range_with_len 0 256)) then Some p else None)
-    (position_alike (λ d. has_ended s (s.pipework.programs a d)) (λ d. is_remote true (tenant_of m d)) (range_with_len 0 256)
-    (λ d. ap (has_ended s) (own_tenant mouths s.pipework a i m wired at is d) ∙ ended_remote s (tenant_of m d) (alone d)))
-    ∙ lowest_is (λ d. is_remote true (tenant_of m d)) child
-    (λ d yes. let slot = some_slot (slice_get m.slots.items d) yes in subst (λ (n : ℕ). d < n) slots (slice_get_within m.slots.items d slot.0 slot.1)) low
+    (position_alike (λ d. has_ended s (s.pipework.programs a d)) (ended_of m) (range_with_len 0 256)
+    (λ d. ap (has_ended s) (own_tenant wires mouths s.pipework a i m wired at is d) ∙ by_slot s (slice_get m.slots.items d) (λ c runs. over i m d c is runs)))
+    ∙ lowest_is (ended_of m) child
+    (λ d yes.
+    let slot = some_slot (slice_get m.slots.items d) yes in
+    let within = slice_get_within m.slots.items d slot.0 slot.1 in
+    let many = slots i m is in
+    omega (arith, within, many, few_slots i)) low
 
 -- the links of each
 three_links : (p q r a b c : Pipe) → p ≡ a → q ≡ b → r ≡ c
@@ -113,39 +135,42 @@ three_links p q r a b c hp hq hr =
     ∙ ap (λ (q : Pipe). is_ready a ∷ is_ready q ∷ is_ready r ∷ false ∷ []) hq
     ∙ ap (λ (r : Pipe). is_ready a ∷ is_ready b ∷ is_ready r ∷ false ∷ []) hr
 
-pub found_is : (s : State) (mouths : List Mouths) (a : List ℕ) (at : Option ℕ) (program : Program) (awaits : Bool) (ready : Ready) → AreWired mouths s.pipework → HaveSlots mouths
-    → HaveOneChild mouths → seat a ≡ at → RunsAt at program → awaits ≡ is_awaiting s a → IsFoundAt mouths at awaits ready → ready ≡ found_by s a program
-found_is s mouths a None program awaits ready wired slots one at runs same found = by_program program runs where
+pub found_is : (s : State) (wires : List ℕ → Option ℕ) (mouths : List Mouths) (a : List ℕ) (at : Option ℕ) (program : Program) (awaits : Bool) (ready : Ready) → AreWired wires mouths s.pipework → HaveSlots mouths
+    → AreOver (λ c. is_gone (s.actors c)) mouths → wires a ≡ at → RunsAt at program → awaits ≡ is_awaiting s a → IsFoundAt mouths at awaits ready → ready ≡ found_by s a program
+found_is s wires mouths a None program awaits ready wired slots over at runs same found = by_program program runs where
   by_program : (program : Program) → IsMail program → ready ≡ found_by s a program
   by_program (Injector args) mail = found ∙ ap (λ (t : Bool). if t then input_alone false else INPUT_READY) same
   by_program other mail = absurd mail
-found_is s mouths a (Some i) program awaits ready wired slots one at runs same found = by_member (some_at (λ m. FindsBy i m ready) (slice_get mouths i) found) where
+found_is s wires mouths a (Some i) program awaits ready wired slots over at runs same found = by_member (some_at (λ m. FindsBy i m ready) (slice_get mouths i) found) where
   by_member : (m : Mouths) × (slice_get mouths i ≡ Some m) × FindsBy i m ready → ready ≡ found_by s a program
   by_member found = by_seat i program runs at found.1 found.2 where
     m : Mouths
     m = found.0
 
-    pipe : (i : ℕ) → seat a ≡ Some i → slice_get mouths i ≡ Some m → (p : Port) → pipe_of m p ≡ s.pipework.pipes a p
-    pipe i at is p = sym (own_pipe mouths s.pipework a i m wired (seat_member a i at) at is p)
+    pipe : (i : ℕ) → wires a ≡ Some i → slice_get mouths i ≡ Some m → (p : Port) → IsOwnPort i p → pipe_of m p ≡ s.pipework.pipes a p
+    pipe i at is p own = sym (own_pipe wires mouths s.pipework a i m wired at is p own)
 
-    input : (i : ℕ) → seat a ≡ Some i → slice_get mouths i ≡ Some m → (child : Option ℕ) → ready ≡ input_of m child
+    input : (i : ℕ) → wires a ≡ Some i → slice_get mouths i ≡ Some m → (child : Option ℕ) → ready ≡ input_of m child
         → ready ≡ record { links = is_ready (s.pipework.pipes a port.Input) ∷ false ∷ false ∷ false ∷ []; child = child }
     input i at is child finds =
-        finds ∙ ap (λ (p : Pipe). record { links = is_ready p ∷ false ∷ false ∷ false ∷ []; child = child }) (pipe i at is port.Input)
+        finds ∙ ap (λ (p : Pipe). record { links = is_ready p ∷ false ∷ false ∷ false ∷ []; child = child }) (pipe i at is port.Input tt)
 
-    by_seat : (i : ℕ) (program : Program) → RunsAt (Some i) program → seat a ≡ Some i → slice_get mouths i ≡ Some m → FindsBy i m ready → ready ≡ found_by s a program
+    -- who finds which of its programs has ended, at a place from the third on
+    or_child : (j : ℕ) → wires a ≡ Some (suc (suc j)) → slice_get mouths (suc (suc j)) ≡ Some m → FindsBy (suc (suc j)) m ready → ready ≡ input_or_child s a
+    or_child j at is finds =
+        input (suc (suc j)) at is finds.0 finds.2
+        ∙ ap (λ (child : Option ℕ). record { links = is_ready (s.pipework.pipes a port.Input) ∷ false ∷ false ∷ false ∷ []; child = child })
+        (sym (lowest_found s wires mouths a (suc (suc j)) m finds.0 wired slots over at is finds.1))
+
+    by_seat : (i : ℕ) (program : Program) → RunsAt (Some i) program → wires a ≡ Some i → slice_get mouths i ≡ Some m → FindsBy i m ready → ready ≡ found_by s a program
     by_seat zero (Sender start) runs at is finds =
         finds ∙ ap (λ (l : List Bool). record { links = l; child = None })
         (three_links (pipe_of m port.Clean) (pipe_of m port.Lspawn) (pipe_of m port.Rspawn) (s.pipework.pipes a port.Clean) (s.pipework.pipes a port.Lspawn) (s.pipework.pipes a port.Rspawn)
-        (pipe zero at is port.Clean) (pipe zero at is port.Lspawn) (pipe zero at is port.Rspawn))
+        (pipe zero at is port.Clean (omega arith)) (pipe zero at is port.Lspawn (omega arith)) (pipe zero at is port.Rspawn (omega arith)))
     by_seat zero other runs at is finds = absurd runs
     by_seat (suc zero) (Cleaner start) runs at is finds = input 1 at is None finds
     by_seat (suc zero) other runs at is finds = absurd runs
-    by_seat (suc (suc zero)) (LocalSpawner start) runs at is finds = input 2 at is None finds
+    by_seat (suc (suc zero)) (LocalSpawner start) runs at is finds = or_child 0 at is finds
     by_seat (suc (suc zero)) other runs at is finds = absurd runs
-    by_seat (suc (suc (suc j))) (RemoteSpawner start) runs at is finds =
-        input (suc (suc (suc j))) at is finds.0 finds.2
-        ∙ ap (λ (child : Option ℕ). record { links = is_ready (s.pipework.pipes a port.Input) ∷ false ∷ false ∷ false ∷ []; child = child })
-        (sym (lowest_found s mouths a (suc (suc (suc j))) m finds.0 wired at is (slots (suc (suc (suc j))) m is)
-        (λ d c runs. let first = (one (suc (suc (suc j))) m d c is runs).0 in absurd (omega (arith, first))) finds.1))
+    by_seat (suc (suc (suc j))) (RemoteSpawner start) runs at is finds = or_child (suc j) at is finds
     by_seat (suc (suc (suc j))) other runs at is finds = absurd runs

@@ -12,7 +12,6 @@ use Rattle.call_fs.specs.Disk.{Disk}
 use Rattle.mail_bytes.specs.Moments.{IsMoment}
 use Rattle.call_fs.specs.Apply.{effect, Fits, Apply, IsReadBy}
 use Rattle.call_fs.specs.declared.past.ChildData.{ChildData}
-use Rattle.call_fs.specs.declared.past.ChildData.TheVariants as child
 use Rattle.call_fs.specs.declared.past.GotData.{GotData}
 use Rattle.call_fs.specs.declared.past.GotData.TheVariants as got
 use Rattle.call_fs.specs.declared.past.NeedData.{NeedData}
@@ -25,7 +24,7 @@ use Rattle.world_events.specs.Inputs.{with_texts, start_with, with_inputs}
 use Rattle.call_fs.specs.declared.past.Own.{Own}
 use Rattle.world_events.specs.declared.event.Event.{Event as Kept}
 use Rattle.world_events.specs.declared.event.Event.TheVariants as kept
-use Rattle.mail_world.specs.History.{Event, call_act, netstring, start_of, Actor, Life, State, next_of, acted, MayRun, MayFind, MayReport, Allowed, MayRead, MayBear, ComesOf, IsFed, IsInputOf, IsProgramOf, happens, called, finished, shut_by, after, latest, Opening, EachAllowed, Legal}
+use Rattle.mail_world.specs.History.{Event, call_act, netstring, start_of, Actor, Life, State, next_of, acted, MayRun, MayFind, MayReport, Allowed, MayRead, ComesOf, IsFed, IsInputOf, IsProgramOf, happens, called, finished, shut_by, after, latest, Opening, EachAllowed, Legal}
 use Rattle.mail_world.specs.History.Event.{Start, Act, Child, Generation, Report, End, Stop, Moment, Halt}
 use Rattle.mail_world.specs.History.Life.{Alive}
 use Rattle.mail_world.specs.World.{kept_call, Tells, begun_with, IsBefore, IsByName, AreByName, Leads, IsHistory}
@@ -395,19 +394,11 @@ begun_in parent own c program message envelope (k ∷ later) before (e ∷ h) to
       apart = (one.0, rest.apart);
     }
 
--- an event of the past was allowed
-allowed_at : (o : Disk) (later before : List Event) (e : Event) → EachAllowed o (later ++ e ∷ before) → Allowed (after o before) e
-allowed_at o [] before e allowed = allowed.1
-allowed_at o (k ∷ later) before e allowed = allowed_at o later before e allowed.0
-
 -- an injector with these texts is the same one but for its input, which they are
-given_texts : (message envelope : List ℕ) (asked : ChildData) (pid : ℕ) (program : Program) → IsProgramOf asked pid program
+given_texts : (message envelope : List ℕ) (program : Program) → IsMail program
     → IsSameButInput program (with_texts message envelope program) × IsInputOf (with_texts message envelope program) (netstring message ++ netstring envelope)
-given_texts message envelope asked pid (Injector args) is = (record { uid_is = refl; pid_is = refl; invoked_is = refl; start_is = refl }, (refl, refl, refl))
-given_texts message envelope (child.Bounce room) pid program is = absurd is
-given_texts message envelope (child.Forward uid room) pid program is = absurd is
-given_texts message envelope (child.Local slot words uid) pid program is = absurd is
-given_texts message envelope (child.Remote slot domain sender recipient) pid program is = absurd is
+given_texts message envelope (Injector args) mail = (record { uid_is = refl; pid_is = refl; invoked_is = refl; start_is = refl }, (refl, refl, refl))
+given_texts message envelope other mail = absurd mail
 
 -- what a machine stop left is of its name in the history that is told anew
 named_anew : (o : Disk) (later before : List Event) (parent c : List ℕ) (own : Own) (program other : Program)
@@ -433,9 +424,9 @@ comes_fed t a c slot bytes due came is gave fed =
 feed_goes_on : (o d : Disk) (events : List Kept) (p : ℕ) (h : List Event) (a : List ℕ) (x : Actor) (own : Own) (slot : ℕ) (c message envelope : List ℕ)
     → Leads o d events p h → AreWholeGivings (reverse events) → IsActing (known events) a p x → FindsIn events a x own.ready → own.read ≡ p
     → next_of x.program x.past own.read own.ready ≡ own.due → own.due ≡ needs.Give (port.Program slot) (netstring message ++ netstring envelope) → own.came ≡ got.Gave
-    → (known events).pipework.programs a slot ≡ Some (Runs c) → a ≢ c → HasJustStarted events a c
+    → (known events).pipework.programs a slot ≡ Some (Runs c) → a ≢ c → (just : HasJustStarted events a c) → IsMail just.program
     → Leads o d (events ++ kept.Feed a own c message envelope ∷ []) p (Act a own 0 ∷ begun_with c message envelope h)
-feed_goes_on o d events p h a x own slot c message envelope is whole acts finds read due gives gave runs other just =
+feed_goes_on o d events p h a x own slot c message envelope is whole acts finds read due gives gave runs other just mail =
     let s = after o h in
     let e : Event = Act a own 0 in
     let same = after_known o events h is.told in
@@ -444,8 +435,7 @@ feed_goes_on o d events p h a x own slot c message envelope is whole acts finds 
     let old = began.later ++ Child a just.own c just.program ∷ began.before in
     let new = began.later ++ Child a just.own c anew ∷ began.before in
     let allowed_old : EachAllowed o old = subst (EachAllowed o) began.are is.allowed in
-    let bore : MayBear (after o began.before) a just.own c just.program = allowed_at o began.later began.before (Child a just.own c just.program) allowed_old in
-    let texts = given_texts message envelope bore.asked bore.pid just.program bore.is in
+    let texts = given_texts message envelope just.program mail in
     let all = begin_anew o began.later began.before a c just.own just.program anew texts.0 began.apart allowed_old in
     let named : AreByName o new = named_anew o began.later began.before a c just.own just.program anew texts.0 began.apart allowed_old (subst (AreByName o) began.are is.named) in
     let t = after o new in
@@ -527,15 +517,15 @@ child_told None events p a x own c program asked pid whole acts finds read due s
 pub feed_told : (told : Option Disk) (events : List Kept) (p : ℕ) (a : List ℕ) (x : Actor) (own : Own) (slot : ℕ) (c message envelope : List ℕ)
     → AreWholeGivings (reverse events) → IsActing (known events) a p x → FindsIn events a x own.ready → own.read ≡ p → next_of x.program x.past own.read own.ready ≡ own.due
     → own.due ≡ needs.Give (port.Program slot) (netstring message ++ netstring envelope) → own.came ≡ got.Gave
-    → (known events).pipework.programs a slot ≡ Some (Runs c) → a ≢ c → HasJustStarted events a c
+    → (known events).pipework.programs a slot ≡ Some (Runs c) → a ≢ c → (just : HasJustStarted events a c) → IsMail just.program
     → LeadsOn told told events (events ++ kept.Feed a own c message envelope ∷ []) p p
-feed_told (Some d) events p a x own slot c message envelope whole acts finds read due gives gave runs other just o h is = (
+feed_told (Some d) events p a x own slot c message envelope whole acts finds read due gives gave runs other just mail o h is = (
   Act a own 0,
   begun_with c message envelope h,
   inr (record { parent = a; own = own; slot = slot; child = c; message = message; envelope = envelope; is = refl; due = gives; came = gave; later_is = refl }),
-  feed_goes_on o d events p h a x own slot c message envelope is whole acts finds read due gives gave runs other just,
+  feed_goes_on o d events p h a x own slot c message envelope is whole acts finds read due gives gave runs other just mail,
 )
-feed_told None events p a x own slot c message envelope whole acts finds read due gives gave runs other just o h is = absurd is
+feed_told None events p a x own slot c message envelope whole acts finds read due gives gave runs other just mail o h is = absurd is
 
 pub generation_told : (told : Option Disk) (events : List Kept) (p : ℕ) → AreGone (known events)
     → LeadsOn told told events (events ++ kept.Generation p ∷ []) p p

@@ -7,6 +7,8 @@ pub mod Halts
 pub mod Programs
 -- an event of an actor that may happen
 pub mod Owns
+-- what came of what was due is of its kind
+pub mod Coming
 -- each event
 pub mod Kept
 -- each accepted message waits in todo
@@ -15,9 +17,11 @@ pub mod Waiting
 pub mod Known
 -- what an event changes of the pipes that are kept
 pub use Rattle.crew_pipes.proofs.Wires
+pub use Rattle.crew_pipes.proofs.Keeps
 pub use Rattle.crew_pipes.proofs.Feeds
+pub use Rattle.crew_pipes.proofs.Shuts
 pub mod Piped
--- the child in the sender's slot
+-- the child in the first slot of its parent
 pub mod Borne
 -- what an actor finds by its pipes
 pub mod Found
@@ -65,7 +69,7 @@ pub mod Members
 pub use Rattle.crew_pipes.proofs.Seats
 -- who awaits its input
 pub mod Awaiting
--- the child of a sender that is over
+-- the child of an actor that is over
 pub mod Leaving
 -- what passes by pipes and slots
 pub mod Passes
@@ -93,13 +97,15 @@ pub mod QueuedBooks
 pub mod Anew
 -- what a return does inside a sender: it starts an injector, gives it two texts, and takes its status
 pub mod ReturnSteps
--- what a world keeps of its actors, as it does for the sender what concerns its child
+-- who starts injectors, by its table
+pub mod Feeders
+-- what a world keeps of its actors, as it does for one of them what concerns a child
 pub mod Serving
--- the sender takes the status of its child
+-- an actor takes the status of its child
 pub mod Statuses
--- the sender gives its child its whole input
+-- an actor gives its child its whole input
 pub mod Feeding
--- the sender starts the injector of a bounce
+-- an actor starts the injector of a bounce
 pub mod Bearing
 -- the names of the injectors of bounces
 pub mod Bounces

@@ -1,5 +1,5 @@
 -- How many actors live, as one of them acts or one more is started, and the room that is kept for them.
-use Rattle.std.proofs.Common.{◌≡◌, ℕ, zero, suc, ◌+◌, ◌≤◌, List, [], ◌∷◌, ◌++◌, length, set, Bool, true, false, Option, Some, None, refl, sym, ap, ◌∙◌, subst, arith}
+use Rattle.std.proofs.Common.{◌≡◌, ℕ, ◌+◌, ◌≤◌, List, [], ◌∷◌, ◌++◌, length, set, Bool, true, false, Option, Some, None, refl, sym, ap, ◌∙◌, subst, arith}
 use Rattle.std.proofs.lemmas.Option.{slice_get_within, get_or_from_slice_get}
 use Rattle.std.proofs.lemmas.List.{length-append, length-set}
 use Rattle.std.proofs.lemmas.List.Sums.{sum_by-set, count_by-le-length}
@@ -57,18 +57,14 @@ pub room_less : (h : History) (more less : ℕ) → less ≤ more → HasRoom h 
 room_less h more less le room = omega arith
 
 -- the child of one that is over is given no input any more, and lives as before
-pub left_many : (place : ℕ) (child : Option ℕ) (old new : List Held) → HasLeft place child old new → length new ≡ length old
-left_many zero None old new left = ap length left
-left_many zero (Some c) old new left = ap length left.3 ∙ length-set old c left.1
-left_many (suc place) None old new left = ap length left
-left_many (suc place) (Some c) old new left = ap length left
+pub left_many : (child : Option ℕ) (old new : List Held) → HasLeft child old new → length new ≡ length old
+left_many None old new left = ap length left
+left_many (Some c) old new left = ap length left.3 ∙ length-set old c left.1
 
-pub left_living : (place : ℕ) (child : Option ℕ) (old new : List Held) → HasLeft place child old new → living new ≡ living old
-left_living zero None old new left = ap living left
-left_living zero (Some c) old new left = ap living left.3 ∙ living_still old c left.0 left.1 left.2 left.4.ended
-left_living (suc place) None old new left = ap living left
-left_living (suc place) (Some c) old new left = ap living left
+pub left_living : (child : Option ℕ) (old new : List Held) → HasLeft child old new → living new ≡ living old
+left_living None old new left = ap living left
+left_living (Some c) old new left = ap living left.3 ∙ living_still old c left.0 left.1 left.2 left.4.ended
 
-pub left_many_if : (over : Bool) (place : ℕ) (child : Option ℕ) (old new : List Held) → HasLeftIf over place child old new → length new ≡ length old
-left_many_if true place child old new left = left_many place child old new left
-left_many_if false place child old new left = ap length left
+pub left_many_if : (over : Bool) (child : Option ℕ) (old new : List Held) → HasLeftIf over child old new → length new ≡ length old
+left_many_if true child old new left = left_many child old new left
+left_many_if false child old new left = ap length left

@@ -12,8 +12,6 @@ use Rattle.call_fs.specs.declared.calls.Told.{Told}
 use Rattle.call_fs.specs.declared.program.Ready.{Ready}
 use Rattle.call_fs.specs.Disk.{Disk}
 use Rattle.call_fs.specs.Maps.{put_at}
-use Rattle.call_fs.specs.declared.past.ChildData.{ChildData}
-use Rattle.call_fs.specs.declared.past.ChildData.TheVariants as child
 use Rattle.call_fs.specs.declared.past.NeedData.{NeedData}
 use Rattle.call_fs.specs.declared.past.NeedData.TheVariants as needs
 use Rattle.call_fs.specs.declared.past.GotData.{GotData}
@@ -35,7 +33,7 @@ use Rattle.world_events.specs.declared.event.Program.TheVariants.{Injector}
 use Rattle.world_events.specs.declared.books.Entry.{Entry}
 use Rattle.world_events.specs.declared.books.Life.{Life as ToldLife}
 use Rattle.world_events.specs.declared.books.Life.TheVariants as left
-use Rattle.mail_world.specs.History.{Event, Actor, Life, State, MayRun, MayBegin, IsProgramOf, newborn, next_of, stopped, cut_off as ends_as, acted, finished, happens, after, Legal}
+use Rattle.mail_world.specs.History.{Event, Actor, Life, State, MayRun, MayBegin, newborn, next_of, stopped, cut_off as ends_as, acted, finished, happens, after, Legal}
 use Rattle.mail_world.specs.History.Event.{Start, Act, Child, Generation, Report, End, Stop, Moment, Halt}
 use Rattle.mail_world.specs.History.Life.{Alive, Over, Stopped}
 use Rattle.mail_world.specs.Pipework.{is_member}
@@ -212,13 +210,14 @@ new_there : (t : State) (a : List ℕ) (o : Option Arguments) → RunsAlone (t.a
 new_there t a None h = tt
 new_there t a (Some args) h = (h, tt)
 
--- a child was asked for, and starts alone
-child_runs : (asked : ChildData) (pid : ℕ) (program : Program) → IsProgramOf asked pid program → MayRun program
-child_runs asked pid (Injector args) is = tt
-child_runs (child.Bounce room) pid program is = absurd is
-child_runs (child.Forward uid room) pid program is = absurd is
-child_runs (child.Local slot words uid) pid program is = absurd is
-child_runs (child.Remote slot domain sender recipient) pid program is = absurd is
+-- a child is a mail only if it is an injector
+bred_there : (t : State) (a : List ℕ) (program : Program) → t.actors a ≡ Some (newborn program) → AreThere t (mail_by a (injection_of program))
+bred_there t a (Injector args) is = new_there t a (Some args) (subst RunsAlone (sym is) tt)
+bred_there t a other is = tt
+
+-- a new name is none of theirs
+none_alone : (o : Option Actor) → o ≡ None → RunsAlone o → ⊥
+none_alone o none alone = subst RunsAlone none alone
 
 pub mails_there : (d : Disk) (events : List Kept) (h : List Event) → Legal d h → AllZip Tells events h → AreThere (after d h) (mails_of h)
 mails_there d [] [] legal told = tt
@@ -237,10 +236,11 @@ mails_there d (k ∷ events) ((Child parent own b program) ∷ h) legal told =
     let s = after d h in
     let u = acted s parent own 0 (s.actors parent) in
     let t = happens s (Child parent own b program) in
-    let runs = child_runs legal.1.asked legal.1.pid program legal.1.is in
     both_there t (mails_of h) (mail_by b (injection_of program))
-    (all_there s t (mails_of h) (λ a there. alone_put u.actors b (newborn program) a (λ same. runs) (alone_acted s parent own 0 (s.actors parent) a refl there)) (mails_there d events h legal.0 told.1))
-    (new_there t b (injection_of program) (subst RunsAlone (sym (put_at_same u.actors b (Some (newborn program)))) runs))
+    (all_there s t (mails_of h) (λ a there. alone_put u.actors b (newborn program) a
+    (λ same. absurd (none_alone (s.actors b) legal.1.new (subst (λ (c : List ℕ). RunsAlone (s.actors c)) (sym same) there)))
+    (alone_acted s parent own 0 (s.actors parent) a refl there)) (mails_there d events h legal.0 told.1))
+    (bred_there t b program (put_at_same u.actors b (Some (newborn program))))
 mails_there d (k ∷ events) ((Generation sender clean lspawn rspawn) ∷ h) legal told =
     let s = after d h in
     all_there s (happens s (Generation sender clean lspawn rspawn)) (mails_of h)

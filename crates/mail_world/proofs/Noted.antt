@@ -1,23 +1,11 @@
--- The actor at a place among all: its seat, if it is a member, and its entry in the books, if it is a mail.
-use Rattle.std.proofs.Common.{◌≡◌, ◌⊎◌, inl, inr, ℕ, ◌+◌, ◌-◌, ◌<◌, ◌≤◌, List, [], ◌∷◌, ◌++◌, length, set, Bool, true, false, Option, Some, None, refl, sym, ap, ◌∙◌, subst, ⊎_elim, arith, get_or}
-use Rattle.std.specs.Prelude.{if◌then◌else◌, option_map, nat_lt, drop}
-use Rattle.std.specs.List.{slice_get}
+-- The actor at a place among all: its seat, if it is a member.
+use Rattle.std.proofs.Common.{◌≡◌, ◌⊎◌, inl, inr, ℕ, ◌+◌, ◌-◌, ◌<◌, ◌≤◌, List, Bool, true, false, Option, Some, None, refl, sym, ap, ◌∙◌, ⊎_elim, arith}
+use Rattle.std.specs.Prelude.{if◌then◌else◌, option_map, nat_lt}
 use Rattle.std.proofs.lemmas.Bool.{ltb-true, ltb-false}
-use Rattle.world_events.specs.declared.event.Event.{Event as Kept}
-use Rattle.world_events.specs.declared.books.Entry.{Entry}
-use Rattle.world_pipes.specs.declared.mouths.Mouths.{Mouths}
 use Rattle.call_fs.specs.Maps.{put_at}
 use Rattle.call_fs.proofs.Maps.{put_at_cases, put_at_same, put_at_other}
-use Rattle.mail_world.specs.declared.actor.Actor.{Actor as Held}
-use Rattle.mail_world.specs.History.{State}
 use Rattle.mail_world.specs.Wired.{seat}
-use Rattle.mail_world.specs.Inside.{place_by, among_all, ArePiped, AreActors}
-use Rattle.mail_world.specs.Acting.{IsSeated}
-use Rattle.mail_world.specs.Books.{noted, AreBooked}
-use Rattle.mail_world.proofs.Begun.{after_seat}
-use Rattle.mail_world.proofs.Booked.{IsOwnOf, mail_booked, other_booked}
-use Rattle.mail_world.proofs.Crew.{apart_by}
-use Rattle.mail_world.proofs.Lists.{get_drop, drop_set, drop_before}
+use Rattle.mail_world.specs.Inside.{place_by, among_all}
 
 -- below the members' number, or not
 pub low_or_not : (n crew : ℕ) → ((n < crew) × (nat_lt n crew ≡ true)) ⊎ ((crew ≤ n) × (nat_lt n crew ≡ false))
@@ -65,41 +53,3 @@ put_among crew n places next a none le put b = ⊎_elim
     ∙ sym (ap (put_at (among_all crew places) a (Some n)) w.0 ∙ put_at_same (among_all crew places) a (Some n)))
     (λ w. ap (place_by crew (seat b)) (put b ∙ w.1) ∙ sym (put_at_other (among_all crew places) a (Some n) b w.0))
     (put_at_cases places a (Some (n - crew)) b)
-
--- a living actor with its seat
-pub is_seated : (crew : ℕ) (places : List ℕ → Option ℕ) (mouths : List Mouths) (actors : List Held) (s : State) (events : List Kept) (p place : ℕ) (x : Held)
-    → AreActors (among_all crew places) actors s events p → ArePiped crew mouths actors s events → slice_get actors place ≡ Some x → x.ended ≡ None → IsSeated (seat_of_place place crew) x.name mouths
-is_seated crew places mouths actors s events p place x kept piped is lives = record {
-  is = seat_at_place crew places x.name place (kept.placed place x is);
-  slots = piped.slots;
-  one = piped.one;
-  many = λ i at. piped.seated place x (some_seat place crew i at) is lives;
-}
-
--- the books take the newest event of the actor at a place into account, if it is a mail's
-pub one_booked : (crew : ℕ) (places : List ℕ → Option ℕ) (actors : List Held) (s : State) (events later : List Kept) (p place : ℕ) (x y : Held) (entries now : List Entry) (k r : Kept)
-    → AreActors (among_all crew places) actors s events p → AreBooked entries (drop crew actors) events → slice_get actors place ≡ Some x → y.name ≡ x.name → IsOwnOf x.name k → later ≡ events ++ k ∷ []
-    → r ≡ get_or later (length later - 1) r → (place < crew → now ≡ entries)
-    → (crew ≤ place → (e : Entry) → slice_get entries (place - crew) ≡ Some e → now ≡ set entries (place - crew) (noted r e))
-    → AreBooked now (drop crew (set actors place y)) later
-one_booked crew places actors s events later p place x y entries now k r kept booked is name mine event read member mail = ⊎_elim of_member of_mail (low_or_not place crew) where
-  old : (j : ℕ) (z : Held) → slice_get (drop crew actors) j ≡ Some z → slice_get actors (crew + j) ≡ Some z
-  old j z at = sym (get_drop crew actors j) ∙ at
-
-  of_member : (place < crew) × (nat_lt place crew ≡ true) → AreBooked now (drop crew (set actors place y)) later
-  of_member low =
-      subst (λ (l : List Held). AreBooked now l later) (sym (drop_before crew actors place y low.0))
-      (subst (λ (l : List Entry). AreBooked l (drop crew actors) later) (sym (member low.0))
-      (other_booked (drop crew actors) events later x.name entries k booked
-      (λ j z at. apart_by (among_all crew places) x.name z.name place (crew + j) (kept.placed place x is) (kept.placed (crew + j) z (old j z at)) (λ same. let lt = low.0 in omega (arith, same, lt)))
-      mine event))
-
-  of_mail : (crew ≤ place) × (nat_lt place crew ≡ false) → AreBooked now (drop crew (set actors place y)) later
-  of_mail high =
-      let j = place - crew in
-      let whole : place ≡ crew + j = (let le = high.0 in omega (arith, le)) in
-      let here : slice_get (drop crew actors) j ≡ Some x = get_drop crew actors j ∙ ap (slice_get actors) (sym whole) ∙ is in
-      subst (λ (l : List Held). AreBooked now l later) (sym (ap (λ (i : ℕ). drop crew (set actors i y)) whole ∙ drop_set crew actors j y))
-      (mail_booked places (drop crew actors) events later p j x y entries now k r
-      (λ i z at. (after_seat crew i places z.name (kept.placed (crew + i) z (old i z at))).1)
-      booked here name mine event read (mail high.0))

@@ -7,7 +7,7 @@ use Rattle.call_fs.specs.declared.past.NeedData.{NeedData}
 use Rattle.call_fs.specs.declared.past.NeedData.TheVariants as needs
 use Rattle.call_fs.specs.declared.past.Own.{Own}
 use Rattle.call_fs.specs.declared.program.Ready.{Ready}
-use Rattle.call_fs.specs.Program.{IsKind, IsWithin}
+use Rattle.call_fs.specs.Program.{IsWithin}
 use Rattle.world_events.specs.declared.event.Event.{Event as Kept}
 use Rattle.world_events.specs.declared.event.Event.TheVariants as kept
 use Rattle.world_events.specs.declared.event.Program.{Program}
@@ -20,18 +20,10 @@ use Rattle.mail_world.specs.History.{next_of}
 use Rattle.mail_world.specs.ByKind.{Follows, present_of, found_of, looked_of, need_of, takes_of, awaits_of, with_own, own_of}
 use Rattle.mail_world.specs.Generations.{idled_in, idled_of}
 use Rattle.mail_world.specs.Inside.{StandsFor, Owes, unowed}
-use Rattle.mail_world.specs.Acting.{IsNoAct, BringsNone, MakesOf, Exchanges, HasDone, HasIdled, HasLooked, HasStepped, HasPassedOn, HasGiven, HasActed}
-use Rattle.mail_world.proofs.Feeds.{wires_of, are_wired}
+use Rattle.mail_world.specs.Acting.{IsNoAct, BringsNone, MakesOf, Exchanges, IsStuck, StaysAt, HasDone, HasIdled, HasLooked, HasStepped, HasPassedOn, HasGiven, HasActed}
 use Rattle.mail_world.proofs.Lasts.{same_last}
 use Rattle.mail_world.proofs.Machines.{own_is}
-use Rattle.mail_world.proofs.Passes.{passing, brings_kind, brings_within}
-
--- what was exchanged is of the kind of what was due, and no more than may be taken
-pub exchanged_kind : (mouths wired : List Mouths) (pid most : ℕ) (a : List ℕ) (due : NeedData) (came : GotData) → Exchanges mouths wired pid most a due came → IsKind due came
-exchanged_kind mouths wired pid most a due came e = brings_kind (wires_of mouths) pid most a due came (e.brings (wires_of mouths) (are_wired mouths))
-
-pub exchanged_within : (mouths wired : List Mouths) (pid most : ℕ) (a : List ℕ) (due : NeedData) (came : GotData) → Exchanges mouths wired pid most a due came → IsWithin most came
-exchanged_within mouths wired pid most a due came e = brings_within (wires_of mouths) pid most a due came (e.brings (wires_of mouths) (are_wired mouths))
+use Rattle.mail_world.proofs.Passes.{passing}
 
 -- nothing that passes changes the disk
 still_made : (told : Option Disk) (now : ℕ) (due : NeedData) (came : GotData) → IsNoAct due → MakesOf now due came told told
@@ -59,10 +51,11 @@ pub record HasAsked (x y : Held) (now : ℕ) (ready : Ready) (due : NeedData) : 
   pub ended : y.ended ≡ x.ended
   pub status : y.status ≡ x.status
   pub owed : y.owed ≡ x.owed
+  pub stays : StaysAt x y
 
-module _ (told : Option Disk) (wires wired : List Mouths) (pid : ℕ) (x y z : Held) (before now_kept : List Kept) (now : ℕ) (ready : Ready) (due : NeedData)
+module _ (told : Option Disk) (pipes piped : List Mouths) (pid : ℕ) (x y z : Held) (before now_kept : List Kept) (now : ℕ) (ready : Ready) (due : NeedData)
     (asked : HasAsked x y now ready due) (none : IsNoAct due) where
-  passed_on : HasPassedOn wires wired pid y z before now_kept now ready due → HasDone told told wires wired pid x z before now_kept now ready
+  passed_on : HasPassedOn pipes piped pid y z before now_kept now ready due → HasDone told told pipes piped pid x z before now_kept now ready
   passed_on given =
       let own : Own = record { read = now; ready = ready; due = due; came = given.came } in
       record {
@@ -79,17 +72,19 @@ module _ (told : Option Disk) (wires wired : List Mouths) (pid : ℕ) (x y z : H
           found = ap found_of owed.1 ∙ asked.found;
           looked = ap looked_of owed.1 ∙ asked.looked;
           due = ap need_of owed.1 ∙ asked.need;
-          kind = exchanged_kind wires wired pid (takes_of y.machine) y.name due given.came given.exchanged;
-          within = subst (λ (m : AnyMachine). IsWithin (takes_of m) given.came) (sym owed.1)
-              (exchanged_within wires wired pid (takes_of y.machine) y.name due given.came given.exchanged);
+          kind = given.exchanged.kind;
+          within = subst (λ (m : AnyMachine). IsWithin (takes_of m) given.came) (sym owed.1) given.exchanged.within;
         };
         made = still_made told now due given.came none;
         passed = inr (
           none,
-          subst (λ (most : ℕ). Exchanges wires wired pid most x.name due given.came) asked.takes
-              (subst (λ (a : List ℕ). Exchanges wires wired pid (takes_of y.machine) a due given.came) asked.name given.exchanged),
+          subst (λ (most : ℕ). Exchanges x.wire x.slot pipes piped pid most x.name due given.came) asked.takes
+              (subst (λ (a : List ℕ). Exchanges x.wire x.slot pipes piped pid (takes_of y.machine) a due given.came) asked.name
+              (subst (λ (wire : Option ℕ). Exchanges wire x.slot pipes piped pid (takes_of y.machine) y.name due given.came) asked.stays.wire
+              (subst (λ (slot : Option (ℕ × ℕ)). Exchanges y.wire slot pipes piped pid (takes_of y.machine) y.name due given.came) asked.stays.slot given.exchanged))),
         );
         name = given.name ∙ asked.name;
+        stays = record { wire = given.stays.wire ∙ asked.stays.wire; slot = given.stays.slot ∙ asked.stays.slot; entry = given.stays.entry ∙ asked.stays.entry };
         descriptors = given.descriptors ∙ asked.descriptors ∙ sym ((passing due given.came none).opened x.descriptors.items);
         ended = given.ended ∙ asked.ended;
         status = given.status ∙ asked.status;
@@ -105,27 +100,31 @@ module _ (told : Option Disk) (wires wired : List Mouths) (pid : ℕ) (x y z : H
     status = asked.status;
     awaits = asked.awaits;
     owed = asked.owed;
+    stays = asked.stays;
   }
 
-  pub passed_steps : (did : Option Did) → HasGiven did wires wired pid y z before now_kept now ready due → (IsNone did → z ≡ y) → IfSome did (λ d. d.ended ≡ None)
-      → HasStepped did told told wires wired pid x z before now_kept now ready
-  passed_steps None stuck same lasts = record {
-    looked = subst (HasLooked x) (sym (same refl)) asked_looked;
-    same = stuck.same;
-    waits = λ program past f w wired_by.
-        subst (λ (due : NeedData). BringsNone w x.name due) (sym (asked.next program past f))
-        (subst (λ (a : List ℕ). BringsNone w a due) asked.name (stuck.none w wired_by));
-  }
+  pub passed_steps : (did : Option Did) → HasGiven did pipes piped pid y z before now_kept now ready due → (IsNone did → z ≡ y) → IfSome did (λ d. d.ended ≡ None)
+      → HasStepped did told told pipes piped pid x z before now_kept now ready
+  passed_steps None stuck same lasts =
+      let mine : IsStuck x.wire x.slot pipes piped x.name due =
+      subst (λ (a : List ℕ). IsStuck x.wire x.slot pipes piped a due) asked.name
+      (subst (λ (wire : Option ℕ). IsStuck wire x.slot pipes piped y.name due) asked.stays.wire
+      (subst (λ (slot : Option (ℕ × ℕ)). IsStuck y.wire slot pipes piped y.name due) asked.stays.slot stuck)) in
+      record {
+        looked = subst (HasLooked x) (sym (same refl)) asked_looked;
+        same = mine.same;
+        waits = λ program past f wires w has. subst (λ (due : NeedData). BringsNone w x.name due) (sym (asked.next program past f)) (mine.none wires w has);
+      }
   passed_steps (Some did) given same lasts =
-      subst (λ (o : Option ℕ). HasActed o told told wires wired pid x z before now_kept now ready) (sym lasts) (passed_on given)
+      subst (λ (o : Option ℕ). HasActed o told told pipes piped pid x z before now_kept now ready) (sym lasts) (passed_on given)
 
   lasts_in : (n : ℕ) (did : Option Did) → IfSome did (λ d. (d.at ≡ n) × (d.ended ≡ None)) → IfSome did (λ d. d.ended ≡ None)
   lasts_in n None is = tt
   lasts_in n (Some d) is = is.1
 
-  pub passed_result : {E : Type 0} (n : ℕ) (q r : History) (result : Result (Option Did) E) → IfOk result (λ did. HasGiven did wires wired pid y z before now_kept now ready due)
+  pub passed_result : {E : Type 0} (n : ℕ) (q r : History) (result : Result (Option Did) E) → IfOk result (λ did. HasGiven did pipes piped pid y z before now_kept now ready due)
       → IfOk result (λ did. IsNone did → (z ≡ y) × (q ≡ r)) → IfOk result (λ did. IfSome did (λ d. (d.at ≡ n) × (d.ended ≡ None)))
-      → IfOk result (λ did. HasStepped did told told wires wired pid x z before now_kept now ready)
+      → IfOk result (λ did. HasStepped did told told pipes piped pid x z before now_kept now ready)
   passed_result n q r (Ok did) given waits at = passed_steps did given (λ none_did. (waits none_did).0) (lasts_in n did at)
   passed_result n q r (Err e) given waits at = tt
 

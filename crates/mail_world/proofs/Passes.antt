@@ -2,7 +2,7 @@
 use Rattle.std.proofs.Common.{◌≡◌, inr, ℕ, zero, suc, ◌≤◌, List, [], ◌∷◌, length, Bool, true, false, Option, Some, None, refl, sym, ap, ◌∙◌, subst, arith}
 use Rattle.std.specs.Prelude.{◌==◌, if◌then◌else◌, is_some, take, drop}
 use Rattle.std.specs.List.{slice_get}
-use Rattle.std.proofs.lemmas.List.{take-append-drop, length-take}
+use Rattle.std.proofs.lemmas.List.{take-append-drop}
 use Rattle.std.proofs.lemmas.Bool.{eqb-true}
 use Rattle.call_fs.specs.declared.calls.Fd.{Fd}
 use Rattle.call_fs.specs.declared.modes.Mode.{Mode}
@@ -15,7 +15,7 @@ use Rattle.call_fs.specs.declared.past.NeedData.{NeedData}
 use Rattle.call_fs.specs.declared.past.NeedData.TheVariants as needs
 use Rattle.call_fs.specs.Disk.{Disk}
 use Rattle.call_fs.specs.Past.{held_by}
-use Rattle.call_fs.specs.Program.{IsKind, IsWithin}
+use Rattle.call_fs.specs.Program.{IsKind}
 use Rattle.world_pipes.specs.Pipework.{Pipe, Pipework, Tenant, Yields}
 use Rattle.world_pipes.specs.Pipework.Tenant.{Runs, Remote}
 use Rattle.world_pipes.specs.Pipes.{offered}
@@ -23,8 +23,9 @@ use Rattle.mail_world.proofs.Awaiting.{GivesToNone}
 use Rattle.mail_world.specs.History.{State, disk_after, holder_after, ComesOf, TenantEnds, IsFed}
 use Rattle.world_pipes.specs.declared.mouths.Mouths.{Mouths}
 use Rattle.world_pipes.specs.Mouths.{actor_of}
-use Rattle.mail_world.specs.Wired.{seat, tenant_in, kept_at, AreWired, HaveOneChild}
-use Rattle.mail_world.specs.Acting.{IsAct, IsNoAct, Brings, GivesNoActor, is_of_child, has_actor, opened_by}
+use Rattle.mail_world.specs.Wired.{tenant_in, kept_at, AreWired}
+use Rattle.mail_world.specs.Acting.{IsAct, IsNoAct, Brings, GivesNoActor, is_due_of_child, has_actor, opened_by}
+use Rattle.mail_world.proofs.Feeds.{offered_is}
 
 -- nothing but pipes and slots changes
 pub record IsPassing (due : NeedData) (came : GotData) : Type 0 where
@@ -78,61 +79,44 @@ only_waits (needs.Ended status) act none = absurd none
 
 -- Nothing is given to an actor in a slot, unless what is due is a child's.
 
-nobody_there : (mouths : List Mouths) (i : ℕ) (has : Bool) (d : ℕ) (bytes c : List ℕ) → HaveOneChild mouths → has ≡ has_actor mouths
-    → is_of_child (Some i) has (needs.Give (port.Program d) bytes) ≡ false → tenant_in (slice_get mouths i) d ≡ Some (Runs c) → ⊥
-nobody_there mouths i has d bytes c one child none runs = by_mouth (slice_get mouths i) refl runs where
-  by_slot : (i d : ℕ) → i ≡ 0 → d ≡ 0 → is_of_child (Some i) has (needs.Give (port.Program d) bytes) ≡ false → tenant_in (slice_get mouths i) d ≡ Some (Runs c) → ⊥
-  by_slot zero zero first slot none runs =
-      let some : has_actor mouths ≡ true = ap (λ (o : Option Tenant). is_some (actor_of o)) runs in
-      let both : has ≡ true = child ∙ some in cc
-  by_slot zero (suc d) first slot none runs = absurd (omega (arith, slot))
-  by_slot (suc i) d first slot none runs = absurd (omega (arith, first))
+nobody : (o : Option Tenant) (c : List ℕ) → is_some (actor_of o) ≡ false → o ≡ Some (Runs c) → ⊥
+nobody o c none runs = let both : false ≡ true = sym none ∙ ap (λ (o : Option Tenant). is_some (actor_of o)) runs in cc
 
-  by_mouth : (m : Option Mouths) → slice_get mouths i ≡ m → tenant_in m d ≡ Some (Runs c) → ⊥
-  by_mouth None is there = cc
-  by_mouth (Some m) is there = let so = one i m d c is there in by_slot i d so.0 so.1 none runs
-
-pub gives_no_actor : (mouths : List Mouths) (i : ℕ) (has : Bool) (due : NeedData) → HaveOneChild mouths → has ≡ has_actor mouths → is_of_child (Some i) has due ≡ false
-    → GivesNoActor mouths i due
-gives_no_actor mouths i has (needs.Give (port.Program d) bytes) one child none = λ c runs. nobody_there mouths i has d bytes c one child none runs
-gives_no_actor mouths i has (needs.Give port.Input bytes) one child none = tt
-gives_no_actor mouths i has (needs.Give port.Output bytes) one child none = tt
-gives_no_actor mouths i has (needs.Give port.Clean bytes) one child none = tt
-gives_no_actor mouths i has (needs.Give port.Lspawn bytes) one child none = tt
-gives_no_actor mouths i has (needs.Give port.Rspawn bytes) one child none = tt
-gives_no_actor mouths i has (needs.Give port.Todo bytes) one child none = tt
-gives_no_actor mouths i has (needs.Give (port.Status d) bytes) one child none = tt
-gives_no_actor mouths i has (needs.File c) one child none = tt
-gives_no_actor mouths i has (needs.Take port) one child none = tt
-gives_no_actor mouths i has (needs.Start asked) one child none = tt
-gives_no_actor mouths i has (needs.Command bytes) one child none = tt
-gives_no_actor mouths i has needs.Wait one child none = tt
-gives_no_actor mouths i has (needs.Ended status) one child none = tt
+pub gives_no_actor : (mouths : List Mouths) (wire : Option ℕ) (i : ℕ) (due : NeedData) → wire ≡ Some i → is_due_of_child (has_actor mouths wire) due ≡ false → GivesNoActor mouths i due
+gives_no_actor mouths wire i (needs.Give (port.Program d) bytes) at none =
+    λ c runs. nobody (tenant_in (slice_get mouths i) d) c (ap (λ (o : Option ℕ). has_actor mouths o d) (sym at) ∙ none) runs
+gives_no_actor mouths wire i (needs.Give port.Input bytes) at none = tt
+gives_no_actor mouths wire i (needs.Give port.Output bytes) at none = tt
+gives_no_actor mouths wire i (needs.Give port.Clean bytes) at none = tt
+gives_no_actor mouths wire i (needs.Give port.Lspawn bytes) at none = tt
+gives_no_actor mouths wire i (needs.Give port.Rspawn bytes) at none = tt
+gives_no_actor mouths wire i (needs.Give port.Todo bytes) at none = tt
+gives_no_actor mouths wire i (needs.Give (port.Status d) bytes) at none = tt
+gives_no_actor mouths wire i (needs.File c) at none = tt
+gives_no_actor mouths wire i (needs.Take port) at none = tt
+gives_no_actor mouths wire i (needs.Start asked) at none = tt
+gives_no_actor mouths wire i (needs.Command bytes) at none = tt
+gives_no_actor mouths wire i needs.Wait at none = tt
+gives_no_actor mouths wire i (needs.Ended status) at none = tt
 
 -- nor in the model
-nobody_in : (mouths : List Mouths) (w : Pipework) (a : List ℕ) (at : Option ℕ) (has : Bool) (d : ℕ) (bytes c : List ℕ) → AreWired mouths w → HaveOneChild mouths → seat a ≡ at → has ≡ has_actor mouths
-    → is_of_child at has (needs.Give (port.Program d) bytes) ≡ false → w.programs a d ≡ Some (Runs c) → ⊥
-nobody_in mouths w a None has d bytes c wired one at child none runs =
-    let gone : ◌≡◌ {A = Option Tenant} None (Some (Runs c)) = sym (wired.programs a d ∙ ap (λ (o : Option ℕ). tenant_in (kept_at o mouths) d) at) ∙ runs in cc
-nobody_in mouths w a (Some i) has d bytes c wired one at child none runs =
-    nobody_there mouths i has d bytes c one child none (sym (wired.programs a d ∙ ap (λ (o : Option ℕ). tenant_in (kept_at o mouths) d) at) ∙ runs)
-
-pub gives_to_none : (mouths : List Mouths) (w : Pipework) (a : List ℕ) (at : Option ℕ) (has : Bool) (due : NeedData) → AreWired mouths w → HaveOneChild mouths → seat a ≡ at → has ≡ has_actor mouths
-    → is_of_child at has due ≡ false → GivesToNone w a due
-gives_to_none mouths w a at has (needs.Give (port.Program d) bytes) wired one seated child none = λ c runs. nobody_in mouths w a at has d bytes c wired one seated child none runs
-gives_to_none mouths w a at has (needs.Give port.Input bytes) wired one seated child none = tt
-gives_to_none mouths w a at has (needs.Give port.Output bytes) wired one seated child none = tt
-gives_to_none mouths w a at has (needs.Give port.Clean bytes) wired one seated child none = tt
-gives_to_none mouths w a at has (needs.Give port.Lspawn bytes) wired one seated child none = tt
-gives_to_none mouths w a at has (needs.Give port.Rspawn bytes) wired one seated child none = tt
-gives_to_none mouths w a at has (needs.Give port.Todo bytes) wired one seated child none = tt
-gives_to_none mouths w a at has (needs.Give (port.Status d) bytes) wired one seated child none = tt
-gives_to_none mouths w a at has (needs.File c) wired one seated child none = tt
-gives_to_none mouths w a at has (needs.Take port) wired one seated child none = tt
-gives_to_none mouths w a at has (needs.Start asked) wired one seated child none = tt
-gives_to_none mouths w a at has (needs.Command bytes) wired one seated child none = tt
-gives_to_none mouths w a at has needs.Wait wired one seated child none = tt
-gives_to_none mouths w a at has (needs.Ended status) wired one seated child none = tt
+pub gives_to_none : (wires : List ℕ → Option ℕ) (mouths : List Mouths) (w : Pipework) (a : List ℕ) (wire : Option ℕ) (due : NeedData) → AreWired wires mouths w → wires a ≡ wire
+    → is_due_of_child (has_actor mouths wire) due ≡ false → GivesToNone w a due
+gives_to_none wires mouths w a wire (needs.Give (port.Program d) bytes) wired at none =
+    λ c runs. nobody (tenant_in (kept_at wire mouths) d) c none (sym (wired.programs a d ∙ ap (λ (o : Option ℕ). tenant_in (kept_at o mouths) d) at) ∙ runs)
+gives_to_none wires mouths w a wire (needs.Give port.Input bytes) wired at none = tt
+gives_to_none wires mouths w a wire (needs.Give port.Output bytes) wired at none = tt
+gives_to_none wires mouths w a wire (needs.Give port.Clean bytes) wired at none = tt
+gives_to_none wires mouths w a wire (needs.Give port.Lspawn bytes) wired at none = tt
+gives_to_none wires mouths w a wire (needs.Give port.Rspawn bytes) wired at none = tt
+gives_to_none wires mouths w a wire (needs.Give port.Todo bytes) wired at none = tt
+gives_to_none wires mouths w a wire (needs.Give (port.Status d) bytes) wired at none = tt
+gives_to_none wires mouths w a wire (needs.File c) wired at none = tt
+gives_to_none wires mouths w a wire (needs.Take port) wired at none = tt
+gives_to_none wires mouths w a wire (needs.Start asked) wired at none = tt
+gives_to_none wires mouths w a wire (needs.Command bytes) wired at none = tt
+gives_to_none wires mouths w a wire needs.Wait wired at none = tt
+gives_to_none wires mouths w a wire (needs.Ended status) wired at none = tt
 
 fed_by : (s : State) (o : Option Tenant) (bytes : List ℕ) → ((b : List ℕ) → o ≡ Some (Runs b) → ⊥) → IsFed s o bytes
 fed_by s None bytes none = tt
@@ -162,7 +146,7 @@ comes_of s w pid most a (needs.Give q bytes) came same none many brings = subst 
   given_by port.Rspawn none = tt
   given_by port.Todo none = tt
   given_by (port.Status d) none = tt
-comes_of s w pid most a (needs.Start (child.Bounce room)) came same none many brings = subst (λ (came : GotData). ComesOf s a (needs.Start (child.Bounce room)) came 0) (sym brings) tt
+comes_of s w pid most a (needs.Start (child.Bounce room)) came same none many brings = absurd brings
 comes_of s w pid most a (needs.Start (child.Forward uid room)) came same none many brings = subst (λ (came : GotData). ComesOf s a (needs.Start (child.Forward uid room)) came 0) (sym brings) tt
 comes_of s w pid most a (needs.Start (child.Local slot words uid)) came same none many brings = subst (λ (came : GotData). ComesOf s a (needs.Start (child.Local slot words uid)) came 0) (sym brings) tt
 comes_of s w pid most a (needs.Start (child.Remote slot domain sender recipient)) came same none many brings =
@@ -170,39 +154,6 @@ comes_of s w pid most a (needs.Start (child.Remote slot domain sender recipient)
 comes_of s w pid most a (needs.Command bytes) came same none many brings = subst (λ (came : GotData). ComesOf s a (needs.Command bytes) came 0) (sym brings) tt
 comes_of s w pid most a needs.Wait came same none many brings = absurd brings
 comes_of s w pid most a (needs.Ended status) came same none many brings = absurd brings
-
--- what a taking brings is of its kind, and no more than it may be
-offer_kind : (t shut : Bool) (n : ℕ) (bytes : List ℕ) (came : GotData) (P : GotData → Type 0) → P got.End → P (got.Took (take n bytes))
-    → (if t then (if shut then Some got.End else None) else Some (got.Took (take n bytes))) ≡ Some came → P came
-offer_kind true true n bytes came P end took is = let same : got.End ≡ came = cc in subst P same end
-offer_kind true false n bytes came P end took is = absurd (cc)
-offer_kind false shut n bytes came P end took is = let same : got.Took (take n bytes) ≡ came = cc in subst P same took
-
-pub offered_is : (n : ℕ) (pipe : Pipe) (came : GotData) (P : GotData → Type 0) → P got.End → P (got.Took (take n pipe.bytes)) → offered n pipe ≡ Some came → P came
-offered_is n pipe came P end took is = offer_kind (length pipe.bytes == 0) pipe.shut n pipe.bytes came P end took is
-
--- what passes is no more than may be taken at once
-few_taken : (n : ℕ) (bytes : List ℕ) → length (take n bytes) ≤ n
-few_taken n bytes = omega (arith, length-take n bytes)
-
-pub brings_within : (w : Pipework) (pid most : ℕ) (a : List ℕ) (due : NeedData) (came : GotData) → Brings w pid most a due came → IsWithin most came
-brings_within w pid most a (needs.File c) came brings = absurd brings
-brings_within w pid most a (needs.Take (port.Status d)) came brings = subst (IsWithin most) (sym brings.1) tt
-brings_within w pid most a (needs.Take port.Input) came brings = offered_is most (w.pipes a port.Input) came (IsWithin most) tt (few_taken most _) brings
-brings_within w pid most a (needs.Take port.Output) came brings = offered_is most (w.pipes a port.Output) came (IsWithin most) tt (few_taken most _) brings
-brings_within w pid most a (needs.Take port.Clean) came brings = offered_is most (w.pipes a port.Clean) came (IsWithin most) tt (few_taken most _) brings
-brings_within w pid most a (needs.Take port.Lspawn) came brings = offered_is most (w.pipes a port.Lspawn) came (IsWithin most) tt (few_taken most _) brings
-brings_within w pid most a (needs.Take port.Rspawn) came brings = offered_is most (w.pipes a port.Rspawn) came (IsWithin most) tt (few_taken most _) brings
-brings_within w pid most a (needs.Take port.Todo) came brings = offered_is most (w.pipes a port.Todo) came (IsWithin most) tt (few_taken most _) brings
-brings_within w pid most a (needs.Take (port.Program d)) came brings = offered_is most (w.pipes a (port.Program d)) came (IsWithin most) tt (few_taken most _) brings
-brings_within w pid most a (needs.Give port bytes) came brings = subst (IsWithin most) (sym brings) tt
-brings_within w pid most a (needs.Start (child.Bounce room)) came brings = subst (IsWithin most) (sym brings) tt
-brings_within w pid most a (needs.Start (child.Forward uid room)) came brings = subst (IsWithin most) (sym brings) tt
-brings_within w pid most a (needs.Start (child.Local slot words uid)) came brings = subst (IsWithin most) (sym brings) tt
-brings_within w pid most a (needs.Start (child.Remote slot domain sender recipient)) came brings = subst (IsWithin most) (sym brings) tt
-brings_within w pid most a (needs.Command bytes) came brings = subst (IsWithin most) (sym brings) tt
-brings_within w pid most a needs.Wait came brings = absurd brings
-brings_within w pid most a (needs.Ended status) came brings = absurd brings
 
 -- what passes is of its kind
 pub brings_kind : (w : Pipework) (pid most : ℕ) (a : List ℕ) (due : NeedData) (came : GotData) → Brings w pid most a due came → IsKind due came
@@ -216,7 +167,7 @@ brings_kind w pid most a (needs.Take port.Rspawn) came brings = offered_is most 
 brings_kind w pid most a (needs.Take port.Todo) came brings = offered_is most (w.pipes a port.Todo) came (IsKind (needs.Take port.Todo)) tt tt brings
 brings_kind w pid most a (needs.Take (port.Program d)) came brings = offered_is most (w.pipes a (port.Program d)) came (IsKind (needs.Take (port.Program d))) tt tt brings
 brings_kind w pid most a (needs.Give port bytes) came brings = subst (IsKind (needs.Give port bytes)) (sym brings) tt
-brings_kind w pid most a (needs.Start (child.Bounce room)) came brings = subst (IsKind (needs.Start (child.Bounce room))) (sym brings) tt
+brings_kind w pid most a (needs.Start (child.Bounce room)) came brings = absurd brings
 brings_kind w pid most a (needs.Start (child.Forward uid room)) came brings = subst (IsKind (needs.Start (child.Forward uid room))) (sym brings) tt
 brings_kind w pid most a (needs.Start (child.Local slot words uid)) came brings = subst (IsKind (needs.Start (child.Local slot words uid))) (sym brings) tt
 brings_kind w pid most a (needs.Start (child.Remote slot domain sender recipient)) came brings = subst (IsKind (needs.Start (child.Remote slot domain sender recipient))) (sym brings) tt

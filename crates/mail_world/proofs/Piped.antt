@@ -1,8 +1,9 @@
 -- The pipes that a world keeps, as one event comes.
-use Rattle.std.proofs.Common.{◌≡◌, ◌≢◌, inl, ℕ, ◌≤◌, ◌<◌, List, [], ◌∷◌, ◌++◌, length, set, reverse, Bool, true, false, if◌then◌else◌, Option, Some, None, IsSome, refl, sym, ap, ◌∙◌, subst, ⊎_elim, arith, codes}
+use Rattle.std.proofs.Common.{◌≡◌, ◌≢◌, ◌⊎◌, inl, inr, ℕ, ◌≤◌, ◌<◌, List, [], ◌∷◌, ◌++◌, length, set, reverse, Bool, true, false, if◌then◌else◌, Option, Some, None, IsSome, refl, sym, ap, ◌∙◌, subst, ⊎_elim, arith, codes}
 use Rattle.std.specs.Prelude.{option_map}
 use Rattle.std.specs.List.{slice_get}
 use Rattle.std.proofs.lemmas.List.{reverse-append, length-set, length-append}
+use Rattle.std.proofs.lemmas.Option.{slice_get_within}
 use Rattle.call_fs.specs.Disk.{Disk}
 use Rattle.call_fs.specs.Maps.{put_at}
 use Rattle.call_fs.proofs.Maps.{put_at_same, put_at_other}
@@ -20,25 +21,29 @@ use Rattle.world_events.specs.declared.event.Event.{Event as Kept}
 use Rattle.world_events.specs.declared.event.Event.TheVariants as kept
 use Rattle.world_events.specs.declared.event.Program.{Program}
 use Rattle.world_pipes.specs.declared.mouths.Mouths.{Mouths}
-use Rattle.world_pipes.specs.Pipework.{closed, feeder, is_writer}
+use Rattle.world_pipes.specs.Mouths.{tenant_of}
+use Rattle.world_pipes.specs.Pipework.{Tenant, closed, feeder, is_writer}
 use Rattle.mail_world.specs.declared.actor.Actor.{Actor as Held}
-use Rattle.mail_world.specs.Pipework.{Pipework, Slot, is_member, no_pipework, pipework_after, without_writer}
+use Rattle.mail_world.specs.Pipework.{Pipework, Slot, is_member, no_pipework, pipework_after}
 use Rattle.mail_world.specs.Pipework.Tenant.{Runs}
 use Rattle.mail_world.specs.History.{Actor, Life, State, acted, finished, happens, newborn, stopped}
-use Rattle.mail_world.specs.History.Life.{Alive}
-use Rattle.mail_world.specs.Readiness.{is_awaiting}
-use Rattle.mail_world.specs.Wired.{seat, pipe_in, tenant_in, kept_at, AreWired, HaveSlots, GivesWhole, IsWholeGiving, AreWholeGivings}
-use Rattle.mail_world.specs.Inside.{known, event_of, IsApart, IsBirth, HasBorneLast, ArePiped, IsMember}
-use Rattle.mail_world.specs.Acting.{IsCall, Brings, AreAsBefore, HasDone, IsFinished, AreCutOff}
+use Rattle.mail_world.specs.History.Life.{Alive, Over, Stopped}
+use Rattle.mail_world.specs.ByKind.{IsFeeder}
+use Rattle.mail_world.specs.Readiness.{is_awaiting, is_gone, is_over}
+use Rattle.mail_world.specs.Wired.{seat, tenant_in, kept_at, AreWired, IsSlotOf, HasWires, GivesWhole, IsWholeGiving, AreWholeGivings}
+use Rattle.mail_world.specs.Inside.{known, event_of, IsApart, IsBirth, HasBorneLast, MayFeed, IsBorne, ArePiped, IsMember}
+use Rattle.mail_world.specs.Acting.{IsCall, Brings, Keep, AreAsBefore, IsGoneToo, StaysAt, HasDone, IsFinished, AreCutOff}
 use Rattle.mail_world.proofs.Acts.{Finishes}
-use Rattle.mail_world.proofs.Awaiting.{GivesToNone, awaits_same, input_still, ran_before, runs_still, finish_less, finish_other, finish_sender}
-use Rattle.mail_world.proofs.Borne.{one_kept, feed_push, stranger_slot}
+use Rattle.mail_world.proofs.Awaiting.{GivesToNone, awaits_same, input_still, ran_before, runs_still, finish_less, finish_other, finish_parent}
+use Rattle.mail_world.proofs.Borne.{just_push, feed_push, stranger_slot}
 use Rattle.mail_world.proofs.Halts.{never_alive}
 use Rattle.mail_world.proofs.Known.{IsPlain, known_push}
 use Rattle.mail_world.proofs.Crew.{was_there, none_alive}
-use Rattle.mail_world.proofs.Leaving.{children_of}
-use Rattle.mail_world.proofs.Lists.{get_set, get_push}
-use Rattle.mail_world.proofs.Members.{other_than}
+use Rattle.mail_world.proofs.Feeds.{own_tenant}
+use Rattle.mail_world.proofs.Keeps.{over_alike}
+use Rattle.mail_world.proofs.Leaving.{child_of}
+use Rattle.mail_world.proofs.Lists.{each_push, get_set, get_push}
+use Rattle.mail_world.proofs.Seats.{seat_none, same_seat}
 use Rattle.mail_world.proofs.Worlds.{IsPlumbed}
 
 pub plumbed : (crew : ℕ) (mouths : List Mouths) (actors : List Held) (s : State) (events : List Kept) → ArePiped crew mouths actors s events → IsPlumbed s events
@@ -83,7 +88,7 @@ brings_whole w pid most a (needs.Command bytes) came brings = tt
 brings_whole w pid most a needs.Wait came brings = tt
 brings_whole w pid most a (needs.Ended status) came brings = tt
 
--- nothing that is kept as any other event starts the injector of a bounce
+-- nothing that is kept as any other event starts an injector
 call_bears_none : (due : NeedData) (came : GotData) → IsCall due came → IsBirth due came → ⊥
 call_bears_none (needs.Start asked) came call birth = call
 call_bears_none (needs.File c) came call birth = birth
@@ -94,8 +99,8 @@ call_bears_none needs.Wait came call birth = birth
 call_bears_none (needs.Ended status) came call birth = birth
 
 brings_no_birth : (w : Pipework) (pid most : ℕ) (a : List ℕ) (due : NeedData) (came : GotData) → Brings w pid most a due came → IsBirth due came → ⊥
-brings_no_birth w pid most a (needs.Start (child.Bounce room)) came brings birth = subst (IsBirth (needs.Start (child.Bounce room))) brings birth
-brings_no_birth w pid most a (needs.Start (child.Forward uid room)) came brings birth = birth
+brings_no_birth w pid most a (needs.Start (child.Bounce room)) came brings birth = brings
+brings_no_birth w pid most a (needs.Start (child.Forward uid room)) came brings birth = subst (IsBirth (needs.Start (child.Forward uid room))) brings birth
 brings_no_birth w pid most a (needs.Start (child.Local slot words uid)) came brings birth = birth
 brings_no_birth w pid most a (needs.Start (child.Remote slot domain sender recipient)) came brings birth = birth
 brings_no_birth w pid most a (needs.File c) came brings birth = birth
@@ -105,13 +110,34 @@ brings_no_birth w pid most a (needs.Command bytes) came brings birth = birth
 brings_no_birth w pid most a needs.Wait came brings birth = birth
 brings_no_birth w pid most a (needs.Ended status) came brings birth = birth
 
--- another actor in place of an old one: who was known is known, and who is unknown was it
+-- Another actor in place of an old one: who was known is known, and who is unknown was it.
+module _ (m : List ℕ → Option Actor) (b : List ℕ) (x y : Actor) (is : m b ≡ Some x) where
+  known_put : (a : List ℕ) → IsSome (m a) → IsSome (put_at m b (Some y) a)
+  known_put a some = ⊎_elim
+      (λ f. subst (λ (o : Option Actor). IsSome o) (sym (ap (put_at m b (Some y)) f.0 ∙ put_at_same m b (Some y))) refl)
+      (λ f. subst (λ (o : Option Actor). IsSome o) (sym (put_at_other m b (Some y) a f.0)) some)
+      (text_cases a b)
 
-known_put : (m : List ℕ → Option Actor) (b : List ℕ) (x y : Actor) (a : List ℕ) → m b ≡ Some x → IsSome (m a) → IsSome (put_at m b (Some y) a)
-known_put m b x y a is some = ⊎_elim
-    (λ f. subst (λ (o : Option Actor). IsSome o) (sym (ap (put_at m b (Some y)) f.0 ∙ put_at_same m b (Some y))) refl)
-    (λ f. subst (λ (o : Option Actor). IsSome o) (sym (put_at_other m b (Some y) a f.0)) some)
-    (text_cases a b)
+  -- if its life is the same, as many are over
+  gone_put : y.life ≡ x.life → (a : List ℕ) → is_gone (put_at m b (Some y) a) ≡ is_gone (m a)
+  gone_put life a = ⊎_elim
+      (λ f. ap is_gone (ap (put_at m b (Some y)) f.0 ∙ put_at_same m b (Some y)) ∙ ap is_over life ∙ sym (ap is_gone (ap m f.0 ∙ is)))
+      (λ f. ap is_gone (put_at_other m b (Some y) a f.0))
+      (text_cases a b)
+
+  -- and who runs in a slot was borne as before, if its program is the same
+  borne_put : (s t : State) → s.actors ≡ m → t.actors ≡ put_at m b (Some y) → y.program ≡ x.program → (a : List ℕ) (d : ℕ) (c : List ℕ) → IsBorne s a d c → IsBorne t a d c
+  borne_put s t old new program a d c was = record {
+    known = subst (λ (o : Option Actor). IsSome o) (sym (ap (λ (f : List ℕ → Option Actor). f c) new)) (known_put c (subst (λ (f : List ℕ → Option Actor). IsSome (f c)) old was.known));
+    first = was.first;
+    feeds = λ z there. ⊎_elim
+        (λ f.
+        let both : ◌≡◌ {A = Option Actor} (Some y) (Some z) = sym (ap (put_at m b (Some y)) f.0 ∙ put_at_same m b (Some y)) ∙ ap (λ (f : List ℕ → Option Actor). f a) (sym new) ∙ there in
+        let same : y ≡ z = cc in
+        subst (λ (z : Actor). IsFeeder z.program) same (subst IsFeeder (sym program) (was.feeds x (ap (λ (f : List ℕ → Option Actor). f a) old ∙ ap m f.0 ∙ is))))
+        (λ f. was.feeds z (ap (λ (f : List ℕ → Option Actor). f a) old ∙ sym (put_at_other m b (Some y) a f.0) ∙ ap (λ (f : List ℕ → Option Actor). f a) (sym new) ∙ there))
+        (text_cases a b);
+  }
 
 unknown_put : (m : List ℕ → Option Actor) (b : List ℕ) (y : Actor) (a : List ℕ) → put_at m b (Some y) a ≡ None → (a ≢ b) × (m a ≡ None)
 unknown_put m b y a none = ⊎_elim
@@ -120,82 +146,117 @@ unknown_put m b y a none = ⊎_elim
     (text_cases a b)
 
 -- the members that live are among those that did
-seated_set : (crew n : ℕ) (actors : List Held) (i : ℕ) (x y : Held) → slice_get actors i ≡ Some x → (y.ended ≡ None → x.ended ≡ None)
-    → ((j : ℕ) (z : Held) → j < crew → slice_get actors j ≡ Some z → z.ended ≡ None → n ≡ 4)
-    → (j : ℕ) (z : Held) → j < crew → slice_get (set actors i y) j ≡ Some z → z.ended ≡ None → n ≡ 4
-seated_set crew n actors i x y is on seated j z low at lives = ⊎_elim
+seated_set : (Q : Type 0) (crew : ℕ) (actors : List Held) (i : ℕ) (x y : Held) → slice_get actors i ≡ Some x → (y.ended ≡ None → x.ended ≡ None)
+    → ((j : ℕ) (z : Held) → j < crew → slice_get actors j ≡ Some z → z.ended ≡ None → Q)
+    → (j : ℕ) (z : Held) → j < crew → slice_get (set actors i y) j ≡ Some z → z.ended ≡ None → Q
+seated_set Q crew actors i x y is on seated j z low at lives = ⊎_elim
     (λ f. seated i x (subst (λ (j : ℕ). j < crew) f.0 low) is (on (subst (λ (z : Held). z.ended ≡ None) (sym f.1) lives)))
     (λ f. seated j z low f.1 lives)
     (get_set actors i y j z at)
 
+-- what holds of each that lives holds of each that lives then
+living_set : (P : Held → Type 0) (actors : List Held) (i : ℕ) (x y : Held) → slice_get actors i ≡ Some x → (y.ended ≡ None → (x.ended ≡ None) × (P x → P y))
+    → ((j : ℕ) (z : Held) → slice_get actors j ≡ Some z → z.ended ≡ None → P z) → (j : ℕ) (z : Held) → slice_get (set actors i y) j ≡ Some z → z.ended ≡ None → P z
+living_set P actors i x y is on all j z at lives = ⊎_elim
+    (λ f. let mine = on (subst (λ (z : Held). z.ended ≡ None) (sym f.1) lives) in subst P f.1 (mine.1 (all i x is mine.0)))
+    (λ f. all j z f.1 lives)
+    (get_set actors i y j z at)
+
+-- where an actor has its pipes, and its slot
+stays_wire : (wires : List ℕ → Option ℕ) (x y : Held) → y.name ≡ x.name → StaysAt x y → wires x.name ≡ x.wire → wires y.name ≡ y.wire
+stays_wire wires x y name stays of = ap wires name ∙ of ∙ sym stays.wire
+
+stays_slot : (wires : List ℕ → Option ℕ) (w : Pipework) (x y : Held) → y.name ≡ x.name → StaysAt x y → IsSlotOf wires (w.slots x.name) x.slot → IsSlotOf wires (w.slots y.name) y.slot
+stays_slot wires w x y name stays of =
+    subst (λ (a : List ℕ). IsSlotOf wires (w.slots a) y.slot) (sym name) (subst (IsSlotOf wires (w.slots x.name)) (sym stays.slot) of)
+
+-- as many pipes
+count_still : (crew n m : ℕ) → m ≡ n → (n ≡ 0) ⊎ ((4 ≤ n) × (crew ≡ 4)) → (m ≡ 0) ⊎ ((4 ≤ m) × (crew ≡ 4))
+count_still crew n m same count = subst (λ (n : ℕ). (n ≡ 0) ⊎ ((4 ≤ n) × (crew ≡ 4))) (sym same) count
+
+-- an actor that lives, with its pipes and its slot
+pub has_wires : (crew : ℕ) (mouths : List Mouths) (actors : List Held) (s : State) (events : List Kept) (i : ℕ) (x : Held) (piped : ArePiped crew mouths actors s events) → slice_get actors i ≡ Some x → x.ended ≡ None
+    → HasWires piped.wires mouths s.pipework x.name x.wire x.slot
+has_wires crew mouths actors s events i x piped is lives = record { wired = piped.wired; at = piped.places i x is lives; slot_is = piped.stands i x is lives }
+
 -- an actor's machine was paid, or looked, and perhaps there is more room in the pipes
 pub look_piped : (crew : ℕ) (mouths later : List Mouths) (actors : List Held) (s : State) (events : List Kept) (i : ℕ) (x y : Held)
-    → ArePiped crew mouths actors s events → slice_get actors i ≡ Some x → y.ended ≡ x.ended → AreAsBefore mouths later → ArePiped crew later (set actors i y) s events
-look_piped crew mouths later actors s events i x y piped is ended same =
-    let wired = same.wired s.pipework piped.wired in
-    let most = subst (λ (many : ℕ). many ≤ crew) (sym same.many) piped.most in
-    record {
-      wired = wired;
-      slots = same.slots piped.slots;
-      one = one_kept mouths later s.pipework s.pipework piped.wired wired piped.one (λ a d c runs. runs) crew most piped.few;
-      children = piped.children;
-      whole = piped.whole;
-      fresh = piped.fresh;
-      fed = piped.fed;
-      awaited = piped.awaited;
-      most = most;
-      few = piped.few;
-      many = subst (λ (n : ℕ). crew ≤ n) (sym (length-set actors i y)) piped.many;
-      seated = λ j z low at lives. same.many ∙ seated_set crew (length mouths) actors i x y is (λ e. sym ended ∙ e) piped.seated j z low at lives;
-    }
+    → ArePiped crew mouths actors s events → slice_get actors i ≡ Some x → y.name ≡ x.name → y.ended ≡ x.ended → StaysAt x y → AreAsBefore mouths later → ArePiped crew later (set actors i y) s events
+look_piped crew mouths later actors s events i x y piped is name ended stays same = record {
+  wires = piped.wires;
+  wired = same.wired piped.wires s.pipework piped.wired;
+  slots = same.keep.slots piped.slots;
+  children = same.keep.children piped.children;
+  over = same.keep.over (λ c. is_gone (s.actors c)) piped.over;
+  places = living_set (λ (z : Held). piped.wires z.name ≡ z.wire) actors i x y is (λ e. (sym ended ∙ e, stays_wire piped.wires x y name stays)) piped.places;
+  stands = living_set (λ (z : Held). IsSlotOf piped.wires (s.pipework.slots z.name) z.slot) actors i x y is (λ e. (sym ended ∙ e, stays_slot piped.wires s.pipework x y name stays)) piped.stands;
+  alone = piped.alone;
+  born = piped.born;
+  whole = piped.whole;
+  fresh = piped.fresh;
+  fed = piped.fed;
+  awaited = piped.awaited;
+  count = count_still crew (length mouths) (length later) same.keep.many piped.count;
+  few = piped.few;
+  many = subst (λ (n : ℕ). crew ≤ n) (sym (length-set actors i y)) piped.many;
+  seated = λ j z low at lives. subst (λ (n : ℕ). 4 ≤ n) (sym same.keep.many) (seated_set (4 ≤ length mouths) crew actors i x y is (λ e. sym ended ∙ e) piped.seated j z low at lives);
+}
 
--- An actor did something that is none of a child's: it awaited no input, and if it is the sender, nobody did.
-pub done_piped : (crew : ℕ) (old new : Option Disk) (wires wired : List Mouths) (pid : ℕ) (actors : List Held) (events later : List Kept) (p i : ℕ) (x y : Held) (ready : Ready)
-    → ArePiped crew wires actors (known events) events → slice_get actors i ≡ Some x → (m : IsMember (known events) events p x)
-    → (done : HasDone old new wires wired pid x y events later p ready) → GivesToNone (known events).pipework x.name done.own.due
+-- An actor did something that is none of a child's: it awaited no input, and hasn't just started an injector.
+pub done_piped : (crew : ℕ) (old new : Option Disk) (pipes later_pipes : List Mouths) (pid : ℕ) (actors : List Held) (events later : List Kept) (p i : ℕ) (x y : Held) (ready : Ready)
+    → ArePiped crew pipes actors (known events) events → slice_get actors i ≡ Some x → x.ended ≡ None → (m : IsMember (known events) events p x)
+    → (done : HasDone old new pipes later_pipes pid x y events later p ready) → GivesToNone (known events).pipework x.name done.own.due
     → ((c : List ℕ) → is_awaiting (acted (known events) x.name done.own 0 (Some m.actor)) c ≡ is_awaiting (known events) c)
-    → is_awaiting (known events) x.name ≡ false → (x.name ≡ codes "sender" → (c : List ℕ) → is_awaiting (known events) c ≡ false)
-    → ArePiped crew wired (set actors i y) (known later) later
-done_piped crew old new wires wired pid actors events later p i x y ready piped is m done none awaits acts nobody =
-    subst (λ (l : List Kept). ArePiped crew wired (set actors i y) (known l) l) (sym done.event)
-    (subst (λ (t : State). ArePiped crew wired (set actors i y) t (events ++ k ∷ [])) (sym (known_push events k tt ∙ ap (acted s x.name own 0) m.is)) (record {
+    → is_awaiting (known events) x.name ≡ false → (HasBorneLast m.actor.past → ⊥)
+    → ArePiped crew later_pipes (set actors i y) (known later) later
+done_piped crew old new pipes later_pipes pid actors events later p i x y ready piped is lives m done none awaits never unborn =
+    subst (λ (l : List Kept). ArePiped crew later_pipes (set actors i y) (known l) l) (sym done.event)
+    (subst (λ (t : State). ArePiped crew later_pipes (set actors i y) t (events ++ k ∷ [])) (sym (known_push events k tt ∙ ap (acted s x.name own 0) m.is)) (record {
+      wires = wires;
       wired = wires_on;
-      slots = ⊎_elim (λ call. subst HaveSlots (sym call.1) piped.slots) (λ pass. pass.1.slots piped.slots) done.passed;
-      one = one_kept wires wired s.pipework t.pipework piped.wired wires_on piped.one (λ a d c runs. ran a d c runs) crew most piped.few;
-      children = λ c runs. let was = piped.children c (ran (codes "sender") 0 c runs) in (known_put s.actors x.name m.actor after_it c m.is was.0, was.1);
+      slots = keep.slots piped.slots;
+      children = keep.children piped.children;
+      over = over_alike (λ c. is_gone (s.actors c)) (λ c. is_gone (t.actors c)) later_pipes (λ j z d c at runs. gone_put s.actors x.name m.actor after_it m.is refl c)
+          (keep.over (λ c. is_gone (s.actors c)) piped.over);
+      places = living_set (λ (z : Held). wires z.name ≡ z.wire) actors i x y is (λ e. (lives, stays_wire wires x y done.name done.stays)) piped.places;
+      stands = living_set (λ (z : Held). IsSlotOf wires (s.pipework.slots z.name) z.slot) actors i x y is (λ e. (lives, stays_slot wires s.pipework x y done.name done.stays)) piped.stands;
+      alone = piped.alone;
+      born = λ a d c runs. borne_put s.actors x.name m.actor after_it m.is s t refl refl refl a d c (piped.born a d c (ran a d c runs));
       whole = whole_push events k piped.whole whole;
       fresh = λ a unknown named.
           let other = unknown_put s.actors x.name after_it a unknown in
           input_still s.pipework x.name a own.due own.came named other.0 none ∙ piped.fresh a other.1 named;
-      fed = λ z there alive borne. ⊎_elim
+      fed = λ a z there alive borne. ⊎_elim
           (λ same.
           let both : ◌≡◌ {A = Option Actor} (Some after_it) (Some z) = sym (put_at_same s.actors x.name (Some after_it)) ∙ ap t.actors same.0 ∙ there in
           let is_it : after_it ≡ z = cc in
-          absurd (unborn (subst (λ (z : Actor). HasBorneLast z.past) (sym is_it) borne)))
-          (λ other. feed_push s t events k tt
-          (λ c runs awaiting. (other.0, λ e. let both : false ≡ true = sym acts ∙ ap (is_awaiting s) e ∙ awaiting in absurd (cc)))
-          (runs_still s.pipework x.name own.due own.came (codes "sender") 0 (λ e. other.0 (sym e)))
+          absurd (no_birth (subst (λ (z : Actor). HasBorneLast z.past) (sym is_it) borne)))
+          (λ other. feed_push s t events k a tt
+          (λ c runs awaiting. (other.0, λ e. let both : false ≡ true = sym never ∙ ap (is_awaiting s) e ∙ awaiting in absurd (cc)))
+          (runs_still s.pipework x.name own.due own.came a 0 (λ e. other.0 (sym e)))
           (λ c awaiting. awaits c ∙ awaiting)
-          (piped.fed z (sym (put_at_other s.actors x.name (Some after_it) (codes "sender") (λ e. other.0 (sym e))) ∙ there) alive borne))
-          (text_cases x.name (codes "sender"));
+          (piped.fed a z (sym (put_at_other s.actors x.name (Some after_it) a (λ e. other.0 (sym e))) ∙ there) alive borne))
+          (text_cases x.name a);
       awaited = λ c awaiting.
-          let before : is_awaiting s c ≡ true = sym (awaits c) ∙ awaiting in
+          let was = piped.awaited c (sym (awaits c) ∙ awaiting) in
           ⊎_elim
-          (λ same. let both : false ≡ true = sym (nobody same.0 c) ∙ before in absurd (cc))
-          (λ other.
-          let was = piped.awaited c before in
-          record {
-            runs = runs_still s.pipework x.name own.due own.came (codes "sender") 0 (λ e. other.0 (sym e)) ∙ was.runs;
-            sender = was.sender;
-            is = put_at_other s.actors x.name (Some after_it) (codes "sender") (λ e. other.0 (sym e)) ∙ was.is;
+          (λ same.
+          let both : ◌≡◌ {A = Option Actor} (Some was.actor) (Some m.actor) = sym was.is ∙ ap s.actors (sym same.0) ∙ m.is in
+          let is_it : was.actor ≡ m.actor = cc in
+          absurd (unborn (subst (λ (z : Actor). HasBorneLast z.past) is_it was.borne)))
+          (λ other. record {
+            parent = was.parent;
+            runs = runs_still s.pipework x.name own.due own.came was.parent 0 (λ e. other.0 (sym e)) ∙ was.runs;
+            actor = was.actor;
+            is = put_at_other s.actors x.name (Some after_it) was.parent (λ e. other.0 (sym e)) ∙ was.is;
             alive = was.alive;
             borne = was.borne;
           })
-          (text_cases x.name (codes "sender"));
-      most = most;
+          (text_cases x.name was.parent);
+      count = count_still crew (length pipes) (length later_pipes) keep.many piped.count;
       few = piped.few;
       many = subst (λ (n : ℕ). crew ≤ n) (sym (length-set actors i y)) piped.many;
-      seated = λ j z low at lives. many ∙ seated_set crew (length wires) actors i x y is (λ e. sym done.ended ∙ e) piped.seated j z low at lives;
+      seated = λ j z low at alive. subst (λ (n : ℕ). 4 ≤ n) (sym keep.many) (seated_set (4 ≤ length pipes) crew actors i x y is (λ e. lives) piped.seated j z low at alive);
     }))
   where
     s : State
@@ -213,77 +274,94 @@ done_piped crew old new wires wired pid actors events later p i x y ready piped 
     after_it : Actor
     after_it = record { program = m.actor.program; past = own ∷ m.actor.past; life = m.actor.life }
 
-    wires_on : AreWired wired (pipework_after s.pipework x.name own.due own.came 0)
+    wires : List ℕ → Option ℕ
+    wires = piped.wires
+
+    has : HasWires piped.wires pipes (known events).pipework x.name x.wire x.slot
+    has = has_wires crew pipes actors (known events) events i x piped is lives
+
+    wires_on : AreWired piped.wires later_pipes (pipework_after (known events).pipework x.name own.due own.came 0)
     wires_on = ⊎_elim
-        (λ call. subst (λ (l : List Mouths). AreWired l (pipework_after s.pipework x.name own.due own.came 0)) (sym call.1)
-        (subst (AreWired wires) (sym (call_pipework s.pipework x.name own.due own.came call.0)) piped.wired))
-        (λ pass. pass.1.wired s.pipework piped.wired)
+        (λ call. subst (λ (l : List Mouths). AreWired wires l (pipework_after s.pipework x.name own.due own.came 0)) (sym call.1)
+        (subst (AreWired wires pipes) (sym (call_pipework s.pipework x.name own.due own.came call.0)) piped.wired))
+        (λ pass. pass.1.wired wires s.pipework has)
+        done.passed
+
+    keep : Keep pipes later_pipes
+    keep = ⊎_elim
+        (λ call. subst (Keep pipes) (sym call.1) (record { many = refl; slots = λ slots. slots; children = λ children. children; over = λ gone over. over }))
+        (λ pass. pass.1.keep)
         done.passed
 
     whole : GivesWhole own.due own.came
     whole = ⊎_elim
         (λ call. call_whole own.due own.came call.0)
-        (λ pass. brings_whole s.pipework pid _ x.name own.due own.came (pass.1.brings s.pipework piped.wired))
+        (λ pass. brings_whole s.pipework pid _ x.name own.due own.came (pass.1.brings wires s.pipework has))
         done.passed
 
-    unborn : IsBirth own.due own.came → ⊥
-    unborn birth = ⊎_elim
+    no_birth : IsBirth own.due own.came → ⊥
+    no_birth birth = ⊎_elim
         (λ call. call_bears_none own.due own.came call.0 birth)
-        (λ pass. brings_no_birth s.pipework pid _ x.name own.due own.came (pass.1.brings s.pipework piped.wired) birth)
+        (λ pass. brings_no_birth s.pipework pid _ x.name own.due own.came (pass.1.brings wires s.pipework has) birth)
         done.passed
-
-    many : length wired ≡ length wires
-    many = ⊎_elim (λ call. ap length call.1) (λ pass. pass.1.many) done.passed
-
-    most : length wired ≤ crew
-    most = subst (λ (many : ℕ). many ≤ crew) (sym many) piped.most
 
     ran : (a : List ℕ) (d : ℕ) (c : List ℕ) → t.pipework.programs a d ≡ Some (Runs c) → s.pipework.programs a d ≡ Some (Runs c)
     ran a d c runs = ran_before s.pipework x.name own.due own.came a d c runs
 
--- An actor ended or was stopped: if it isn't the sender, it is none that awaits its input, or was stopped.
-pub finish_piped : (crew : ℕ) (old new : Option Disk) (wires wired : List Mouths) (actors : List Held) (events later : List Kept) (p i : ℕ) (x y : Held) (k : Kept) (life : Life) (status : Option ℕ)
-    → ArePiped crew wires actors (known events) events → slice_get actors i ≡ Some x → (m : IsMember (known events) events p x) → Finishes x.name k life status → IsWholeGiving k
-    → (x.name ≢ codes "sender" → (c : List ℕ) → is_awaiting (known events) c ≡ true → IsApart (codes "sender") c k)
-    → IsFinished k status old new wires wired x y events later
-    → ArePiped crew wired (set actors i y) (known later) later
-finish_piped crew old new wires wired actors events later p i x y k life status piped is m f one apart over =
-    subst (λ (l : List Kept). ArePiped crew wired (set actors i y) (known l) l) (sym over.event)
-    (subst (λ (t : State). ArePiped crew wired (set actors i y) t (events ++ k ∷ [])) (sym (known_push events k f.plain ∙ f.happens s ∙ ap (finished s x.name life) m.is)) (record {
-      wired = wires_on;
+dead_over : (life : Life) → life ≢ Alive → is_over life ≡ true
+dead_over Alive dead = absurd (dead refl)
+dead_over (Over status) dead = refl
+dead_over Stopped dead = refl
+
+-- An actor ended or was stopped: it is none that awaits its input, or was stopped.
+pub finish_piped : (crew : ℕ) (old new : Option Disk) (pipes later_pipes : List Mouths) (actors : List Held) (events later : List Kept) (p i : ℕ) (x y : Held) (k : Kept) (life : Life) (status : Option ℕ)
+    → ArePiped crew pipes actors (known events) events → slice_get actors i ≡ Some x → x.ended ≡ None → (m : IsMember (known events) events p x) → Finishes x.name k life status → IsWholeGiving k
+    → ((parent c : List ℕ) → x.name ≢ parent → is_awaiting (known events) c ≡ true → IsApart parent c k)
+    → IsFinished k status old new pipes later_pipes x y events later
+    → ArePiped crew later_pipes (set actors i y) (known later) later
+finish_piped crew old new pipes later_pipes actors events later p i x y k life status piped is lives m f one apart over =
+    subst (λ (l : List Kept). ArePiped crew later_pipes (set actors i y) (known l) l) (sym over.event)
+    (subst (λ (t : State). ArePiped crew later_pipes (set actors i y) t (events ++ k ∷ [])) (sym (known_push events k f.plain ∙ f.happens s ∙ ap (finished s x.name life) m.is)) (record {
+      wires = wires;
+      wired = over.shuts.wired wires s.pipework has piped.children;
       slots = over.shuts.slots piped.slots;
-      one = one_kept wires wired s.pipework t.pipework piped.wired wires_on piped.one (λ a d c runs. runs) crew most piped.few;
-      children = λ c runs. let was = piped.children c runs in (known_put s.actors x.name m.actor after_it c m.is was.0, was.1);
+      children = over.shuts.children piped.children;
+      over = over.shuts.over wires s.pipework has piped.children (λ c. is_gone (s.actors c)) (λ c. is_gone (t.actors c)) gone_too piped.over;
+      places = living_set (λ (z : Held). wires z.name ≡ z.wire) actors i x y is (λ e. absurd (dead e)) piped.places;
+      stands = living_set (λ (z : Held). IsSlotOf wires (s.pipework.slots z.name) z.slot) actors i x y is (λ e. absurd (dead e)) piped.stands;
+      alone = piped.alone;
+      born = λ a d c runs. borne_put s.actors x.name m.actor after_it m.is s t refl refl refl a d c (piped.born a d c runs);
       whole = whole_push events k piped.whole one;
       fresh = λ a unknown named.
           let other = unknown_put s.actors x.name after_it a unknown in
-          let by : is_writer x.name (feeder s.pipework a) ≡ false = unfed a named (stranger_slot crew wires actors s events a piped other.1 named) in
+          let by : is_writer x.name (feeder s.pipework a) ≡ false = unfed a named (stranger_slot crew pipes actors s events a piped other.1 named) in
           ap (λ (t : Bool). if t then closed (s.pipework.pipes a port.Input) else s.pipework.pipes a port.Input) by ∙ piped.fresh a other.1 named;
-      fed = λ z there alive borne. ⊎_elim
+      fed = λ a z there alive borne. ⊎_elim
           (λ same.
           let both : ◌≡◌ {A = Option Actor} (Some after_it) (Some z) = sym (put_at_same s.actors x.name (Some after_it)) ∙ ap t.actors same.0 ∙ there in
           let is_it : after_it ≡ z = cc in
           absurd (f.dead (ap (λ (z : Actor). z.life) is_it ∙ alive)))
-          (λ other. feed_push s t events k f.plain (λ c runs awaiting. apart other.0 c awaiting) refl
-          (λ c awaiting. finish_other s m.actor life (children_of crew wires actors s events piped) x.name other.0 c ∙ awaiting)
-          (piped.fed z (sym (put_at_other s.actors x.name (Some after_it) (codes "sender") (λ e. other.0 (sym e))) ∙ there) alive borne))
-          (text_cases x.name (codes "sender"));
-      awaited = λ c awaiting. ⊎_elim
-          (λ same. let both : false ≡ true = sym (finish_sender s m.actor life (children_of crew wires actors s events piped) x.name same.0 c) ∙ awaiting in absurd (cc))
-          (λ other.
+          (λ other. fed_on a other.0 (piped.fed a z (sym (put_at_other s.actors x.name (Some after_it) a (λ e. other.0 (sym e))) ∙ there) alive borne))
+          (text_cases x.name a);
+      awaited = λ c awaiting.
           let was = piped.awaited c (finish_less s x.name m.actor life c awaiting) in
-          record {
+          ⊎_elim
+          (λ same.
+          let its = child_of crew pipes actors s events piped x.name c (ap (λ (a : List ℕ). s.pipework.programs a 0) same.0 ∙ was.runs) in
+          let both : false ≡ true = sym (finish_parent s m.actor life x.name c its) ∙ awaiting in absurd (cc))
+          (λ other. record {
+            parent = was.parent;
             runs = was.runs;
-            sender = was.sender;
-            is = put_at_other s.actors x.name (Some after_it) (codes "sender") (λ e. other.0 (sym e)) ∙ was.is;
+            actor = was.actor;
+            is = put_at_other s.actors x.name (Some after_it) was.parent (λ e. other.0 (sym e)) ∙ was.is;
             alive = was.alive;
             borne = was.borne;
           })
-          (text_cases x.name (codes "sender"));
-      most = most;
+          (text_cases x.name was.parent);
+      count = count_still crew (length pipes) (length later_pipes) over.shuts.many piped.count;
       few = piped.few;
       many = subst (λ (n : ℕ). crew ≤ n) (sym (length-set actors i y)) piped.many;
-      seated = λ j z low at lives. over.shuts.many ∙ seated_set crew (length wires) actors i x y is dead piped.seated j z low at lives;
+      seated = λ j z low at alive. subst (λ (n : ℕ). 4 ≤ n) (sym over.shuts.many) (seated_set (4 ≤ length pipes) crew actors i x y is (λ e. lives) piped.seated j z low at alive);
     }))
   where
     s : State
@@ -295,44 +373,81 @@ finish_piped crew old new wires wired actors events later p i x y k life status 
     after_it : Actor
     after_it = record { program = m.actor.program; past = m.actor.past; life = life }
 
-    wires_on : AreWired wired (without_writer s.pipework x.name)
-    wires_on = over.shuts.wired s.pipework piped.wired
+    wires : List ℕ → Option ℕ
+    wires = piped.wires
 
-    most : length wired ≤ crew
-    most = subst (λ (many : ℕ). many ≤ crew) (sym over.shuts.many) piped.most
+    has : HasWires piped.wires pipes (known events).pipework x.name x.wire x.slot
+    has = has_wires crew pipes actors (known events) events i x piped is lives
 
-    dead : y.ended ≡ None → x.ended ≡ None
-    dead e = let both : ◌≡◌ {A = Option ℕ} None (Some (length events)) = sym e ∙ over.ended in absurd (cc)
+    dead : y.ended ≡ None → ⊥
+    dead e = let both : ◌≡◌ {A = Option ℕ} None (Some (length events)) = sym e ∙ over.ended in cc
+
+    gone_too : IsGoneToo x.name (λ c. is_gone (s.actors c)) (λ c. is_gone (t.actors c))
+    gone_too = record {
+      is = ap is_gone (put_at_same s.actors x.name (Some after_it)) ∙ dead_over life f.dead;
+      others = λ b other. ap is_gone (put_at_other s.actors x.name (Some after_it) b other);
+    }
+
+    fed_on : (a : List ℕ) → x.name ≢ a → MayFeed s events a → MayFeed t (events ++ k ∷ []) a
+    fed_on a far may = record {
+      child = may.child;
+      runs = may.runs;
+      awaiting = finish_other s m.actor life x.name may.child a (child_of crew pipes actors s events piped a may.child may.runs) far ∙ may.awaiting;
+      just = just_push events k a may.child f.plain (apart a may.child far may.awaiting) may.just;
+    }
 
     unfed : (a : List ℕ) → is_member a ≡ false → s.pipework.slots a ≡ None → is_writer x.name (feeder s.pipework a) ≡ false
     unfed a named slot =
         ap (λ (t : Bool). is_writer x.name (if t then Some (codes "sender") else option_map (λ slot. slot.parent) (s.pipework.slots a))) named
         ∙ ap (λ (o : Option Slot). is_writer x.name (option_map (λ slot. slot.parent) o)) slot
 
--- An event that changes no pipe, after which the members are as they were: who was known is known, and it isn't one of a child that awaits its input.
-pub still_piped : (crew : ℕ) (mouths : List Mouths) (actors later : List Held) (events : List Kept) (k : Kept) → IsPlain k → (happens (known events) (event_of k)).pipework ≡ (known events).pipework → IsWholeGiving k
-    → ((a : List ℕ) → IsSome ((known events).actors a) → IsSome ((happens (known events) (event_of k)).actors a))
-    → (happens (known events) (event_of k)).actors (codes "sender") ≡ (known events).actors (codes "sender")
-    → ((c : List ℕ) → IsSome ((known events).actors c) → IsApart (codes "sender") c k)
+-- An event that changes no pipe, after which the actors are as they were, but for one that starts perhaps, which is no member: it isn't
+-- one of a child that awaits its input.
+pub still_piped : (crew : ℕ) (mouths : List Mouths) (actors later : List Held) (events : List Kept) (k : Kept) → (piped : ArePiped crew mouths actors (known events) events)
+    → IsPlain k → (happens (known events) (event_of k)).pipework ≡ (known events).pipework → IsWholeGiving k
+    → ((a : List ℕ) (x : Actor) → (known events).actors a ≡ Some x → (happens (known events) (event_of k)).actors a ≡ Some x)
+    → ((a : List ℕ) (x : Actor) → (happens (known events) (event_of k)).actors a ≡ Some x → ((known events).actors a ≡ Some x) ⊎ ((x.past ≡ []) × (is_member a ≡ false)))
+    → ((parent c : List ℕ) → IsSome ((known events).actors c) → IsApart parent c k)
     → crew ≤ length later → ((j : ℕ) (z : Held) → j < crew → slice_get later j ≡ Some z → slice_get actors j ≡ Some z)
-    → ArePiped crew mouths actors (known events) events → ArePiped crew mouths later (known (events ++ k ∷ [])) (events ++ k ∷ [])
-still_piped crew mouths actors later events k plain same one known_still sender apart many there piped =
+    → ((j : ℕ) (z : Held) → slice_get later j ≡ Some z → z.ended ≡ None → (piped.wires z.name ≡ z.wire) × IsSlotOf piped.wires ((known events).pipework.slots z.name) z.slot)
+    → ArePiped crew mouths later (known (events ++ k ∷ [])) (events ++ k ∷ [])
+still_piped crew mouths actors later events k piped plain same one still were apart many there stand =
     subst (λ (t : State). ArePiped crew mouths later t (events ++ k ∷ [])) (sym (known_push events k plain)) (record {
-      wired = subst (AreWired mouths) (sym same) piped.wired;
+      wires = piped.wires;
+      wired = subst (AreWired piped.wires mouths) (sym same) piped.wired;
       slots = piped.slots;
-      one = piped.one;
-      children = λ c runs.
-          let was = piped.children c (ran c ∙ runs) in
-          (known_still c was.0, ap (λ (w : Pipework). w.slots c) same ∙ was.1);
+      children = piped.children;
+      over = over_alike (λ c. is_gone (s.actors c)) (λ c. is_gone (t.actors c)) mouths gone_alike piped.over;
+      places = λ j z at lives. (stand j z at lives).0;
+      stands = λ j z at lives. subst (λ (w : Pipework). IsSlotOf piped.wires (w.slots z.name) z.slot) (sym same) (stand j z at lives).1;
+      alone = piped.alone;
+      born = λ a d c runs.
+          let ran = sym (ap (λ (w : Pipework). w.programs a d) same) ∙ runs in
+          let was = piped.born a d c ran in
+          record {
+            known = known_still c was.known;
+            first = was.first;
+            feeds = λ z is. ⊎_elim (λ f. was.feeds z f) (λ f. absurd (no_slots a d c ran f.1)) (were a z is);
+          };
       whole = whole_push events k piped.whole one;
       fresh = λ a unknown named. ap (λ (w : Pipework). w.pipes a port.Input) same ∙ piped.fresh a (unknown_then a unknown) named;
-      fed = λ x is alive borne. feed_push s t events k plain
-          (λ c runs awaiting. apart c (piped.children c runs).0) (ap (λ (w : Pipework). w.programs (codes "sender") 0) same) (λ c awaiting. awaits c ∙ awaiting)
-          (piped.fed x (sym sender ∙ is) alive borne);
+      fed = λ a x is alive borne. ⊎_elim
+          (λ f. feed_push s t events k a plain
+          (λ c runs awaiting. apart a c (piped.born a 0 c runs).known) (ap (λ (w : Pipework). w.programs a 0) same) (λ c awaiting. awaits c ∙ awaiting)
+          (piped.fed a x f alive borne))
+          (λ f. absurd (subst HasBorneLast f.0 borne))
+          (were a x is);
       awaited = λ c awaiting.
           let was = piped.awaited c (sym (awaits c) ∙ awaiting) in
-          record { runs = sym (ran c) ∙ was.runs; sender = was.sender; is = sender ∙ was.is; alive = was.alive; borne = was.borne };
-      most = piped.most;
+          record {
+            parent = was.parent;
+            runs = ap (λ (w : Pipework). w.programs was.parent 0) same ∙ was.runs;
+            actor = was.actor;
+            is = still was.parent was.actor was.is;
+            alive = was.alive;
+            borne = was.borne;
+          };
+      count = piped.count;
       few = piped.few;
       many = many;
       seated = λ j z low at lives. piped.seated j z low (there j z low at) lives;
@@ -344,34 +459,67 @@ still_piped crew mouths actors later events k plain same one known_still sender 
     t : State
     t = happens s (event_of k)
 
-    ran : (c : List ℕ) → s.pipework.programs (codes "sender") 0 ≡ t.pipework.programs (codes "sender") 0
-    ran c = sym (ap (λ (w : Pipework). w.programs (codes "sender") 0) same)
-
     awaits : (c : List ℕ) → is_awaiting t c ≡ is_awaiting s c
     awaits c = awaits_same s t c (ap (λ (w : Pipework). w.slots c) same) (ap (λ (w : Pipework). w.pipes c port.Input) same)
+
+    known_still : (a : List ℕ) → IsSome (s.actors a) → IsSome (t.actors a)
+    known_still a some = by_actor (s.actors a) refl where
+      by_actor : (o : Option Actor) → s.actors a ≡ o → IsSome (t.actors a)
+      by_actor None is = let both : IsSome {T = Actor} None = subst (λ (o : Option Actor). IsSome o) is some in absurd (cc)
+      by_actor (Some x) is = subst (λ (o : Option Actor). IsSome o) (sym (still a x is)) refl
 
     unknown_then : (a : List ℕ) → t.actors a ≡ None → s.actors a ≡ None
     unknown_then a none = by_actor (s.actors a) refl where
       by_actor : (o : Option Actor) → s.actors a ≡ o → s.actors a ≡ None
       by_actor None is = is
-      by_actor (Some x) is =
-          let both : IsSome {T = Actor} None = subst (λ (o : Option Actor). IsSome o) none (known_still a (subst (λ (o : Option Actor). IsSome o) (sym is) refl)) in absurd (cc)
+      by_actor (Some x) is = let both : ◌≡◌ {A = Option Actor} None (Some x) = sym none ∙ still a x is in absurd (cc)
+
+    -- an actor in a slot was known
+    gone_alike : (j : ℕ) (m : Mouths) (d : ℕ) (c : List ℕ) → slice_get mouths j ≡ Some m → tenant_of m d ≡ Some (Runs c) → is_gone (t.actors c) ≡ is_gone (s.actors c)
+    gone_alike j m d c at runs =
+        let own = piped.wired.owned j (slice_get_within mouths j m at) in
+        by_actor (s.actors c) refl (piped.born own.0 d c (own_tenant piped.wires mouths s.pipework own.0 j m piped.wired own.1 at d ∙ runs)).known
+      where
+        by_actor : (o : Option Actor) → s.actors c ≡ o → IsSome (s.actors c) → is_gone (t.actors c) ≡ is_gone (s.actors c)
+        by_actor None is some = let both : IsSome {T = Actor} None = subst (λ (o : Option Actor). IsSome o) is some in absurd (cc)
+        by_actor (Some x) is some = ap is_gone (still c x is) ∙ sym (ap is_gone is)
+
+    -- who is no member has no slots
+    no_slots : (a : List ℕ) (d : ℕ) (c : List ℕ) → s.pipework.programs a d ≡ Some (Runs c) → is_member a ≡ false → ⊥
+    no_slots a d c runs named =
+        let both : ◌≡◌ {A = Option Tenant} None (Some (Runs c)) =
+        sym (piped.wired.programs a d ∙ ap (λ (o : Option ℕ). tenant_in (kept_at o mouths) d) (piped.alone a named)) ∙ runs in cc
 
 -- a mail started
 pub start_piped : (crew : ℕ) (mouths : List Mouths) (actors : List Held) (events : List Kept) (y : Held) (a : List ℕ) (program : Program)
-    → is_member a ≡ false → (known events).actors a ≡ None
+    → is_member a ≡ false → (known events).actors a ≡ None → y.name ≡ a → y.wire ≡ None → y.slot ≡ None
     → ArePiped crew mouths actors (known events) events → ArePiped crew mouths (actors ++ y ∷ []) (known (events ++ kept.Start a program ∷ [])) (events ++ kept.Start a program ∷ [])
-start_piped crew mouths actors events y a program named new piped =
+start_piped crew mouths actors events y a program named new name wire slot piped =
     let s = known events in
     let grown = length-append actors (y ∷ []) in
     let many = piped.many in
-    still_piped crew mouths actors (actors ++ y ∷ []) events (kept.Start a program) tt refl tt
-    (λ b some. subst (λ (o : Option Actor). IsSome o) (sym (put_at_other s.actors a (Some (newborn program)) b (λ e. apart b some (sym e)))) some)
-    (put_at_other s.actors a (Some (newborn program)) (codes "sender") (λ e. other_than a (codes "sender") named refl (sym e)))
-    (λ c some. apart c some)
+    still_piped crew mouths actors (actors ++ y ∷ []) events (kept.Start a program) piped tt refl tt
+    (λ b x is. put_at_other s.actors a (Some (newborn program)) b (λ e. unlike b x is e) ∙ is)
+    (λ b x is. ⊎_elim
+    (λ f.
+    let both : ◌≡◌ {A = Option Actor} (Some (newborn program)) (Some x) = sym (ap (put_at s.actors a (Some (newborn program))) f.0 ∙ put_at_same s.actors a (Some (newborn program))) ∙ is in
+    let same : newborn program ≡ x = cc in
+    inr (ap (λ (x : Actor). x.past) (sym same), ap is_member f.0 ∙ named))
+    (λ f. inl (sym (put_at_other s.actors a (Some (newborn program)) b f.0) ∙ is))
+    (text_cases b a))
+    (λ parent c some. apart c some)
     (omega (arith, grown, many))
-    (λ j z low at. ⊎_elim (λ f. absurd (omega (arith, f.0, low, many))) (λ f. f) (get_push actors y j z at)) piped
+    (λ j z low at. ⊎_elim (λ f. absurd (omega (arith, f.0, low, many))) (λ f. f) (get_push actors y j z at))
+    (each_push (λ (j : ℕ) (z : Held). z.ended ≡ None → (piped.wires z.name ≡ z.wire) × IsSlotOf piped.wires (s.pipework.slots z.name) z.slot) actors y
+    (λ lives. (
+      ap piped.wires name ∙ piped.alone a named ∙ sym wire,
+      subst (IsSlotOf piped.wires (s.pipework.slots y.name)) (sym slot) (ap s.pipework.slots name ∙ stranger_slot crew mouths actors s events a piped new named),
+    ))
+    (λ j z at lives. (piped.places j z at lives, piped.stands j z at lives)))
   where
+    unlike : (b : List ℕ) (x : Actor) → (known events).actors b ≡ Some x → b ≡ a → ⊥
+    unlike b x is same = let both : ◌≡◌ {A = Option Actor} None (Some x) = sym new ∙ ap (known events).actors (sym same) ∙ is in cc
+
     apart : (b : List ℕ) → IsSome ((known events).actors b) → a ≢ b
     apart b some same = let both : IsSome {T = Actor} None = subst (λ (o : Option Actor). IsSome o) (ap (known events).actors (sym same) ∙ new) some in absurd (cc)
 
@@ -379,18 +527,28 @@ start_piped crew mouths actors events y a program named new piped =
 pub moment_piped : (crew : ℕ) (mouths : List Mouths) (actors : List Held) (events : List Kept) (m : ℕ)
     → ArePiped crew mouths actors (known events) events → ArePiped crew mouths actors (known (events ++ kept.Moment m ∷ [])) (events ++ kept.Moment m ∷ [])
 moment_piped crew mouths actors events m piped =
-    still_piped crew mouths actors actors events (kept.Moment m) tt refl tt (λ a some. some) refl (λ c some. tt) piped.many (λ j z low at. at) piped
+    still_piped crew mouths actors actors events (kept.Moment m) piped tt refl tt (λ a x is. is) (λ a x is. inl is) (λ parent c some. tt) piped.many (λ j z low at. at)
+    (λ j z at lives. (piped.places j z at lives, piped.stands j z at lives))
 
 -- the machine stopped
 none_kept : (o : Option ℕ) → kept_at o [] ≡ None
 none_kept None = refl
 none_kept (Some i) = refl
 
-pub no_wires : AreWired [] no_pipework
+no_seat_other : (a : List ℕ) (i : ℕ) → seat a ≡ Some i → is_member a ≡ false → ⊥
+no_seat_other a i of other = let both : ◌≡◌ {A = Option ℕ} None (Some i) = sym (seat_none a other) ∙ of in cc
+
+pub no_wires : AreWired seat [] no_pipework
 no_wires = record {
-  pipes = λ a q member. sym (ap (λ (o : Option Mouths). pipe_in o q) (none_kept (seat a)));
+  pipes = λ a i q of own. refl;
   programs = λ a d. sym (ap (λ (o : Option Mouths). tenant_in o d) (none_kept (seat a)));
+  seats = λ a member. refl;
   members = λ a member. refl;
+  others = λ a i of other. absurd (no_seat_other a i of other);
+  within = λ a i of other. absurd (no_seat_other a i of other);
+  apart = λ a b i of too. sym (same_seat a b i of too);
+  owned = λ i low. absurd (omega (arith, low));
+  children = λ a d c runs. absurd (cc);
 }
 
 stopped_none : (o : Option Actor) (x : Actor) → option_map stopped o ≡ Some x → x.life ≡ Alive → ⊥
@@ -401,34 +559,45 @@ pub halt_piped : (crew : ℕ) (mouths : List Mouths) (actors stood : List Held) 
     → ArePiped crew mouths actors (known events) events → AreCutOff (length events) actors stood → ArePiped crew [] stood (known (events ++ kept.Halt how ∷ [])) (events ++ kept.Halt how ∷ [])
 halt_piped crew mouths actors stood events how piped cut =
     subst (λ (t : State). ArePiped crew [] stood t (events ++ kept.Halt how ∷ [])) (sym (known_push events (kept.Halt how) tt)) (record {
+      wires = seat;
       wired = no_wires;
       slots = λ i m at. absurd (cc);
-      one = λ i m d c at runs. absurd (cc);
-      children = λ c runs. absurd (cc);
+      children = λ i m d c at runs. absurd (cc);
+      over = λ i m d c at runs. absurd (cc);
+      places = λ j z at lives. absurd (none_lives j z at lives);
+      stands = λ j z at lives. absurd (none_lives j z at lives);
+      alone = seat_none;
+      born = λ a d c runs. absurd (cc);
       whole = whole_push events (kept.Halt how) piped.whole tt;
       fresh = λ a unknown named. refl;
-      fed = λ x is alive borne. absurd (stopped_none ((known events).actors (codes "sender")) x is alive);
+      fed = λ a x is alive borne. absurd (stopped_none ((known events).actors a) x is alive);
       awaited = λ c awaiting. absurd (cc);
-      most = omega arith;
+      count = inl refl;
       few = piped.few;
       many = subst (λ (n : ℕ). crew ≤ n) (sym cut.many) piped.many;
-      seated = λ j z low at lives.
-          let x = was_there (length events) actors stood cut j z at in
-          absurd (none_alive (length events) x.0.ended (sym x.2.ended ∙ lives));
+      seated = λ j z low at lives. absurd (none_lives j z at lives);
     })
+  where
+    none_lives : (j : ℕ) (z : Held) → slice_get stood j ≡ Some z → z.ended ≡ None → ⊥
+    none_lives j z at lives = let x = was_there (length events) actors stood cut j z at in none_alive (length events) x.0.ended (sym x.2.ended ∙ lives)
 
 -- nothing happened yet
 pub none_piped : ArePiped 0 [] [] (known []) []
 none_piped = record {
+  wires = seat;
   wired = no_wires;
   slots = λ i m at. absurd (cc);
-  one = λ i m d c at runs. absurd (cc);
-  children = λ c runs. absurd (cc);
+  children = λ i m d c at runs. absurd (cc);
+  over = λ i m d c at runs. absurd (cc);
+  places = λ j z at lives. absurd (cc);
+  stands = λ j z at lives. absurd (cc);
+  alone = seat_none;
+  born = λ a d c runs. absurd (cc);
   whole = tt;
   fresh = λ a unknown named. refl;
-  fed = λ x is alive borne. absurd (cc);
+  fed = λ a x is alive borne. absurd (cc);
   awaited = λ c awaiting. absurd (cc);
-  most = omega arith;
+  count = inl refl;
   few = inl refl;
   many = omega arith;
   seated = λ j z low at lives. absurd (cc);

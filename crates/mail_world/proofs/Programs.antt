@@ -21,11 +21,11 @@ use Rattle.mail_world.specs.Acting.{IsAct}
 use Rattle.queue_inject.proofs.Acts.{IsAlone, next_alone}
 use Rattle.queue_clean.proofs.Demands.{asks, needs_none}
 use Rattle.send_core.proofs.Holds.{uses as sends_held}
-use Rattle.no_mailbox.specs.Table.{place_after, row_now}
-use Rattle.no_mailbox.proofs.Asks.{needs_none as answers_none}
+use Rattle.local_deliver.proofs.Holds.{uses as delivers_held}
+use Rattle.local_spawn.proofs.Holds.{uses as locals_held}
 use Rattle.remote_spawn.proofs.Holds.{uses as spawns_held}
 use Rattle.world_events.specs.declared.event.Program.{Program}
-use Rattle.world_events.specs.declared.event.Program.TheVariants.{Injector, Cleaner, Sender, LocalSpawner, RemoteSpawner}
+use Rattle.world_events.specs.declared.event.Program.TheVariants.{Injector, Cleaner, Sender, LocalSpawner, RemoteSpawner, Delivery}
 use Rattle.mail_world.specs.declared.any_machine.AnyMachine.{AnyMachine}
 use Rattle.mail_world.specs.declared.any_machine.AnyMachine.TheVariants.{Mail, Clean, Send, Local, Remote}
 use Rattle.mail_world.specs.Pipework.{Slot, Pipework, is_ready}
@@ -36,10 +36,10 @@ use Rattle.mail_world.specs.Readiness.{input_alone, is_awaiting, found_by}
 use Rattle.mail_world.specs.World.{most_of}
 use Rattle.call_fs.specs.declared.file_system.TheConstants.{PIECE}
 use Rattle.fed_injector.specs.declared.fed.FedInjector.{FedInjector}
-use Rattle.mail_world.specs.ByKind.{IsMail, takes_of, Leaves, Follows, Mails, Cleans, Sends, Answers, Spawns}
+use Rattle.mail_world.specs.ByKind.{IsMail, takes_of, Leaves, Follows, Mails, Cleans, Sends, SpawnsLocals, Spawns}
 use Rattle.queue_clean.specs.Machine.{Machine as Cleaning}
 use Rattle.send_core.specs.Stands.{Machine as Sending}
-use Rattle.no_mailbox.specs.declared.machine.NoMailbox.{NoMailbox}
+use Rattle.local_spawn.specs.declared.machine.LocalSpawn.{LocalSpawn}
 use Rattle.remote_spawn.specs.declared.machine.RemoteSpawn.{RemoteSpawn}
 use Rattle.call_fs.specs.declared.program.TheConstants.{INPUT_READY}
 use Rattle.queue_law.specs.Books.{Injection, IsInjected}
@@ -60,8 +60,9 @@ pub program_uses : (program : Program) (past : List Own) (now : ℕ) (ready : Re
 program_uses (Injector args) past now ready run = holds_what_it_uses args past now ready run
 program_uses (Cleaner start) past now ready run = needs_none (held past) (asks tt past now ready)
 program_uses (Sender start) past now ready run = sends_held None past now ready run
-program_uses (LocalSpawner start) past now ready run = answers_none (held past) (row_now (place_after past) ready) (place_after past)
+program_uses (LocalSpawner start) past now ready run = locals_held tt past now ready run
 program_uses (RemoteSpawner start) past now ready run = spawns_held tt past now ready run
+program_uses (Delivery start args) past now ready run = delivers_held args past run
 
 -- that of a mail is one that a history may start
 pub mail_runs : (program : Program) → IsMail program → MayRun program
@@ -95,8 +96,9 @@ found_finds s t a (Injector args) past same = (
 )
 found_finds s t a (Cleaner start) past same = (refl, refl)
 found_finds s t a (Sender start) past same = (_, _, _, refl, refl)
-found_finds s t a (LocalSpawner start) past same = (refl, refl)
+found_finds s t a (LocalSpawner start) past same = refl
 found_finds s t a (RemoteSpawner start) past same = refl
+found_finds s t a (Delivery start args) past same = refl
 
 -- how many bytes a machine may be handed is how many its program takes at once, if it takes any
 mail_takes : (m : FedInjector) (program : Program) (past : List Own) → Mails m program past → IsMail program
@@ -111,7 +113,7 @@ send_takes : (m : Sending) (program : Program) (past : List Own) → Sends m pro
 send_takes m (Sender start) past f = refl
 send_takes m other past f = absurd f
 
-local_takes : (m : NoMailbox) (program : Program) (past : List Own) → Answers m program past → 18446744073709551615 ≡ most_of program
+local_takes : (m : LocalSpawn) (program : Program) (past : List Own) → SpawnsLocals m program past → 18446744073709551615 ≡ most_of program
 local_takes m (LocalSpawner start) past f = refl
 local_takes m other past f = absurd f
 
@@ -221,6 +223,7 @@ leaves_same (Cleaner start) d opens = outside_same d opens
 leaves_same (Sender start) d opens = outside_same d opens
 leaves_same (LocalSpawner start) d opens = outside_same d opens
 leaves_same (RemoteSpawner start) d opens = outside_same d opens
+leaves_same (Delivery start args) d opens = outside_same d opens
 
 -- what a call of it leads to
 pub record Calls (controls : Controls) (now : ℕ) (q : Queue) (a : List ℕ) (program : Program) (past : List Own) (life : Life) (read : ℕ) (ready : Ready) (call : CallData) (told : Told) (wrote : ℕ) : Type 0 where

@@ -20,6 +20,7 @@ use Rattle.mail_world.specs.declared.error.WorldError.TheVariants as why
 use Rattle.mail_world.specs.History.{Actor, Life, State, MayReport, IsLiving, report_text, happens}
 use Rattle.mail_world.specs.History.Event.{Report}
 use Rattle.mail_world.specs.History.Life.{Alive, Over, Stopped}
+use Rattle.mail_world.specs.Readiness.{is_gone}
 use Rattle.mail_world.specs.Wired.{tenant_in, HaveSlots}
 use Rattle.call_fs.specs.Past.{held}
 use Rattle.mail_world.specs.Acting.{AreAsBefore}
@@ -27,15 +28,17 @@ use Rattle.mail_world.specs.Crew.{lasts, HasReport}
 use Rattle.mail_world.specs.Generations.{lives_in, is_unreported, lowest_unreported}
 use Rattle.mail_world.specs.Inside.{known, among_all, life_by, is_by, Owns, IsMember, AreActors, IsOpenTo, IsWorld, ArePiped}
 use Rattle.mail_world.proofs.Awaiting.{report_awaits}
-use Rattle.mail_world.proofs.Borne.{one_kept, feed_push}
+use Rattle.mail_world.proofs.Borne.{feed_push}
 use Rattle.mail_world.proofs.Crew.{crew_waits}
-use Rattle.mail_world.proofs.Feeds.{slots_set}
+use Rattle.mail_world.proofs.Feeds.{tenant_at}
 use Rattle.mail_world.proofs.Found.{lowest_is}
 use Rattle.mail_world.proofs.Histories.{LeadsOn, led_still}
+use Rattle.mail_world.proofs.Keeps.{others_stay, slots_set, children_set, over_set}
 use Rattle.mail_world.proofs.Known.{known_push}
-use Rattle.mail_world.proofs.Lists.{some_at, get_set}
+use Rattle.mail_world.proofs.Lists.{some_at}
 use Rattle.mail_world.proofs.Piped.{whole_push}
-use Rattle.mail_world.proofs.Wires.{wired_both}
+use Rattle.queue_law.proofs.Tests.{text_cases}
+use Rattle.mail_world.proofs.Wires.{wired_both, put_runs}
 use Rattle.mail_world.proofs.Worlds.{on_told, still_pid, pid_push, still_count}
 
 -- Whether the remote spawner lives
@@ -75,12 +78,16 @@ same_test (Some (Runs a)) = refl
 same_test (Some (Remote true)) = refl
 same_test (Some (Remote false)) = refl
 
+spawner_runs : (crew : ℕ) (mouths : List Mouths) (actors : List Held) (s : State) (events : List Kept) → ArePiped crew mouths actors s events → (d : ℕ)
+    → s.pipework.programs (codes "rspawn") d ≡ tenant_in (slice_get mouths 3) d
+spawner_runs crew mouths actors s events piped = tenant_at piped.wires mouths s.pipework (codes "rspawn") 3 piped.wired (piped.wired.seats (codes "rspawn") refl)
+
 pub unreported_is : (crew : ℕ) (places : List ℕ → Option ℕ) (mouths : List Mouths) (actors : List Held) (s : State) (events : List Kept) (p : ℕ)
     → AreActors (among_all crew places) actors s events p → ArePiped crew mouths actors s events → (d : ℕ)
     → (lasts (slice_get (take crew actors) 3) && is_remote false (tenant_in (slice_get mouths 3) d)) ≡ (lives_in (s.actors (codes "rspawn")) && is_unreported (s.pipework.programs (codes "rspawn") d))
 unreported_is crew places mouths actors s events p w piped d =
     ap (λ (t : Bool). t && is_remote false (tenant_in (slice_get mouths 3) d)) (spawner_lives crew places actors s events p w piped.few)
-    ∙ ap (λ (t : Bool). lives_in (s.actors (codes "rspawn")) && t) (same_test (tenant_in (slice_get mouths 3) d) ∙ ap is_unreported (sym (piped.wired.programs (codes "rspawn") d)))
+    ∙ ap (λ (t : Bool). lives_in (s.actors (codes "rspawn")) && t) (same_test (tenant_in (slice_get mouths 3) d) ∙ ap is_unreported (sym (spawner_runs crew mouths actors s events piped d)))
 
 -- if the spawner lives, there are pipes of it
 pub spawner_piped : (crew : ℕ) (mouths : List Mouths) (actors : List Held) (s : State) (events : List Kept) → ArePiped crew mouths actors s events
@@ -93,7 +100,7 @@ spawner_piped crew mouths actors s events piped lives = by_few piped.few where
   by_actor : crew ≡ 4 → (o : Option Held) → slice_get actors 3 ≡ o → lasts o ≡ true → 3 < length mouths
   by_actor four None at is = absurd cc
   by_actor four (Some x) at is =
-      let many : length mouths ≡ 4 = piped.seated 3 x (omega (arith, four)) at (ended_none x.ended is) in omega (arith, many)
+      let many : 4 ≤ length mouths = piped.seated 3 x (omega (arith, four)) at (ended_none x.ended is) in omega (arith, many)
 
   by_few : (crew ≡ 0) ⊎ (crew ≡ 4) → 3 < length mouths
   by_few (inl none) = let both : lasts None ≡ true = sym (ap (λ (n : ℕ). lasts (slice_get (take n actors) 3)) none) ∙ lives in absurd (cc)
@@ -222,11 +229,6 @@ report_keeps told places actors events p n b slot letter text w leads =
       led = led_still told events (events ++ k ∷ []) p p leads w.led;
     })
 
--- an actor in a slot ran there before the report
-ran_there : (t : Bool) (o : Option Tenant) (c : List ℕ) → (if t then Some (Remote true) else o) ≡ Some (Runs c) → o ≡ Some (Runs c)
-ran_there true o c is = absurd cc
-ran_there false o c is = is
-
 -- a program's output is no input
 no_input : (t : Bool) (pipe other : Pipe) → (if t && false then other else pipe) ≡ pipe
 no_input true pipe other = refl
@@ -239,49 +241,69 @@ report_piped crew mouths actors events m n slot letter text piped is now =
     let s = known events in
     let k = kept.Report slot letter text in
     let t = happens s (Report slot letter text) in
+    let stay = others_stay m n slot (Some (Remote true)) true (λ c e. cc) now.tenants now.ended in
     subst (λ (t : State). ArePiped crew (set mouths 3 n) actors t (events ++ k ∷ [])) (sym (known_push events k tt)) (record {
-      wired = wired_both mouths (codes "rspawn") 3 m n refl is s.pipework (port.Program slot) (λ (pipe : Pipe). closed (given (report_text letter text) pipe)) slot (Some (Remote true))
-          now.pipes now.tenants piped.wired;
+      wires = piped.wires;
+      wired = wired_both piped.wires mouths (codes "rspawn") 3 m n (piped.wired.seats (codes "rspawn") refl) is s.pipework piped.wired (port.Program slot)
+          (λ (pipe : Pipe). closed (given (report_text letter text) pipe)) slot (Some (Remote true)) (λ c e. cc) now.pipes now.tenants;
       slots = slots_set mouths 3 m n is now.slots piped.slots;
-      one = λ i z d c at runs. ⊎_elim
-          (λ (f : (i ≡ 3) × (n ≡ z)).
-          let here : tenant_of n d ≡ Some (Runs c) = ap (λ (z : Mouths). tenant_of z d) f.1 ∙ runs in
-          let third : 3 ≡ 0 = (piped.one 3 m d c is (ran_there (d == slot) (tenant_of m d) c (sym (now.tenants d) ∙ here))).0 in absurd (omega (arith, third)))
-          (λ f. piped.one i z d c f.1 runs)
-          (get_set mouths 3 n i z at);
-      children = λ c runs. piped.children c runs;
+      children = children_set mouths 3 m n is (λ d c runs. (stay d c runs).0) piped.children;
+      over = over_set (λ c. is_gone (s.actors c)) mouths 3 m n is stay piped.over;
+      places = piped.places;
+      stands = piped.stands;
+      alone = piped.alone;
+      born = λ a d c runs.
+          let was = piped.born a d c (put_runs (bytes_eq a (codes "rspawn") && (d == slot)) (s.pipework.programs a d) (Some (Remote true)) c (λ e. cc) runs) in
+          record { known = was.known; first = was.first; feeds = was.feeds };
       whole = whole_push events k piped.whole tt;
       fresh = λ a unknown other. no_input (bytes_eq a (codes "rspawn")) (s.pipework.pipes a port.Input) _ ∙ piped.fresh a unknown other;
-      fed = λ x there alive borne. feed_push s t events k tt (λ c runs awaiting. tt) refl (λ c awaits. report_awaits s slot letter text c ∙ awaits) (piped.fed x there alive borne);
+      fed = λ a x there alive borne.
+          let may = piped.fed a x there alive borne in
+          feed_push s t events k a tt (λ c runs awaiting. tt) (still_runs a may.child may.runs) (λ c awaits. report_awaits s slot letter text c ∙ awaits) may;
       awaited = λ c awaits.
           let was = piped.awaited c (sym (report_awaits s slot letter text c) ∙ awaits) in
-          record { runs = was.runs; sender = was.sender; is = was.is; alive = was.alive; borne = was.borne };
-      most = subst (λ (many : ℕ). many ≤ crew) (sym (length-set mouths 3 n)) piped.most;
+          record { parent = was.parent; runs = still_runs was.parent c was.runs ∙ was.runs; actor = was.actor; is = was.is; alive = was.alive; borne = was.borne };
+      count = subst (λ (n : ℕ). (n ≡ 0) ⊎ ((4 ≤ n) × (crew ≡ 4))) (sym (length-set mouths 3 n)) piped.count;
       few = piped.few;
       many = piped.many;
-      seated = λ j z low at lives. length-set mouths 3 n ∙ piped.seated j z low at lives;
+      seated = λ j z low at lives. subst (λ (n : ℕ). 4 ≤ n) (sym (length-set mouths 3 n)) (piped.seated j z low at lives);
     })
+  where
+    -- the remote spawner starts no injector
+    no_feeder : (d : ℕ) (c : List ℕ) → (known events).pipework.programs (codes "rspawn") d ≡ Some (Runs c) → ⊥
+    no_feeder d c runs =
+        let here : tenant_of m d ≡ Some (Runs c) =
+        ap (λ (o : Option Mouths). tenant_in o d) (sym is) ∙ sym (spawner_runs crew mouths actors (known events) events piped d) ∙ runs in
+        (piped.children 3 m d c is here).0
+
+    still_runs : (a c : List ℕ) → (known events).pipework.programs a 0 ≡ Some (Runs c) → (happens (known events) (Report slot letter text)).pipework.programs a 0 ≡ (known events).pipework.programs a 0
+    still_runs a c runs = ⊎_elim
+        (λ f. absurd (no_feeder 0 c (ap (λ (a : List ℕ). (known events).pipework.programs a 0) (sym f.0) ∙ runs)))
+        (λ f. ap (λ (t : Bool). if t && (0 == slot) then Some (Remote true) else (known events).pipework.programs a 0) f.1)
+        (text_cases a (codes "rspawn"))
 
 -- after a lack of memory the pipes are as they were, with room perhaps
 pub same_piped : (crew : ℕ) (mouths later : List Mouths) (actors : List Held) (s : State) (events : List Kept) → ArePiped crew mouths actors s events → AreAsBefore mouths later
     → ArePiped crew later actors s events
-same_piped crew mouths later actors s events piped same =
-    let wired = same.wired s.pipework piped.wired in
-    let most = subst (λ (many : ℕ). many ≤ crew) (sym same.many) piped.most in
-    record {
-      wired = wired;
-      slots = same.slots piped.slots;
-      one = one_kept mouths later s.pipework s.pipework piped.wired wired piped.one (λ a d c runs. runs) crew most piped.few;
-      children = piped.children;
-      whole = piped.whole;
-      fresh = piped.fresh;
-      fed = piped.fed;
-      awaited = piped.awaited;
-      most = most;
-      few = piped.few;
-      many = piped.many;
-      seated = λ j z low at lives. same.many ∙ piped.seated j z low at lives;
-    }
+same_piped crew mouths later actors s events piped same = record {
+  wires = piped.wires;
+  wired = same.wired piped.wires s.pipework piped.wired;
+  slots = same.keep.slots piped.slots;
+  children = same.keep.children piped.children;
+  over = same.keep.over (λ c. is_gone (s.actors c)) piped.over;
+  places = piped.places;
+  stands = piped.stands;
+  alone = piped.alone;
+  born = piped.born;
+  whole = piped.whole;
+  fresh = piped.fresh;
+  fed = piped.fed;
+  awaited = piped.awaited;
+  count = subst (λ (n : ℕ). (n ≡ 0) ⊎ ((4 ≤ n) × (crew ≡ 4))) (sym same.keep.many) piped.count;
+  few = piped.few;
+  many = piped.many;
+  seated = λ j z low at lives. subst (λ (n : ℕ). 4 ≤ n) (sym same.keep.many) (piped.seated j z low at lives);
+}
 
 -- When a report is refused
 

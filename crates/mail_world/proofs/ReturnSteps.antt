@@ -762,8 +762,9 @@ gives_texts began past now ready slot bytes run e =
 
 -- Once it has started one
 
-birth_is : (due : NeedData) (got : GotData) → IsBirth due got → (room : ℕ) × (pid : ℕ) × (due ≡ needs.Start (child.Bounce room)) × (got ≡ came.Started pid)
-birth_is (needs.Start (child.Bounce room)) (came.Started pid) w = (room, pid, refl, refl)
+birth_is : (due : NeedData) (got : GotData) → IsBirth due got → (asked : ChildData) × (pid : ℕ) × (due ≡ needs.Start asked) × (got ≡ came.Started pid)
+birth_is (needs.Start (child.Bounce room)) (came.Started pid) w = (child.Bounce room, pid, refl, refl)
+birth_is (needs.Start (child.Forward uid room)) (came.Started pid) w = (child.Forward uid room, pid, refl, refl)
 birth_is due got w = absurd w
 
 -- the desk after the start
@@ -786,10 +787,10 @@ birth_gives began [] run last = absurd last
 birth_gives began (own ∷ before) run last =
     let d : Desk = desk_after None before in
     let b = birth_is own.due own.came last in
-    let w = at_return began before own.read own.ready (needs.Start (child.Bounce b.0)) (run.1.0 ∙ b.2) tt in
+    let w = at_return began before own.read own.ready (needs.Start b.0) (run.1.0 ∙ b.2) tt in
     let row : row_now d own.read own.ready ≡ at.Finish finish.Return w.n = ap (λ (r : Row). arrive r d own.read own.ready) w.row in
     let stands : IsAtGive (moved_by (at.Finish finish.Return w.n) own.read (came.Started b.1) d) w.n d.bounce.input =
-    of_ready (act (at.Finish finish.Return w.n) own.read (came.Started b.1) d) w.n d.bounce.input (started_desk d.bounce.row w.n own.read b.1 d (start_row d.bounce.row d.bounce (child.Bounce b.0) w.is).0) in
+    of_ready (act (at.Finish finish.Return w.n) own.read (came.Started b.1) d) w.n d.bounce.input (started_desk d.bounce.row w.n own.read b.1 d (start_row d.bounce.row d.bounce b.0 w.is).0) in
     let there : IsAtGive (desk_after None (own ∷ before)) w.n d.bounce.input =
     subst (λ (r : Row). IsAtGive (moved_by r own.read own.came d) w.n d.bounce.input) (sym row)
     (subst (λ (got : GotData). IsAtGive (moved_by (at.Finish finish.Return w.n) own.read got d) w.n d.bounce.input) (sym b.3) stands) in

@@ -1,5 +1,5 @@
--- What the world does for a sender and its child, as a step of the sender.
-use Rattle.std.proofs.Common.{◌≡◌, ◌≢◌, ◌⊎◌, inl, inr, ℕ, List, Bool, true, false, Option, Some, None, Result, Ok, Err, codes, refl, sym, ap, ◌∙◌, subst, ⊎_elim}
+-- What the world does for an actor and a child of its, as a step of that actor.
+use Rattle.std.proofs.Common.{◌≡◌, ◌≢◌, ◌⊎◌, inl, inr, ℕ, List, Bool, true, false, Option, Some, None, Result, Ok, Err, refl, sym, ap, ◌∙◌, subst, ⊎_elim}
 use Rattle.std.specs.Prelude.{IfErr, IfOk, is_some}
 use Rattle.call_fs.specs.Disk.{Disk}
 use Rattle.call_fs.specs.Plan.{Plan}
@@ -70,7 +70,7 @@ step_waits a old new step waits =
 
 -- It makes no call, so that it uses up no plan
 
-own_planned : (has : Bool) (due : NeedData) (came : GotData) (plan after : Option Plan) (disk later : Option Disk) → is_due_of_child has due ≡ true → after ≡ plan → IsPlannedOwn due came plan after disk later
+own_planned : (has : ℕ → Bool) (due : NeedData) (came : GotData) (plan after : Option Plan) (disk later : Option Disk) → is_due_of_child has due ≡ true → after ≡ plan → IsPlannedOwn due came plan after disk later
 own_planned has (needs.Start asked) came plan after disk later of_child same = same
 own_planned has (needs.Give to bytes) came plan after disk later of_child same = same
 own_planned has (needs.Take from) came plan after disk later of_child same = same
@@ -91,30 +91,30 @@ kept_by s bounces a own (needs.Start (child.Bounce room)) (Started pid) k P is a
 kept_by s bounces a own (needs.Give (port.Program d) bytes) Gave k P is act born feed = kept_giving (s.pipework.programs a d) a own bytes k P is act feed
 kept_by s bounces a own due came k P is act born feed = subst P (sym is) act
 
-pub step_planned : {D : Type 0} (plan : D → Option Plan) (tells : D → Option Disk) (old new : Seen D) (due : NeedData) → IsDueOfChild old due → IsStep (codes "sender") None old new → new.disk ≡ old.disk
+pub step_planned : {D : Type 0} (plan : D → Option Plan) (tells : D → Option Disk) (a : List ℕ) (old new : Seen D) (due : NeedData) → IsDueOfChild old a due → IsStep a None old new → new.disk ≡ old.disk
     → GoesByPlan plan tells old.disk new.disk old.events new.events
-step_planned plan tells old new due asked step same e event =
+step_planned plan tells a old new due asked step same e event =
     let of = step.2 in
     let own = step.0 in
     let is : step.1 ≡ e = same_last old.events step.1 e (sym step.4 ∙ event) in
     let both : ◌≡◌ {A = Option Actor} (Some of.actor) (Some asked.actor) = sym of.is ∙ asked.is in
     let one : of.actor ≡ asked.actor = cc in
-    let due_is : own.due ≡ due = sym of.due ∙ ap (λ (x : Actor). next_of x.program x.past old.present (found_in (known old.events) (codes "sender"))) one ∙ asked.due_is in
-    let has : Bool = is_some (actor_of ((known old.events).pipework.programs (codes "sender") 0)) in
+    let due_is : own.due ≡ due = sym of.due ∙ ap (λ (x : Actor). next_of x.program x.past old.present (found_in (known old.events) a)) one ∙ asked.due_is in
+    let has : ℕ → Bool = λ d. is_some (actor_of ((known old.events).pipework.programs a d)) in
     let kept_plan : plan new.disk ≡ plan old.disk = ap plan same in
     subst (λ (e : Kept). IsPlannedEvent e (plan old.disk) (plan new.disk) (tells old.disk) (tells new.disk)) is
-    (kept_by (known old.events) (bounces_in old.events) (codes "sender") own own.due own.came step.1 (λ e. IsPlannedEvent e (plan old.disk) (plan new.disk) (tells old.disk) (tells new.disk)) step.3
+    (kept_by (known old.events) (bounces_in old.events) a own own.due own.came step.1 (λ e. IsPlannedEvent e (plan old.disk) (plan new.disk) (tells old.disk) (tells new.disk)) step.3
     (own_planned has own.due own.came (plan old.disk) (plan new.disk) (tells old.disk) (tells new.disk) (ap (is_due_of_child has) due_is ∙ asked.of_child) kept_plan)
     (λ c program. kept_plan) (λ c message envelope. kept_plan))
 
 -- It is refused for want of memory, or since the child has not ended
 
-abbrev pub IsServed : WorldError → Type 0
-IsServed error = (error ≡ why.Memory) ⊎ (error ≡ why.NotWaiting (codes "sender"))
+abbrev pub IsServed : List ℕ → WorldError → Type 0
+IsServed a error = (error ≡ why.Memory) ⊎ (error ≡ why.NotWaiting a)
 
-pub other_error : (r : Result Did WorldError) (bad : WorldError) → IfErr r IsServed → (why.Memory ≢ bad) → (why.NotWaiting (codes "sender") ≢ bad) → r ≢ Err bad
-other_error (Ok did) bad served memory waits is = absurd cc
-other_error (Err error) bad served memory waits is =
+pub other_error : (r : Result Did WorldError) (a : List ℕ) (bad : WorldError) → IfErr r (IsServed a) → (why.Memory ≢ bad) → (why.NotWaiting a ≢ bad) → r ≢ Err bad
+other_error (Ok did) a bad served memory waits is = absurd cc
+other_error (Err error) a bad served memory waits is =
     let same : error ≡ bad = cc in ⊎_elim (λ f. memory (sym f ∙ same)) (λ f. waits (sym f ∙ same)) served
 
 -- by either outcome
@@ -130,8 +130,8 @@ pub either_way : (r : Result Did WorldError) (X : Type 0) → IfOk r (λ _. X) �
 either_way (Ok did) X ok err = ok
 either_way (Err error) X ok err = err
 
-pub waits_or : (r : Result Did WorldError) (a : List ℕ) → a ≡ codes "sender" → IfErr r IsServed → IfOk r (λ _. ⊥) → (r ≡ Err (why.NotWaiting a)) ⊎ (r ≡ Err why.Memory)
-waits_or (Ok did) a is served none = absurd none
-waits_or (Err error) a is served none = ⊎_elim (λ f. inr (ap failed f)) (λ f. inl (ap failed (f ∙ ap why.NotWaiting (sym is)))) served where
+pub waits_or : (r : Result Did WorldError) (a : List ℕ) → IfErr r (IsServed a) → IfOk r (λ _. ⊥) → (r ≡ Err (why.NotWaiting a)) ⊎ (r ≡ Err why.Memory)
+waits_or (Ok did) a served none = absurd none
+waits_or (Err error) a served none = ⊎_elim (λ f. inr (ap failed f)) (λ f. inl (ap failed f)) served where
   failed : WorldError → Result Did WorldError
   failed error = Err error

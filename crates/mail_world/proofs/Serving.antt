@@ -1,11 +1,11 @@
--- What a world keeps of its actors, as it does for the sender what concerns its child: an event of the sender that another actor, its
+-- What a world keeps of its actors, as it does for one of them what concerns a child: an event of its parent that another actor, the
 -- child, may take part in.
-use Rattle.std.proofs.Common.{◌≡◌, ◌≢◌, ◌⊎◌, inl, inr, ℕ, zero, suc, ◌+◌, ◌≤◌, ◌<◌, List, [], ◌∷◌, ◌++◌, length, set, Bool, true, false, ◌||◌, Option, Some, None, if◌then◌else◌, IsSomeAnd, is_some, refl, sym, ap, ◌∙◌, subst, ⊎_elim, arith, bytes_eq, codes, get_or, reverse}
+use Rattle.std.proofs.Common.{◌≡◌, ◌≢◌, ◌⊎◌, ℕ, zero, suc, ◌+◌, ◌≤◌, ◌<◌, List, [], ◌∷◌, ◌++◌, length, set, Bool, true, false, ◌||◌, Option, Some, None, if◌then◌else◌, IsSomeAnd, is_some, refl, sym, ap, ◌∙◌, subst, ⊎_elim, arith, bytes_eq, get_or, reverse}
 use Rattle.std.proofs.Math.Bool.{or-false, or-true}
 use Rattle.std.proofs.lemmas.List.{reverse-append}
-use Rattle.std.proofs.lemmas.Bool.Decides.{eqb_tells}
+use Rattle.std.proofs.lemmas.Bool.{ltb-true}
 use Rattle.std.proofs.lemmas.Option.{get_or_from_slice_get}
-use Rattle.std.specs.Prelude.{◌==◌}
+use Rattle.std.specs.Prelude.{nat_lt}
 use Rattle.std.specs.List.{slice_get}
 use Rattle.std.specs.Option.{IsSome, option_map}
 use Rattle.call_fs.specs.Disk.{Disk}
@@ -25,71 +25,65 @@ use Rattle.call_fs.specs.declared.program.Port.{Port}
 use Rattle.call_fs.specs.declared.program.Port.TheVariants as port
 use Rattle.world_events.specs.declared.event.Event.{Event as Kept}
 use Rattle.world_events.specs.declared.event.Program.{Program}
-use Rattle.world_events.specs.declared.event.Program.TheVariants.{Injector, Cleaner, Sender, LocalSpawner, RemoteSpawner}
-use Rattle.send_core.specs.declared.desk.Desk.{Desk}
-use Rattle.send_core.specs.Stands.{due_if}
-use Rattle.send_core.specs.Table.{due_at, row_now}
 use Rattle.world_events.specs.Inputs.{own_in}
 use Rattle.mail_world.specs.declared.actor.Actor.{Actor as Held}
-use Rattle.mail_world.specs.Acting.{is_due_of_child, IsOwed}
+use Rattle.mail_world.specs.Acting.{is_due_of_child, IsOwed, StaysAt}
 use Rattle.mail_world.specs.declared.any_machine.AnyMachine.{AnyMachine}
-use Rattle.mail_world.specs.declared.any_machine.AnyMachine.TheVariants.{Mail, Clean, Send, Local, Remote}
-use Rattle.mail_world.specs.ByKind.{Follows, CanFind, present_of, found_of, looked_of, need_of, takes_of, awaits_of, with_own, own_of}
+use Rattle.mail_world.specs.ByKind.{IsFeeder, IsMail, Follows, CanFind, present_of, found_of, looked_of, need_of, takes_of, awaits_of, with_own, own_of}
 use Rattle.mail_world.specs.declared.world.Did.{Did}
 use Rattle.mail_world.specs.Children.{IsDueOfChild, IsStart, IsGive, IsTake, MayTakeIn, HasTakenIn, Serves, place_by_name, child_place}
 use Rattle.mail_world.specs.Crew.{IsFoundAt}
 use Rattle.mail_world.specs.Generations.{idled_in, idled_by, has_idled, lives_in}
-use Rattle.mail_world.specs.History.{Actor, Life, State, latest, newborn, next_of, start_of, IsSender, MayFind}
+use Rattle.mail_world.specs.History.{Actor, Life, State, latest, newborn, next_of, start_of, MayFind}
 use Rattle.mail_world.specs.History.Life.{Alive, Over, Stopped}
-use Rattle.mail_world.specs.Inside.{known, HasBorneLast, Owes, RunsAt, unowed, StandsFor, span_by, life_by, IsMember, IsStranger, AreActors, has, is_by, AreApart, Owns, HasOpen, IsOpenTo, IsWorld, ArePiped, place_by, among_all}
-use Rattle.mail_world.specs.Readiness.{is_awaiting, found_at, found_in}
-use Rattle.mail_world.specs.Pipework.{Tenant, is_member}
+use Rattle.mail_world.specs.Inside.{known, HasBorneLast, IsAwaited, Owes, RunsAt, unowed, StandsFor, span_by, life_by, IsMember, IsStranger, AreActors, has, is_by, AreApart, Owns, HasOpen, IsOpenTo, IsWorld, ArePiped, place_by, among_all}
+use Rattle.mail_world.specs.Readiness.{is_awaiting, found_at, found_by, found_in}
+use Rattle.mail_world.specs.Pipework.{Slot, Tenant, is_member}
 use Rattle.mail_world.specs.Pipework.Tenant.{Runs}
-use Rattle.mail_world.specs.Wired.{seat, tenant_in, AreWired, IsWholeGiving, AreWholeGivings}
+use Rattle.mail_world.specs.Wired.{seat, slots_at, AreWired, IsSlotOf, IsWholeGiving, AreWholeGivings}
 use Rattle.world_pipes.specs.declared.mouths.Mouths.{Mouths}
 use Rattle.world_pipes.specs.Mouths.{actor_of}
 use Rattle.mail_world.specs.World.{next_pid, bounces_in, IsOwnOf, IsKeptBy, span_of, ends, starts, was_started}
 use Rattle.mail_world.proofs.Crew.{life_same, over_is, owes_still, started_push, apart_by}
-use Rattle.mail_world.proofs.Awaiting.{no_slot, can_find}
+use Rattle.mail_world.proofs.Awaiting.{can_find, none_awaits}
 use Rattle.mail_world.proofs.Found.{found_is}
 use Rattle.mail_world.proofs.Histories.{IsActing, FindsIn, LeadsOn, goes_on}
 use Rattle.mail_world.proofs.Lasts.{same_last}
+use Rattle.mail_world.proofs.Feeders.{feeder_next, feeder_seat, no_mail_feeds}
+use Rattle.mail_world.proofs.Leaving.{child_apart, child_named, has_place, in_slot}
+use Rattle.mail_world.proofs.Members.{whether}
 use Rattle.mail_world.proofs.Programs.{found_finds}
-use Rattle.mail_world.proofs.ReturnSteps.{birth_gives}
-use Rattle.mail_world.proofs.Seats.{seat_none}
+use Rattle.mail_world.proofs.Seats.{seat_low, seat_none}
 use Rattle.mail_world.proofs.Machines.{own_is}
 use Rattle.mail_world.proofs.Lists.{get_last, get_set, each_set, some_set, each_push, some_push, some_last, some_at}
 use Rattle.mail_world.proofs.Spans.{span_push, span_stays, span_begins}
 use Rattle.queue_law.proofs.Tests.{text_cases, same_text, other_text}
 
--- The sender
+-- The parent
 
--- it lives, and is the first of the actors
-pub record HasSender (actors : List Held) (s : State) (events : List Kept) (p : ℕ) (sender : Actor) : Type 0 where
+-- it lives, and stands at this place
+pub record HasParent (actors : List Held) (s : State) (events : List Kept) (p : ℕ) (a : List ℕ) (i : ℕ) (parent : Actor) : Type 0 where
   pub held : Held
-  pub is : slice_get actors 0 ≡ Some held
-  pub name : held.name ≡ codes "sender"
+  pub is : slice_get actors i ≡ Some held
+  pub name : held.name ≡ a
   pub member : IsMember s events p held
   pub lives : held.ended ≡ None
-  pub same : member.actor ≡ sender
+  pub same : member.actor ≡ parent
 
 alive_lasts : (o status : Option ℕ) → life_by o status ≡ Alive → o ≡ None
 alive_lasts None status is = refl
 alive_lasts (Some at) status is = absurd (over_is at status is)
 
-pub has_sender : (crew : ℕ) (places : List ℕ → Option ℕ) (actors : List Held) (s : State) (events : List Kept) (p : ℕ) (sender : Actor) → (crew ≡ 0) ⊎ (crew ≡ 4)
-    → AreActors (among_all crew places) actors s events p → s.actors (codes "sender") ≡ Some sender → sender.life ≡ Alive → (crew ≡ 4) × HasSender actors s events p sender
-has_sender crew places actors s events p sender (inl none) w is alive =
-    let here : among_all crew places (codes "sender") ≡ None = ap (λ (n : ℕ). among_all n places (codes "sender")) none in
-    let both : ◌≡◌ {A = Option Actor} None (Some sender) = sym (w.strangers (codes "sender") here).unknown ∙ is in absurd (cc)
-has_sender crew places actors s events p sender (inr four) w is alive =
-    let here : among_all crew places (codes "sender") ≡ Some 0 = ap (λ (n : ℕ). among_all n places (codes "sender")) four in
-    let x = some_at (λ (x : Held). x.name ≡ codes "sender") (slice_get actors 0) (w.named (codes "sender") 0 here) in
-    let m = w.members 0 x.0 x.1 in
-    let both : ◌≡◌ {A = Option Actor} (Some m.actor) (Some sender) = sym m.is ∙ ap s.actors x.2 ∙ is in
-    let same : m.actor ≡ sender = cc in
+-- who is alive has a place
+pub has_parent : (places : List ℕ → Option ℕ) (actors : List Held) (s : State) (events : List Kept) (p : ℕ) (a : List ℕ) (i : ℕ) (parent : Actor)
+    → AreActors places actors s events p → s.actors a ≡ Some parent → parent.life ≡ Alive → places a ≡ Some i → HasParent actors s events p a i parent
+has_parent places actors s events p a i parent w is alive at =
+    let x = some_at (λ (x : Held). x.name ≡ a) (slice_get actors i) (w.named a i at) in
+    let m = w.members i x.0 x.1 in
+    let both : ◌≡◌ {A = Option Actor} (Some m.actor) (Some parent) = sym m.is ∙ ap s.actors x.2 ∙ is in
+    let same : m.actor ≡ parent = cc in
     let lives = alive_lasts x.0.ended x.0.status (sym m.life ∙ ap (λ (a : Actor). a.life) same ∙ alive) in
-    (four, record { held = x.0; is = x.1; name = x.2; member = m; lives = lives; same = same })
+    record { held = x.0; is = x.1; name = x.2; member = m; lives = lives; same = same }
 
 -- after an event of its own
 abbrev pub with_deed : Actor → Own → Actor
@@ -131,10 +125,12 @@ deed_member s t events k p x y own m alive own_is no_start no_end acts name ende
 
 -- The others
 
-get_beside : (xs : List Held) (y : Held) (i : ℕ) (z : Held) → i ≢ 0 → slice_get xs i ≡ Some z → slice_get (set xs 0 y) i ≡ Some z
-get_beside [] y i z other is = is
-get_beside (v ∷ vs) y zero z other is = absurd (other refl)
-get_beside (v ∷ vs) y (suc i) z other is = is
+pub get_beside : (xs : List Held) (h : ℕ) (y : Held) (i : ℕ) (z : Held) → i ≢ h → slice_get xs i ≡ Some z → slice_get (set xs h y) i ≡ Some z
+get_beside [] h y i z other is = is
+get_beside (v ∷ vs) zero y zero z other is = absurd (other refl)
+get_beside (v ∷ vs) zero y (suc i) z other is = is
+get_beside (v ∷ vs) (suc h) y zero z other is = is
+get_beside (v ∷ vs) (suc h) y (suc i) z other is = get_beside vs h y i z (λ e. other (ap suc e)) is
 
 -- an event leaves each actor but these two as it was
 pub record LeavesBeside (a c : List ℕ) (s t : State) (k : Kept) : Type 0 where
@@ -171,30 +167,30 @@ module _ (s t : State) (events : List Kept) (k : Kept) (p : ℕ) (a c : List ℕ
   apart_none places d b i at none same = let both : ◌≡◌ {A = Option ℕ} None (Some i) = sym none ∙ ap places same ∙ at in absurd (cc)
 
   -- The child stands at a place, and is another one then.
-  pub crew_feeds : (places : List ℕ → Option ℕ) (actors : List Held) (i : ℕ) (x y z w : Held)
-      → AreActors places actors s events p → slice_get actors 0 ≡ Some x → x.name ≡ a → slice_get actors i ≡ Some z → z.name ≡ c → y.name ≡ x.name → w.name ≡ z.name → a ≢ c
+  pub crew_feeds : (places : List ℕ → Option ℕ) (actors : List Held) (h i : ℕ) (x y z w : Held)
+      → AreActors places actors s events p → slice_get actors h ≡ Some x → x.name ≡ a → slice_get actors i ≡ Some z → z.name ≡ c → y.name ≡ x.name → w.name ≡ z.name → a ≢ c
       → ((b : List ℕ) → starts b k ≡ false)
       → ((v : Held) → v.name ≢ a → v.name ≢ c → v.ended ≡ None → awaits_of v.machine ≡ is_awaiting s v.name → awaits_of v.machine ≡ is_awaiting t v.name)
-      → IsMember t (events ++ k ∷ []) p y → IsMember t (events ++ k ∷ []) p w → AreActors places (set (set actors 0 y) i w) t (events ++ k ∷ []) p
-  crew_feeds places actors i x y z w crew is mine there its same kept far no_start awaits sender child =
-      let here = crew.placed 0 x is in
+      → IsMember t (events ++ k ∷ []) p y → IsMember t (events ++ k ∷ []) p w → AreActors places (set (set actors h y) i w) t (events ++ k ∷ []) p
+  crew_feeds places actors h i x y z w crew is mine there its same kept far no_start awaits parent child =
+      let here = crew.placed h x is in
       let place = crew.placed i z there in
-      let beside : i ≢ 0 = λ e. far (sym mine ∙ same_name 0 x z is (ap (slice_get actors) (sym e) ∙ there) ∙ its) in
-      let mid = set actors 0 y in
-      let mid_is : slice_get mid i ≡ Some z = get_beside actors y i z beside there in
+      let beside : i ≢ h = λ e. far (sym mine ∙ same_name h x z is (ap (slice_get actors) (sym e) ∙ there) ∙ its) in
+      let mid = set actors h y in
+      let mid_is : slice_get mid i ≡ Some z = get_beside actors h y i z beside there in
       record {
-        placed = each_set (λ j (v : Held). places v.name ≡ Some j) mid i w (ap places kept ∙ place) (λ j v other h.
-            each_set (λ j (v : Held). places v.name ≡ Some j) actors 0 y (ap places same ∙ here) (λ j v other h. crew.placed j v h) j v h);
-        members = each_set (λ j (v : Held). IsMember t (events ++ k ∷ []) p v) mid i w child (λ j v other h. ⊎_elim
-            (λ f. subst (λ (v : Held). IsMember t (events ++ k ∷ []) p v) f.1 sender)
+        placed = each_set (λ j (v : Held). places v.name ≡ Some j) mid i w (ap places kept ∙ place) (λ j v other found.
+            each_set (λ j (v : Held). places v.name ≡ Some j) actors h y (ap places same ∙ here) (λ j v other at. crew.placed j v at) j v found);
+        members = each_set (λ j (v : Held). IsMember t (events ++ k ∷ []) p v) mid i w child (λ j v other found. ⊎_elim
+            (λ f. subst (λ (v : Held). IsMember t (events ++ k ∷ []) p v) f.1 parent)
             (λ f.
-            let one : v.name ≢ a = subst (λ (b : List ℕ). v.name ≢ b) mine (apart_by places x.name v.name 0 j here (crew.placed j v f.1) f.0) in
+            let one : v.name ≢ a = subst (λ (b : List ℕ). v.name ≢ b) mine (apart_by places x.name v.name h j here (crew.placed j v f.1) f.0) in
             let two : v.name ≢ c = subst (λ (b : List ℕ). v.name ≢ b) its (apart_by places z.name v.name i j place (crew.placed j v f.1) other) in
             let m = crew.members j v f.1 in
             beside_member v one two m (λ lives. awaits v one two lives (m.awaits lives)))
-            (get_set actors 0 y j v h));
-        named = λ b j at. some_set (λ (v : Held). v.name ≡ b) mid i z w j mid_is (λ e. kept ∙ e) (some_set (λ (v : Held). v.name ≡ b) actors 0 x y j is (λ e. same ∙ e) (crew.named b j at));
-        strangers = λ b none. beside_stranger b (subst (λ (d : List ℕ). b ≢ d) mine (apart_none places x.name b 0 here none))
+            (get_set actors h y j v found));
+        named = λ b j at. some_set (λ (v : Held). v.name ≡ b) mid i z w j mid_is (λ e. kept ∙ e) (some_set (λ (v : Held). v.name ≡ b) actors h x y j is (λ e. same ∙ e) (crew.named b j at));
+        strangers = λ b none. beside_stranger b (subst (λ (d : List ℕ). b ≢ d) mine (apart_none places x.name b h here none))
             (subst (λ (d : List ℕ). b ≢ d) its (apart_none places z.name b i place none)) (crew.strangers b none);
         started = λ b. started_push events k b ∙ ap (λ t. was_started events b || t) (no_start b) ∙ or-false (was_started events b) ∙ crew.started b;
       }
@@ -203,39 +199,39 @@ module _ (s t : State) (events : List Kept) (k : Kept) (p : ℕ) (a c : List ℕ
       same_name j u v first second = let both : ◌≡◌ {A = Option Held} (Some u) (Some v) = sym first ∙ second in let one : u ≡ v = cc in ap (λ (x : Held). x.name) one
 
   -- The child is a new actor.
-  pub crew_bears : (places next : List ℕ → Option ℕ) (actors : List Held) (x y z : Held)
-      → AreActors places actors s events p → slice_get actors 0 ≡ Some x → x.name ≡ a → y.name ≡ x.name → z.name ≡ c → places c ≡ None
-      → ((b : List ℕ) → next b ≡ put_at places c (Some (length actors)) b) → length (set actors 0 y) ≡ length actors
+  pub crew_bears : (places next : List ℕ → Option ℕ) (actors : List Held) (h : ℕ) (x y z : Held)
+      → AreActors places actors s events p → slice_get actors h ≡ Some x → x.name ≡ a → y.name ≡ x.name → z.name ≡ c → places c ≡ None
+      → ((b : List ℕ) → next b ≡ put_at places c (Some (length actors)) b) → length (set actors h y) ≡ length actors
       → ((b : List ℕ) → starts b k ≡ bytes_eq c b)
       → ((v : Held) → v.name ≢ a → v.name ≢ c → v.ended ≡ None → awaits_of v.machine ≡ is_awaiting s v.name → awaits_of v.machine ≡ is_awaiting t v.name)
-      → IsMember t (events ++ k ∷ []) p y → IsMember t (events ++ k ∷ []) p z → AreActors next (set actors 0 y ++ z ∷ []) t (events ++ k ∷ []) p
-  crew_bears places next actors x y z crew is mine same its new put many start awaits sender child =
-      let here = crew.placed 0 x is in
-      let mid = set actors 0 y in
+      → IsMember t (events ++ k ∷ []) p y → IsMember t (events ++ k ∷ []) p z → AreActors next (set actors h y ++ z ∷ []) t (events ++ k ∷ []) p
+  crew_bears places next actors h x y z crew is mine same its new put many start awaits parent child =
+      let here = crew.placed h x is in
+      let mid = set actors h y in
       let born : next c ≡ Some (length mid) = put c ∙ put_at_same places c (Some (length actors)) ∙ ap Some (sym many) in
       let old : (b : List ℕ) → b ≢ c → next b ≡ places b = λ b other. put b ∙ put_at_other places c (Some (length actors)) b other in
       let apart_new : (j : ℕ) (v : Held) → places v.name ≡ Some j → v.name ≢ c = λ j v at e. let both : ◌≡◌ {A = Option ℕ} None (Some j) = sym new ∙ ap places (sym e) ∙ at in absurd (cc) in
       record {
         placed = each_push (λ j (v : Held). next v.name ≡ Some j) mid z (ap next its ∙ born)
-            (each_set (λ j (v : Held). next v.name ≡ Some j) actors 0 y (ap next same ∙ old x.name (apart_new 0 x here) ∙ here)
-            (λ j v other h. old v.name (apart_new j v (crew.placed j v h)) ∙ crew.placed j v h));
+            (each_set (λ j (v : Held). next v.name ≡ Some j) actors h y (ap next same ∙ old x.name (apart_new h x here) ∙ here)
+            (λ j v other at. old v.name (apart_new j v (crew.placed j v at)) ∙ crew.placed j v at));
         members = each_push (λ j (v : Held). IsMember t (events ++ k ∷ []) p v) mid z child
-            (each_set (λ j (v : Held). IsMember t (events ++ k ∷ []) p v) actors 0 y sender (λ j v other h.
-            let one : v.name ≢ a = subst (λ (b : List ℕ). v.name ≢ b) mine (apart_by places x.name v.name 0 j here (crew.placed j v h) other) in
-            let two : v.name ≢ c = apart_new j v (crew.placed j v h) in
-            let m = crew.members j v h in
+            (each_set (λ j (v : Held). IsMember t (events ++ k ∷ []) p v) actors h y parent (λ j v other at.
+            let one : v.name ≢ a = subst (λ (b : List ℕ). v.name ≢ b) mine (apart_by places x.name v.name h j here (crew.placed j v at) other) in
+            let two : v.name ≢ c = apart_new j v (crew.placed j v at) in
+            let m = crew.members j v at in
             beside_member v one two m (λ lives. awaits v one two lives (m.awaits lives))));
         named = λ b j at. ⊎_elim
             (λ f.
             let same_at : ◌≡◌ {A = Option ℕ} (Some j) (Some (length mid)) = sym at ∙ ap next f.0 ∙ born in
             let last : j ≡ length mid = cc in
             subst (λ (j : ℕ). IsSomeAnd (slice_get (mid ++ z ∷ []) j) (λ v. v.name ≡ b)) (sym last) (some_last (λ (v : Held). v.name ≡ b) mid z (its ∙ sym f.0)))
-            (λ f. some_push (λ (v : Held). v.name ≡ b) mid z j (some_set (λ (v : Held). v.name ≡ b) actors 0 x y j is (λ e. same ∙ e) (crew.named b j (sym (old b f.0) ∙ at))))
+            (λ f. some_push (λ (v : Held). v.name ≡ b) mid z j (some_set (λ (v : Held). v.name ≡ b) actors h x y j is (λ e. same ∙ e) (crew.named b j (sym (old b f.0) ∙ at))))
             (text_cases b c);
         strangers = λ b none.
             let other : b ≢ c = λ e. let both : ◌≡◌ {A = Option ℕ} None (Some (length mid)) = sym none ∙ ap next e ∙ born in absurd (cc) in
             let before : places b ≡ None = sym (old b other) ∙ none in
-            beside_stranger b (subst (λ (d : List ℕ). b ≢ d) mine (apart_none places x.name b 0 here before)) other (crew.strangers b before);
+            beside_stranger b (subst (λ (d : List ℕ). b ≢ d) mine (apart_none places x.name b h here before)) other (crew.strangers b before);
         started = λ b. started_push events k b ∙ ⊎_elim
             (λ f. ap (λ t. was_started events b || t) (start b ∙ ap (bytes_eq c) f.0 ∙ same_text c) ∙ or-true (was_started events b) ∙ sym (ap is_some (ap next f.0 ∙ born)))
             (λ f. ap (λ t. was_started events b || t) (start b ∙ other_text c b (λ e. f.0 (sym e))) ∙ or-false (was_started events b) ∙ crew.started b ∙ sym (ap is_some (old b f.0)))
@@ -273,14 +269,14 @@ still_open d s t v z holder name list owns old = record {
       (subst (λ (a : List ℕ). Owns d s.holder a (held actor.past)) (sym name) (owns actor at lives));
 }
 
--- of the sender, whose event opened nothing
-pub deed_open : (d : Disk) (s t : State) (x y : Held) (own : Own) (sender : Actor) → t.holder ≡ s.holder → y.name ≡ x.name → y.descriptors.items ≡ x.descriptors.items
-    → s.actors x.name ≡ Some sender → sender.life ≡ Alive → t.actors x.name ≡ Some (with_deed sender own) → held (own ∷ sender.past) ≡ held sender.past → HasOpen d s x → HasOpen d t y
-deed_open d s t x y own sender holder name list is alive acts holds old =
+-- of the parent, whose event opened nothing
+pub deed_open : (d : Disk) (s t : State) (x y : Held) (own : Own) (parent : Actor) → t.holder ≡ s.holder → y.name ≡ x.name → y.descriptors.items ≡ x.descriptors.items
+    → s.actors x.name ≡ Some parent → parent.life ≡ Alive → t.actors x.name ≡ Some (with_deed parent own) → held (own ∷ parent.past) ≡ held parent.past → HasOpen d s x → HasOpen d t y
+deed_open d s t x y own parent holder name list is alive acts holds old =
     still_open d s t x y holder name list (λ actor at lives.
-    let both : ◌≡◌ {A = Option Actor} (Some (with_deed sender own)) (Some actor) = sym acts ∙ ap t.actors (sym name) ∙ at in
-    let one : with_deed sender own ≡ actor = cc in
-    subst (λ (z : Actor). Owns d s.holder x.name (held z.past)) one (subst (λ (h : ℕ → Option Mode). Owns d s.holder x.name h) (sym holds) (old.owns sender is alive))) old
+    let both : ◌≡◌ {A = Option Actor} (Some (with_deed parent own)) (Some actor) = sym acts ∙ ap t.actors (sym name) ∙ at in
+    let one : with_deed parent own ≡ actor = cc in
+    subst (λ (z : Actor). Owns d s.holder x.name (held z.past)) one (subst (λ (h : ℕ → Option Mode). Owns d s.holder x.name h) (sym holds) (old.owns parent is alive))) old
 
 -- of one that did nothing
 pub idle_open : (d : Disk) (s t : State) (v z : Held) (program : Program) (life : Life) → t.holder ≡ s.holder → z.name ≡ v.name → z.descriptors.items ≡ v.descriptors.items
@@ -312,23 +308,7 @@ all_open d actors later s t holder open_to each = record {
   each = each;
 }
 
--- What a sender's machine is handed
-
--- what it asks for, once it has looked
-pub need_is : (m : AnyMachine) (program : Program) (past : List Own) (now : ℕ) (ready : Ready) → IsSender program → Follows m program past → looked_of m ≡ true → present_of m ≡ now → found_of m ≡ ready
-    → need_of m ≡ next_of program past now ready
-need_is (Send sender) (Sender began) past now ready is follows looked read found =
-    ap (λ (t : Bool). due_if t sender) looked
-    ∙ ap (λ (d : Desk). due_at (row_now d sender.present sender.ready) d) follows
-    ∙ ap (λ (n : ℕ). next_of (Sender began) past n sender.ready) read ∙ ap (next_of (Sender began) past now) found
-need_is (Mail injector) (Sender began) past now ready is follows looked read found = absurd follows
-need_is (Clean cleaner) (Sender began) past now ready is follows looked read found = absurd follows
-need_is (Local spawner) (Sender began) past now ready is follows looked read found = absurd follows
-need_is (Remote spawner) (Sender began) past now ready is follows looked read found = absurd follows
-need_is m (Injector args) past now ready is follows looked read found = absurd is
-need_is m (Cleaner start) past now ready is follows looked read found = absurd is
-need_is m (LocalSpawner start) past now ready is follows looked read found = absurd is
-need_is m (RemoteSpawner start) past now ready is follows looked read found = absurd is
+-- What its machine is handed
 
 -- it was handed what came of this event
 pub taken_in : (x y : Held) (m : AnyMachine) (own : Own) (index : ℕ) (idle : Bool) → present_of m ≡ own.read → found_of m ≡ own.ready → looked_of m ≡ true → need_of m ≡ own.due
@@ -337,9 +317,9 @@ pub taken_in : (x y : Held) (m : AnyMachine) (own : Own) (index : ℕ) (idle : B
     → ((program : Program) (past : List Own) → Follows m program past → StandsFor y program (with_own m own.came past))
     → ((program : Program) (past : List Own) → Follows m program past → idle ≡ idled_in program past (own_of m own.came))
     → ((at : ℕ) → y.owed ≡ Some at → (at ≡ index) × (y.machine ≡ m))
-    → y.name ≡ x.name → y.descriptors.items ≡ x.descriptors.items → y.ended ≡ x.ended → y.status ≡ x.status → awaits_of y.machine ≡ awaits_of x.machine
+    → y.name ≡ x.name → y.descriptors.items ≡ x.descriptors.items → y.ended ≡ x.ended → y.status ≡ x.status → awaits_of y.machine ≡ awaits_of x.machine → StaysAt x y
     → HasTakenIn x y own index idle
-taken_in x y m own index idle read found looked due kind within stands follows idles owes name list ended status awaits = record {
+taken_in x y m own index idle read found looked due kind within stands follows idles owes name list ended status awaits stays = record {
   follows = λ program past f. subst (StandsFor y program) (own_is m own past read found due) (follows program past (stands program past f));
   idled = λ program past f. idles program past (stands program past f) ∙ ap (idled_first program past) (own_is m own past read found due);
   owes = λ at is. let o = owes at is in record {
@@ -356,28 +336,30 @@ taken_in x y m own index idle read found looked due kind within stands follows i
   ended = ended;
   status = status;
   awaits = awaits;
+  stays = stays;
 } where
   idled_first : Program → List Own → List Own → Bool
   idled_first program past [] = false
   idled_first program past (first ∷ rest) = idled_in program past first
 
--- What the sender does
+-- What the parent does
 
 -- its machine, which was paid, was handed what came of its event, or owes it
-pub record HasServed (x y : Held) (own : Own) (index : ℕ) (sender : Actor) : Type 0 where
-  pub stands : StandsFor y sender.program (own ∷ sender.past)
+pub record HasServed (x y : Held) (own : Own) (index : ℕ) (parent : Actor) : Type 0 where
+  pub stands : StandsFor y parent.program (own ∷ parent.past)
   pub owes : (at : ℕ) → y.owed ≡ Some at → IsOwed y own index at
   pub name : y.name ≡ x.name
   pub descriptors : y.descriptors.items ≡ x.descriptors.items
   pub ended : y.ended ≡ x.ended
   pub status : y.status ≡ x.status
   pub awaits : awaits_of y.machine ≡ awaits_of x.machine
+  pub stays : StaysAt x y
 
-pub served_member : (actors : List Held) (s t : State) (events : List Kept) (k : Kept) (p : ℕ) (sender : Actor) (here : HasSender actors s events p sender) (y : Held) (own : Own)
-    → HasServed here.held y own (length events) sender → own_in k ≡ Some own → starts (codes "sender") k ≡ false → ends (codes "sender") k ≡ false
-    → t.actors (codes "sender") ≡ Some (with_deed sender own) → own.read ≡ p → next_of sender.program sender.past own.read own.ready ≡ own.due → MayCome own.due own.came
-    → is_awaiting s (codes "sender") ≡ false → is_awaiting t (codes "sender") ≡ false → IsMember t (events ++ k ∷ []) p y
-served_member actors s t events k p sender here y own served own_is no_start no_end acts read due may before after =
+pub served_member : (actors : List Held) (s t : State) (events : List Kept) (k : Kept) (p : ℕ) (a : List ℕ) (i : ℕ) (parent : Actor) (here : HasParent actors s events p a i parent) (y : Held) (own : Own)
+    → HasServed here.held y own (length events) parent → own_in k ≡ Some own → starts a k ≡ false → ends a k ≡ false
+    → t.actors a ≡ Some (with_deed parent own) → own.read ≡ p → next_of parent.program parent.past own.read own.ready ≡ own.due → MayCome own.due own.came
+    → is_awaiting s a ≡ false → is_awaiting t a ≡ false → IsMember t (events ++ k ∷ []) p y
+served_member actors s t events k p a i parent here y own served own_is no_start no_end acts read due may before after =
     let x = here.held in
     let m = here.member in
     let stands : StandsFor y m.actor.program (own ∷ m.actor.past) = subst (λ (a : Actor). StandsFor y a.program (own ∷ a.past)) (sym here.same) served.stands in
@@ -400,14 +382,11 @@ pub record HasChild (crew : ℕ) (places : List ℕ → Option ℕ) (actors : Li
   pub member : IsMember s events p held
   pub named : is_member c ≡ false
 
-pub has_child : (crew : ℕ) (places : List ℕ → Option ℕ) (mouths : List Mouths) (actors : List Held) (s : State) (events : List Kept) (p : ℕ) (c : List ℕ)
-    → AreActors (among_all crew places) actors s events p → ArePiped crew mouths actors s events → s.pipework.programs (codes "sender") 0 ≡ Some (Runs c) → HasChild crew places actors s events p c
-has_child crew places mouths actors s events p c w piped runs = by_place (places c) refl where
+pub has_child : (crew : ℕ) (places : List ℕ → Option ℕ) (mouths : List Mouths) (actors : List Held) (s : State) (events : List Kept) (p : ℕ) (a c : List ℕ)
+    → AreActors (among_all crew places) actors s events p → ArePiped crew mouths actors s events → s.pipework.programs a 0 ≡ Some (Runs c) → HasChild crew places actors s events p c
+has_child crew places mouths actors s events p a c w piped runs = by_place (places c) refl where
   named : is_member c ≡ false
-  named = by_mouth (slice_get mouths 0) refl (sym (piped.wired.programs (codes "sender") 0) ∙ runs) where
-    by_mouth : (o : Option Mouths) → slice_get mouths 0 ≡ o → tenant_in o 0 ≡ Some (Runs c) → is_member c ≡ false
-    by_mouth None is at = absurd (cc)
-    by_mouth (Some m) is at = (piped.one 0 m 0 c is at).2
+  named = child_named crew mouths actors s events piped a c runs
 
   among : (o : Option ℕ) → places c ≡ o → among_all crew places c ≡ option_map (λ i. crew + i) o
   among o is = ap (λ (q : Option ℕ). place_by crew q (places c)) (seat_none c named) ∙ ap (option_map (λ i. crew + i)) is
@@ -417,76 +396,187 @@ has_child crew places mouths actors s events p c w piped runs = by_place (places
   unknown (Some x) none there = absurd (cc)
 
   by_place : (o : Option ℕ) → places c ≡ o → HasChild crew places actors s events p c
-  by_place None is = absurd (unknown (s.actors c) (w.strangers c (among None is)).unknown (piped.children c runs).0)
+  by_place None is = absurd (unknown (s.actors c) (w.strangers c (among None is)).unknown (piped.born a 0 c runs).known)
   by_place (Some i) is =
       let z = some_at (λ (z : Held). z.name ≡ c) (slice_get actors (crew + i)) (w.named c (crew + i) (among (Some i) is)) in
       record { at = i; place = is; held = z.0; is = z.1; name = z.2; member = w.members (crew + i) z.0 z.1; named = named }
 
--- who is read at that place after the sender was served
-pub child_read : (crew : ℕ) (places : List ℕ → Option ℕ) (actors : List Held) (s : State) (events : List Kept) (p : ℕ) (c : List ℕ) (h : HasChild crew places actors s events p c) (y x : Held) → crew ≡ 4
-    → x ≡ get_or (set actors 0 y) (crew + h.at) x → h.held ≡ x
-child_read crew places actors s events p c h y x four read =
-    sym (get_or_from_slice_get (set actors 0 y) (crew + h.at) h.held x (get_beside actors y (crew + h.at) h.held (λ e. omega (arith, e, four)) h.is)) ∙ sym read
+-- it stands elsewhere than its parent, which is no mail
+pub child_beside : (crew : ℕ) (places : List ℕ → Option ℕ) (mouths : List Mouths) (actors : List Held) (s : State) (events : List Kept) (p : ℕ) (a c : List ℕ) (i : ℕ) (parent : Actor)
+    → AreActors (among_all crew places) actors s events p → ArePiped crew mouths actors s events → (here : HasParent actors s events p a i parent) → s.pipework.programs a 0 ≡ Some (Runs c)
+    → (h : HasChild crew places actors s events p c) → (a ≢ c) × (crew + h.at ≢ i)
+child_beside crew places mouths actors s events p a c i parent w piped here runs h =
+    let far = child_apart crew (among_all crew places) mouths actors s events p i here.held w piped here.is c (ap (λ (b : List ℕ). s.pipework.programs b 0) here.name ∙ runs) in (
+      λ same. far (sym same ∙ sym here.name),
+      λ same.
+          let both : ◌≡◌ {A = Option Held} (Some h.held) (Some here.held) = sym h.is ∙ ap (slice_get actors) same ∙ here.is in
+          let one : h.held ≡ here.held = cc in
+          far (sym h.name ∙ ap (λ (x : Held). x.name) one),
+    )
+
+-- who is read at that place after the parent was served
+pub child_read : (crew : ℕ) (places : List ℕ → Option ℕ) (actors : List Held) (s : State) (events : List Kept) (p : ℕ) (c : List ℕ) (h : HasChild crew places actors s events p c) (i : ℕ) (y x : Held)
+    → crew + h.at ≢ i → x ≡ get_or (set actors i y) (crew + h.at) x → h.held ≡ x
+child_read crew places actors s events p c h i y x beside read =
+    sym (get_or_from_slice_get (set actors i y) (crew + h.at) h.held x (get_beside actors i y (crew + h.at) h.held beside h.is)) ∙ sym read
 
 -- so that place is found
-pub child_found : (crew : ℕ) (places : List ℕ → Option ℕ) (mouths : List Mouths) (actors : List Held) (s : State) (events : List Kept) (p : ℕ) (c : List ℕ) → AreWired mouths s.pipework
-    → s.pipework.programs (codes "sender") 0 ≡ Some (Runs c) → (h : HasChild crew places actors s events p c) → child_place mouths crew places ≡ Some (crew + h.at)
-child_found crew places mouths actors s events p c wired runs h =
-    ap (λ (o : Option Tenant). place_by_name crew places (actor_of o)) (sym (wired.programs (codes "sender") 0) ∙ runs) ∙ ap (λ (o : Option ℕ). found o) h.place
+pub child_found : (crew : ℕ) (places : List ℕ → Option ℕ) (mouths : List Mouths) (actors : List Held) (s : State) (events : List Kept) (p : ℕ) (a c : List ℕ) (wire : Option ℕ) (wires : List ℕ → Option ℕ)
+    → AreWired wires mouths s.pipework → wires a ≡ wire → s.pipework.programs a 0 ≡ Some (Runs c) → (h : HasChild crew places actors s events p c) → child_place mouths wire crew places ≡ Some (crew + h.at)
+child_found crew places mouths actors s events p a c wire wires wired of runs h =
+    ap (λ (o : Option Tenant). place_by_name crew places (actor_of o)) (in_slot wires mouths s a c wire wired of runs) ∙ ap (λ (o : Option ℕ). found o) h.place
   where
     found : Option ℕ → Option ℕ
     found None = None
     found (Some i) = Some (crew + i)
 
--- What is known of the sender
+-- What is known of the parent
 
-module _ (crew : ℕ) (mouths : List Mouths) (actors : List Held) (events : List Kept) (p : ℕ) (sender : Actor) (here : HasSender actors (known events) events p sender)
-    (is : (known events).actors (codes "sender") ≡ Some sender) (alive : sender.life ≡ Alive) where
-  pub acting_sender : IsActing (known events) (codes "sender") p sender
-  acting_sender = record { is = is; alive = alive; in_order = subst (λ (a : Actor). latest a.program a.past ≤ p) here.same here.member.in_order }
+module _ (crew : ℕ) (mouths : List Mouths) (actors : List Held) (events : List Kept) (p : ℕ) (a : List ℕ) (i : ℕ) (parent : Actor) (here : HasParent actors (known events) events p a i parent)
+    (is : (known events).actors a ≡ Some parent) (alive : parent.life ≡ Alive) where
+  pub acting_parent : IsActing (known events) a p parent
+  acting_parent = record { is = is; alive = alive; in_order = subst (λ (a : Actor). latest a.program a.past ≤ p) here.same here.member.in_order }
 
-  pub sender_sends : IsSender sender.program
-  sender_sends = subst (λ (a : Actor). IsSender a.program) here.same (subst (λ (a : List ℕ). RunsAt (seat a) here.member.actor.program) here.name here.member.runs)
-
-  pub sender_runs : IsRunBy (next_of sender.program) sender.past
-  sender_runs = subst (λ (a : Actor). IsRunBy (next_of a.program) a.past) here.same here.member.run
-
-  pub sender_began : (began : ℕ) × (sender.program ≡ Sender began)
-  sender_began = by_program sender.program refl sender_sends where
-    by_program : (program : Program) → sender.program ≡ program → IsSender program → (began : ℕ) × (sender.program ≡ Sender began)
-    by_program (Sender began) same sends = (began, same)
-    by_program other same sends = absurd sends
+  pub parent_runs : IsRunBy (next_of parent.program) parent.past
+  parent_runs = subst (λ (a : Actor). IsRunBy (next_of a.program) a.past) here.same here.member.run
 
   -- what it finds it may find
-  pub sender_finds : FindsIn events (codes "sender") sender (found_in (known events) (codes "sender"))
-  sender_finds = λ t pipes. subst (MayFind t (codes "sender") sender.program sender.past) (sym (ap (found_at (known events) (codes "sender")) is))
-      (found_finds (known events) t (codes "sender") sender.program sender.past pipes)
+  pub parent_finds : FindsIn events a parent (found_in (known events) a)
+  parent_finds = λ t pipes. subst (MayFind t a parent.program parent.past) (sym (ap (found_at (known events) a) is))
+      (found_finds (known events) t a parent.program parent.past pipes)
+
+  -- who feeds awaits nothing
+  pub parent_awaits : IsFeeder parent.program → is_awaiting (known events) a ≡ false
+  parent_awaits feeds =
+      let m = here.member in
+      let no_mail : IsMail m.actor.program → ⊥ = λ mail. no_mail_feeds parent.program feeds (subst (λ (a : Actor). IsMail a.program) here.same mail) in
+      ap (is_awaiting (known events)) (sym here.name) ∙ sym (m.awaits here.lives)
+      ∙ none_awaits here.held.machine m.actor.program (unowed here.held.owed m.actor.past) (m.follows here.lives) no_mail
 
   -- who does something else than to give its child its input has not just started it
-  pub not_borne : (now : ℕ) (ready : Ready) (due : NeedData) → next_of sender.program sender.past now ready ≡ due → ((bytes : List ℕ) → due ≡ needs.Give (port.Program 0) bytes → ⊥) → HasBorneLast sender.past → ⊥
-  not_borne now ready due next other borne =
-      let began = sender_began in
-      let run : IsRunBy (next_of (Sender began.0)) sender.past = subst (λ (program : Program). IsRunBy (next_of program) sender.past) began.1 sender_runs in
-      let gives = birth_gives began.0 sender.past run borne in
-      other gives.0 (sym next ∙ ap (λ (program : Program). next_of program sender.past now ready) began.1 ∙ gives.1 now ready)
+  pub not_borne : ArePiped crew mouths actors (known events) events → (now : ℕ) (ready : Ready) (due : NeedData) → next_of parent.program parent.past now ready ≡ due
+      → ((bytes : List ℕ) → due ≡ needs.Give (port.Program 0) bytes → ⊥) → HasBorneLast parent.past → ⊥
+  not_borne piped now ready due next other borne =
+      let may = piped.fed a parent is alive borne in
+      let gives = feeder_next parent.program parent.past ((piped.born a 0 may.child may.runs).feeds parent is) parent_runs borne in
+      other gives.0 (sym next ∙ gives.1 now ready)
+
+  -- nor does anybody await anything of it
+  pub none_of_it : ArePiped crew mouths actors (known events) events → (now : ℕ) (ready : Ready) (due : NeedData) → next_of parent.program parent.past now ready ≡ due
+      → ((bytes : List ℕ) → due ≡ needs.Give (port.Program 0) bytes → ⊥) → (c : List ℕ) → (it : IsAwaited (known events) c) → it.parent ≢ a
+  none_of_it piped now ready due next other c it = λ same.
+      let both : ◌≡◌ {A = Option Actor} (Some it.actor) (Some parent) = sym it.is ∙ ap (known events).actors same ∙ is in
+      let one : it.actor ≡ parent = cc in
+      not_borne piped now ready due next other (subst (λ (a : Actor). HasBorneLast a.past) one it.borne)
+
+-- who has none has no seat
+pub wireless : (crew : ℕ) (mouths : List Mouths) (actors : List Held) (s : State) (events : List Kept) → ArePiped crew mouths actors s events → (i : ℕ) (x : Held) → slice_get actors i ≡ Some x
+    → x.ended ≡ None → x.wire ≡ None → seat x.name ≡ None
+wireless crew mouths actors s events piped i x is lives none = ⊎_elim
+    (λ member. sym (piped.wired.seats x.name member) ∙ piped.places i x is lives ∙ none)
+    (λ named. seat_none x.name named)
+    (whether (is_member x.name))
+
+-- as yet each has them at its seat
+pub at_seat : (crew : ℕ) (mouths : List Mouths) (actors : List Held) (s : State) (events : List Kept) → ArePiped crew mouths actors s events → (i : ℕ) (x : Held) → slice_get actors i ≡ Some x
+    → x.ended ≡ None → seat x.name ≡ x.wire
+at_seat crew mouths actors s events piped i x is lives = ⊎_elim
+    (λ member. sym (piped.wired.seats x.name member) ∙ piped.places i x is lives)
+    (λ named. seat_none x.name named ∙ sym (piped.alone x.name named) ∙ piped.places i x is lives)
+    (whether (is_member x.name))
+
+-- who feeds has them at the first one
+pub feeder_wire : (crew : ℕ) (mouths : List Mouths) (actors : List Held) (events : List Kept) (p : ℕ) (a : List ℕ) (i : ℕ) (parent : Actor) (here : HasParent actors (known events) events p a i parent)
+    → ArePiped crew mouths actors (known events) events → IsFeeder parent.program → here.held.wire ≡ Some 0
+feeder_wire crew mouths actors events p a i parent here piped feeds =
+    sym (at_seat crew mouths actors (known events) events piped i here.held here.is here.lives)
+    ∙ feeder_seat (seat here.held.name) here.member.actor.program (subst (λ (a : Actor). IsFeeder a.program) (sym here.same) feeds) here.member.runs
+
+-- who stands at a seat has that place
+pub seat_place : (crew : ℕ) (places : List ℕ → Option ℕ) (a : List ℕ) (j i : ℕ) → seat a ≡ Some j → among_all crew places a ≡ Some i → (j ≡ i) × (j < crew)
+seat_place crew places a j i seated at = by_crew (nat_lt j crew) refl (sym (ap (λ (o : Option ℕ). place_by crew o (places a)) seated) ∙ at) where
+  by_crew : (t : Bool) → nat_lt j crew ≡ t → (if t then Some j else None) ≡ Some i → (j ≡ i) × (j < crew)
+  by_crew true low here = (cc, ltb-true j crew low)
+  by_crew false low here = absurd (cc)
+
+-- who feeds is a member as yet
+pub feeder_low : (crew : ℕ) (places : List ℕ → Option ℕ) (mouths : List Mouths) (actors : List Held) (events : List Kept) (p : ℕ) (a : List ℕ) (i : ℕ) (parent : Actor)
+    → AreActors (among_all crew places) actors (known events) events p → ArePiped crew mouths actors (known events) events → (here : HasParent actors (known events) events p a i parent) → IsFeeder parent.program → i < crew
+feeder_low crew places mouths actors events p a i parent w piped here feeds =
+    let seated : seat here.held.name ≡ Some 0 = at_seat crew mouths actors (known events) events piped i here.held here.is here.lives ∙ feeder_wire crew mouths actors events p a i parent here piped feeds in
+    let at = seat_place crew places here.held.name 0 i seated (w.placed i here.held here.is) in
+    let same = at.0 in
+    let low = at.1 in
+    omega (arith, same, low)
+
+-- it has them among those that are kept
+pub pipes_within : (crew : ℕ) (places : List ℕ → Option ℕ) (mouths : List Mouths) (actors : List Held) (s : State) (events : List Kept) (p i : ℕ) (x : Held)
+    → AreActors (among_all crew places) actors s events p → ArePiped crew mouths actors s events → slice_get actors i ≡ Some x → x.ended ≡ None → (j : ℕ) → x.wire ≡ Some j
+    → (4 ≤ length mouths) × (j < length mouths) × (j < 4)
+pipes_within crew places mouths actors s events p i x w piped is lives j at =
+    let seated : seat x.name ≡ Some j = at_seat crew mouths actors s events piped i x is lives ∙ at in
+    let low = seat_low x.name j seated in
+    let place = seat_place crew places x.name j i seated (w.placed i x is) in
+    let same = place.0 in
+    let less = place.1 in
+    let four = piped.seated i x (omega (arith, less, same)) is lives in
+    (four, omega (arith, four, low), low)
+
+-- a slot, kept by the same place
+pub slot_at : (i j : ℕ) (o : Option (ℕ × ℕ)) → o ≡ Some (i, 0) → i ≡ j → o ≡ Some (j, 0)
+slot_at i j o is same = subst (λ (n : ℕ). o ≡ Some (n, 0)) same is
+
+-- there is a first slot everywhere
+pub some_slot : (i n : ℕ) → n ≡ slots_at i → 0 < n
+some_slot i n is = by_low (nat_lt i 4) is where
+  by_low : (t : Bool) → n ≡ (if t then 256 else 1) → 0 < n
+  by_low true is = omega (arith, is)
+  by_low false is = omega (arith, is)
+
+-- what it finds is what the state says
+pub finds_by : (crew : ℕ) (mouths : List Mouths) (actors : List Held) (s : State) (events : List Kept) (p i : ℕ) (x : Held) (ready : Ready) (m : IsMember s events p x)
+    → slice_get actors i ≡ Some x → x.ended ≡ None → ArePiped crew mouths actors s events → IsFoundAt mouths x.wire (awaits_of x.machine) ready → ready ≡ found_by s x.name m.actor.program
+finds_by crew mouths actors s events p i x ready m is lives piped found =
+    found_is s piped.wires mouths x.name x.wire m.actor.program (awaits_of x.machine) ready piped.wired piped.slots piped.over (piped.places i x is lives)
+    (subst (λ (o : Option ℕ). RunsAt o m.actor.program) (at_seat crew mouths actors s events piped i x is lives) m.runs) (m.awaits lives) found
 
 -- the members that live are among those that did
-pub seated_still : (crew n : ℕ) (actors : List Held) (x y : Held) → slice_get actors 0 ≡ Some x → y.ended ≡ x.ended
-    → ((j : ℕ) (z : Held) → j < crew → slice_get actors j ≡ Some z → z.ended ≡ None → n ≡ 4)
-    → (j : ℕ) (z : Held) → j < crew → slice_get (set actors 0 y) j ≡ Some z → z.ended ≡ None → n ≡ 4
-seated_still crew n actors x y is ended seated j z low at lives = ⊎_elim
-    (λ (f : (j ≡ 0) × (y ≡ z)). seated 0 x (subst (λ (j : ℕ). j < crew) f.0 low) is (sym ended ∙ subst (λ (z : Held). z.ended ≡ None) (sym f.1) lives))
+pub seated_still : (crew n i : ℕ) (actors : List Held) (x y : Held) → slice_get actors i ≡ Some x → y.ended ≡ x.ended
+    → ((j : ℕ) (z : Held) → j < crew → slice_get actors j ≡ Some z → z.ended ≡ None → 4 ≤ n)
+    → (j : ℕ) (z : Held) → j < crew → slice_get (set actors i y) j ≡ Some z → z.ended ≡ None → 4 ≤ n
+seated_still crew n i actors x y is ended seated j z low at lives = ⊎_elim
+    (λ (f : (j ≡ i) × (y ≡ z)). seated i x (subst (λ (j : ℕ). j < crew) f.0 low) is (sym ended ∙ subst (λ (z : Held). z.ended ≡ None) (sym f.1) lives))
     (λ f. seated j z low f.1 lives)
-    (get_set actors 0 y j z at)
+    (get_set actors i y j z at)
+
+-- each has its pipes where it had them, and its slot
+pub places_still : (wires : List ℕ → Option ℕ) (actors : List Held) (i : ℕ) (x y : Held) → slice_get actors i ≡ Some x → y.name ≡ x.name → y.ended ≡ x.ended → StaysAt x y
+    → ((j : ℕ) (z : Held) → slice_get actors j ≡ Some z → z.ended ≡ None → wires z.name ≡ z.wire)
+    → (j : ℕ) (z : Held) → slice_get (set actors i y) j ≡ Some z → z.ended ≡ None → wires z.name ≡ z.wire
+places_still wires actors i x y is name ended stays places j z at lives = ⊎_elim
+    (λ (f : (j ≡ i) × (y ≡ z)). subst (λ (z : Held). wires z.name ≡ z.wire) f.1
+    (ap wires name ∙ places i x is (sym ended ∙ subst (λ (z : Held). z.ended ≡ None) (sym f.1) lives) ∙ sym stays.wire))
+    (λ f. places j z f.1 lives)
+    (get_set actors i y j z at)
+
+pub stands_still : (wires : List ℕ → Option ℕ) (slots : List ℕ → Option Slot) (actors : List Held) (i : ℕ) (x y : Held) → slice_get actors i ≡ Some x → y.name ≡ x.name → y.ended ≡ x.ended → StaysAt x y
+    → ((j : ℕ) (z : Held) → slice_get actors j ≡ Some z → z.ended ≡ None → IsSlotOf wires (slots z.name) z.slot)
+    → (j : ℕ) (z : Held) → slice_get (set actors i y) j ≡ Some z → z.ended ≡ None → IsSlotOf wires (slots z.name) z.slot
+stands_still wires slots actors i x y is name ended stays stands j z at lives = ⊎_elim
+    (λ (f : (j ≡ i) × (y ≡ z)). subst (λ (z : Held). IsSlotOf wires (slots z.name) z.slot) f.1
+    (subst (IsSlotOf wires (slots y.name)) (sym stays.slot) (subst (λ (o : Option Slot). IsSlotOf wires o x.slot) (sym (ap slots name))
+    (stands i x is (sym ended ∙ subst (λ (z : Held). z.ended ≡ None) (sym f.1) lives)))))
+    (λ f. stands j z f.1 lives)
+    (get_set actors i y j z at)
 
 pub whole_more : (events : List Kept) (k : Kept) → AreWholeGivings (reverse events) → IsWholeGiving k → AreWholeGivings (reverse (events ++ k ∷ []))
 whole_more events k before one = subst AreWholeGivings (sym (reverse-append events (k ∷ []))) (one, before)
 
--- What a step of the sender goes by
+-- What a step of the parent goes by
 
-pub lives_sender : (o : Option Actor) → lives_in o ≡ true → (sender : Actor) × (o ≡ Some sender) × (sender.life ≡ Alive)
-lives_sender None lives = absurd (cc)
-lives_sender (Some x) lives = (x, refl, by_life x.life lives) where
+pub lives_parent : (o : Option Actor) → lives_in o ≡ true → (parent : Actor) × (o ≡ Some parent) × (parent.life ≡ Alive)
+lives_parent None lives = absurd (cc)
+lives_parent (Some x) lives = (x, refl, by_life x.life lives) where
   by_life : (life : Life) → lives_in (Some (record { program = x.program; past = x.past; life = life })) ≡ true → life ≡ Alive
   by_life Alive lives = refl
   by_life (Over status) lives = absurd (cc)
@@ -495,32 +585,27 @@ lives_sender (Some x) lives = (x, refl, by_life x.life lives) where
 pub alive_lives : (o : Option Actor) (x : Actor) → o ≡ Some x → x.life ≡ Alive → lives_in o ≡ true
 alive_lives o x is alive = ap lives_in is ∙ ap (λ (life : Life). lives_in (Some (record { program = x.program; past = x.past; life = life }))) alive
 
-pub sender_piped : (crew : ℕ) (places : List ℕ → Option ℕ) (mouths : List Mouths) (actors : List Held) (events : List Kept) (p : ℕ) (sender : Actor)
-    → AreActors (among_all crew places) actors (known events) events p → ArePiped crew mouths actors (known events) events → (known events).actors (codes "sender") ≡ Some sender → sender.life ≡ Alive → length mouths ≡ 4
-sender_piped crew places mouths actors events p sender w piped is alive =
-    let it = has_sender crew places actors (known events) events p sender piped.few w is alive in
-    let four = it.0 in
-    piped.seated 0 it.1.held (omega (arith, four)) it.1.is it.1.lives
+-- who is alive has a place
+pub parent_at : (places : List ℕ → Option ℕ) (actors : List Held) (s : State) (events : List Kept) (p : ℕ) (a : List ℕ) (parent : Actor) → AreActors places actors s events p → s.actors a ≡ Some parent
+    → (i : ℕ) × (places a ≡ Some i)
+parent_at places actors s events p a parent w is = has_place places actors s events p a w (subst (λ (o : Option Actor). IsSome o) (sym is) refl)
 
-pub sender_ready : (crew : ℕ) (places : List ℕ → Option ℕ) (mouths : List Mouths) (actors : List Held) (events : List Kept) (p : ℕ) (sender : Actor) (ready : Ready)
-    → AreActors (among_all crew places) actors (known events) events p → ArePiped crew mouths actors (known events) events → (known events).actors (codes "sender") ≡ Some sender → sender.life ≡ Alive
-    → IsFoundAt mouths (Some 0) false ready → ready ≡ found_in (known events) (codes "sender")
-sender_ready crew places mouths actors events p sender ready w piped is alive found =
+pub parent_ready : (crew : ℕ) (mouths : List Mouths) (actors : List Held) (events : List Kept) (p : ℕ) (a : List ℕ) (i : ℕ) (parent : Actor) (ready : Ready)
+    → ArePiped crew mouths actors (known events) events → (here : HasParent actors (known events) events p a i parent) → IsFoundAt mouths here.held.wire (awaits_of here.held.machine) ready → ready ≡ found_in (known events) a
+parent_ready crew mouths actors events p a i parent ready piped here found =
     let s = known events in
-    let it = has_sender crew places actors s events p sender piped.few w is alive in
-    let none = no_slot s (codes "sender") (piped.wired.members (codes "sender") refl) in
-    found_is s mouths (codes "sender") (Some 0) sender.program false ready piped.wired piped.slots piped.one refl (sender_sends crew mouths actors events p sender it.1 is alive) (sym none) found
-    ∙ sym (ap (found_at s (codes "sender")) is)
+    let m = here.member in
+    finds_by crew mouths actors s events p i here.held ready m here.is here.lives piped found ∙ sym (ap (found_at s here.held.name) m.is) ∙ ap (found_in s) here.name
 
 -- What of a child is due
 
-pub start_due : (has : Bool) (asked : ChildData) → is_due_of_child has (needs.Start asked) ≡ true → IsStart (needs.Start asked)
+pub start_due : (has : ℕ → Bool) (asked : ChildData) → is_due_of_child has (needs.Start asked) ≡ true → IsStart (needs.Start asked)
 start_due has (child.Bounce room) is = tt
 start_due has (child.Forward uid room) is = absurd (cc)
 start_due has (child.Local slot words uid) is = absurd (cc)
 start_due has (child.Remote slot domain sender recipient) is = absurd (cc)
 
-pub give_due : (has : Bool) (to : Port) (bytes : List ℕ) → is_due_of_child has (needs.Give to bytes) ≡ true → IsGive (needs.Give to bytes)
+pub give_due : (has : ℕ → Bool) (to : Port) (bytes : List ℕ) → is_due_of_child has (needs.Give to bytes) ≡ true → IsGive (needs.Give to bytes)
 give_due has (port.Program d) bytes is = tt
 give_due has port.Input bytes is = absurd (cc)
 give_due has port.Output bytes is = absurd (cc)
@@ -530,7 +615,7 @@ give_due has port.Rspawn bytes is = absurd (cc)
 give_due has port.Todo bytes is = absurd (cc)
 give_due has (port.Status d) bytes is = absurd (cc)
 
-status_due : (has : Bool) (from : Port) → is_due_of_child has (needs.Take from) ≡ true → IsTake (needs.Take from)
+status_due : (has : ℕ → Bool) (from : Port) → is_due_of_child has (needs.Take from) ≡ true → IsTake (needs.Take from)
 status_due has (port.Status d) is = tt
 status_due has port.Input is = absurd (cc)
 status_due has port.Output is = absurd (cc)
@@ -540,7 +625,7 @@ status_due has port.Rspawn is = absurd (cc)
 status_due has port.Todo is = absurd (cc)
 status_due has (port.Program d) is = absurd (cc)
 
-pub take_due : (has : Bool) (due : NeedData) → is_due_of_child has due ≡ true → ((asked : ChildData) → due ≡ needs.Start asked → ⊥) → ((to : Port) (bytes : List ℕ) → due ≡ needs.Give to bytes → ⊥) → IsTake due
+pub take_due : (has : ℕ → Bool) (due : NeedData) → is_due_of_child has due ≡ true → ((asked : ChildData) → due ≡ needs.Start asked → ⊥) → ((to : Port) (bytes : List ℕ) → due ≡ needs.Give to bytes → ⊥) → IsTake due
 take_due has (needs.Take from) is no_start no_give = status_due has from is
 take_due has (needs.Start asked) is no_start no_give = absurd (no_start asked refl)
 take_due has (needs.Give to bytes) is no_start no_give = absurd (no_give to bytes refl)
@@ -550,92 +635,93 @@ take_due has needs.Wait is no_start no_give = absurd (cc)
 take_due has (needs.Ended status) is no_start no_give = absurd (cc)
 
 -- so it is the first slot's, in which a child runs
-pub record IsOfSlot (s : State) : Type 0 where
+pub record IsOfSlot (s : State) (a : List ℕ) : Type 0 where
   pub child : List ℕ
-  pub runs : s.pipework.programs (codes "sender") 0 ≡ Some (Runs child)
+  pub runs : s.pipework.programs a 0 ≡ Some (Runs child)
 
-pub of_slot : (s : State) → is_some (actor_of (s.pipework.programs (codes "sender") 0)) ≡ true → IsOfSlot s
-of_slot s has = by_tenant (s.pipework.programs (codes "sender") 0) refl has where
-  by_tenant : (o : Option Tenant) → s.pipework.programs (codes "sender") 0 ≡ o → is_some (actor_of o) ≡ true → IsOfSlot s
-  by_tenant (Some (Runs c)) is has = record { child = c; runs = is }
+abbrev pub has_in : State → List ℕ → ℕ → Bool
+has_in s a d = is_some (actor_of (s.pipework.programs a d))
+
+pub of_slot : (crew : ℕ) (mouths : List Mouths) (actors : List Held) (s : State) (events : List Kept) (a : List ℕ) (d : ℕ) → ArePiped crew mouths actors s events → has_in s a d ≡ true
+    → (d ≡ 0) × IsOfSlot s a
+of_slot crew mouths actors s events a d piped has = by_tenant (s.pipework.programs a d) refl has where
+  by_tenant : (o : Option Tenant) → s.pipework.programs a d ≡ o → is_some (actor_of o) ≡ true → (d ≡ 0) × IsOfSlot s a
+  by_tenant (Some (Runs c)) is has = let first = (piped.born a d c is).first in (first, record { child = c; runs = ap (s.pipework.programs a) (sym first) ∙ is })
   by_tenant (Some (Tenant.Remote reported)) is has = absurd (cc)
   by_tenant None is has = absurd (cc)
 
-pub first_slot : (d : ℕ) (has : Bool) → (if d == 0 then has else false) ≡ true → (d ≡ 0) × (has ≡ true)
-first_slot d has is = ⊎_elim
-    (λ (w : ((d == 0) ≡ true) × (d ≡ 0)). (w.1, sym (ap (λ (t : Bool). if t then has else false) w.0) ∙ is))
-    (λ w. let both : false ≡ true = sym (ap (λ (t : Bool). if t then has else false) w.0) ∙ is in absurd (cc))
-    (eqb_tells d 0)
+pub take_is : (crew : ℕ) (mouths : List Mouths) (actors : List Held) (s : State) (events : List Kept) (a : List ℕ) (due : NeedData) → ArePiped crew mouths actors s events → IsTake due
+    → is_due_of_child (has_in s a) due ≡ true → (due ≡ needs.Take (port.Status 0)) × IsOfSlot s a
+take_is crew mouths actors s events a (needs.Take (port.Status d)) piped takes is =
+    let w = of_slot crew mouths actors s events a d piped is in (ap (λ (d : ℕ). needs.Take (port.Status d)) w.0, w.1)
+take_is crew mouths actors s events a other piped takes is = absurd takes
 
-pub take_is : (s : State) (due : NeedData) → IsTake due → is_due_of_child (is_some (actor_of (s.pipework.programs (codes "sender") 0))) due ≡ true → (due ≡ needs.Take (port.Status 0)) × IsOfSlot s
-take_is s (needs.Take (port.Status d)) takes is =
-    let w = first_slot d (is_some (actor_of (s.pipework.programs (codes "sender") 0))) is in (ap (λ (d : ℕ). needs.Take (port.Status d)) w.0, of_slot s w.1)
-take_is s other takes is = absurd takes
+pub give_is : (crew : ℕ) (mouths : List Mouths) (actors : List Held) (s : State) (events : List Kept) (a : List ℕ) (due : NeedData) → ArePiped crew mouths actors s events → IsGive due
+    → is_due_of_child (has_in s a) due ≡ true → (bytes : List ℕ) × (due ≡ needs.Give (port.Program 0) bytes) × IsOfSlot s a
+give_is crew mouths actors s events a (needs.Give (port.Program d) bytes) piped gives is =
+    let w = of_slot crew mouths actors s events a d piped is in (bytes, ap (λ (d : ℕ). needs.Give (port.Program d) bytes) w.0, w.1)
+give_is crew mouths actors s events a other piped gives is = absurd gives
 
-pub give_is : (s : State) (due : NeedData) → IsGive due → is_due_of_child (is_some (actor_of (s.pipework.programs (codes "sender") 0))) due ≡ true
-    → (bytes : List ℕ) × (due ≡ needs.Give (port.Program 0) bytes) × IsOfSlot s
-give_is s (needs.Give (port.Program d) bytes) gives is =
-    let w = first_slot d (is_some (actor_of (s.pipework.programs (codes "sender") 0))) is in (bytes, ap (λ (d : ℕ). needs.Give (port.Program d) bytes) w.0, of_slot s w.1)
-give_is s other gives is = absurd gives
-
--- What the sender is handed
+-- What the parent is handed
 
 -- what is due to it, and where it stands
-pub record IsAsking (crew : ℕ) (actors : List Held) (events : List Kept) (p : ℕ) (due : NeedData) : Type 0 where
-  pub sender : Actor
-  pub is : (known events).actors (codes "sender") ≡ Some sender
-  pub alive : sender.life ≡ Alive
-  pub four : crew ≡ 4
-  pub here : HasSender actors (known events) events p sender
-  pub next : next_of sender.program sender.past p (found_in (known events) (codes "sender")) ≡ due
-  pub sends : IsSender sender.program
+pub record IsAsking (crew : ℕ) (places : List ℕ → Option ℕ) (actors : List Held) (events : List Kept) (p : ℕ) (a : List ℕ) (due : NeedData) : Type 0 where
+  pub parent : Actor
+  pub is : (known events).actors a ≡ Some parent
+  pub alive : parent.life ≡ Alive
+  pub at : ℕ
+  pub place : among_all crew places a ≡ Some at
+  pub here : HasParent actors (known events) events p a at parent
+  pub next : next_of parent.program parent.past p (found_in (known events) a) ≡ due
 
-pub asking : {D : Type 0} (d : D) (told : Option Disk) (crew : ℕ) (places : List ℕ → Option ℕ) (actors : List Held) (mouths : List Mouths) (events : List Kept) (p n b : ℕ) (due : NeedData)
-    → IsWorld told (among_all crew places) actors (known events) events p n b → ArePiped crew mouths actors (known events) events → IsDueOfChild (record { disk = d; events = events; present = p }) due
-    → IsAsking crew actors events p due
-asking d told crew places actors mouths events p n b due w piped asked =
-    let it = has_sender crew places actors (known events) events p asked.actor piped.few w.kept asked.is asked.alive in
+pub asking : {D : Type 0} (d : D) (told : Option Disk) (crew : ℕ) (places : List ℕ → Option ℕ) (actors : List Held) (events : List Kept) (p n b : ℕ) (a : List ℕ) (due : NeedData)
+    → IsWorld told (among_all crew places) actors (known events) events p n b → IsDueOfChild (record { disk = d; events = events; present = p }) a due → IsAsking crew places actors events p a due
+asking d told crew places actors events p n b a due w asked =
+    let at = parent_at (among_all crew places) actors (known events) events p a asked.actor w.kept asked.is in
     record {
-      sender = asked.actor;
+      parent = asked.actor;
       is = asked.is;
       alive = asked.alive;
-      four = it.0;
-      here = it.1;
+      at = at.0;
+      place = at.1;
+      here = has_parent (among_all crew places) actors (known events) events p a at.0 asked.actor w.kept asked.is asked.alive at.1;
       next = asked.due_is;
-      sends = sender_sends crew mouths actors events p asked.actor it.1 asked.is asked.alive;
     }
 
--- who is read at the first place
-pub first_is : (actors : List Held) (s : State) (events : List Kept) (p : ℕ) (sender : Actor) (here : HasSender actors s events p sender) (x : Held) → x ≡ get_or actors 0 x → here.held ≡ x
-first_is actors s events p sender here x read = sym (get_or_from_slice_get actors 0 here.held x here.is) ∙ sym read
+-- who is read at its place
+pub parent_is : (actors : List Held) (s : State) (events : List Kept) (p : ℕ) (a : List ℕ) (i : ℕ) (parent : Actor) (here : HasParent actors s events p a i parent) (x : Held) → x ≡ get_or actors i x → here.held ≡ x
+parent_is actors s events p a i parent here x read = sym (get_or_from_slice_get actors i here.held x here.is) ∙ sym read
+
+-- the place that was found is its place
+pub same_at : (o : Option ℕ) (i j : ℕ) → o ≡ Some i → o ≡ Some j → i ≡ j
+same_at o i j one other = let both : ◌≡◌ {A = Option ℕ} (Some i) (Some j) = sym one ∙ other in cc
 
 -- what it owes is there
-pub sender_owes : (actors : List Held) (s : State) (events : List Kept) (p : ℕ) (sender : Actor) (here : HasSender actors s events p sender) (x : Held) → here.held ≡ x
+pub parent_owes : (actors : List Held) (s : State) (events : List Kept) (p : ℕ) (a : List ℕ) (i : ℕ) (parent : Actor) (here : HasParent actors s events p a i parent) (x : Held) → here.held ≡ x
     → (at : ℕ) → x.owed ≡ Some at → (past : List Own) × Owes x events past at
-sender_owes actors s events p sender here x read at owed =
+parent_owes actors s events p a i parent here x read at owed =
     let m = here.member in
     (m.actor.past, subst (λ (x : Held). (at : ℕ) → x.owed ≡ Some at → Owes x events m.actor.past at) read (m.owes here.lives) at owed)
 
-module _ (actors : List Held) (s : State) (events : List Kept) (p : ℕ) (sender : Actor) (here : HasSender actors s events p sender) (is : s.actors (codes "sender") ≡ Some sender)
+module _ (actors : List Held) (s : State) (events : List Kept) (p : ℕ) (a : List ℕ) (i : ℕ) (parent : Actor) (here : HasParent actors s events p a i parent) (is : s.actors a ≡ Some parent)
     (x z : Held) (read : here.held ≡ x)
     (pays : (program : Program) (past : List Own) → ((at : ℕ) → x.owed ≡ Some at → Owes x events past at) → StandsFor x program past → Follows z.machine program past)
     (awaits : awaits_of z.machine ≡ awaits_of x.machine) where
   -- what it owed was handed in
-  paid : Follows z.machine sender.program sender.past
+  paid : Follows z.machine parent.program parent.past
   paid =
       let m = here.member in
-      subst (λ (a : Actor). Follows z.machine a.program a.past) here.same (pays m.actor.program m.actor.past
+      subst (λ (w : Actor). Follows z.machine w.program w.past) here.same (pays m.actor.program m.actor.past
       (subst (λ (x : Held). (at : ℕ) → x.owed ≡ Some at → Owes x events m.actor.past at) read (m.owes here.lives)) (subst (λ (x : Held). StandsFor x m.actor.program m.actor.past) read (m.follows here.lives)))
 
-  pub may_take : (own : Own) → IsSender sender.program → own.read ≡ p → own.ready ≡ found_in s (codes "sender") → next_of sender.program sender.past p (found_in s (codes "sender")) ≡ own.due → IsKind own.due own.came
-      → ((most : ℕ) → IsWithin most own.came) → MayTakeIn z.machine p (found_in s (codes "sender")) own
-  may_take own sends at ready due kind within = record {
-    program = sender.program;
-    past = sender.past;
-    sends = sends;
+  pub may_take : (own : Own) → own.read ≡ p → own.ready ≡ found_in s a → next_of parent.program parent.past p (found_in s a) ≡ own.due → IsKind own.due own.came
+      → ((most : ℕ) → IsWithin most own.came) → MayTakeIn z.machine p (found_in s a) own
+  may_take own at ready due kind within = record {
+    program = parent.program;
+    past = parent.past;
     follows = paid;
-    found = subst (CanFind z.machine) (sym (ap (found_at s (codes "sender")) is))
-        (can_find s (codes "sender") z.machine sender.program sender.past paid (awaits ∙ ap (λ (x : Held). awaits_of x.machine) (sym read) ∙ here.member.awaits here.lives ∙ ap (is_awaiting s) here.name));
+    found = subst (CanFind z.machine) (sym (ap (found_at s a) is))
+        (can_find s a z.machine parent.program parent.past paid (awaits ∙ ap (λ (x : Held). awaits_of x.machine) (sym read) ∙ here.member.awaits here.lives ∙ ap (is_awaiting s) here.name));
     read = at;
     ready_is = ready;
     due = due;
@@ -643,19 +729,20 @@ module _ (actors : List Held) (s : State) (events : List Kept) (p : ℕ) (sender
     within = within;
   }
 
-  pub was_served : (y : Held) (own : Own) (idle : Bool) → z.name ≡ x.name → z.descriptors.items ≡ x.descriptors.items → z.ended ≡ x.ended → z.status ≡ x.status
-      → HasTakenIn z y own (length events) idle → HasServed here.held y own (length events) sender × (idle ≡ idled_by (s.actors (codes "sender")) own)
-  was_served y own idle name list ended status taken = (
-    subst (λ (x : Held). HasServed x y own (length events) sender) (sym read) (record {
-      stands = taken.follows sender.program sender.past paid;
+  pub was_served : (y : Held) (own : Own) (idle : Bool) → z.name ≡ x.name → z.descriptors.items ≡ x.descriptors.items → z.ended ≡ x.ended → z.status ≡ x.status → StaysAt x z
+      → HasTakenIn z y own (length events) idle → HasServed here.held y own (length events) parent × (idle ≡ idled_by (s.actors a) own)
+  was_served y own idle name list ended status stays taken = (
+    subst (λ (x : Held). HasServed x y own (length events) parent) (sym read) (record {
+      stands = taken.follows parent.program parent.past paid;
       owes = taken.owes;
       name = taken.name ∙ name;
       descriptors = taken.descriptors ∙ list;
       ended = taken.ended ∙ ended;
       status = taken.status ∙ status;
       awaits = taken.awaits ∙ awaits;
+      stays = record { wire = taken.stays.wire ∙ stays.wire; slot = taken.stays.slot ∙ stays.slot; entry = taken.stays.entry ∙ stays.entry };
     }),
-    taken.idled sender.program sender.past paid ∙ sym (ap (λ (o : Option Actor). idled_by o own) is),
+    taken.idled parent.program parent.past paid ∙ sym (ap (λ (o : Option Actor). idled_by o own) is),
   )
 
 -- what it reads by its setting
@@ -672,12 +759,12 @@ may_at m now p ready found own same at finds is may =
 pub taken_at : (x y : Held) (own same : Own) (index many : ℕ) (idle : Bool) → own ≡ same → index ≡ many → HasTakenIn x y own index idle → HasTakenIn x y same many idle
 taken_at x y own same index many idle is at taken = subst (λ (n : ℕ). HasTakenIn x y same n idle) at (subst (λ (own : Own). HasTakenIn x y own index idle) is taken)
 
--- so it served the sender
-pub serves : {D : Type 0} (tells : D → Option Disk) (d : D) (events : List Kept) (p : ℕ) (own : Own) (k : Kept) (did : Did) → IsOwnOf (known events) (next_pid events) p (codes "sender") own
-    → IsKeptBy (known events) (bounces_in events) (codes "sender") own own.due own.came k → LeadsOn (tells d) (tells d) events (events ++ k ∷ []) p p
-    → did.at ≡ length events → did.ended ≡ None → did.idle ≡ idled_by ((known events).actors (codes "sender")) own → has_idled (known events) k ≡ idled_by ((known events).actors (codes "sender")) own
-    → Serves tells (record { disk = d; events = events; present = p }) (record { disk = d; events = events ++ k ∷ []; present = p }) did
-serves tells d events p own k did of kept leads at ended idle same = record {
+-- so it served its parent
+pub serves : {D : Type 0} (tells : D → Option Disk) (d : D) (events : List Kept) (p : ℕ) (a : List ℕ) (own : Own) (k : Kept) (did : Did) → IsOwnOf (known events) (next_pid events) p a own
+    → IsKeptBy (known events) (bounces_in events) a own own.due own.came k → LeadsOn (tells d) (tells d) events (events ++ k ∷ []) p p
+    → did.at ≡ length events → did.ended ≡ None → did.idle ≡ idled_by ((known events).actors a) own → has_idled (known events) k ≡ idled_by ((known events).actors a) own
+    → Serves tells a (record { disk = d; events = events; present = p }) (record { disk = d; events = events ++ k ∷ []; present = p }) did
+serves tells d events p a own k did of kept leads at ended idle same = record {
   event = (own, k, of, kept, refl);
   goes_on = goes_on (tells d) (tells d) events (events ++ k ∷ []) p p leads;
   present = refl;

@@ -1,6 +1,6 @@
 -- A step of an actor, by all that a world keeps: before it, while the machine looks, and after it.
-use Rattle.std.proofs.Common.{◌≡◌, ◌≢◌, ⊎_elim, ℕ, zero, suc, ◌+◌, ◌-◌, ◌^◌, ◌≤◌, ◌<◌, min, List, [], ◌∷◌, ◌++◌, length, set, Bool, true, false, Option, Some, None, is_some, codes, refl, sym, ap, ◌∙◌, subst, arith, get_or}
-use Rattle.std.specs.Prelude.{drop, not, ◌||◌, ◌==◌, if◌then◌else◌, take, IsSomeAnd}
+use Rattle.std.proofs.Common.{◌≡◌, ◌≢◌, ⊎_elim, ℕ, ◌+◌, ◌-◌, ◌^◌, ◌≤◌, min, List, [], ◌∷◌, ◌++◌, length, set, Bool, true, false, Option, Some, None, is_some, refl, sym, ap, ◌∙◌, subst, arith, get_or}
+use Rattle.std.specs.Prelude.{not, ◌||◌, ◌==◌, if◌then◌else◌, take, IsSomeAnd}
 use Rattle.std.specs.List.{slice_get, sum_by}
 use Rattle.call_fs.specs.Disk.{Disk}
 use Rattle.call_fs.specs.declared.past.GotData.{GotData}
@@ -8,12 +8,15 @@ use Rattle.call_fs.specs.declared.past.GotData.TheVariants as came
 use Rattle.call_fs.specs.declared.past.NeedData.{NeedData}
 use Rattle.call_fs.specs.declared.past.NeedData.TheVariants as needs
 use Rattle.call_fs.specs.declared.past.Own.{Own}
+use Rattle.call_fs.specs.declared.past.ChildData.{ChildData}
+use Rattle.call_fs.specs.declared.past.ChildData.TheVariants as child
+use Rattle.call_fs.specs.declared.program.Port.{Port}
 use Rattle.call_fs.specs.declared.program.Port.TheVariants as port
 use Rattle.call_fs.specs.declared.program.Ready.{Ready}
 use Rattle.world_events.specs.declared.event.Event.{Event as Kept}
 use Rattle.world_events.specs.declared.event.Event.TheVariants as kept
 use Rattle.world_events.specs.declared.event.Program.{Program}
-use Rattle.world_events.specs.declared.event.Program.TheVariants.{Cleaner, Sender}
+use Rattle.world_events.specs.declared.event.Program.TheVariants.{Cleaner}
 use Rattle.world_events.specs.declared.books.Entry.{Entry}
 use Rattle.world_pipes.specs.declared.mouths.Mouths.{Mouths}
 use Rattle.world_pipes.specs.Pipework.{Pipe, is_ready}
@@ -24,35 +27,34 @@ use Rattle.mail_world.specs.declared.error.WorldError.{WorldError}
 use Rattle.mail_world.specs.declared.error.WorldError.TheVariants as why
 use Rattle.mail_world.specs.Books.{noted, AreBooked}
 use Rattle.mail_world.specs.ByKind.{Follows, CanFind, takes_of, awaits_of}
-use Rattle.call_fs.specs.Past.{IsRunBy}
 use Rattle.world_pipes.specs.Mouths.{actor_of}
 use Rattle.world_pipes.specs.Pipework.{Pipework, Tenant}
 use Rattle.world_pipes.specs.Pipework.Tenant.{Runs}
-use Rattle.mail_world.specs.History.{Actor, State, IsSender, finished, next_of}
+use Rattle.mail_world.specs.History.{Actor, State, finished, next_of}
 use Rattle.mail_world.specs.History.Life.{Over}
 use Rattle.mail_world.specs.World.{starts_in, next_pid, most_of, IsStep}
-use Rattle.mail_world.specs.Wired.{seat, AreWired, HaveOneChild}
+use Rattle.mail_world.specs.Wired.{tenant_in, kept_at, AreWired, HasWires}
 use Rattle.mail_world.specs.Children.{IsDueOfChild, child_place, HasLeftIf}
-use Rattle.mail_world.specs.Inside.{known, RunsAt, among_all, StandsFor, Owes, IsMember, AreActors, IsWorld, ArePiped, HasBorneLast, MayFeed}
+use Rattle.mail_world.specs.Inside.{known, among_all, StandsFor, Owes, IsMember, AreActors, IsWorld, ArePiped, HasBorneLast}
 use Rattle.mail_world.specs.Crew.{IsFoundAt}
 use Rattle.mail_world.specs.Generations.{CanNot, Waits, idled_of, has_idled, idled_by}
 use Rattle.mail_world.specs.Readiness.{has_ended, found_by, found_at, found_in, is_awaiting}
-use Rattle.mail_world.specs.Acting.{is_due_of_child, is_of_child, has_actor, HasEnded, IsAct, IsNoAct, IsCall, MayAct, Brings, BringsNone, AreAsBefore, HasDone, HasActed, HasLooked, HasWaited, HasIdled, IsNoLiving}
+use Rattle.mail_world.specs.Acting.{is_due_of_child, has_actor, IsSeated, StaysAt, HasEnded, IsAct, IsNoAct, IsCall, MayAct, Brings, BringsNone, AreAsBefore, HasDone, HasActed, HasLooked, HasWaited, HasIdled, IsNoLiving}
 use Rattle.mail_world.proofs.Acts.{end_finishes}
 use Rattle.mail_world.proofs.Awaiting.{GivesToNone, can_find, due_waits}
 use Rattle.mail_world.proofs.Crew.{member_alive, member_over}
-use Rattle.mail_world.proofs.Leaving.{Leaves, leaves, in_slot, has_child}
+use Rattle.mail_world.proofs.Leaving.{Leaves, leaves, in_slot}
 use Rattle.mail_world.proofs.Members.{whether}
 use Rattle.mail_world.proofs.Passes.{gives_to_none}
-use Rattle.mail_world.proofs.Seats.{same_seat}
-use Rattle.mail_world.proofs.ReturnSteps.{birth_gives}
-use Rattle.mail_world.proofs.Booked.{look_booked, newest_is}
-use Rattle.mail_world.proofs.Found.{found_is, ended_remote}
+use Rattle.mail_world.proofs.Feeders.{feeder_next}
+use Rattle.mail_world.proofs.Serving.{at_seat, finds_by, pipes_within}
+use Rattle.mail_world.proofs.Booked.{look_booked, newest_is, one_booked}
+use Rattle.crew_pipes.proofs.Keeps.{before_same}
+use Rattle.mail_world.proofs.Found.{ended_remote}
 use Rattle.mail_world.proofs.Histories.{LeadsOn}
 use Rattle.mail_world.proofs.Lasts.{same_last}
-use Rattle.mail_world.proofs.Lists.{some_at, get_drop, drop_set, drop_before, set_again}
-use Rattle.mail_world.proofs.Noted.{low_or_not, seat_of_place, is_seated, one_booked}
-use Rattle.mail_world.proofs.Piped.{plumbed, look_piped, done_piped, finish_piped}
+use Rattle.mail_world.proofs.Lists.{some_at, set_again}
+use Rattle.mail_world.proofs.Piped.{plumbed, has_wires, look_piped, done_piped, finish_piped}
 use Rattle.mail_world.proofs.Programs.{program_acts, machine_takes}
 use Rattle.mail_world.proofs.Wires.{same_place}
 use Rattle.mail_world.proofs.Worlds.{StandsAt, GoesWith, stands_whole, may_act, look_keeps, paid_follows, done_goes, done_keeps, done_step, ended_keeps, ended_leads_on, ended_step, acts_not}
@@ -60,20 +62,8 @@ use Rattle.mail_world.proofs.Worlds.{StandsAt, GoesWith, stands_whole, may_act, 
 -- All that a world keeps but the room in its history.
 pub record AreKept (told : Option Disk) (crew : ℕ) (places : List ℕ → Option ℕ) (actors : List Held) (mouths : List Mouths) (entries : List Entry) (events : List Kept) (p n b : ℕ) : Type 0 where
   pub world : IsWorld told (among_all crew places) actors (known events) events p n b
-  pub booked : AreBooked entries (drop crew actors) events
+  pub booked : AreBooked crew entries actors events
   pub piped : ArePiped crew mouths actors (known events) events
-
-looked_booked : (crew : ℕ) (actors : List Held) (events : List Kept) (i : ℕ) (x y : Held) (entries : List Entry) → AreBooked entries (drop crew actors) events → slice_get actors i ≡ Some x → y.name ≡ x.name
-    → AreBooked entries (drop crew (set actors i y)) events
-looked_booked crew actors events i x y entries booked is name = ⊎_elim
-    (λ low. subst (λ (l : List Held). AreBooked entries l events) (sym (drop_before crew actors i y low.0)) booked)
-    (λ high.
-    let le = high.0 in
-    let whole : i ≡ crew + (i - crew) = omega (arith, le) in
-    let here : slice_get (drop crew actors) (i - crew) ≡ Some x = get_drop crew actors (i - crew) ∙ ap (slice_get actors) (sym whole) ∙ is in
-    subst (λ (l : List Held). AreBooked entries l events) (sym (ap (λ (j : ℕ). drop crew (set actors j y)) whole ∙ drop_set crew actors (i - crew) y))
-    (look_booked (drop crew actors) events (i - crew) x y entries booked here name))
-    (low_or_not i crew)
 
 -- The machine of an actor looked, or was handed what it owed.
 pub record HasTurned (x y : Held) (program : Program) (past : List Own) : Type 0 where
@@ -83,6 +73,7 @@ pub record HasTurned (x y : Held) (program : Program) (past : List Own) : Type 0
   pub awaits : awaits_of y.machine ≡ awaits_of x.machine
   pub paid : y.owed ≡ None
   pub descriptors : y.descriptors.items ≡ x.descriptors.items
+  pub stays : StaysAt x y
   pub follows : Follows y.machine program past
 
 pub turned_keeps : (told : Option Disk) (crew : ℕ) (places : List ℕ → Option ℕ) (actors : List Held) (mouths wired : List Mouths) (entries : List Entry) (events : List Kept) (p n b i : ℕ) (x y : Held)
@@ -91,8 +82,8 @@ pub turned_keeps : (told : Option Disk) (crew : ℕ) (places : List ℕ → Opti
     → AreKept told crew places (set actors i y) wired entries events p n b
 turned_keeps told crew places actors mouths wired entries events p n b i x y w at turned same = record {
   world = look_keeps told (among_all crew places) actors (known events) events p n b i x y w.world at turned.name turned.ended turned.status turned.awaits turned.paid turned.descriptors turned.follows;
-  booked = looked_booked crew actors events i x y entries w.booked at.is turned.name;
-  piped = look_piped crew mouths wired actors (known events) events i x y w.piped at.is turned.ended same;
+  booked = look_booked crew actors events i x y entries w.booked at.is turned.name turned.stays.entry;
+  piped = look_piped crew mouths wired actors (known events) events i x y w.piped at.is turned.name turned.ended turned.stays same;
 }
 
 -- and stands at its place
@@ -105,20 +96,21 @@ turned_stands told crew places actors mouths entries events p n b i x y w at end
 
 -- nothing was made of the pipes
 pub as_they_were : (mouths : List Mouths) → AreAsBefore mouths mouths
-as_they_were mouths = record { many = refl; slots = λ slots. slots; wired = λ w wired. wired }
+as_they_were mouths = before_same mouths mouths refl
 
 -- a machine that was paid
 pub paid_turned : (s : State) (events : List Kept) (p : ℕ) (x z : Held) (m : IsMember s events p x) → x.ended ≡ None
     → ((program : Program) (past : List Own) → ((at : ℕ) → x.owed ≡ Some at → Owes x events past at) → StandsFor x program past → Follows z.machine program past)
-    → z.name ≡ x.name → z.ended ≡ x.ended → z.status ≡ x.status → awaits_of z.machine ≡ awaits_of x.machine → z.owed ≡ None → z.descriptors.items ≡ x.descriptors.items
+    → z.name ≡ x.name → z.ended ≡ x.ended → z.status ≡ x.status → awaits_of z.machine ≡ awaits_of x.machine → z.owed ≡ None → z.descriptors.items ≡ x.descriptors.items → StaysAt x z
     → HasTurned x z m.actor.program m.actor.past
-paid_turned s events p x z m lives pays name ended status awaits paid descriptors = record {
+paid_turned s events p x z m lives pays name ended status awaits paid descriptors stays = record {
   name = name;
   ended = ended;
   status = status;
   awaits = awaits;
   paid = paid;
   descriptors = descriptors;
+  stays = stays;
   follows = paid_follows s events p x z m lives pays;
 }
 
@@ -131,30 +123,11 @@ looked_turned s events p x y m lives paid looked = record {
   awaits = looked.awaits;
   paid = looked.owed ∙ paid;
   descriptors = looked.descriptors;
+  stays = looked.stays;
   follows = looked.follows m.actor.program m.actor.past (stands_whole s events p x m lives paid);
 }
 
 -- What a step needs
-
--- there are pipes of a member
-pub pipes_within : (crew : ℕ) (mouths : List Mouths) (actors : List Held) (s : State) (events : List Kept) (place : ℕ) (x : Held) → ArePiped crew mouths actors s events
-    → slice_get actors place ≡ Some x → x.ended ≡ None → (i : ℕ) → seat_of_place place crew ≡ Some i → i < length mouths
-pipes_within crew mouths actors s events place x piped is lives i at = ⊎_elim
-    (λ low.
-    let both : ◌≡◌ {A = Option ℕ} (Some place) (Some i) = sym (ap (λ (t : Bool). if t then Some place else None) low.1) ∙ at in
-    let same : place ≡ i = cc in
-    let many = piped.seated place x low.0 is lives in
-    let less = low.0 in
-    ⊎_elim (λ few. absurd (omega (arith, few, less))) (λ few. omega (arith, few, less, same, many)) piped.few)
-    (λ high. let both : ◌≡◌ {A = Option ℕ} None (Some i) = sym (ap (λ (t : Bool). if t then Some place else None) high.1) ∙ at in absurd (cc))
-    (low_or_not place crew)
-
--- what it finds is what the state says
-pub finds_by : (crew : ℕ) (places : List ℕ → Option ℕ) (mouths : List Mouths) (actors : List Held) (s : State) (events : List Kept) (p place : ℕ) (x : Held) (ready : Ready) (m : IsMember s events p x)
-    → x.ended ≡ None → ArePiped crew mouths actors s events → seat x.name ≡ seat_of_place place crew → IsFoundAt mouths (seat_of_place place crew) (awaits_of x.machine) ready
-    → ready ≡ found_by s x.name m.actor.program
-finds_by crew places mouths actors s events p place x ready m lives piped at found =
-    found_is s mouths x.name (seat_of_place place crew) m.actor.program (awaits_of x.machine) ready piped.wired piped.slots piped.one at (subst (λ (o : Option ℕ). RunsAt o m.actor.program) at m.runs) (m.awaits lives) found
 
 -- it may be told that
 pub may_find : (s : State) (events : List Kept) (p : ℕ) (x : Held) (ready : Ready) (m : IsMember s events p x) → x.ended ≡ None → x.owed ≡ None → ready ≡ found_by s x.name m.actor.program → CanFind x.machine ready
@@ -162,16 +135,23 @@ may_find s events p x ready m lives paid finds =
     subst (CanFind x.machine) (sym finds) (can_find s x.name x.machine m.actor.program m.actor.past (stands_whole s events p x m lives paid) (m.awaits lives))
 
 -- it may act
-pub may_step : (told : Option Disk) (crew : ℕ) (places : List ℕ → Option ℕ) (actors : List Held) (mouths : List Mouths) (entries : List Entry) (events : List Kept) (p n b i : ℕ) (x : Held) (has : Bool) (ready : Ready)
+pub may_step : (told : Option Disk) (crew : ℕ) (places : List ℕ → Option ℕ) (actors : List Held) (mouths : List Mouths) (entries : List Entry) (events : List Kept) (p n b i : ℕ) (x : Held) (ready : Ready)
     → AreKept told crew places actors mouths entries events p n b → (at : StandsAt (among_all crew places) actors (known events) events p i x) → x.owed ≡ None
     → ready ≡ found_by (known events) x.name at.member.actor.program
-    → is_of_child (seat_of_place i crew) has (next_of at.member.actor.program at.member.actor.past p ready) ≡ false → MayAct told x.machine (seat_of_place i crew) has p ready
-may_step told crew places actors mouths entries events p n b i x has ready w at paid finds own =
-    let seated = is_seated crew places mouths actors (known events) events p i x w.world.kept w.piped at.is at.lives in
-    let m = at.member in
-    subst (λ (o : Option ℕ). MayAct told x.machine o has p ready) seated.is
-    (may_act told (among_all crew places) actors (known events) events p n b i x has ready w.world at paid finds
-    (ap (λ (o : Option ℕ). is_of_child o has (next_of m.actor.program m.actor.past p ready)) seated.is ∙ own))
+    → is_due_of_child (has_actor mouths x.wire) (next_of at.member.actor.program at.member.actor.past p ready) ≡ false → MayAct told x.machine x.wire mouths p ready
+may_step told crew places actors mouths entries events p n b i x ready w at paid finds own =
+    may_act told (among_all crew places) actors (known events) events p n b i x mouths ready w.world at paid finds
+    (at_seat crew mouths actors (known events) events w.piped i x at.is at.lives)
+    (λ j wire. (pipes_within crew places mouths actors (known events) events p i x w.world.kept w.piped at.is at.lives j wire).2) own
+
+-- it has its pipes among these
+pub is_seated : (told : Option Disk) (crew : ℕ) (places : List ℕ → Option ℕ) (actors : List Held) (mouths : List Mouths) (entries : List Entry) (events : List Kept) (p n b i : ℕ) (x : Held)
+    → AreKept told crew places actors mouths entries events p n b → slice_get actors i ≡ Some x → x.ended ≡ None → IsSeated x.wire mouths
+is_seated told crew places actors mouths entries events p n b i x w is lives = record {
+  slots = w.piped.slots;
+  four = λ j wire. (pipes_within crew places mouths actors (known events) events p i x w.world.kept w.piped is lives j wire).0;
+  within = λ j wire. (pipes_within crew places mouths actors (known events) events p i x w.world.kept w.piped is lives j wire).1;
+}
 
 -- What a step did
 
@@ -221,16 +201,10 @@ abbrev TakesNoActor : State → List ℕ → NeedData → Type 0
 TakesNoActor s a (needs.Take (port.Status d)) = (c : List ℕ) → s.pipework.programs a d ≡ Some (Runs c) → ⊥
 TakesNoActor s a due = Unit {0}
 
-same_of_child : (at : Option ℕ) (has : Bool) (d : ℕ) → is_of_child at has (needs.Give (port.Program d) []) ≡ is_of_child at has (needs.Take (port.Status d))
-same_of_child None has d = refl
-same_of_child (Some zero) has d = refl
-same_of_child (Some (suc at)) has d = refl
-
-takes_no_actor : (s : State) (mouths : List Mouths) (a : List ℕ) (at : Option ℕ) (has : Bool) (due : NeedData) → AreWired mouths s.pipework → HaveOneChild mouths → seat a ≡ at → has ≡ has_actor mouths
-    → is_of_child at has due ≡ false → TakesNoActor s a due
-takes_no_actor s mouths a at has (needs.Take (port.Status d)) wired one seated is mine =
-    gives_to_none mouths s.pipework a at has (needs.Give (port.Program d) []) wired one seated is (same_of_child at has d ∙ mine)
-takes_no_actor s mouths a at has due wired one seated is mine = tt
+takes_no_actor : (s : State) (wires : List ℕ → Option ℕ) (mouths : List Mouths) (a : List ℕ) (wire : Option ℕ) (due : NeedData) → AreWired wires mouths s.pipework → wires a ≡ wire
+    → is_due_of_child (has_actor mouths wire) due ≡ false → TakesNoActor s a due
+takes_no_actor s wires mouths a wire (needs.Take (port.Status d)) wired of mine = gives_to_none wires mouths s.pipework a wire (needs.Give (port.Program d) []) wired of mine
+takes_no_actor s wires mouths a wire due wired of mine = tt
 
 none_can : (s : State) (a : List ℕ) (due : NeedData) → TakesNoActor s a due → BringsNone s.pipework a due → CanNot s a due
 none_can s a (needs.File c) none brings = absurd brings
@@ -269,33 +243,25 @@ wait_brings w pid most a due got is brings = subst (λ (due : NeedData). Brings 
 wait_calls : (due : NeedData) (got : GotData) → due ≡ needs.Wait → IsCall due got → ⊥
 wait_calls due got is call = subst (λ (due : NeedData). IsCall due got) is call
 
--- a sender that has just started a child gives it its input next, and the world does that for it
-sender_is : (program : Program) → IsSender program → (began : ℕ) × (program ≡ Sender began)
-sender_is (Sender began) runs = (began, refl)
-sender_is other runs = absurd runs
-
-give_of_child : (bytes : List ℕ) (has : Bool) → has ≡ true → is_of_child (Some 0) has (needs.Give (port.Program 0) bytes) ≡ true
-give_of_child bytes has is = is
-
-never_borne : (s : State) (mouths : List Mouths) (events : List Kept) (p : ℕ) (x : Held) (has : Bool) (ready : Ready) (m : IsMember s events p x) → has ≡ has_actor mouths → AreWired mouths s.pipework
-    → is_of_child (seat x.name) has (next_of m.actor.program m.actor.past p ready) ≡ false → x.name ≡ codes "sender" → HasBorneLast m.actor.past → MayFeed s events → ⊥
-never_borne s mouths events p x has ready m is wired mine same borne may =
-    let seated : seat x.name ≡ Some 0 = ap seat same in
-    let sender = sender_is m.actor.program (subst (λ (o : Option ℕ). RunsAt o m.actor.program) seated m.runs) in
-    let gives = birth_gives sender.0 m.actor.past (subst (λ (program : Program). IsRunBy (next_of program) m.actor.past) sender.1 m.run) borne in
-    let due : next_of m.actor.program m.actor.past p ready ≡ needs.Give (port.Program 0) gives.0 = ap (λ (program : Program). next_of program m.actor.past p ready) sender.1 ∙ gives.1 p ready in
-    let there : has ≡ true = is ∙ ap (λ (o : Option Tenant). is_some (actor_of o)) (in_slot mouths s may.child wired may.runs) in
-    let of_child : is_of_child (seat x.name) has (next_of m.actor.program m.actor.past p ready) ≡ true =
-    ap (λ (o : Option ℕ). is_of_child o has (next_of m.actor.program m.actor.past p ready)) seated ∙ ap (is_of_child (Some 0) has) due ∙ give_of_child gives.0 has there in
-    let both : true ≡ false = sym of_child ∙ mine in cc
+-- who has just started a child gives it its input next, and the world does that for it
+never_borne : (crew : ℕ) (mouths : List Mouths) (actors : List Held) (events : List Kept) (p i : ℕ) (x : Held) (ready : Ready) (m : IsMember (known events) events p x)
+    → ArePiped crew mouths actors (known events) events → slice_get actors i ≡ Some x → x.ended ≡ None
+    → is_due_of_child (has_actor mouths x.wire) (next_of m.actor.program m.actor.past p ready) ≡ false → HasBorneLast m.actor.past → ⊥
+never_borne crew mouths actors events p i x ready m piped is lives mine borne =
+    let s = known events in
+    let may = piped.fed x.name m.actor m.is (member_alive s events p x m lives) borne in
+    let gives = feeder_next m.actor.program m.actor.past ((piped.born x.name 0 may.child may.runs).feeds m.actor m.is) m.run borne in
+    let there : has_actor mouths x.wire 0 ≡ true =
+    ap (λ (o : Option Tenant). is_some (actor_of o)) (in_slot piped.wires mouths s x.name may.child x.wire piped.wired (piped.places i x is lives) may.runs) in
+    let both : true ≡ false = sym there ∙ sym (ap (is_due_of_child (has_actor mouths x.wire)) (gives.1 p ready)) ∙ mine in cc
 
 -- the list of the actors once the one that is over has left
 pub left_booked : (crew : ℕ) (actors stood : List Held) (s t : State) (events : List Kept) (i : ℕ) (x y : Held) (entries : List Entry) → Leaves actors stood s t i x y
-    → AreBooked entries (drop crew (set actors i y)) events → AreBooked entries (drop crew stood) events
+    → AreBooked crew entries (set actors i y) events → AreBooked crew entries stood events
 left_booked crew actors stood s t events i x y entries leaves booked = ⊎_elim
-    (λ same. subst (λ (l : List Held). AreBooked entries (drop crew l) events) (sym same.0) booked)
-    (λ cut. subst (λ (l : List Held). AreBooked entries (drop crew l) events) (sym cut.is)
-    (looked_booked crew (set actors i y) events cut.place cut.old cut.new entries booked cut.mid cut.cut.name))
+    (λ same. subst (λ (l : List Held). AreBooked crew entries l events) (sym same.0) booked)
+    (λ cut. subst (λ (l : List Held). AreBooked crew entries l events) (sym cut.is)
+    (look_booked crew (set actors i y) events cut.place cut.old cut.new entries booked cut.mid cut.cut.name cut.cut.stays.entry))
     leaves
 
 pub left_piped : (crew : ℕ) (mouths : List Mouths) (actors stood : List Held) (s t u : State) (events : List Kept) (i : ℕ) (x y : Held) → Leaves actors stood s t i x y
@@ -303,63 +269,51 @@ pub left_piped : (crew : ℕ) (mouths : List Mouths) (actors stood : List Held) 
 left_piped crew mouths actors stood s t u events i x y leaves piped = ⊎_elim
     (λ same. subst (λ (l : List Held). ArePiped crew mouths l u events) (sym same.0) piped)
     (λ cut. subst (λ (l : List Held). ArePiped crew mouths l u events) (sym cut.is)
-    (look_piped crew mouths mouths (set actors i y) u events cut.place cut.old cut.new piped cut.mid cut.cut.ended (as_they_were mouths)))
+    (look_piped crew mouths mouths (set actors i y) u events cut.place cut.old cut.new piped cut.mid cut.cut.name cut.cut.ended cut.cut.stays (as_they_were mouths)))
     leaves
 
-module _ (old new : Option Disk) (crew : ℕ) (places : List ℕ → Option ℕ) (actors : List Held) (mouths wired : List Mouths) (entries : List Entry) (events later : List Kept) (p n b i : ℕ) (x y : Held) (has : Bool) (ready : Ready)
+module _ (old new : Option Disk) (crew : ℕ) (places : List ℕ → Option ℕ) (actors : List Held) (mouths piped : List Mouths) (entries : List Entry) (events later : List Kept) (p n b i : ℕ) (x y : Held) (ready : Ready)
     (w : AreKept old crew places actors mouths entries events p n b) (at : StandsAt (among_all crew places) actors (known events) events p i x) (paid : x.owed ≡ None)
-    (finds : ready ≡ found_by (known events) x.name at.member.actor.program) (has_is : has ≡ has_actor mouths)
-    (own : is_of_child (seat_of_place i crew) has (next_of at.member.actor.program at.member.actor.past p ready) ≡ false) where
-  mine : is_of_child (seat x.name) has (next_of at.member.actor.program at.member.actor.past p ready) ≡ false
-  mine =
-      let m = at.member in
-      let seated = is_seated crew places mouths actors (known events) events p i x w.world.kept w.piped at.is at.lives in
-      ap (λ (o : Option ℕ). is_of_child o has (next_of m.actor.program m.actor.past p ready)) seated.is ∙ own
+    (finds : ready ≡ found_by (known events) x.name at.member.actor.program)
+    (mine : is_due_of_child (has_actor mouths x.wire) (next_of at.member.actor.program at.member.actor.past p ready) ≡ false) where
+  wired : HasWires w.piped.wires mouths (known events).pipework x.name x.wire x.slot
+  wired = has_wires crew mouths actors (known events) events i x w.piped at.is at.lives
 
-  due_is : (pid : ℕ) (done : HasDone old new mouths wired pid x y events later p ready) → next_of at.member.actor.program at.member.actor.past p ready ≡ done.own.due
+  due_is : (pid : ℕ) (done : HasDone old new mouths piped pid x y events later p ready) → next_of at.member.actor.program at.member.actor.past p ready ≡ done.own.due
   due_is pid done = done.due at.member.actor.program at.member.actor.past (stands_whole (known events) events p x at.member at.lives paid)
 
-  mine_of : (pid : ℕ) (done : HasDone old new mouths wired pid x y events later p ready) → is_of_child (seat x.name) has done.own.due ≡ false
-  mine_of pid done = ap (is_of_child (seat x.name) has) (sym (due_is pid done)) ∙ mine
+  mine_of : (pid : ℕ) (done : HasDone old new mouths piped pid x y events later p ready) → is_due_of_child (has_actor mouths x.wire) done.own.due ≡ false
+  mine_of pid done = ap (is_due_of_child (has_actor mouths x.wire)) (sym (due_is pid done)) ∙ mine
 
-  to_none : (pid : ℕ) (done : HasDone old new mouths wired pid x y events later p ready) → GivesToNone (known events).pipework x.name done.own.due
-  to_none pid done = gives_to_none mouths (known events).pipework x.name (seat x.name) has done.own.due w.piped.wired w.piped.one refl has_is (mine_of pid done)
+  to_none : (pid : ℕ) (done : HasDone old new mouths piped pid x y events later p ready) → GivesToNone (known events).pipework x.name done.own.due
+  to_none pid done = gives_to_none w.piped.wires mouths (known events).pipework x.name x.wire done.own.due w.piped.wired wired.at (mine_of pid done)
 
-  goes_with : (pid : ℕ) (done : HasDone old new mouths wired pid x y events later p ready) → GoesWith old new (among_all crew places) actors events p i x y at.member done.own
+  goes_with : (pid : ℕ) (done : HasDone old new mouths piped pid x y events later p ready) → GoesWith old new (among_all crew places) actors events p i x y at.member done.own
   goes_with pid done =
       let m = at.member in
       let follows = stands_whole (known events) events p x m at.lives paid in
-      done_goes old new (among_all crew places) actors mouths wired pid events later p n b i x y ready w.world (plumbed crew mouths actors (known events) events w.piped) w.piped.wired at paid done (to_none pid done)
+      done_goes old new (among_all crew places) actors mouths piped pid events later p n b i x y ready w.world (plumbed crew mouths actors (known events) events w.piped) w.piped.wires wired at paid done (to_none pid done)
       (λ none brings. passes_some (known events).pipework pid x.name x m.actor.program m.actor.past p ready done.own.due done.own.came follows (due_is pid done) none brings) finds
 
-  never_awaits : (pid : ℕ) (done : HasDone old new mouths wired pid x y events later p ready) → is_awaiting (known events) x.name ≡ false
+  never_awaits : (pid : ℕ) (done : HasDone old new mouths piped pid x y events later p ready) → is_awaiting (known events) x.name ≡ false
   never_awaits pid done = ⊎_elim
       (λ awaits.
       let is : done.own.due ≡ needs.Wait = sym (due_is pid done) ∙ waits_on (known events) events p x ready at.member at.lives paid finds awaits in
       absurd (⊎_elim
       (λ call. wait_calls done.own.due done.own.came is call.0)
-      (λ pass. wait_brings (known events).pipework pid (takes_of x.machine) x.name done.own.due done.own.came is (pass.1.brings (known events).pipework w.piped.wired))
+      (λ pass. wait_brings (known events).pipework pid (takes_of x.machine) x.name done.own.due done.own.came is (pass.1.brings w.piped.wires (known events).pipework wired))
       done.passed))
       (λ none. none)
       (whether (is_awaiting (known events) x.name))
 
-  -- if it is the sender, its last event started no child, so that nobody awaits
-  nobody_awaits : x.name ≡ codes "sender" → (c : List ℕ) → is_awaiting (known events) c ≡ false
-  nobody_awaits same c = ⊎_elim
-      (λ awaits.
-      let was = w.piped.awaited c awaits in
-      let both : ◌≡◌ {A = Option Actor} (Some was.sender) (Some at.member.actor) = sym was.is ∙ ap (known events).actors (sym same) ∙ at.member.is in
-      let one : was.sender ≡ at.member.actor = cc in
-      let borne : HasBorneLast at.member.actor.past = subst (λ (z : Actor). HasBorneLast z.past) one was.borne in
-      absurd (never_borne (known events) mouths events p x has ready at.member has_is w.piped.wired mine same borne
-      (w.piped.fed at.member.actor (ap (known events).actors (sym same) ∙ at.member.is) (member_alive (known events) events p x at.member at.lives) borne)))
-      (λ none. none)
-      (whether (is_awaiting (known events) c))
+  -- its last event started no child
+  unborn : HasBorneLast at.member.actor.past → ⊥
+  unborn borne = never_borne crew mouths actors events p i x ready at.member w.piped at.is at.lives mine borne
 
   -- it ended, so it awaited nothing
-  ended_apart : (status : ℕ) → HasEnded status old new mouths wired x y events later p ready → x.name ≢ codes "sender" → (c : List ℕ) → is_awaiting (known events) c ≡ true
-      → (x.name ≢ codes "sender") × (x.name ≢ c)
-  ended_apart status over other c awaits = (
+  ended_apart : (status : ℕ) → HasEnded status old new mouths piped x y events later p ready → (parent c : List ℕ) → x.name ≢ parent → is_awaiting (known events) c ≡ true
+      → (x.name ≢ parent) × (x.name ≢ c)
+  ended_apart status over parent c other awaits = (
     other,
     λ same.
         let is = waits_on (known events) events p x ready at.member at.lives paid finds (ap (is_awaiting (known events)) same ∙ awaits) in
@@ -367,48 +321,48 @@ module _ (old new : Option Disk) (crew : ℕ) (places : List ℕ → Option ℕ)
         let both : needs.Wait ≡ needs.Ended status = sym is ∙ due in cc,
   )
 
-  pub acted_leads : (ended : Option ℕ) (pid : ℕ) → HasActed ended old new mouths wired pid x y events later p ready → LeadsOn old new events later p p
+  pub acted_leads : (ended : Option ℕ) (pid : ℕ) → HasActed ended old new mouths piped pid x y events later p ready → LeadsOn old new events later p p
   acted_leads None pid done = subst (λ (l : List Kept). LeadsOn old new events l p p) (sym done.event) (goes_with pid done).leads
-  acted_leads (Some status) pid over = ended_leads_on status old new (among_all crew places) actors mouths wired events later p n b i x y ready w.world at paid finds w.piped.whole over
+  acted_leads (Some status) pid over = ended_leads_on status old new (among_all crew places) actors mouths piped events later p n b i x y ready w.world at paid finds w.piped.whole over
 
-  pub acted_keeps : (ended : Option ℕ) (pid : ℕ) → HasActed ended old new mouths wired pid x y events later p ready → (now : List Entry) (q : ℕ) (r : Kept)
-      → r ≡ get_or later (length later - 1) r → q ≡ min (n + starts_in r) (2 ^ 32 - 1) → (i < crew → now ≡ entries)
-      → (crew ≤ i → (e : Entry) → slice_get entries (i - crew) ≡ Some e → now ≡ set entries (i - crew) (noted r e))
-      → (child : Option ℕ) (stood : List Held) → child ≡ child_place mouths crew places → HasLeftIf (is_some ended) i child (set actors i y) stood
-      → AreKept new crew places stood wired now later p q b
-  acted_keeps None pid done now q r newest next member mail child stood child_is stays =
+  pub acted_keeps : (ended : Option ℕ) (pid : ℕ) → HasActed ended old new mouths piped pid x y events later p ready → (now : List Entry) (q : ℕ) (r : Kept)
+      → r ≡ get_or later (length later - 1) r → q ≡ min (n + starts_in r) (2 ^ 32 - 1) → (x.entry ≡ None → now ≡ entries)
+      → ((m : ℕ) (e : Entry) → x.entry ≡ Some m → slice_get entries m ≡ Some e → now ≡ set entries m (noted r e))
+      → (child : Option ℕ) (stood : List Held) → child ≡ child_place mouths x.wire crew places → HasLeftIf (is_some ended) child (set actors i y) stood
+      → AreKept new crew places stood piped now later p q b
+  acted_keeps None pid done now q r newest next none own child stood child_is stays =
       let k : Kept = kept.Act x.name done.own in
       let same : r ≡ k = newest_is later events k r done.event newest in
-      subst (λ (l : List Held). AreKept new crew places l wired now later p q b) (sym stays) (record {
-        world = done_keeps old new (among_all crew places) actors mouths wired pid events later p n q b i x y ready w.world at paid done (goes_with pid done)
+      subst (λ (l : List Held). AreKept new crew places l piped now later p q b) (sym stays) (record {
+        world = done_keeps old new (among_all crew places) actors mouths piped pid events later p n q b i x y ready w.world at paid done (goes_with pid done)
             (next ∙ ap (λ (k : Kept). min (n + starts_in k) (2 ^ 32 - 1)) same);
-        booked = one_booked crew places actors (known events) events later p i x y entries now k r w.world.kept w.booked at.is done.name refl done.event newest member mail;
-        piped = done_piped crew old new mouths wired pid actors events later p i x y ready w.piped at.is at.member done
-            (to_none pid done) (goes_with pid done).awaits (never_awaits pid done) nobody_awaits;
+        booked = one_booked (among_all crew places) crew actors events later i x y entries now k r w.world.kept.placed w.booked at.is done.name done.stays.entry refl done.event newest none own;
+        piped = done_piped crew old new mouths piped pid actors events later p i x y ready w.piped at.is at.lives at.member done
+            (to_none pid done) (goes_with pid done).awaits (never_awaits pid done) unborn;
       })
-  acted_keeps (Some status) pid over now q r newest next member mail child stood child_is left =
+  acted_keeps (Some status) pid over now q r newest next none own child stood child_is left =
       let k : Kept = kept.End x.name p ready status in
       let same : r ≡ k = newest_is later events k r over.over.event newest in
       let still : q ≡ n = still_next n q (sum_by starts_in events) w.world.pid (next ∙ ap (λ (k : Kept). min (n + starts_in k) (2 ^ 32 - 1)) same) in
-      let leave = leaves crew places mouths actors stood (known events) events p x y (Over status) at.member.actor w.world.kept w.piped i child at.is child_is left in
+      let leave = leaves crew places mouths actors stood (known events) events p x y x.wire (Over status) at.member.actor w.world.kept w.piped wired.at i child at.is child_is left in
       let t = finished (known events) x.name (Over status) (Some at.member.actor) in
       record {
         world = subst (λ (q : ℕ). IsWorld new (among_all crew places) stood (known later) later p q b) (sym still)
-            (ended_keeps status old new (among_all crew places) actors stood mouths wired events later p n b i x y ready w.world at paid finds w.piped.whole over leave);
+            (ended_keeps status old new (among_all crew places) actors stood mouths piped events later p n b i x y ready w.world at paid finds w.piped.whole over leave);
         booked = left_booked crew actors stood (known events) t later i x y now leave
-            (one_booked crew places actors (known events) events later p i x y entries now k r w.world.kept w.booked at.is over.over.name refl over.over.event newest member mail);
-        piped = left_piped crew wired actors stood (known events) t (known later) later i x y leave
-            (finish_piped crew old new mouths wired actors events later p i x y k (Over status) (Some status) w.piped at.is at.member (end_finishes x.name p ready status) tt (ended_apart status over) over.over);
+            (one_booked (among_all crew places) crew actors events later i x y entries now k r w.world.kept.placed w.booked at.is over.over.name over.over.entry refl over.over.event newest none own);
+        piped = left_piped crew piped actors stood (known events) t (known later) later i x y leave
+            (finish_piped crew old new mouths piped actors events later p i x y k (Over status) (Some status) w.piped at.is at.lives at.member (end_finishes x.name p ready status) tt (ended_apart status over) over.over);
       }
 
-  pub acted_step : {D : Type 0} (d e : D) (a : List ℕ) (ended : Option ℕ) → x.name ≡ a → HasActed ended old new mouths wired (next_pid events) x y events later p ready
+  pub acted_step : {D : Type 0} (d e : D) (a : List ℕ) (ended : Option ℕ) → x.name ≡ a → HasActed ended old new mouths piped (next_pid events) x y events later p ready
       → IsStep a ended (record { disk = d; events = events; present = p }) (record { disk = e; events = later; present = p })
   acted_step d e a None name done =
-      done_step d e old new mouths wired events later p a x y has ready name at.member at.lives paid finds w.piped.wired mine done (to_none (next_pid events) done)
-  acted_step d e a (Some status) name over = ended_step d e status old new mouths wired events later p a x y ready name at.member finds over
+      done_step d e old new mouths piped events later p a x y (has_actor mouths x.wire) ready name at.member at.lives paid finds w.piped.wires wired mine done (to_none (next_pid events) done)
+  acted_step d e a (Some status) name over = ended_step d e status old new mouths piped events later p a x y ready name at.member finds over
 
   -- it didn't wait
-  pub acted_waits : (ended : Option ℕ) (pid : ℕ) → HasActed ended old new mouths wired pid x y events later p ready → Waits (known events) p x.name → ⊥
+  pub acted_waits : (ended : Option ℕ) (pid : ℕ) → HasActed ended old new mouths piped pid x y events later p ready → Waits (known events) p x.name → ⊥
   acted_waits ended pid acted waits = by_end ended acted where
     m : IsMember (known events) events p x
     m = at.member
@@ -422,20 +376,20 @@ module _ (old new : Option Disk) (crew : ℕ) (places : List ℕ → Option ℕ)
         let same : m.actor ≡ waits.actor = cc in
         ap (next_of m.actor.program m.actor.past p) here ∙ ap (λ (a : Actor). next_of a.program a.past p (found_in (known events) x.name)) same
 
-    by_end : (ended : Option ℕ) → HasActed ended old new mouths wired pid x y events later p ready → ⊥
+    by_end : (ended : Option ℕ) → HasActed ended old new mouths piped pid x y events later p ready → ⊥
     by_end None done =
         let due = done.due m.actor.program m.actor.past (stands_whole (known events) events p x m at.lives paid) in
         let can : CanNot (known events) x.name done.own.due = subst (CanNot (known events) x.name) (sym waits_so ∙ due) waits.due in
         ⊎_elim
         (λ call. calls_can (known events) x.name done.own.due done.own.came call.0 can)
-        (λ pass. brings_can (known events) pid (takes_of x.machine) x.name done.own.due done.own.came (pass.1.brings (known events).pipework w.piped.wired) can)
+        (λ pass. brings_can (known events) pid (takes_of x.machine) x.name done.own.due done.own.came (pass.1.brings w.piped.wires (known events).pipework wired) can)
         done.passed
     by_end (Some status) over =
         let due = over.due m.actor.program m.actor.past (stands_whole (known events) events p x m at.lives paid) in
         subst (CanNot (known events) x.name) (sym waits_so ∙ due) waits.due
 
   -- it waits
-  pub waited_waits : HasWaited mouths wired x y p ready → Waits (known events) p x.name
+  pub waited_waits : HasWaited mouths piped x y p ready → Waits (known events) p x.name
   waited_waits waited =
       let m = at.member in
       let here : ready ≡ found_in (known events) x.name = finds ∙ sym (ap (found_at (known events) x.name) m.is) in
@@ -445,18 +399,18 @@ module _ (old new : Option Disk) (crew : ℕ) (places : List ℕ → Option ℕ)
         alive = member_alive (known events) events p x m at.lives;
         due = subst (λ (ready : Ready). CanNot (known events) x.name (next_of m.actor.program m.actor.past p ready)) here
             (none_can (known events) x.name (next_of m.actor.program m.actor.past p ready)
-            (takes_no_actor (known events) mouths x.name (seat x.name) has (next_of m.actor.program m.actor.past p ready) w.piped.wired w.piped.one refl has_is mine)
-            (waited.waits m.actor.program m.actor.past (stands_whole (known events) events p x m at.lives paid) (known events).pipework w.piped.wired));
+            (takes_no_actor (known events) w.piped.wires mouths x.name x.wire (next_of m.actor.program m.actor.past p ready) w.piped.wired wired.at mine)
+            (waited.waits m.actor.program m.actor.past (stands_whole (known events) events p x m at.lives paid) w.piped.wires (known events).pipework wired));
       }
 
   -- and whether an idle turn ended
-  pub acted_idle : (ended : Option ℕ) (pid : ℕ) (idle : Bool) → HasActed ended old new mouths wired pid x y events later p ready → HasIdled idle x events later
+  pub acted_idle : (ended : Option ℕ) (pid : ℕ) (idle : Bool) → HasActed ended old new mouths piped pid x y events later p ready → HasIdled idle x events later
       → (k : Kept) → later ≡ events ++ k ∷ [] → idle ≡ has_idled (known events) k
   acted_idle ended pid idle acted idled k event =
       let m = at.member in
       idled k event m.actor.program m.actor.past (stands_whole (known events) events p x m at.lives paid) ∙ by_end ended acted
     where
-      by_end : (ended : Option ℕ) → HasActed ended old new mouths wired pid x y events later p ready → idled_of at.member.actor.program at.member.actor.past k ≡ has_idled (known events) k
+      by_end : (ended : Option ℕ) → HasActed ended old new mouths piped pid x y events later p ready → idled_of at.member.actor.program at.member.actor.past k ≡ has_idled (known events) k
       by_end None done =
           let same : kept.Act x.name done.own ≡ k = same_last events (kept.Act x.name done.own) k (sym done.event ∙ event) in
           subst (λ (k : Kept). idled_of at.member.actor.program at.member.actor.past k ≡ has_idled (known events) k) same
@@ -466,7 +420,7 @@ module _ (old new : Option Disk) (crew : ℕ) (places : List ℕ → Option ℕ)
           subst (λ (k : Kept). idled_of at.member.actor.program at.member.actor.past k ≡ has_idled (known events) k) same refl
 
 -- An actor that was paid, and perhaps has looked, stands at its place in a world, and finds this ready.
-pub record StandsReady (told : Option Disk) (crew : ℕ) (places : List ℕ → Option ℕ) (items : List Held) (mouths : List Mouths) (entries : List Entry) (events : List Kept) (p n b place : ℕ) (a : List ℕ) (y : Held) (has : Bool) (ready : Ready) : Type 0 where
+pub record StandsReady (told : Option Disk) (crew : ℕ) (places : List ℕ → Option ℕ) (items : List Held) (mouths : List Mouths) (entries : List Entry) (events : List Kept) (p n b place : ℕ) (a : List ℕ) (y : Held) (ready : Ready) : Type 0 where
   pub actors : List Held
   pub same : (v : Held) → set actors place v ≡ set items place v
   pub here : actors ≡ set items place y
@@ -474,17 +428,14 @@ pub record StandsReady (told : Option Disk) (crew : ℕ) (places : List ℕ → 
   pub at : StandsAt (among_all crew places) actors (known events) events p place y
   pub paid : y.owed ≡ None
   pub finds : ready ≡ found_by (known events) y.name at.member.actor.program
-  pub has_is : has ≡ has_actor mouths
   pub name : y.name ≡ a
 
-module _ (told : Option Disk) (crew : ℕ) (places : List ℕ → Option ℕ) (items : List Held) (mouths : List Mouths) (entries : List Entry) (events : List Kept) (p n b place : ℕ) (a : List ℕ) (has : Bool) (ready : Ready) where
-  pub paid_stands : (x z : Held) (child : Option ℕ) → AreKept told crew places items mouths entries events p n b → (at : StandsAt (among_all crew places) items (known events) events p place x) → x.name ≡ a
-      → HasTurned x z at.member.actor.program at.member.actor.past → child ≡ child_place mouths crew places → has ≡ is_some child
-      → IsFoundAt mouths (seat_of_place place crew) (awaits_of z.machine) ready → StandsReady told crew places items mouths entries events p n b place a z has ready
-  paid_stands x z child w at name turned child_is has_is found =
+module _ (told : Option Disk) (crew : ℕ) (places : List ℕ → Option ℕ) (items : List Held) (mouths : List Mouths) (entries : List Entry) (events : List Kept) (p n b place : ℕ) (a : List ℕ) (ready : Ready) where
+  pub paid_stands : (x z : Held) → AreKept told crew places items mouths entries events p n b → (at : StandsAt (among_all crew places) items (known events) events p place x) → x.name ≡ a
+      → HasTurned x z at.member.actor.program at.member.actor.past → IsFoundAt mouths z.wire (awaits_of z.machine) ready → StandsReady told crew places items mouths entries events p n b place a z ready
+  paid_stands x z w at name turned found =
       let now = turned_keeps told crew places items mouths mouths entries events p n b place x z w at turned (as_they_were mouths) in
       let stands = turned_stands told crew places items mouths entries events p n b place x z now at turned.ended in
-      let seated = is_seated crew places mouths (set items place z) (known events) events p place z now.world.kept now.piped stands.is stands.lives in
       record {
         actors = set items place z;
         same = λ v. set_again items place z v;
@@ -492,8 +443,7 @@ module _ (told : Option Disk) (crew : ℕ) (places : List ℕ → Option ℕ) (i
         world = now;
         at = stands;
         paid = turned.paid;
-        finds = finds_by crew places mouths (set items place z) (known events) events p place z ready stands.member stands.lives now.piped seated.is found;
-        has_is = has_is ∙ ap is_some child_is ∙ has_child crew places mouths items (known events) events p w.world.kept w.piped;
+        finds = finds_by crew mouths (set items place z) (known events) events p place z ready stands.member stands.is stands.lives now.piped found;
         name = turned.name ∙ name;
       }
 
@@ -501,7 +451,7 @@ module _ (told : Option Disk) (crew : ℕ) (places : List ℕ → Option ℕ) (i
   same_actor s x y m o name =
       let both : ◌≡◌ {A = Option Actor} (Some m.actor) (Some o.actor) = sym m.is ∙ ap s.actors (sym name) ∙ o.is in cc
 
-  pub looked_stands : (z v : Held) → StandsReady told crew places items mouths entries events p n b place a z has ready → HasLooked z v → StandsReady told crew places items mouths entries events p n b place a v has ready
+  pub looked_stands : (z v : Held) → StandsReady told crew places items mouths entries events p n b place a z ready → HasLooked z v → StandsReady told crew places items mouths entries events p n b place a v ready
   looked_stands z v r looked =
       let turned = looked_turned (known events) events p z v r.at.member r.at.lives r.paid looked in
       let now = turned_keeps told crew places r.actors mouths mouths entries events p n b place z v r.world r.at turned (as_they_were mouths) in
@@ -515,45 +465,70 @@ module _ (told : Option Disk) (crew : ℕ) (places : List ℕ → Option ℕ) (i
         at = stands;
         paid = turned.paid;
         finds = r.finds ∙ ap (λ (name : List ℕ). found_by (known events) name r.at.member.actor.program) (sym looked.name) ∙ ap (λ (actor : Actor). found_by (known events) v.name actor.program) one;
-        has_is = r.has_is;
         name = looked.name ∙ r.name;
       }
 
   -- what holds of what its machine asked before it looked again holds of what is next
-  pub next_by : (P : NeedData → Type 0) (z v : Held) (r : StandsReady told crew places items mouths entries events p n b place a z has ready) (q : StandsReady told crew places items mouths entries events p n b place a v has ready)
+  pub next_by : (P : NeedData → Type 0) (z v : Held) (r : StandsReady told crew places items mouths entries events p n b place a z ready) (q : StandsReady told crew places items mouths entries events p n b place a v ready)
       → v.name ≡ z.name → ((program : Program) (past : List Own) → Follows z.machine program past → P (next_of program past p ready)) → P (next_of q.at.member.actor.program q.at.member.actor.past p ready)
   next_by P z v r q name asks =
       subst (λ (actor : Actor). P (next_of actor.program actor.past p ready)) (same_actor (known events) z v r.at.member q.at.member name)
       (asks r.at.member.actor.program r.at.member.actor.past (stands_whole (known events) events p z r.at.member r.at.lives r.paid))
 
--- What of its child is due to the sender
+-- What of a child is due to an actor
 
-first_seat : (at : Option ℕ) (has : Bool) (due : NeedData) → is_of_child at has due ≡ true → (at ≡ Some 0) × (is_due_of_child has due ≡ true)
-first_seat None has due is = absurd cc
-first_seat (Some zero) has due is = (refl, is)
-first_seat (Some (suc at)) has due is = absurd cc
+given_same : (has other : ℕ → Bool) → ((d : ℕ) → has d ≡ other d) → (to : Port) (bytes : List ℕ) → is_due_of_child has (needs.Give to bytes) ≡ is_due_of_child other (needs.Give to bytes)
+given_same has other same (port.Program d) bytes = same d
+given_same has other same port.Input bytes = refl
+given_same has other same port.Output bytes = refl
+given_same has other same port.Clean bytes = refl
+given_same has other same port.Lspawn bytes = refl
+given_same has other same port.Rspawn bytes = refl
+given_same has other same port.Todo bytes = refl
+given_same has other same (port.Status d) bytes = refl
 
-pub asks_child : {D : Type 0} (d : D) (told : Option Disk) (crew : ℕ) (places : List ℕ → Option ℕ) (actors : List Held) (mouths : List Mouths) (entries : List Entry) (events : List Kept) (p n b i : ℕ) (x : Held) (has : Bool) (ready : Ready) (due : NeedData)
+taken_same : (has other : ℕ → Bool) → ((d : ℕ) → has d ≡ other d) → (from : Port) → is_due_of_child has (needs.Take from) ≡ is_due_of_child other (needs.Take from)
+taken_same has other same (port.Status d) = same d
+taken_same has other same port.Input = refl
+taken_same has other same port.Output = refl
+taken_same has other same port.Clean = refl
+taken_same has other same port.Lspawn = refl
+taken_same has other same port.Rspawn = refl
+taken_same has other same port.Todo = refl
+taken_same has other same (port.Program d) = refl
+
+started_same : (has other : ℕ → Bool) (asked : ChildData) → is_due_of_child has (needs.Start asked) ≡ is_due_of_child other (needs.Start asked)
+started_same has other (child.Bounce room) = refl
+started_same has other (child.Forward uid room) = refl
+started_same has other (child.Local slot words uid) = refl
+started_same has other (child.Remote slot domain sender recipient) = refl
+
+pub due_same : (has other : ℕ → Bool) → ((d : ℕ) → has d ≡ other d) → (due : NeedData) → is_due_of_child has due ≡ is_due_of_child other due
+due_same has other same (needs.Start asked) = started_same has other asked
+due_same has other same (needs.Give to bytes) = given_same has other same to bytes
+due_same has other same (needs.Take from) = taken_same has other same from
+due_same has other same (needs.File c) = refl
+due_same has other same (needs.Command bytes) = refl
+due_same has other same needs.Wait = refl
+due_same has other same (needs.Ended status) = refl
+
+pub asks_child : {D : Type 0} (d : D) (told : Option Disk) (crew : ℕ) (places : List ℕ → Option ℕ) (actors : List Held) (mouths : List Mouths) (entries : List Entry) (events : List Kept) (p n b i : ℕ) (x : Held) (ready : Ready) (due : NeedData)
     → AreKept told crew places actors mouths entries events p n b → (at : StandsAt (among_all crew places) actors (known events) events p i x)
-    → ready ≡ found_by (known events) x.name at.member.actor.program → has ≡ has_actor mouths → is_of_child (seat_of_place i crew) has due ≡ true
-    → next_of at.member.actor.program at.member.actor.past p ready ≡ due → IsDueOfChild (record { disk = d; events = events; present = p }) due × (x.name ≡ codes "sender")
-asks_child d told crew places actors mouths entries events p n b i x has ready due w at finds has_is of_child next =
+    → ready ≡ found_by (known events) x.name at.member.actor.program → is_due_of_child (has_actor mouths x.wire) due ≡ true
+    → next_of at.member.actor.program at.member.actor.past p ready ≡ due → IsDueOfChild (record { disk = d; events = events; present = p }) x.name due
+asks_child d told crew places actors mouths entries events p n b i x ready due w at finds of_child next =
     let s = known events in
     let m = at.member in
-    let seated = is_seated crew places mouths actors s events p i x w.world.kept w.piped at.is at.lives in
-    let first = first_seat (seat_of_place i crew) has due of_child in
-    let name : x.name ≡ codes "sender" = same_seat (codes "sender") x.name 0 refl (seated.is ∙ first.0) in
-    let here : found_in s (codes "sender") ≡ ready = ap (found_in s) (sym name) ∙ ap (found_at s x.name) m.is ∙ sym finds in
-    let runs : has ≡ is_some (actor_of (s.pipework.programs (codes "sender") 0)) = has_is ∙ sym (ap (λ (o : Option Tenant). is_some (actor_of o)) (w.piped.wired.programs (codes "sender") 0)) in (
-      record {
-        actor = m.actor;
-        is = ap s.actors (sym name) ∙ m.is;
-        alive = member_alive s events p x m at.lives;
-        due_is = ap (next_of m.actor.program m.actor.past p) here ∙ next;
-        of_child = ap (λ (t : Bool). is_due_of_child t due) (sym runs) ∙ first.1;
-      },
-      name,
-    )
+    let here : found_in s x.name ≡ ready = ap (found_at s x.name) m.is ∙ sym finds in
+    record {
+      actor = m.actor;
+      is = m.is;
+      alive = member_alive s events p x m at.lives;
+      due_is = ap (next_of m.actor.program m.actor.past p) here ∙ next;
+      of_child = due_same (λ d. is_some (actor_of (s.pipework.programs x.name d))) (has_actor mouths x.wire)
+          (λ d. ap (λ (o : Option Tenant). is_some (actor_of o))
+          (w.piped.wired.programs x.name d ∙ ap (λ (o : Option ℕ). tenant_in (kept_at o mouths) d) (w.piped.places i x at.is at.lives))) due ∙ of_child;
+    }
 
 -- Who doesn't live waits for nothing.
 

@@ -1,5 +1,5 @@
 -- A world keeps what it keeps, as one actor makes a call, ends, is stopped, or starts, and as a moment comes.
-use Rattle.std.proofs.Common.{◌≡◌, inl, inr, ⊎_elim, ℕ, zero, suc, ◌+◌, ◌-◌, ◌^◌, ◌≤◌, ◌<◌, min, List, [], ◌∷◌, ◌++◌, length, set, Bool, true, false, Option, Some, None, IsSomeAnd, is_some, reverse, refl, sym, ap, ◌∙◌, subst, arith, get_or}
+use Rattle.std.proofs.Common.{◌≡◌, inl, inr, ⊎_elim, ℕ, ◌+◌, ◌-◌, ◌^◌, ◌≤◌, ◌<◌, min, List, [], ◌∷◌, ◌++◌, length, set, Bool, true, false, Option, Some, None, IsSomeAnd, is_some, reverse, refl, sym, ap, ◌∙◌, subst, arith, get_or}
 use Rattle.std.specs.Prelude.{if◌then◌else◌}
 use Rattle.std.proofs.lemmas.Option.{slice_get_within, get_or_from_slice_get}
 use Rattle.std.proofs.lemmas.List.Sums.{sum_by-append}
@@ -30,25 +30,24 @@ use Rattle.mail_world.specs.declared.actor.Actor.{Actor as Held}
 use Rattle.world_events.specs.declared.event.Event.{Event as Kept}
 use Rattle.world_events.specs.declared.event.Event.TheVariants as kept
 use Rattle.world_events.specs.declared.event.Program.{Program}
-use Rattle.world_events.specs.declared.event.Program.TheVariants.{Injector, Cleaner, Sender, LocalSpawner, RemoteSpawner}
 use Rattle.mail_world.specs.History.{Life, State, MayFind, TenantEnds, own_call, next_of, start_of, acted, called, finished, happens, held_by, shut_by}
 use Rattle.mail_world.specs.History.Event.{Start, Moment, Halt}
 use Rattle.mail_world.specs.History.Life.{Over, Stopped}
 use Rattle.call_fs.specs.declared.program.Ready.{Ready}
-use Rattle.mail_world.specs.World.{starts, kept_call, IsKeptBy, IsKeptGiving, StartsWhole, next_pid, bounces_in, is_child, starts_in, most_of, ComesWhole, IsStep, span_after, span_of, was_started, EndsAt}
+use Rattle.mail_world.specs.World.{starts, kept_call, IsKeptBy, IsKeptGiving, next_pid, bounces_in, is_child, starts_in, most_of, ComesWhole, IsStep, span_after, span_of, was_started, EndsAt}
 use Rattle.mail_world.specs.World.Span.{OverAt}
 use Rattle.mail_world.specs.Pipework.{is_member}
 use Rattle.mail_world.specs.ByKind.{IsMail, Follows, CanFind, takes_of, awaits_of}
 use Rattle.mail_world.specs.Inside.{known, RunsAt, unowed, StandsFor, Owes, span_by, IsMember, AreActors, IsOpenTo, IsLed, IsWorld}
-use Rattle.mail_world.specs.Wired.{seat, AreWired, AreWholeGivings}
+use Rattle.mail_world.specs.Wired.{seat, HasWires, AreWholeGivings}
 use Rattle.world_pipes.specs.declared.mouths.Mouths.{Mouths}
 use Rattle.mail_world.specs.Pipework.{Tenant}
 use Rattle.mail_world.specs.Readiness.{found_by, found_at, found_in, is_awaiting}
 use Rattle.world_pipes.specs.Pipework.{Pipework, pipework_after}
 use Rattle.mail_world.specs.Pipework.Tenant.{Runs, Remote}
-use Rattle.mail_world.specs.Acting.{is_of_child, IsAct, IsNoAct, IsCall, MayAct, MayMake, AreOpen, AreCutOff, Brings, HasPassed, HasDone, HasEnded, MakesOf, IsFinished, opened_by, open_after, shut}
+use Rattle.mail_world.specs.Acting.{is_due_of_child, has_actor, SuitsPlace, IsAct, IsNoAct, IsCall, MayAct, MayMake, AreOpen, AreCutOff, Brings, HasPassed, HasDone, HasEnded, MakesOf, IsFinished, opened_by, open_after, shut}
 use Rattle.mail_world.proofs.Known.{known_push}
-use Rattle.actor_names.specs.BounceNames.{bounce_name}
+use Rattle.actor_names.specs.ChildNames.{bounce_name}
 use Rattle.actor_names.specs.MailNames.{IsMailName}
 use Rattle.mail_world.proofs.Bounces.{mail_no_bounce}
 use Rattle.mail_world.proofs.Spans.{span_push}
@@ -60,7 +59,7 @@ use Rattle.mail_world.proofs.Passes.{passing, comes_of, brings_kind}
 use Rattle.mail_world.proofs.Awaiting.{GivesToNone, HaveNoSlots, own_awaits, can_find}
 use Rattle.mail_world.proofs.Seats.{seat_none}
 use Rattle.mail_world.proofs.Lists.{some_at}
-use Rattle.mail_world.proofs.Crew.{ActsAlone, Halted, member_alive, cut_member, crew_halts, crew_acts, crew_leaves, crew_looks, crew_waits, crew_starts}
+use Rattle.mail_world.proofs.Crew.{apart_by, ActsAlone, Halted, member_alive, cut_member, crew_halts, crew_acts, crew_leaves, crew_looks, crew_waits, crew_starts}
 use Rattle.mail_world.proofs.Leaving.{Leaves}
 use Rattle.mail_world.proofs.Acts.{Finishes, own_alone, end_finishes, stop_finishes, finish_alone, start_alone, own_member, finish_member, start_member, look_member}
 use Rattle.mail_world.proofs.Hands.{shut_listed, call_opens, pass_opens, finish_opens, start_opens, moment_opens, halt_opens, look_opens, may_close}
@@ -143,23 +142,47 @@ stands_whole s events p x m lives paid = subst (λ (o : Option ℕ). Follows x.m
 mail_due : (at : Option ℕ) (program : Program) (past : List Own) (p : ℕ) (ready : Ready) → RunsAt at program → at ≡ None → IsAct (next_of program past p ready)
 mail_due at program past p ready runs none = program_acts program (subst (λ (o : Option ℕ). RunsAt o program) none runs) past p ready
 
-pub may_act : (told : Option Disk) (places : List ℕ → Option ℕ) (actors : List Held) (s : State) (events : List Kept) (p n b i : ℕ) (x : Held) (has : Bool) (ready : Ready)
+-- nothing of a child is due, and only a member starts a remote program
+suits_place : (has : ℕ → Bool) (i : ℕ) (due : NeedData) → is_due_of_child has due ≡ false → i < 4 → SuitsPlace i due
+suits_place has i (needs.Start (child.Bounce room)) own low = absurd cc
+suits_place has i (needs.Start (child.Forward uid room)) own low = tt
+suits_place has i (needs.Start (child.Local slot words uid)) own low = tt
+suits_place has i (needs.Start (child.Remote slot domain sender recipient)) own low = low
+suits_place has i (needs.File c) own low = tt
+suits_place has i (needs.Take port.Input) own low = tt
+suits_place has i (needs.Take port.Output) own low = tt
+suits_place has i (needs.Take port.Clean) own low = low
+suits_place has i (needs.Take port.Lspawn) own low = low
+suits_place has i (needs.Take port.Rspawn) own low = low
+suits_place has i (needs.Take port.Todo) own low = tt
+suits_place has i (needs.Take (port.Program d)) own low = tt
+suits_place has i (needs.Take (port.Status d)) own low = tt
+suits_place has i (needs.Give port bytes) own low = tt
+suits_place has i (needs.Command bytes) own low = tt
+suits_place has i needs.Wait own low = tt
+suits_place has i (needs.Ended status) own low = tt
+
+pub may_act : (told : Option Disk) (places : List ℕ → Option ℕ) (actors : List Held) (s : State) (events : List Kept) (p n b i : ℕ) (x : Held) (mouths : List Mouths) (ready : Ready)
     → IsWorld told places actors s events p n b → (at : StandsAt places actors s events p i x) → x.owed ≡ None → ready ≡ found_by s x.name at.member.actor.program
-    → is_of_child (seat x.name) has (next_of at.member.actor.program at.member.actor.past p ready) ≡ false → MayAct told x.machine (seat x.name) has p ready
-may_act told places actors s events p n b i x has ready w at paid finds own =
+    → seat x.name ≡ x.wire → ((j : ℕ) → x.wire ≡ Some j → j < 4)
+    → is_due_of_child (has_actor mouths x.wire) (next_of at.member.actor.program at.member.actor.past p ready) ≡ false → MayAct told x.machine x.wire mouths p ready
+may_act told places actors s events p n b i x mouths ready w at paid finds seated low own =
     let m = at.member in
     let past = m.actor.past in
     let due = next_of m.actor.program past p ready in
     record {
-      program = m.actor.program;
-      past = past;
-      follows = stands_whole s events p x m at.lives paid;
-      run = m.run;
-      acts = mail_due (seat x.name) m.actor.program past p ready m.runs;
-      found = subst (CanFind x.machine) (sym finds) (can_find s x.name x.machine m.actor.program past (stands_whole s events p x m at.lives paid) (m.awaits at.lives));
+      asks = record {
+        program = m.actor.program;
+        past = past;
+        follows = stands_whole s events p x m at.lives paid;
+        run = m.run;
+        found = subst (CanFind x.machine) (sym finds) (can_find s x.name x.machine m.actor.program past (stands_whole s events p x m at.lives paid) (m.awaits at.lives));
+        may = on_told told (λ d. IsOpenTo d actors s) (λ d. MayMake d due)
+            (λ d o. may_make d (held past) due (owns_backs d s.holder x.name (held past) ((o.each i x at.is).owns m.actor m.is (member_alive s events p x m at.lives))) (due_uses s events p x ready m)) w.opens;
+      };
+      acts = λ none. mail_due (seat x.name) m.actor.program past p ready m.runs (seated ∙ none);
       own = own;
-      may = on_told told (λ d. IsOpenTo d actors s) (λ d. MayMake d due)
-          (λ d o. may_make d (held past) due (owns_backs d s.holder x.name (held past) ((o.each i x at.is).owns m.actor m.is (member_alive s events p x m at.lives))) (due_uses s events p x ready m)) w.opens;
+      suits = λ j at_it. suits_place (has_actor mouths x.wire) j due own (low j at_it);
     }
 
 -- an actor's machine looked, and it owes nothing
@@ -354,8 +377,9 @@ left_kept places actors stood s t events k p i x y kept is name alone none membe
 left_kept places actors stood s t events k p i x y kept is name alone none member (inr cut) =
     subst (λ (l : List Held). AreActors places l t (events ++ k ∷ []) p) (sym cut.is)
     (crew_leaves places actors s t events k p i cut.place x y cut.old cut.new kept is cut.there cut.other name cut.cut.name alone none
-    (λ j v beside here other lives. (kept.members j v here).awaits lives ∙ cut.rest j v beside here ∙ sym (cut.none v.name))
-    member (cut_member s t events k p x.name cut.old cut.new alone cut.apart (kept.members cut.place cut.old cut.there) cut.cut (cut.none cut.old.name)))
+    (λ j v beside here other lives. (kept.members j v here).awaits lives
+    ∙ sym (cut.rest v.name (apart_by places cut.old.name v.name cut.place j (kept.placed cut.place cut.old cut.there) (kept.placed j v here) beside)))
+    member (cut_member s t events k p x.name cut.old cut.new alone cut.apart (kept.members cut.place cut.old cut.there) cut.cut cut.none))
 
 left_opens : (told : Option Disk) (actors stood : List Held) (s t : State) (i : ℕ) (x y : Held) → Leaves actors stood s t i x y
     → OnTold told (λ d. IsOpenTo d (set actors i y) t) → OnTold told (λ d. IsOpenTo d stood t)
@@ -366,12 +390,12 @@ left_opens told actors stood s t i x y (inr cut) opens =
     (λ d o. look_opens (set actors i y) t cut.place cut.old cut.new d cut.mid cut.cut.name cut.cut.descriptors o) opens)
 
 -- an actor ended or was stopped, and its child is given no input any more
-pub finish_keeps : (old new : Option Disk) (places : List ℕ → Option ℕ) (actors stood : List Held) (wires wired : List Mouths) (events later : List Kept) (p n b i : ℕ) (x y : Held) (k : Kept) (life : Life) (status : Option ℕ)
+pub finish_keeps : (old new : Option Disk) (places : List ℕ → Option ℕ) (actors stood : List Held) (pipes piped : List Mouths) (events later : List Kept) (p n b i : ℕ) (x y : Held) (k : Kept) (life : Life) (status : Option ℕ)
     → IsWorld old places actors (known events) events p n b → (at : StandsAt places actors (known events) events p i x)
-    → Finishes x.name k life status → IsFinished k status old new wires wired x y events later → LeadsOn old new events (events ++ k ∷ []) p p
+    → Finishes x.name k life status → IsFinished k status old new pipes piped x y events later → LeadsOn old new events (events ++ k ∷ []) p p
     → Leaves actors stood (known events) (finished (known events) x.name life (Some at.member.actor)) i x y → is_child k ≡ false
     → IsWorld new places stood (known later) later p n b
-finish_keeps old new places actors stood wires wired events later p n b i x y k life status w at f over on leaves none_born =
+finish_keeps old new places actors stood pipes piped events later p n b i x y k life status w at f over on leaves none_born =
     let s = known events in
     let m = at.member in
     let t = finished s x.name life (Some m.actor) in
@@ -396,19 +420,20 @@ finish_keeps old new places actors stood wires wired events later p n b i x y k 
     }))
 
 -- a step of an actor
-pub done_goes : (old new : Option Disk) (places : List ℕ → Option ℕ) (actors : List Held) (wires wired : List Mouths) (pid : ℕ) (events later : List Kept) (p n b i : ℕ) (x y : Held) (ready : Ready)
-    → IsWorld old places actors (known events) events p n b → IsPlumbed (known events) events → AreWired wires (known events).pipework → (at : StandsAt places actors (known events) events p i x) → x.owed ≡ None
-    → (done : HasDone old new wires wired pid x y events later p ready) → GivesToNone (known events).pipework x.name done.own.due
+pub done_goes : (old new : Option Disk) (places : List ℕ → Option ℕ) (actors : List Held) (pipes piped : List Mouths) (pid : ℕ) (events later : List Kept) (p n b i : ℕ) (x y : Held) (ready : Ready)
+    → IsWorld old places actors (known events) events p n b → IsPlumbed (known events) events → (by : List ℕ → Option ℕ) → HasWires by pipes (known events).pipework x.name x.wire x.slot
+    → (at : StandsAt places actors (known events) events p i x) → x.owed ≡ None
+    → (done : HasDone old new pipes piped pid x y events later p ready) → GivesToNone (known events).pipework x.name done.own.due
     → (IsNoAct done.own.due → Brings (known events).pipework pid (takes_of x.machine) x.name done.own.due done.own.came → 1 ≤ takes_of x.machine) → ready ≡ found_by (known events) x.name at.member.actor.program
     → GoesWith old new places actors events p i x y at.member done.own
-done_goes old new places actors wires wired pid events later p n b i x y ready w plumbed piped at paid done none many finds = by_passed done.passed where
+done_goes old new places actors pipes piped pid events later p n b i x y ready w plumbed by wired at paid done none many finds = by_passed done.passed where
   m : IsMember (known events) events p x
   m = at.member
 
   due : next_of m.actor.program m.actor.past p ready ≡ done.own.due
   due = done.due m.actor.program m.actor.past (stands_whole (known events) events p x m at.lives paid)
 
-  by_passed : HasPassed wires wired pid (takes_of x.machine) x.name done.own.due done.own.came → GoesWith old new places actors events p i x y m done.own
+  by_passed : HasPassed x pipes piped pid (takes_of x.machine) done.own.due done.own.came → GoesWith old new places actors events p i x y m done.own
   by_passed (inl call) =
       let made = call_of p ready done.own.read done.own.ready done.own.due done.own.came done.read done.found call.0 in
       let is = made.is in
@@ -419,17 +444,17 @@ done_goes old new places actors wires wired pid events later p n b i x y ready w
       (subst (λ (own : Own). MakesOf p own.due own.came old new) is done.made))
   by_passed (inr pass) =
       let same = same_told old new (pass_made p done.own.due done.own.came old new pass.0 done.made) in
-      let brings = pass.1.brings (known events).pipework piped in
+      let brings = pass.1.brings by (known events).pipework wired in
       subst (λ (new : Option Disk). GoesWith old new places actors events p i x y m done.own) (sym same)
       (pass_goes old places actors events p n b i x y done.own pid (takes_of x.machine) w plumbed at (done.found ∙ finds) done.read done.name done.descriptors
       (ap (λ (read : ℕ). next_of m.actor.program m.actor.past read done.own.ready) done.read ∙ ap (next_of m.actor.program m.actor.past p) done.found ∙ due) pass.0 none (many pass.0 brings) brings)
 
-pub done_keeps : (old new : Option Disk) (places : List ℕ → Option ℕ) (actors : List Held) (wires wired : List Mouths) (pid : ℕ) (events later : List Kept) (p n q b i : ℕ) (x y : Held) (ready : Ready)
+pub done_keeps : (old new : Option Disk) (places : List ℕ → Option ℕ) (actors : List Held) (pipes piped : List Mouths) (pid : ℕ) (events later : List Kept) (p n q b i : ℕ) (x y : Held) (ready : Ready)
     → IsWorld old places actors (known events) events p n b → (at : StandsAt places actors (known events) events p i x) → x.owed ≡ None
-    → (done : HasDone old new wires wired pid x y events later p ready) → GoesWith old new places actors events p i x y at.member done.own
+    → (done : HasDone old new pipes piped pid x y events later p ready) → GoesWith old new places actors events p i x y at.member done.own
     → q ≡ min (n + starts_in (kept.Act x.name done.own)) (2 ^ 32 - 1)
     → IsWorld new places (set actors i y) (known later) later p q b
-done_keeps old new places actors wires wired pid events later p n q b i x y ready w at paid done goes next =
+done_keeps old new places actors pipes piped pid events later p n q b i x y ready w at paid done goes next =
     let s = known events in
     let m = at.member in
     let own = done.own in
@@ -455,38 +480,38 @@ done_keeps old new places actors wires wired pid events later p n q b i x y read
       led = goes.led;
     }))
 
-pub ended_keeps : (status : ℕ) (old new : Option Disk) (places : List ℕ → Option ℕ) (actors stood : List Held) (wires wired : List Mouths) (events later : List Kept) (p n b i : ℕ) (x y : Held) (ready : Ready)
+pub ended_keeps : (status : ℕ) (old new : Option Disk) (places : List ℕ → Option ℕ) (actors stood : List Held) (pipes piped : List Mouths) (events later : List Kept) (p n b i : ℕ) (x y : Held) (ready : Ready)
     → IsWorld old places actors (known events) events p n b → (at : StandsAt places actors (known events) events p i x) → x.owed ≡ None
-    → ready ≡ found_by (known events) x.name at.member.actor.program → AreWholeGivings (reverse events) → HasEnded status old new wires wired x y events later p ready
+    → ready ≡ found_by (known events) x.name at.member.actor.program → AreWholeGivings (reverse events) → HasEnded status old new pipes piped x y events later p ready
     → Leaves actors stood (known events) (finished (known events) x.name (Over status) (Some at.member.actor)) i x y
     → IsWorld new places stood (known later) later p n b
-ended_keeps status old new places actors stood wires wired events later p n b i x y ready w at paid finds whole ended leaves =
-    finish_keeps old new places actors stood wires wired events later p n b i x y (kept.End x.name p ready status) (Over status) (Some status) w at (end_finishes x.name p ready status) ended.over
+ended_keeps status old new places actors stood pipes piped events later p n b i x y ready w at paid finds whole ended leaves =
+    finish_keeps old new places actors stood pipes piped events later p n b i x y (kept.End x.name p ready status) (Over status) (Some status) w at (end_finishes x.name p ready status) ended.over
     (end_leads_on old new places actors events p n b i x ready status w at finds whole
     (ended.due at.member.actor.program at.member.actor.past (stands_whole (known events) events p x at.member at.lives paid)) ended.over.closed) leaves refl
 
-pub ended_leads_on : (status : ℕ) (old new : Option Disk) (places : List ℕ → Option ℕ) (actors : List Held) (wires wired : List Mouths) (events later : List Kept) (p n b i : ℕ) (x y : Held) (ready : Ready)
+pub ended_leads_on : (status : ℕ) (old new : Option Disk) (places : List ℕ → Option ℕ) (actors : List Held) (pipes piped : List Mouths) (events later : List Kept) (p n b i : ℕ) (x y : Held) (ready : Ready)
     → IsWorld old places actors (known events) events p n b → (at : StandsAt places actors (known events) events p i x) → x.owed ≡ None
-    → ready ≡ found_by (known events) x.name at.member.actor.program → AreWholeGivings (reverse events) → HasEnded status old new wires wired x y events later p ready
+    → ready ≡ found_by (known events) x.name at.member.actor.program → AreWholeGivings (reverse events) → HasEnded status old new pipes piped x y events later p ready
     → LeadsOn old new events later p p
-ended_leads_on status old new places actors wires wired events later p n b i x y ready w at paid finds whole ended =
+ended_leads_on status old new places actors pipes piped events later p n b i x y ready w at paid finds whole ended =
     subst (λ (l : List Kept). LeadsOn old new events l p p) (sym ended.over.event)
     (end_leads_on old new places actors events p n b i x ready status w at finds whole
     (ended.due at.member.actor.program at.member.actor.past (stands_whole (known events) events p x at.member at.lives paid)) ended.over.closed)
 
 -- an actor was stopped
-pub stopped_keeps : (old new : Option Disk) (places : List ℕ → Option ℕ) (actors stood : List Held) (wires wired : List Mouths) (events later : List Kept) (p n b i : ℕ) (x y : Held)
-    → IsWorld old places actors (known events) events p n b → (at : StandsAt places actors (known events) events p i x) → IsFinished (kept.Stop x.name) None old new wires wired x y events later
+pub stopped_keeps : (old new : Option Disk) (places : List ℕ → Option ℕ) (actors stood : List Held) (pipes piped : List Mouths) (events later : List Kept) (p n b i : ℕ) (x y : Held)
+    → IsWorld old places actors (known events) events p n b → (at : StandsAt places actors (known events) events p i x) → IsFinished (kept.Stop x.name) None old new pipes piped x y events later
     → Leaves actors stood (known events) (finished (known events) x.name Stopped (Some at.member.actor)) i x y
     → IsWorld new places stood (known later) later p n b
-stopped_keeps old new places actors stood wires wired events later p n b i x y w at over leaves =
-    finish_keeps old new places actors stood wires wired events later p n b i x y (kept.Stop x.name) Stopped None w at (stop_finishes x.name) over
+stopped_keeps old new places actors stood pipes piped events later p n b i x y w at over leaves =
+    finish_keeps old new places actors stood pipes piped events later p n b i x y (kept.Stop x.name) Stopped None w at (stop_finishes x.name) over
     (stop_leads_on old new places actors events p n b i x w at over.closed) leaves refl
 
-pub stopped_leads_on : (old new : Option Disk) (places : List ℕ → Option ℕ) (actors : List Held) (wires wired : List Mouths) (events later : List Kept) (p n b i : ℕ) (x y : Held)
-    → IsWorld old places actors (known events) events p n b → StandsAt places actors (known events) events p i x → IsFinished (kept.Stop x.name) None old new wires wired x y events later
+pub stopped_leads_on : (old new : Option Disk) (places : List ℕ → Option ℕ) (actors : List Held) (pipes piped : List Mouths) (events later : List Kept) (p n b i : ℕ) (x y : Held)
+    → IsWorld old places actors (known events) events p n b → StandsAt places actors (known events) events p i x → IsFinished (kept.Stop x.name) None old new pipes piped x y events later
     → LeadsOn old new events later p p
-stopped_leads_on old new places actors wires wired events later p n b i x y w at over =
+stopped_leads_on old new places actors pipes piped events later p n b i x y w at over =
     subst (λ (l : List Kept). LeadsOn old new events l p p) (sym over.event) (stop_leads_on old new places actors events p n b i x w at over.closed)
 
 -- a moment came
@@ -634,37 +659,25 @@ call_whole s pid a program needs.Wait came call = absurd call
 call_whole s pid a program (needs.Ended status) came call = absurd call
 
 -- nothing of a child was due, so that what starts no remote program fails
-bounce_fails : (at : Option ℕ) (has : Bool) (program : Program) (pid room : ℕ) (got : GotData) → RunsAt at program → is_of_child at has (needs.Start (child.Bounce room)) ≡ false → got ≡ came.Failed
-    → StartsWhole program pid (child.Bounce room) got
-bounce_fails None has (Sender start) pid room got runs own fails = absurd runs
-bounce_fails (Some zero) has (Sender start) pid room got runs own fails = absurd cc
-bounce_fails (Some (suc zero)) has (Sender start) pid room got runs own fails = absurd runs
-bounce_fails (Some (suc (suc zero))) has (Sender start) pid room got runs own fails = absurd runs
-bounce_fails (Some (suc (suc (suc at)))) has (Sender start) pid room got runs own fails = absurd runs
-bounce_fails at has (Injector args) pid room got runs own fails = fails
-bounce_fails at has (Cleaner start) pid room got runs own fails = fails
-bounce_fails at has (LocalSpawner start) pid room got runs own fails = fails
-bounce_fails at has (RemoteSpawner start) pid room got runs own fails = fails
-
-pass_whole : (s : State) (pid : ℕ) (a : List ℕ) (at : Option ℕ) (has : Bool) (program : Program) (due : NeedData) (came : GotData) → RunsAt at program → is_of_child at has due ≡ false
+pass_whole : (s : State) (pid : ℕ) (a : List ℕ) (has : ℕ → Bool) (program : Program) (due : NeedData) (came : GotData) → is_due_of_child has due ≡ false
     → Brings s.pipework pid (most_of program) a due came → ComesWhole s pid a program due came
-pass_whole s pid a at has program (needs.File c) came runs own brings = absurd brings
-pass_whole s pid a at has program (needs.Take (port.Status d)) came runs own brings = subst (λ (o : Option Tenant). TenantEnds s o came) (sym brings.0) brings.1
-pass_whole s pid a at has program (needs.Take port.Input) came runs own brings = brings
-pass_whole s pid a at has program (needs.Take port.Output) came runs own brings = brings
-pass_whole s pid a at has program (needs.Take port.Clean) came runs own brings = brings
-pass_whole s pid a at has program (needs.Take port.Lspawn) came runs own brings = brings
-pass_whole s pid a at has program (needs.Take port.Rspawn) came runs own brings = brings
-pass_whole s pid a at has program (needs.Take port.Todo) came runs own brings = brings
-pass_whole s pid a at has program (needs.Take (port.Program d)) came runs own brings = brings
-pass_whole s pid a at has program (needs.Give port bytes) came runs own brings = brings
-pass_whole s pid a at has program (needs.Start (child.Bounce room)) came runs own brings = bounce_fails at has program pid room came runs own brings
-pass_whole s pid a at has program (needs.Start (child.Forward uid room)) came runs own brings = brings
-pass_whole s pid a at has program (needs.Start (child.Local slot words uid)) came runs own brings = brings
-pass_whole s pid a at has program (needs.Start (child.Remote slot domain sender recipient)) came runs own brings = brings
-pass_whole s pid a at has program (needs.Command bytes) came runs own brings = brings
-pass_whole s pid a at has program needs.Wait came runs own brings = absurd brings
-pass_whole s pid a at has program (needs.Ended status) came runs own brings = absurd brings
+pass_whole s pid a has program (needs.File c) came own brings = absurd brings
+pass_whole s pid a has program (needs.Take (port.Status d)) came own brings = subst (λ (o : Option Tenant). TenantEnds s o came) (sym brings.0) brings.1
+pass_whole s pid a has program (needs.Take port.Input) came own brings = brings
+pass_whole s pid a has program (needs.Take port.Output) came own brings = brings
+pass_whole s pid a has program (needs.Take port.Clean) came own brings = brings
+pass_whole s pid a has program (needs.Take port.Lspawn) came own brings = brings
+pass_whole s pid a has program (needs.Take port.Rspawn) came own brings = brings
+pass_whole s pid a has program (needs.Take port.Todo) came own brings = brings
+pass_whole s pid a has program (needs.Take (port.Program d)) came own brings = brings
+pass_whole s pid a has program (needs.Give port bytes) came own brings = brings
+pass_whole s pid a has program (needs.Start (child.Bounce room)) came own brings = absurd cc
+pass_whole s pid a has program (needs.Start (child.Forward uid room)) came own brings = brings
+pass_whole s pid a has program (needs.Start (child.Local slot words uid)) came own brings = brings
+pass_whole s pid a has program (needs.Start (child.Remote slot domain sender recipient)) came own brings = brings
+pass_whole s pid a has program (needs.Command bytes) came own brings = brings
+pass_whole s pid a has program needs.Wait came own brings = absurd brings
+pass_whole s pid a has program (needs.Ended status) came own brings = absurd brings
 
 -- and it is kept as an event of its own
 call_kept : (s : State) (bounces : ℕ) (a : List ℕ) (own : Own) (due : NeedData) (came : GotData) → IsCall due came → IsKeptBy s bounces a own due came (kept.Act a own)
@@ -685,16 +698,15 @@ pass_kept : (s : State) (pid most bounces : ℕ) (a : List ℕ) (own : Own) (due
     → IsKeptBy s bounces a own due came (kept.Act a own)
 pass_kept s pid most bounces a own (needs.Give (port.Program d) bytes) came none brings =
     subst (λ (came : GotData). IsKeptBy s bounces a own (needs.Give (port.Program d) bytes) came (kept.Act a own)) (sym brings) (slot_kept a own bytes (s.pipework.programs a d) none)
-pass_kept s pid most bounces a own (needs.Start (child.Bounce room)) came none brings =
-    subst (λ (came : GotData). IsKeptBy s bounces a own (needs.Start (child.Bounce room)) came (kept.Act a own)) (sym brings) refl
+pass_kept s pid most bounces a own (needs.Start (child.Bounce room)) came none brings = absurd brings
 pass_kept s pid most bounces a own due came none brings = refl
 
-pub done_step : {D : Type 0} (d e : D) (old new : Option Disk) (wires wired : List Mouths) (events later : List Kept) (p : ℕ) (a : List ℕ) (x y : Held) (has : Bool) (ready : Ready)
+pub done_step : {D : Type 0} (d e : D) (old new : Option Disk) (pipes piped : List Mouths) (events later : List Kept) (p : ℕ) (a : List ℕ) (x y : Held) (has : ℕ → Bool) (ready : Ready)
     → x.name ≡ a → (m : IsMember (known events) events p x) → x.ended ≡ None → x.owed ≡ None → ready ≡ found_by (known events) x.name m.actor.program
-    → AreWired wires (known events).pipework → is_of_child (seat x.name) has (next_of m.actor.program m.actor.past p ready) ≡ false
-    → (done : HasDone old new wires wired (next_pid events) x y events later p ready) → GivesToNone (known events).pipework x.name done.own.due
+    → (by : List ℕ → Option ℕ) → HasWires by pipes (known events).pipework x.name x.wire x.slot → is_due_of_child has (next_of m.actor.program m.actor.past p ready) ≡ false
+    → (done : HasDone old new pipes piped (next_pid events) x y events later p ready) → GivesToNone (known events).pipework x.name done.own.due
     → IsStep a None (record { disk = d; events = events; present = p }) (record { disk = e; events = later; present = p })
-done_step d e old new wires wired events later p a x y has ready name m lives paid finds piped mine done none =
+done_step d e old new pipes piped events later p a x y has ready name m lives paid finds by wired mine done none =
     let s = known events in
     let follows = stands_whole s events p x m lives paid in
     let due = done.due m.actor.program m.actor.past follows in
@@ -703,17 +715,17 @@ done_step d e old new wires wired events later p a x y has ready name m lives pa
     let came : ComesWhole s (next_pid events) x.name m.actor.program own.due own.came = ⊎_elim
     (λ call. call_whole s (next_pid events) x.name m.actor.program own.due own.came call.0)
     (λ pass.
-    let brings = pass.1.brings s.pipework piped in
+    let brings = pass.1.brings by s.pipework wired in
     ⊎_elim
     (λ mail. absurd (acts_not s.pipework (next_pid events) (takes_of x.machine) x.name own.due own.came
     (subst IsAct due (program_acts m.actor.program mail m.actor.past p ready)) pass.0 brings))
-    (λ takes. pass_whole s (next_pid events) x.name (seat x.name) has m.actor.program own.due own.came m.runs (ap (is_of_child (seat x.name) has) (sym due) ∙ mine)
+    (λ takes. pass_whole s (next_pid events) x.name has m.actor.program own.due own.came (ap (is_due_of_child has) (sym due) ∙ mine)
     (subst (λ (most : ℕ). Brings s.pipework (next_pid events) most x.name own.due own.came) takes brings))
     (machine_takes x.machine m.actor.program m.actor.past follows))
     done.passed in
     let kept_so : IsKeptBy s (bounces_in events) x.name own own.due own.came (kept.Act x.name own) = ⊎_elim
     (λ call. call_kept s (bounces_in events) x.name own own.due own.came call.0)
-    (λ pass. pass_kept s (next_pid events) (takes_of x.machine) (bounces_in events) x.name own own.due own.came none (pass.1.brings s.pipework piped))
+    (λ pass. pass_kept s (next_pid events) (takes_of x.machine) (bounces_in events) x.name own own.due own.came none (pass.1.brings by s.pipework wired))
     done.passed in
     subst (λ (a : List ℕ). IsStep a None (record { disk = d; events = events; present = p }) (record { disk = e; events = later; present = p })) name (
       own,
@@ -730,10 +742,10 @@ done_step d e old new wires wired events later p a x y has ready name m lives pa
       done.event,
     )
 
-pub ended_step : {D : Type 0} (d e : D) (status : ℕ) (old new : Option Disk) (wires wired : List Mouths) (events later : List Kept) (p : ℕ) (a : List ℕ) (x y : Held) (ready : Ready)
-    → x.name ≡ a → (m : IsMember (known events) events p x) → ready ≡ found_by (known events) x.name m.actor.program → HasEnded status old new wires wired x y events later p ready
+pub ended_step : {D : Type 0} (d e : D) (status : ℕ) (old new : Option Disk) (pipes piped : List Mouths) (events later : List Kept) (p : ℕ) (a : List ℕ) (x y : Held) (ready : Ready)
+    → x.name ≡ a → (m : IsMember (known events) events p x) → ready ≡ found_by (known events) x.name m.actor.program → HasEnded status old new pipes piped x y events later p ready
     → IsStep a (Some status) (record { disk = d; events = events; present = p }) (record { disk = e; events = later; present = p })
-ended_step d e status old new wires wired events later p a x y ready name m finds ended =
+ended_step d e status old new pipes piped events later p a x y ready name m finds ended =
     let s = known events in
     let here : ready ≡ found_in s x.name = finds ∙ sym (ap (found_at s x.name) m.is) in
     ended.over.event ∙ ap (λ (ready : Ready). events ++ kept.End x.name p ready status ∷ []) here

@@ -1,5 +1,5 @@
 -- One step of an actor: what it needs, and what it does to the disk, to the actor and to the history.
-use Rattle.std.specs.Prelude.{◌≡◌, ◌⊎◌, ℕ, List, [], ◌∷◌, ◌++◌, length, Bool, true, false, Option, Some, None, IsSomeAnd}
+use Rattle.std.specs.Prelude.{◌≡◌, ◌<◌, ◌≤◌, ◌⊎◌, ℕ, List, [], ◌∷◌, ◌++◌, length, Bool, true, false, Option, Some, None, IsSomeAnd}
 use Rattle.std.specs.List.{slice_get}
 use Rattle.call_fs.specs.Disk.{Disk}
 use Rattle.mail_bytes.specs.Told.{OnTold, Meets}
@@ -30,16 +30,16 @@ use Rattle.mail_world.specs.World.{IsPlannedOwn}
 use Rattle.world_pipes.specs.declared.mouths.Mouths.{Mouths}
 use Rattle.mail_world.specs.Pipework.{Pipework}
 use Rattle.mail_world.specs.ByKind.{Follows, CanFind, present_of, found_of, looked_of, need_of, takes_of, with_own, awaits_of}
-use Rattle.mail_world.specs.Wired.{seat, AreWired, HaveSlots, HaveOneChild}
+use Rattle.mail_world.specs.Wired.{HasWires, HaveSlots}
 use Rattle.mail_world.specs.Inside.{StandsFor}
 use Rattle.mail_world.specs.Generations.{idled_of}
--- what of a child is due to the sender
-pub use Rattle.crew_pipes.specs.Seating.{is_due_of_child, is_of_child, has_actor}
+-- what of a child is due to an actor
+pub use Rattle.crew_pipes.specs.Seating.{is_due_of_child, has_actor}
 -- what an actor has open
 pub use Rattle.open_files.specs.Opened.{without, open_after, opened_by, AreOpen, shut}
--- the pipes and slots of one member are as they were, and what an actor does with them
+-- the pipes and slots at one place are as they were, and what an actor does with them
 pub use Rattle.world_pipes.specs.Mouths.{IsSame}
-pub use Rattle.crew_pipes.specs.Exchanges.{IsNoAct, Brings, BringsNone, AreAsBefore, HasPiped, HasTaken, HasFreed, HasFreedBy, HasBegun, HasStarted, HasTakenBy, leads, gives_by, HasGivenTo, IsSameAt, AreShut, SlotIsShut, HaveShut, GivesNoActor, Exchanges, IsStuck, HasExchanged, ShutsAfter}
+pub use Rattle.crew_pipes.specs.Exchanges.{IsNoAct, Brings, BringsNone, Keep, AreAsBefore, HasPiped, HasTaken, HasFreed, HasFreedBy, HasBegun, HasStarted, HasTakenBy, HasGivenTo, IsSameAt, HaveShut, GivesNoActor, SuitsPlace, Exchanges, IsStuck, HasExchanged, IsGoneToo, ShutsAfter}
 
 -- the call that is due may be made
 abbrev pub MayMake : Disk → NeedData → Type 0
@@ -59,24 +59,33 @@ status_of None status = None
 status_of (Some at) (Some status) = Some (got.Ended status)
 status_of (Some at) None = Some got.Crashed
 
--- An actor's machine may act at this moment, with this ready, which it may be told. If it is no member, a call or its end is due, or
--- it waits. Nothing of a child is due.
-pub record MayAct (disk : Option Disk) (machine : AnyMachine) (at : Option ℕ) (has : Bool) (now : ℕ) (ready : Ready) : Type 0 where
+-- An actor's machine may be asked at this moment, with this ready, which it may be told: a call that is due may be made.
+pub record MayAsk (disk : Option Disk) (machine : AnyMachine) (now : ℕ) (ready : Ready) : Type 0 where
   pub program : Program
   pub past : List Own
   pub follows : Follows machine program past
   pub run : IsRunBy (next_of program) past
-  pub acts : at ≡ None → IsAct (next_of program past now ready)
   pub found : CanFind machine ready
-  pub own : is_of_child at has (next_of program past now ready) ≡ false
   pub may : OnTold disk (λ d. MayMake d (next_of program past now ready))
 
--- an actor with its seat among the members, if it is one: then each has pipes
-pub record IsSeated (at : Option ℕ) (a : List ℕ) (mouths : List Mouths) : Type 0 where
-  pub is : seat a ≡ at
+-- It may act. If it has no pipes, a call or its end is due, or it waits. Nothing of a child is due, and a remote program only to a member.
+pub record MayAct (disk : Option Disk) (machine : AnyMachine) (wire : Option ℕ) (mouths : List Mouths) (now : ℕ) (ready : Ready) : Type 0 where
+  pub asks : MayAsk disk machine now ready
+  pub acts : wire ≡ None → IsAct (next_of asks.program asks.past now ready)
+  pub own : is_due_of_child (has_actor mouths wire) (next_of asks.program asks.past now ready) ≡ false
+  pub suits : (i : ℕ) → wire ≡ Some i → SuitsPlace i (next_of asks.program asks.past now ready)
+
+-- the place of an actor's pipes, if it has some: then it is one of these, and each member has pipes
+pub record IsSeated (wire : Option ℕ) (mouths : List Mouths) : Type 0 where
   pub slots : HaveSlots mouths
-  pub one : HaveOneChild mouths
-  pub many : (i : ℕ) → at ≡ Some i → length mouths ≡ 4
+  pub four : (i : ℕ) → wire ≡ Some i → 4 ≤ length mouths
+  pub within : (i : ℕ) → wire ≡ Some i → i < length mouths
+
+-- an actor keeps its pipes and its slot
+pub record StaysAt (x y : Held) : Type 0 where
+  pub wire : y.wire ≡ x.wire
+  pub slot : y.slot ≡ x.slot
+  pub entry : y.entry ≡ x.entry
 
 -- what came was due
 abbrev pub due_by : Came → NeedData
@@ -127,8 +136,8 @@ HasIdled idle x before now_kept = (k : Kept) → now_kept ≡ before ++ k ∷ []
     → idle ≡ idled_of program past k
 
 -- What an actor has done with its pipes and slots: nothing, if it made a file call.
-abbrev pub HasPassed : List Mouths → List Mouths → ℕ → ℕ → List ℕ → NeedData → GotData → Type 0
-HasPassed old new pid most a due came = (IsCall due came × (new ≡ old)) ⊎ (IsNoAct due × Exchanges old new pid most a due came)
+abbrev pub HasPassed : Held → List Mouths → List Mouths → ℕ → ℕ → NeedData → GotData → Type 0
+HasPassed x old new pid most due came = (IsCall due came × (new ≡ old)) ⊎ (IsNoAct due × Exchanges x.wire x.slot old new pid most x.name due came)
 
 -- the machine of an actor couldn't take in yet what came of its event, which has this index
 pub record IsOwed (y : Held) (own : Own) (index at : ℕ) : Type 0 where
@@ -141,7 +150,7 @@ pub record IsOwed (y : Held) (own : Own) (index at : ℕ) : Type 0 where
   pub within : IsWithin (takes_of y.machine) own.came
 
 -- a step did what was due, and the machine was told what came of it, or will be
-pub record HasDone (old new : Option Disk) (wires wired : List Mouths) (pid : ℕ) (x y : Held) (before now_kept : List Kept) (now : ℕ) (ready : Ready) : Type 0 where
+pub record HasDone (old new : Option Disk) (pipes piped : List Mouths) (pid : ℕ) (x y : Held) (before now_kept : List Kept) (now : ℕ) (ready : Ready) : Type 0 where
   pub own : Own
   pub event : now_kept ≡ before ++ kept.Act x.name own ∷ []
   pub read : own.read ≡ now
@@ -150,8 +159,9 @@ pub record HasDone (old new : Option Disk) (wires wired : List Mouths) (pid : �
   pub follows : (program : Program) (past : List Own) → Follows x.machine program past → StandsFor y program (own ∷ past)
   pub owes : (at : ℕ) → y.owed ≡ Some at → IsOwed y own (length before) at
   pub made : MakesOf now own.due own.came old new
-  pub passed : HasPassed wires wired pid (takes_of x.machine) x.name own.due own.came
+  pub passed : HasPassed x pipes piped pid (takes_of x.machine) own.due own.came
   pub name : y.name ≡ x.name
+  pub stays : StaysAt x y
   pub descriptors : y.descriptors.items ≡ opened_by x.descriptors.items own.due own.came
   pub ended : y.ended ≡ x.ended
   pub status : y.status ≡ x.status
@@ -163,23 +173,24 @@ ended_by at None = Some at
 ended_by at (Some before) = Some before
 
 -- an actor is over with this event, and what it had open is closed
-pub record IsFinished (k : Kept) (status : Option ℕ) (old new : Option Disk) (wires wired : List Mouths) (x y : Held) (before now_kept : List Kept) : Type 0 where
+pub record IsFinished (k : Kept) (status : Option ℕ) (old new : Option Disk) (pipes piped : List Mouths) (x y : Held) (before now_kept : List Kept) : Type 0 where
   pub event : now_kept ≡ before ++ k ∷ []
   pub closed : Meets old new (λ d e. e ≡ shut x.descriptors.items d)
-  pub shuts : ShutsAfter wires wired x.name
+  pub shuts : ShutsAfter x.wire x.slot pipes piped x.name
   pub name : y.name ≡ x.name
   pub descriptors : y.descriptors.items ≡ []
   pub ended : y.ended ≡ Some (length before)
   pub status_is : y.status ≡ status
+  pub entry : y.entry ≡ x.entry
 
 -- a step was the actor's end
-pub record HasEnded (status : ℕ) (old new : Option Disk) (wires wired : List Mouths) (x y : Held) (before now_kept : List Kept) (now : ℕ) (ready : Ready) : Type 0 where
+pub record HasEnded (status : ℕ) (old new : Option Disk) (pipes piped : List Mouths) (x y : Held) (before now_kept : List Kept) (now : ℕ) (ready : Ready) : Type 0 where
   pub due : (program : Program) (past : List Own) → Follows x.machine program past → next_of program past now ready ≡ needs.Ended status
-  pub over : IsFinished (kept.End x.name now ready status) (Some status) old new wires wired x y before now_kept
+  pub over : IsFinished (kept.End x.name now ready status) (Some status) old new pipes piped x y before now_kept
 
 abbrev pub HasActed : Option ℕ → Option Disk → Option Disk → List Mouths → List Mouths → ℕ → Held → Held → List Kept → List Kept → ℕ → Ready → Type 0
-HasActed None old new wires wired pid x y before now_kept now ready = HasDone old new wires wired pid x y before now_kept now ready
-HasActed (Some status) old new wires wired pid x y before now_kept now ready = HasEnded status old new wires wired x y before now_kept now ready
+HasActed None old new pipes piped pid x y before now_kept now ready = HasDone old new pipes piped pid x y before now_kept now ready
+HasActed (Some status) old new pipes piped pid x y before now_kept now ready = HasEnded status old new pipes piped x y before now_kept now ready
 
 -- the machine has looked, and nothing came of it
 pub record HasLooked (x y : Held) : Type 0 where
@@ -190,13 +201,14 @@ pub record HasLooked (x y : Held) : Type 0 where
   pub status : y.status ≡ x.status
   pub owed : y.owed ≡ x.owed
   pub awaits : awaits_of y.machine ≡ awaits_of x.machine
+  pub stays : StaysAt x y
 
 -- The machine has looked, and waits.
-pub record HasWaited (wires wired : List Mouths) (x y : Held) (now : ℕ) (ready : Ready) : Type 0 where
+pub record HasWaited (pipes piped : List Mouths) (x y : Held) (now : ℕ) (ready : Ready) : Type 0 where
   pub looked : HasLooked x y
-  pub same : AreAsBefore wires wired
-  pub waits : (program : Program) (past : List Own) → Follows x.machine program past → (w : Pipework) → AreWired wires w
-      → BringsNone w x.name (next_of program past now ready)
+  pub same : AreAsBefore pipes piped
+  pub waits : (program : Program) (past : List Own) → Follows x.machine program past → (wires : List ℕ → Option ℕ) (w : Pipework)
+      → HasWires wires pipes w x.name x.wire x.slot → BringsNone w x.name (next_of program past now ready)
 
 -- an actor's life ended with the machine stop of this index, if it lasted until then, and it has nothing open any more
 pub record IsCutOff (at : ℕ) (x y : Held) : Type 0 where
@@ -205,6 +217,7 @@ pub record IsCutOff (at : ℕ) (x y : Held) : Type 0 where
   pub descriptors : y.descriptors.items ≡ []
   pub ended : y.ended ≡ ended_by at x.ended
   pub status : y.status ≡ x.status
+  pub entry : y.entry ≡ x.entry
 
 -- so each one's at its place
 pub record AreCutOff (at : ℕ) (old new : List Held) : Type 0 where
@@ -213,14 +226,14 @@ pub record AreCutOff (at : ℕ) (old new : List Held) : Type 0 where
 
 -- what a step did, or that it waits
 abbrev pub HasStepped : Option Did → Option Disk → Option Disk → List Mouths → List Mouths → ℕ → Held → Held → List Kept → List Kept → ℕ → Ready → Type 0
-HasStepped None old new wires wired pid x y before now_kept now ready = HasWaited wires wired x y now ready
-HasStepped (Some did) old new wires wired pid x y before now_kept now ready = HasActed did.ended old new wires wired pid x y before now_kept now ready
+HasStepped None old new pipes piped pid x y before now_kept now ready = HasWaited pipes piped x y now ready
+HasStepped (Some did) old new pipes piped pid x y before now_kept now ready = HasActed did.ended old new pipes piped pid x y before now_kept now ready
 
 -- Its machine, which has looked, was told what came of what was due and is no call, or will be.
-pub record HasPassedOn (wires wired : List Mouths) (pid : ℕ) (x y : Held) (before now_kept : List Kept) (now : ℕ) (ready : Ready) (due : NeedData) : Type 0 where
+pub record HasPassedOn (pipes piped : List Mouths) (pid : ℕ) (x y : Held) (before now_kept : List Kept) (now : ℕ) (ready : Ready) (due : NeedData) : Type 0 where
   pub came : GotData
   pub event : now_kept ≡ before ++ kept.Act x.name (record { read = now; ready = ready; due = due; came = came }) ∷ []
-  pub exchanged : Exchanges wires wired pid (takes_of x.machine) x.name due came
+  pub exchanged : Exchanges x.wire x.slot pipes piped pid (takes_of x.machine) x.name due came
   pub follows : (program : Program) (past : List Own) → Follows x.machine program past → StandsFor y program (with_own x.machine came past)
   pub owes : (at : ℕ) → y.owed ≡ Some at → (at ≡ length before) × (y.machine ≡ x.machine)
   pub name : y.name ≡ x.name
@@ -228,10 +241,11 @@ pub record HasPassedOn (wires wired : List Mouths) (pid : ℕ) (x y : Held) (bef
   pub ended : y.ended ≡ x.ended
   pub status : y.status ≡ x.status
   pub awaits : awaits_of y.machine ≡ awaits_of x.machine
+  pub stays : StaysAt x y
 
 abbrev pub HasGiven : Option Did → List Mouths → List Mouths → ℕ → Held → Held → List Kept → List Kept → ℕ → Ready → NeedData → Type 0
-HasGiven None wires wired pid x y before now_kept now ready due = IsStuck wires wired x.name due
-HasGiven (Some did) wires wired pid x y before now_kept now ready due = HasPassedOn wires wired pid x y before now_kept now ready due
+HasGiven None pipes piped pid x y before now_kept now ready due = IsStuck x.wire x.slot pipes piped x.name due
+HasGiven (Some did) pipes piped pid x y before now_kept now ready due = HasPassedOn pipes piped pid x y before now_kept now ready due
 
 -- why no living actor has this name
 abbrev pub IsNoLiving : (List ℕ → Option ℕ) → List Held → List ℕ → WorldError → Type 0

@@ -1,7 +1,7 @@
 -- The books of a world: what became of each injection, by the events that the world kept, and by each history that they
 -- tell.
-use Rattle.std.specs.Prelude.{◌≡◌, ◌↔◌, ℕ, List, [], ◌∷◌, ◌++◌, length, map, reverse, Bool, true, false, ◌&&◌, ◌||◌, bytes_eq, if◌then◌else◌, Option, Some, None}
-use Rattle.std.specs.List.{AllZip}
+use Rattle.std.specs.Prelude.{◌≡◌, ◌↔◌, ℕ, ◌+◌, List, [], ◌∷◌, ◌++◌, length, map, reverse, Bool, true, false, ◌&&◌, ◌||◌, bytes_eq, if◌then◌else◌, Option, Some, None}
+use Rattle.std.specs.List.{AllZip, slice_get}
 use Rattle.call_fs.specs.declared.calls.CallData.{CallData}
 use Rattle.call_fs.specs.declared.calls.CallData.TheVariants.{Link}
 use Rattle.call_fs.specs.declared.calls.Answer.{Answer}
@@ -30,10 +30,13 @@ use Rattle.mail_world.specs.World.{Tells, with_inputs}
 -- the books by the events that a world kept
 pub use Rattle.world_events.specs.Books.{entries_of, HasPlace, new_entry, entry_by, entered_by, queues, queues_by, mess_number, linked_number, number_by, newer, acted_on, left_as, cut_off, noted, books_of}
 
--- what a world's books keep: the entry of each actor at its place, as its events tell it
-pub record AreBooked (entries : List Entry) (actors : List Held) (events : List Kept) : Type 0 where
+-- what a world's books keep: the entry of each mail, as its events tell it
+pub record AreBooked (crew : ℕ) (entries : List Entry) (actors : List Held) (events : List Kept) : Type 0 where
   pub are : entries ≡ books_of (with_inputs (reverse events))
-  pub names : map (λ e. e.actor) entries ≡ map (λ x. x.name) actors
+  -- the entry of an actor is its own
+  pub here : (i k : ℕ) (x : Held) → slice_get actors i ≡ Some x → x.entry ≡ Some k → (e : Entry) × (slice_get entries k ≡ Some e) × (e.actor ≡ x.name)
+  -- and each entry is that of an actor after the members
+  pub owned : (k : ℕ) (e : Entry) → slice_get entries k ≡ Some e → (i : ℕ) × (x : Held) × (slice_get actors (crew + i) ≡ Some x) × (x.name ≡ e.actor) × (x.entry ≡ Some k)
 
 -- By a history
 

@@ -11,14 +11,14 @@ use Rattle.queue_inject.specs.Table.{has_input}
 use Rattle.queue_clean.specs.Machine.{Machine as Cleaning, due_now as cleaning_due}
 use Rattle.queue_clean.specs.Stands.{Stands as CleansAfter}
 use Rattle.send_core.specs.Stands.{Machine as Sending, Stands as SendsAfter, due_now as sending_due, row_of, gone_on, is_search, is_between}
-use Rattle.no_mailbox.specs.declared.machine.NoMailbox.{NoMailbox}
-use Rattle.no_mailbox.specs.Stands.{Stands as AnswersAfter, due_now as answering_due}
+use Rattle.local_spawn.specs.declared.machine.LocalSpawn.{LocalSpawn}
+use Rattle.local_spawn.specs.Stands.{Stands as DeliversAfter, due_now as delivering_due}
 use Rattle.remote_spawn.specs.declared.machine.RemoteSpawn.{RemoteSpawn}
 use Rattle.remote_spawn.specs.Stands.{Stands as RunsAfter, due_now as running_due}
 use Rattle.call_fs.specs.Disk.{Disk}
 use Rattle.queue_law.specs.Steps.{Outside}
 use Rattle.world_events.specs.declared.event.Program.{Program}
-use Rattle.world_events.specs.declared.event.Program.TheVariants.{Injector, Cleaner, Sender, LocalSpawner, RemoteSpawner}
+use Rattle.world_events.specs.declared.event.Program.TheVariants.{Injector, Cleaner, Sender, LocalSpawner, RemoteSpawner, Delivery}
 use Rattle.fed_injector.specs.declared.fed.FedInjector.{FedInjector}
 use Rattle.fed_injector.specs.Inputs.{FedStands, awaits}
 use Rattle.world_events.specs.Inputs.{with_texts}
@@ -31,6 +31,11 @@ pub use Rattle.world_events.specs.Programs.{injection_of}
 abbrev pub IsMail : Program → Type 0
 IsMail (Injector args) = Unit {0}
 IsMail other = ⊥
+
+-- A program that starts injectors, each in its first slot, and feeds it next.
+abbrev pub IsFeeder : Program → Type 0
+IsFeeder (Sender start) = Unit {0}
+IsFeeder other = ⊥
 
 -- The injector of a mail or of a bounce, which is fed its input
 
@@ -56,9 +61,9 @@ Sends sender other past = ⊥
 -- The spawners
 
 -- a local spawner is that of this program with this past
-abbrev pub Answers : NoMailbox → Program → List Own → Type 0
-Answers spawner (LocalSpawner start) past = AnswersAfter spawner tt past
-Answers spawner other past = ⊥
+abbrev pub SpawnsLocals : LocalSpawn → Program → List Own → Type 0
+SpawnsLocals spawner (LocalSpawner start) past = DeliversAfter spawner tt past
+SpawnsLocals spawner other past = ⊥
 
 -- a remote spawner is that of this program with this past
 abbrev pub Spawns : RemoteSpawn → Program → List Own → Type 0
@@ -104,7 +109,7 @@ abbrev pub need_of : AnyMachine → NeedData
 need_of (Mail injector) = due_now injector.injector
 need_of (Clean cleaner) = cleaning_due cleaner
 need_of (Send sender) = sending_due sender
-need_of (Local spawner) = answering_due spawner
+need_of (Local spawner) = delivering_due spawner
 need_of (Remote spawner) = running_due spawner
 
 -- how many bytes it may be handed of one taking: the sender and the spawners take any number
@@ -128,7 +133,7 @@ abbrev pub Follows : AnyMachine → Program → List Own → Type 0
 Follows (Mail injector) program past = Mails injector program past
 Follows (Clean cleaner) program past = Cleans cleaner program past
 Follows (Send sender) program past = Sends sender program past
-Follows (Local spawner) program past = Answers spawner program past
+Follows (Local spawner) program past = SpawnsLocals spawner program past
 Follows (Remote spawner) program past = Spawns spawner program past
 
 -- what is due and what came of it as the newest event of a past
@@ -180,10 +185,12 @@ HasGone other came new = Unit {0}
 
 -- What isn't the queue's
 
--- what an event of a program leaves of what isn't the queue's: all, so far
+-- What an event of a program leaves of what isn't the queue's: all. It is said of histories without generations, in which there are no
+-- deliveries; what these write isn't the queue's.
 abbrev pub Leaves : Program → Disk → Disk → Type 0
 Leaves (Injector args) d e = Outside d e
 Leaves (Cleaner start) d e = Outside d e
 Leaves (Sender start) d e = Outside d e
 Leaves (LocalSpawner start) d e = Outside d e
 Leaves (RemoteSpawner start) d e = Outside d e
+Leaves (Delivery start args) d e = Outside d e

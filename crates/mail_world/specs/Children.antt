@@ -1,5 +1,5 @@
--- The child of a sender, as a world keeps it.
-use Rattle.std.specs.Prelude.{◌≡◌, ℕ, zero, ◌+◌, List, [], ◌∷◌, ◌++◌, length, set, Bool, true, false, Option, Some, None, is_some, codes}
+-- The children of actors, as a world keeps them.
+use Rattle.std.specs.Prelude.{◌≡◌, ℕ, ◌+◌, List, [], ◌∷◌, ◌++◌, length, set, Bool, true, false, Option, Some, None, is_some}
 use Rattle.std.specs.List.{slice_get}
 use Rattle.call_fs.specs.declared.past.ChildData.TheVariants as child
 use Rattle.call_fs.specs.declared.past.NeedData.{NeedData}
@@ -17,26 +17,26 @@ use Rattle.world_pipes.specs.declared.mouths.Mouths.{Mouths}
 use Rattle.world_pipes.specs.Mouths.{actor_of}
 use Rattle.mail_world.specs.declared.actor.Actor.{Actor as Held}
 use Rattle.mail_world.specs.declared.any_machine.AnyMachine.{AnyMachine}
-use Rattle.mail_world.specs.History.{Actor, next_of, IsSender}
+use Rattle.mail_world.specs.History.{Actor, next_of}
 use Rattle.mail_world.specs.History.Life.{Alive}
 use Rattle.mail_world.specs.ByKind.{Follows, CanFind, awaits_of}
-use Rattle.mail_world.specs.Wired.{tenant_in}
+use Rattle.mail_world.specs.Wired.{tenant_in, kept_at}
 use Rattle.mail_world.specs.Known.{known}
 use Rattle.mail_world.specs.Readiness.{found_in}
 use Rattle.mail_world.specs.World.{Seen, GoesOn, IsStep}
 use Rattle.mail_world.specs.Inside.{StandsFor, Owes}
 use Rattle.mail_world.specs.Generations.{idled_in, has_idled}
-use Rattle.mail_world.specs.Acting.{is_due_of_child, IsOwed}
+use Rattle.mail_world.specs.Acting.{is_due_of_child, IsOwed, StaysAt}
 -- what is due gives an injector two texts
 pub use Rattle.fed_injector.specs.Texts.{GivesTexts, GivesTwo}
 
--- this is due to the living sender of a world, and its child's
-pub record IsDueOfChild {D : Type 0} (w : Seen D) (due : NeedData) : Type 0 where
+-- this is due to that living actor of a world, and a child's
+pub record IsDueOfChild {D : Type 0} (w : Seen D) (a : List ℕ) (due : NeedData) : Type 0 where
   pub actor : Actor
-  pub is : (known w.events).actors (codes "sender") ≡ Some actor
+  pub is : (known w.events).actors a ≡ Some actor
   pub alive : actor.life ≡ Alive
-  pub due_is : next_of actor.program actor.past w.present (found_in (known w.events) (codes "sender")) ≡ due
-  pub of_child : is_due_of_child (is_some (actor_of ((known w.events).pipework.programs (codes "sender") 0))) due ≡ true
+  pub due_is : next_of actor.program actor.past w.present (found_in (known w.events) a) ≡ due
+  pub of_child : is_due_of_child (λ d. is_some (actor_of ((known w.events).pipework.programs a d))) due ≡ true
 
 -- it is the start of a bounce, the whole input of a child, or its status
 abbrev pub IsStart : NeedData → Type 0
@@ -51,7 +51,7 @@ abbrev pub IsTake : NeedData → Type 0
 IsTake (needs.Take (port.Status d)) = Unit {0}
 IsTake other = ⊥
 
--- the place among all of the child in the first slot of the first member, if there is one
+-- the place among all of the child in the first slot of whose pipes are there, if there is one
 abbrev pub place_by_name : ℕ → (List ℕ → Option ℕ) → Option (List ℕ) → Option ℕ
 place_by_name crew places None = None
 place_by_name crew places (Some c) = place_so (places c) where
@@ -59,8 +59,8 @@ place_by_name crew places (Some c) = place_so (places c) where
   place_so None = None
   place_so (Some i) = Some (crew + i)
 
-abbrev pub child_place : List Mouths → ℕ → (List ℕ → Option ℕ) → Option ℕ
-child_place mouths crew places = place_by_name crew places (actor_of (tenant_in (slice_get mouths 0) 0))
+abbrev pub child_place : List Mouths → Option ℕ → ℕ → (List ℕ → Option ℕ) → Option ℕ
+child_place mouths wire crew places = place_by_name crew places (actor_of (tenant_in (kept_at wire mouths) 0))
 
 -- its machine was handed what it owed
 pub record IsPaid (x z : Held) (events : List Kept) : Type 0 where
@@ -71,6 +71,7 @@ pub record IsPaid (x z : Held) (events : List Kept) : Type 0 where
   pub awaits : awaits_of z.machine ≡ awaits_of x.machine
   pub paid : z.owed ≡ None
   pub descriptors : z.descriptors.items ≡ x.descriptors.items
+  pub stays : StaysAt x z
 
 -- an actor whose machine is given no input any more
 pub record IsCut (x y : Held) : Type 0 where
@@ -82,6 +83,7 @@ pub record IsCut (x y : Held) : Type 0 where
   pub ended : y.ended ≡ x.ended
   pub status : y.status ≡ x.status
   pub owed : y.owed ≡ x.owed
+  pub stays : StaysAt x y
 
 -- an actor that was given this input, if it awaited it
 pub record IsFed (message envelope : List ℕ) (x y : Held) : Type 0 where
@@ -92,21 +94,21 @@ pub record IsFed (message envelope : List ℕ) (x y : Held) : Type 0 where
   pub ended : y.ended ≡ x.ended
   pub status : y.status ≡ x.status
   pub owed : y.owed ≡ x.owed
+  pub stays : StaysAt x y
 
--- the actor at this place is over: if it is the sender, its child, which has that place, is given no input any more
-abbrev pub HasLeft : ℕ → Option ℕ → List Held → List Held → Type 0
-HasLeft zero (Some child) old new = (x : Held) × (y : Held) × (slice_get old child ≡ Some x) × (new ≡ set old child y) × IsCut x y
-HasLeft place child old new = new ≡ old
+-- an actor is over: its child, which has this place, is given no input any more
+abbrev pub HasLeft : Option ℕ → List Held → List Held → Type 0
+HasLeft None old new = new ≡ old
+HasLeft (Some child) old new = (x : Held) × (y : Held) × (slice_get old child ≡ Some x) × (new ≡ set old child y) × IsCut x y
 
-abbrev pub HasLeftIf : Bool → ℕ → Option ℕ → List Held → List Held → Type 0
-HasLeftIf true place child old new = HasLeft place child old new
-HasLeftIf false place child old new = new ≡ old
+abbrev pub HasLeftIf : Bool → Option ℕ → List Held → List Held → Type 0
+HasLeftIf true child old new = HasLeft child old new
+HasLeftIf false child old new = new ≡ old
 
--- This is due to a sender at this moment, with this ready, and came: its machine may be handed it.
+-- This is due to an actor at this moment, with this ready, and came: its machine may be handed it.
 pub record MayTakeIn (machine : AnyMachine) (now : ℕ) (ready : Ready) (own : Own) : Type 0 where
   pub program : Program
   pub past : List Own
-  pub sends : IsSender program
   pub follows : Follows machine program past
   pub found : CanFind machine ready
   pub read : own.read ≡ now
@@ -115,7 +117,7 @@ pub record MayTakeIn (machine : AnyMachine) (now : ℕ) (ready : Ready) (own : O
   pub kind : IsKind own.due own.came
   pub within : (most : ℕ) → IsWithin most own.came
 
--- the sender was handed what came of this event of its own, which will have this index, or owes it; and an idle turn ended, or not
+-- an actor was handed what came of this event of its own, which will have this index, or owes it; and an idle turn ended, or not
 pub record HasTakenIn (x y : Held) (own : Own) (index : ℕ) (idle : Bool) : Type 0 where
   pub follows : (program : Program) (past : List Own) → Follows x.machine program past → StandsFor y program (own ∷ past)
   pub idled : (program : Program) (past : List Own) → Follows x.machine program past → idle ≡ idled_in program past own
@@ -125,10 +127,12 @@ pub record HasTakenIn (x y : Held) (own : Own) (index : ℕ) (idle : Bool) : Typ
   pub ended : y.ended ≡ x.ended
   pub status : y.status ≡ x.status
   pub awaits : awaits_of y.machine ≡ awaits_of x.machine
+  pub stays : StaysAt x y
 
--- A step of the sender that concerns its child appended one event, and went on from what happened before. Nothing was made of the disk.
-pub record Serves {D : Type 0} (tells : D → Option Disk) (old new : Seen D) (did : Did) : Type 0 where
-  pub event : IsStep (codes "sender") None old new
+-- A step of that actor that concerns a child of its appended one event, and went on from what happened before. Nothing was made of the
+-- disk.
+pub record Serves {D : Type 0} (tells : D → Option Disk) (a : List ℕ) (old new : Seen D) (did : Did) : Type 0 where
+  pub event : IsStep a None old new
   pub goes_on : GoesOn tells old new
   pub present : new.present ≡ old.present
   pub disk : new.disk ≡ old.disk

@@ -4,7 +4,8 @@ use Rattle.world_events.specs.declared.event.Program.{Program}
 use Rattle.world_events.specs.declared.event.Program.TheVariants.{Cleaner, Sender, LocalSpawner, RemoteSpawner}
 use Rattle.mail_world.specs.declared.actor.Actor.{Actor as Held}
 use Rattle.mail_world.specs.ByKind.{Follows}
--- what a member finds by its pipes
+use Rattle.mail_world.specs.Wired.{seat}
+-- what an actor finds by its pipes
 pub use Rattle.crew_pipes.specs.Seating.{IsFresh, AreFresh, input_of, FindsBy, IsFoundAt}
 -- the report of a remote program
 pub use Rattle.world_pipes.specs.Mouths.{HasReport}
@@ -16,6 +17,9 @@ pub record IsNew (x : Held) (name : List ℕ) (program : ℕ → Program) : Type
   pub owed : x.owed ≡ None
   pub status : x.status ≡ None
   pub descriptors : x.descriptors.items ≡ []
+  pub wire : x.wire ≡ seat name
+  pub slot : x.slot ≡ None
+  pub entry : x.entry ≡ None
   pub follows : (start : ℕ) → Follows x.machine (program start) []
 
 -- the four of a generation, in their order

@@ -33,10 +33,12 @@ use Rattle.queue_clean.specs.Table.{Next as CleansNext}
 use Rattle.queue_law.specs.Books.{Child as Bouncer}
 use Rattle.send_core.specs.Booked.{booked_at}
 use Rattle.send_core.specs.Table.{Next as SendsNext, desk_after, row_now}
-use Rattle.no_mailbox.specs.Table.{Next as AnswersNext}
+use Rattle.local_spawn.specs.Table.{Next as LspawnNext}
+use Rattle.local_deliver.specs.Table.{Next as DeliversNext}
+use Rattle.local_steps.specs.Arguments.{local_args}
 use Rattle.remote_spawn.specs.Table.{Next as SpawnsNext}
 use Rattle.world_events.specs.declared.event.Program.{Program}
-use Rattle.world_events.specs.declared.event.Program.TheVariants.{Injector, Cleaner, Sender, LocalSpawner, RemoteSpawner}
+use Rattle.world_events.specs.declared.event.Program.TheVariants.{Injector, Cleaner, Sender, LocalSpawner, RemoteSpawner, Delivery}
 use Rattle.actor_names.specs.MailNames.{members}
 use Rattle.mail_world.specs.Pipework.{Pipework, Tenant, Slot, is_ready, Yields, no_pipework, slot_of, pipework_after, with_child, without_writer, with_generation, with_report}
 use Rattle.mail_world.specs.Pipework.Tenant.{Runs, Remote}
@@ -84,8 +86,9 @@ abbrev pub next_of : Program → List Own → ℕ → Ready → NeedData
 next_of (Injector args) past now ready = Next args past now ready
 next_of (Cleaner start) past now ready = CleansNext tt past now ready
 next_of (Sender start) past now ready = SendsNext None past now ready
-next_of (LocalSpawner start) past now ready = AnswersNext tt past now ready
+next_of (LocalSpawner start) past now ready = LspawnNext tt past now ready
 next_of (RemoteSpawner start) past now ready = SpawnsNext tt past now ready
+next_of (Delivery start args) past now ready = DeliversNext args past now ready
 
 -- the moment at which a program was started
 abbrev pub start_of : Program → ℕ
@@ -94,6 +97,7 @@ start_of (Cleaner start) = start
 start_of (Sender start) = start
 start_of (LocalSpawner start) = start
 start_of (RemoteSpawner start) = start
+start_of (Delivery start args) = start
 
 -- alive, ended with a status, or stopped from outside
 pub data Life : Type 0 where
@@ -144,6 +148,7 @@ booked_by b a (Cleaner start) call answer = b
 booked_by b a (Sender start) call answer = b
 booked_by b a (LocalSpawner start) call answer = b
 booked_by b a (RemoteSpawner start) call answer = b
+booked_by b a (Delivery start args) call answer = b
 
 -- What a sender did is entered by what came: what the reports of a taking say, a note that is synced, what it reads of a bounce file, a
 -- bounce whose injector ended with 0, and a bounce file that it drops.
@@ -154,6 +159,7 @@ told_by child b (Sender start) past read ready came =
     let d = desk_after None past in booked_all child (booked_at (row_now d read ready) came d) b
 told_by child b (LocalSpawner start) past read ready came = b
 told_by child b (RemoteSpawner start) past read ready came = b
+told_by child b (Delivery start args) past read ready came = b
 
 -- What an event of an actor does to the disk, to the descriptors and to the books: a file call its effect, that and a taking what a
 -- sender enters, any other nothing.
@@ -277,13 +283,14 @@ pub record MayRead (s : State) (a : List ℕ) (x : Actor) (read : ℕ) : Type 0 
   pub no_later : read ≤ s.now
   pub no_stall : s.now ≤ read + LONGEST_STALL
 
--- a program that starts alone: no member of a generation, whose four start together
+-- a program that starts alone: no member of a generation, whose four start together, and no local delivery, which a local spawner starts
 abbrev pub MayRun : Program → Type 0
 MayRun (Injector args) = Unit {0}
 MayRun (Cleaner start) = ⊥
 MayRun (Sender start) = ⊥
 MayRun (LocalSpawner start) = ⊥
 MayRun (RemoteSpawner start) = ⊥
+MayRun (Delivery start args) = ⊥
 
 -- a start takes a name that no actor had
 pub record MayStart (s : State) (a : List ℕ) (program : Program) : Type 0 where
@@ -314,15 +321,16 @@ FindsItsLinks ready = (clean lspawn rspawn : Bool) × (ready.links ≡ clean ∷
 abbrev pub FindsInputOrChild : Ready → Type 0
 FindsInputOrChild ready = ready.links ≡ has_input ready ∷ false ∷ false ∷ false ∷ []
 
--- What an actor found ready is no more than what lies in its pipes, and may be less. A member of a generation may find each of
--- its pipes, and each program in a slot of its own, ready at any point: of a pipe in which nothing lies only a failure
+-- What an actor found ready is no more than what lies in its pipes, and may be less. A member of a generation and a delivery may find
+-- each of its pipes, and each program in a slot of its own, ready at any point: of a pipe in which nothing lies only a failure
 -- may come (`Yields`), and so of a program that hasn't ended.
 abbrev pub MayFind : State → List ℕ → Program → List Own → Ready → Type 0
 MayFind s a (Injector args) past ready = FindsInputAlone ready × InputIsFound s.pipework a (s.pipework.slots a) past ready
 MayFind s a (Cleaner start) past ready = FindsInputAlone ready
 MayFind s a (Sender start) past ready = FindsItsLinks ready
-MayFind s a (LocalSpawner start) past ready = FindsInputAlone ready
+MayFind s a (LocalSpawner start) past ready = FindsInputOrChild ready
 MayFind s a (RemoteSpawner start) past ready = FindsInputOrChild ready
+MayFind s a (Delivery start args) past ready = FindsInputOrChild ready
 
 -- a status of a program that has ended, or was stopped
 abbrev pub IsStatusOf : Life → GotData → Type 0
@@ -336,10 +344,12 @@ TenantEnds s (Some (Runs a)) came = (x : Actor) × (s.actors a ≡ Some x) × Is
 TenantEnds s (Some (Remote true)) came = came ≡ Ended 0
 TenantEnds s other came = ⊥
 
--- these bytes are the whole input of a child: of an injector its message and its envelope, each as a netstring
+-- these bytes are the whole input of a child: of an injector its message and its envelope, each as a netstring. A delivery takes what it
+-- is given.
 abbrev pub IsInputOf : Program → List ℕ → Type 0
 IsInputOf (Injector args) bytes =
     (bytes ≡ netstring args.message ++ netstring args.envelope) × (args.message_end ≡ Whole) × (args.envelope_end ≡ Whole)
+IsInputOf (Delivery start args) bytes = Unit {0}
 IsInputOf other bytes = ⊥
 
 -- What is given to a child is the input that stands in its start. A remote program takes what it is given.
@@ -371,10 +381,11 @@ pub record MayDo (s : State) (a : List ℕ) (own : Own) (wrote : ℕ) : Type 0 w
   pub due : next_of actor.program actor.past own.read own.ready ≡ own.due
   pub came : ComesOf s a own.due own.came wrote
 
--- the program of a child that was asked for, with this process number; its input is what its parent gives it later
+-- the program of a child that was asked for, with this process number; the input of an injector is what its parent gives it later
 abbrev pub IsProgramOf : ChildData → ℕ → Program → Type 0
 IsProgramOf (child.Bounce room) pid (Injector args) = (args.invoked ≡ invoking.Bounce) × (args.uid ≡ 0) × (args.pid ≡ pid)
 IsProgramOf (child.Forward uid room) pid (Injector args) = (args.invoked ≡ invoking.Uid uid) × (args.uid ≡ uid) × (args.pid ≡ pid)
+IsProgramOf (child.Local slot words uid) pid (Delivery start args) = args ≡ local_args words uid pid
 IsProgramOf asked pid program = ⊥
 
 -- A child starts under a name that no actor had, if its start is next by the table of its parent, which is told its process
@@ -415,6 +426,11 @@ IsLocalSpawner other = ⊥
 abbrev pub IsRemoteSpawner : Program → Type 0
 IsRemoteSpawner (RemoteSpawner start) = Unit {0}
 IsRemoteSpawner other = ⊥
+
+-- a local delivery
+abbrev pub IsDelivery : Program → Type 0
+IsDelivery (Delivery start args) = Unit {0}
+IsDelivery other = ⊥
 
 -- A generation starts only when no member of the old one lives, and if no program that starts alone had one of their names.
 pub record MayBegin (s : State) (sender clean lspawn rspawn : Program) : Type 0 where

@@ -1,5 +1,5 @@
 -- What the fields of a world mean, and what they keep.
-use Rattle.std.specs.Prelude.{◌≡◌, ◌≢◌, ◌⊎◌, ℕ, zero, suc, ◌+◌, ◌≤◌, ◌<◌, List, [], ◌∷◌, ◌++◌, All, codes, length, reverse, drop, count_by, nat_lt, Bool, true, false, if◌then◌else◌, option_map, Option, Some, None, IsSome, IsSomeAnd, is_some, is_none, bytes_eq}
+use Rattle.std.specs.Prelude.{◌≡◌, ◌≢◌, ◌⊎◌, ℕ, zero, suc, ◌+◌, ◌≤◌, ◌<◌, List, [], ◌∷◌, ◌++◌, All, length, reverse, drop, count_by, nat_lt, Bool, true, false, if◌then◌else◌, option_map, Option, Some, None, IsSome, IsSomeAnd, is_some, is_none, bytes_eq}
 use Rattle.std.specs.List.{slice_get}
 use Rattle.call_fs.specs.Disk.{Disk}
 use Rattle.call_fs.specs.declared.modes.Mode.{Mode}
@@ -21,13 +21,13 @@ use Rattle.call_fs.specs.Program.{IsKind, IsWithin}
 use Rattle.call_fs.specs.declared.program.Port.TheVariants as port
 use Rattle.mail_world.specs.Pipework.{fresh, is_member}
 use Rattle.mail_world.specs.Pipework.Tenant.{Runs}
-use Rattle.mail_world.specs.ByKind.{IsMail, Follows, present_of, found_of, looked_of, need_of, takes_of, awaits_of}
+use Rattle.mail_world.specs.ByKind.{IsMail, IsFeeder, Follows, present_of, found_of, looked_of, need_of, takes_of, awaits_of}
 use Rattle.mail_world.specs.History.{Event, Actor, Life, State, latest, next_of, IsSender, IsCleaner, IsLocalSpawner, IsRemoteSpawner}
-use Rattle.mail_world.specs.Wired.{seat, AreWired, HaveSlots, HaveOneChild, AreWholeGivings}
+use Rattle.mail_world.specs.Wired.{seat, AreWired, IsSlotOf, HaveSlots, HaveChildren, AreOver, AreWholeGivings}
 use Rattle.mail_world.specs.History.Life.{Alive, Over, Stopped}
 use Rattle.world_events.specs.Inputs.{own_in, with_inputs}
-use Rattle.mail_world.specs.Readiness.{is_awaiting}
-use Rattle.actor_names.specs.BounceNames.{bounce_name}
+use Rattle.mail_world.specs.Readiness.{is_awaiting, is_gone}
+use Rattle.actor_names.specs.ChildNames.{bounce_name}
 use Rattle.mail_world.specs.World.{Leads, Span, span_of, was_started, next_pid, bounces_in}
 use Rattle.mail_world.specs.World.Span.{Unborn, Lasting, OverAt}
 -- lists of open descriptors
@@ -176,9 +176,10 @@ pub record HasJustStarted (events : List Kept) (parent c : List ℕ) : Type 0 wh
   pub are : with_inputs (reverse events) ≡ later ++ kept.Child parent own c program ∷ before
   pub apart : All (IsApart parent c) later
 
--- this starts the injector of a bounce
+-- this starts an injector, of a bounce or of a forward
 abbrev pub IsBirth : NeedData → GotData → Type 0
 IsBirth (needs.Start (child.Bounce room)) (Started pid) = Unit {0}
+IsBirth (needs.Start (child.Forward uid room)) (Started pid) = Unit {0}
 IsBirth due came = ⊥
 
 -- the newest event of a past started one
@@ -186,37 +187,49 @@ abbrev pub HasBorneLast : List Own → Type 0
 HasBorneLast [] = ⊥
 HasBorneLast (own ∷ before) = IsBirth own.due own.came
 
--- the sender's child awaits the input that the sender gives it next
-pub record MayFeed (s : State) (events : List Kept) : Type 0 where
+-- the child of that parent awaits the input that its parent gives it next
+pub record MayFeed (s : State) (events : List Kept) (parent : List ℕ) : Type 0 where
   pub child : List ℕ
-  pub runs : s.pipework.programs (codes "sender") 0 ≡ Some (Runs child)
+  pub runs : s.pipework.programs parent 0 ≡ Some (Runs child)
   pub awaiting : is_awaiting s child ≡ true
-  pub just : HasJustStarted events (codes "sender") child
+  pub just : HasJustStarted events parent child
 
--- who awaits its input is the child that the living sender has just started
+-- who awaits its input is the child that a living actor has just started
 pub record IsAwaited (s : State) (c : List ℕ) : Type 0 where
-  pub runs : s.pipework.programs (codes "sender") 0 ≡ Some (Runs c)
-  pub sender : Actor
-  pub is : s.actors (codes "sender") ≡ Some sender
-  pub alive : sender.life ≡ Alive
-  pub borne : HasBorneLast sender.past
+  pub parent : List ℕ
+  pub runs : s.pipework.programs parent 0 ≡ Some (Runs c)
+  pub actor : Actor
+  pub is : s.actors parent ≡ Some actor
+  pub alive : actor.life ≡ Alive
+  pub borne : HasBorneLast actor.past
 
--- What a world keeps of its pipes: those of the members, while one of them lives. No giving failed. The child in the sender's slot is
--- known, a sender that has just started one gives it its input before it does anything else, and nobody else awaits any.
+-- who runs in a slot is known, and was started there by one that starts injectors
+pub record IsBorne (s : State) (a : List ℕ) (d : ℕ) (c : List ℕ) : Type 0 where
+  pub known : IsSome (s.actors c)
+  pub first : d ≡ 0
+  pub feeds : (x : Actor) → s.actors a ≡ Some x → IsFeeder x.program
+
+-- What a world keeps of its pipes: those of the members, while one of them lives, and by `wires` at which place an actor has its own. Who
+-- is no member has none. No giving failed. An actor in a slot is known, who has just started one gives it its input before it does
+-- anything else, and nobody else awaits any.
 pub record ArePiped (crew : ℕ) (mouths : List Mouths) (actors : List Held) (s : State) (events : List Kept) : Type 0 where
-  pub wired : AreWired mouths s.pipework
+  pub wires : List ℕ → Option ℕ
+  pub wired : AreWired wires mouths s.pipework
   pub slots : HaveSlots mouths
-  pub one : HaveOneChild mouths
-  pub children : (c : List ℕ) → s.pipework.programs (codes "sender") 0 ≡ Some (Runs c)
-      → IsSome (s.actors c) × (s.pipework.slots c ≡ Some (record { parent = codes "sender"; number = 0 }))
+  pub children : HaveChildren mouths
+  pub over : AreOver (λ c. is_gone (s.actors c)) mouths
+  pub places : (i : ℕ) (x : Held) → slice_get actors i ≡ Some x → x.ended ≡ None → wires x.name ≡ x.wire
+  pub stands : (i : ℕ) (x : Held) → slice_get actors i ≡ Some x → x.ended ≡ None → IsSlotOf wires (s.pipework.slots x.name) x.slot
+  pub alone : (a : List ℕ) → is_member a ≡ false → wires a ≡ None
+  pub born : (a : List ℕ) (d : ℕ) (c : List ℕ) → s.pipework.programs a d ≡ Some (Runs c) → IsBorne s a d c
   pub whole : AreWholeGivings (reverse events)
   pub fresh : (a : List ℕ) → s.actors a ≡ None → is_member a ≡ false → s.pipework.pipes a port.Input ≡ fresh
-  pub fed : (x : Actor) → s.actors (codes "sender") ≡ Some x → x.life ≡ Alive → HasBorneLast x.past → MayFeed s events
+  pub fed : (a : List ℕ) (x : Actor) → s.actors a ≡ Some x → x.life ≡ Alive → HasBorneLast x.past → MayFeed s events a
   pub awaited : (c : List ℕ) → is_awaiting s c ≡ true → IsAwaited s c
-  pub most : length mouths ≤ crew
+  pub count : (length mouths ≡ 0) ⊎ ((4 ≤ length mouths) × (crew ≡ 4))
   pub few : (crew ≡ 0) ⊎ (crew ≡ 4)
   pub many : crew ≤ length actors
-  pub seated : (i : ℕ) (x : Held) → i < crew → slice_get actors i ≡ Some x → x.ended ≡ None → length mouths ≡ 4
+  pub seated : (i : ℕ) (x : Held) → i < crew → slice_get actors i ≡ Some x → x.ended ≡ None → 4 ≤ length mouths
 
 -- not ended
 abbrev pub lives : Held → Bool

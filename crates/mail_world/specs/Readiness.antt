@@ -6,7 +6,7 @@ use Rattle.call_fs.specs.declared.program.Port.TheVariants as port
 use Rattle.call_fs.specs.declared.program.Ready.{Ready}
 use Rattle.call_fs.specs.declared.program.TheConstants.{INPUT_READY}
 use Rattle.world_events.specs.declared.event.Program.{Program}
-use Rattle.world_events.specs.declared.event.Program.TheVariants.{Injector, Cleaner, Sender, LocalSpawner, RemoteSpawner}
+use Rattle.world_events.specs.declared.event.Program.TheVariants.{Injector, Cleaner, Sender, LocalSpawner, RemoteSpawner, Delivery}
 pub use Rattle.crew_pipes.specs.Seating.{input_alone}
 use Rattle.mail_world.specs.Pipework.{Tenant, is_ready}
 use Rattle.mail_world.specs.Pipework.Tenant.{Runs, Remote}
@@ -40,8 +40,12 @@ lowest_ended s a = position (λ d. has_ended s (s.pipework.programs a d)) (range
 abbrev pub is_awaiting : State → List ℕ → Bool
 is_awaiting s a = is_some (s.pipework.slots a) && not (lies_ready s a port.Input)
 
+-- what lies in its input, and which of its programs has ended
+abbrev pub input_or_child : State → List ℕ → Ready
+input_or_child s a = record { links = lies_ready s a port.Input ∷ false ∷ false ∷ false ∷ []; child = lowest_ended s a }
+
 -- By the program that it runs: an injector, whose input stands in its start, finds it ready at any point, but a child only once it was
--- given or its parent is gone; any other finds all that lies in its pipes, and the remote spawner also which of its programs has ended.
+-- given or its parent is gone; any other finds all that lies in its pipes, and the spawners and a delivery also which of their programs has ended.
 abbrev pub found_by : State → List ℕ → Program → Ready
 found_by s a (Injector args) = if is_awaiting s a then input_alone false else INPUT_READY
 found_by s a (Cleaner start) = input_alone (lies_ready s a port.Input)
@@ -49,8 +53,9 @@ found_by s a (Sender start) = record {
   links = lies_ready s a port.Clean ∷ lies_ready s a port.Lspawn ∷ lies_ready s a port.Rspawn ∷ false ∷ [];
   child = None;
 }
-found_by s a (LocalSpawner start) = input_alone (lies_ready s a port.Input)
-found_by s a (RemoteSpawner start) = record { links = lies_ready s a port.Input ∷ false ∷ false ∷ false ∷ []; child = lowest_ended s a }
+found_by s a (LocalSpawner start) = input_or_child s a
+found_by s a (RemoteSpawner start) = input_or_child s a
+found_by s a (Delivery start args) = input_or_child s a
 
 abbrev pub found_at : State → List ℕ → Option Actor → Ready
 found_at s a None = input_alone false

@@ -13,7 +13,7 @@ use Rattle.call_fs.specs.declared.past.ChildData.TheVariants as child
 use Rattle.call_fs.specs.declared.program.Port.TheVariants as port
 use Rattle.call_fs.specs.declared.file_system.TheConstants.{PIECE}
 use Rattle.call_fs.specs.declared.past.GotData.{GotData}
-use Rattle.call_fs.specs.declared.past.GotData.TheVariants.{Answered, Gave, Started, Failed}
+use Rattle.call_fs.specs.declared.past.GotData.TheVariants.{Answered, Ended, Gave, Started, Failed}
 use Rattle.call_fs.specs.declared.crash_file_system.Survival.{Survival}
 use Rattle.call_fs.specs.Choices.{AreNamed, contents_by}
 use Rattle.call_fs.specs.Plan.{Plan, CallKeepsPlan}
@@ -25,7 +25,7 @@ use Rattle.world_events.specs.declared.event.Program.TheVariants.{Injector, Clea
 use Rattle.world_pipes.specs.Pipes.{offered}
 use Rattle.mail_world.specs.Pipework.{Tenant, is_member}
 use Rattle.mail_world.specs.Pipework.Tenant.{Runs}
-use Rattle.actor_names.specs.BounceNames.{bounce_name}
+use Rattle.actor_names.specs.ChildNames.{bounce_name}
 use Rattle.world_events.specs.Inputs.{bounce, with_texts}
 use Rattle.mail_world.specs.History.{Event, Actor, State, own_call, netstring, TenantEnds, next_of, after, EachAllowed, Legal}
 use Rattle.mail_world.specs.History.Event.{Start, Act, Child, Generation, Report, End, Stop, Moment, Halt}
@@ -34,6 +34,8 @@ use Rattle.mail_world.specs.Readiness.{found_in}
 -- how many programs an event starts, and what the injector of a mail is started with
 pub use Rattle.world_events.specs.Starting.{starts_in}
 pub use Rattle.world_events.specs.Mails.{mail}
+-- with what the command of a user exits
+pub use Rattle.crew_pipes.specs.Commands.{command_exits}
 -- the kept events with the input of each child in its start, where a history has it
 pub use Rattle.world_events.specs.Inputs.{with_inputs}
 
@@ -218,14 +220,14 @@ StartsWhole (Sender start) pid (child.Bounce room) came = came ≡ Started pid
 StartsWhole program pid asked came = came ≡ Failed
 
 -- What comes of what is due to an actor in a world whose next process number is this: of a file call an answer; of a taking all
--- that lies there; a giving goes well, and a program starts as `StartsWhole` says. No command is run.
+-- that lies there; a giving goes well, a program starts as `StartsWhole` says, and a command exits as its text says.
 abbrev pub ComesWhole : State → ℕ → List ℕ → Program → NeedData → GotData → Type 0
 ComesWhole s pid a program (File call) came = (told : Told) × (came ≡ Answered told)
 ComesWhole s pid a program (Take (port.Status d)) came = TenantEnds s (s.pipework.programs a d) came
 ComesWhole s pid a program (Take port) came = offered (most_of program) (s.pipework.pipes a port) ≡ Some came
 ComesWhole s pid a program (Give port bytes) came = came ≡ Gave
 ComesWhole s pid a program (StartOf asked) came = StartsWhole program pid asked came
-ComesWhole s pid a program (Command bytes) came = came ≡ Failed
+ComesWhole s pid a program (Command bytes) came = came ≡ Ended (command_exits bytes)
 ComesWhole s pid a program due came = ⊥
 
 -- An event of that actor at this moment, in a world whose next process number is this: what was due, with all that it finds

@@ -9,7 +9,7 @@ ghost use Rattle.world_events.specs.declared.event.Program.{Program};
 ghost use Rattle.mail_world.specs.History.{next_of};
 ghost use Rattle.mail_world.specs.World.{GoesByPlan};
 ghost use Rattle.mail_world.specs.ByKind.{Follows, present_of, found_of, looked_of, need_of, takes_of, with_own, own_of, awaits_of, searches, HasGone, CanFind, IsAsked};
-ghost use Rattle.mail_world.specs.Acting.{MayAct, IsSeated, IsNoAct, AreOpen, AreAsBefore, due_by, IsStated, IsReadAt, IsMade, IsUntouched, IsPlannedCame, IsCutOff, AreCutOff, HasStepped, HasGiven, HasLooked, HasIdled, IsFinished, is_of_child, has_actor, GivesNoActor, status_of, shut};
+ghost use Rattle.mail_world.specs.Acting.{MayAsk, MayAct, IsSeated, StaysAt, IsNoAct, AreOpen, AreAsBefore, due_by, IsStated, IsReadAt, IsMade, IsUntouched, IsPlannedCame, IsCutOff, AreCutOff, HasStepped, HasGiven, HasLooked, HasIdled, IsFinished, is_due_of_child, has_actor, GivesNoActor, SuitsPlace, status_of, shut};
 ghost use Rattle.mail_world.specs.Inside.{StandsFor, Owes};
 ghost use Rattle.mail_world.specs.Generations.{idled_in};
 ghost use Rattle.world_events.specs.declared.event.Event.TheVariants as kept;
@@ -42,6 +42,12 @@ pub struct Actor {
     pub status: Option<u8>,
     /// The index of its newest event, if its machine couldn't take in yet what came of it.
     pub owed: Option<u64>,
+    /// Where its pipes are, if it takes from some.
+    pub wire: Option<usize>,
+    /// The slot in which it was started, if its parent has pipes: where those are, and which slot.
+    pub slot: Option<(usize, u8)>,
+    /// The place of its entry in the books, if it is a mail.
+    pub entry: Option<usize>,
 }
 
 /// What a step goes by.
@@ -51,12 +57,8 @@ pub struct Setting {
     pub now: u64,
     /// What the actor finds ready.
     pub ready: Ready,
-    /// Its seat, if it is a member of the generation.
-    pub seat: Option<usize>,
     /// The next process number.
     pub pid: u32,
-    /// Whether it is the sender and has a child.
-    pub has_child: bool,
 }
 
 /// What came of asking a machine.
@@ -71,14 +73,24 @@ pub enum Came {
 }
 
 impl Actor {
-    /// A living actor that has nothing open. Takes no memory.
-    pub fn new(alloc: Global, name: ActorName, machine: AnyMachine) -> Actor
+    /// A living actor that has nothing open, with its pipes, its slot and its entry, if it has them. Takes no memory.
+    pub fn new(
+        alloc: Global,
+        name: ActorName,
+        machine: AnyMachine,
+        wire: Option<usize>,
+        slot: Option<(usize, u8)>,
+        entry: Option<usize>,
+    ) -> Actor
         ensures name { result.name ≡ name }
         ensures machine { result.machine ≡ machine }
         ensures descriptors { result.descriptors.items ≡ [] }
         ensures ended { result.ended ≡ None }
         ensures status { result.status ≡ None }
         ensures owed { result.owed ≡ None }
+        ensures wire { result.wire ≡ wire }
+        ensures slot { result.slot ≡ slot }
+        ensures entry { result.entry ≡ entry }
     {
         Actor {
             name,
@@ -87,6 +99,9 @@ impl Actor {
             ended: None,
             status: None,
             owed: None,
+            wire,
+            slot,
+            entry,
         }
     }
 
@@ -94,7 +109,7 @@ impl Actor {
     /// descriptor, and for the bytes of a read, is made first. The condition: what is next may be made.
     fn ask<D: CallFs>(&mut self, alloc: Global, disk: &mut D, at: Setting) -> Result<Came, Memory>
         requires moment { IsMoment at.now }
-        requires may { MayAct (D.disk disk.old) self.old.machine at.seat at.has_child at.now at.ready }
+        requires may { MayAsk (D.disk disk.old) self.old.machine at.now at.ready }
         ensures due { IfOk result (λ came. (program : Program) (past : List Own)
             → Follows self.old.machine program past → next_of program past at.now at.ready ≡ due_by came) }
         ensures read { IfOk result (λ came. IsReadAt came at.now at.ready) }
@@ -121,6 +136,7 @@ impl Actor {
         ensures ended { self.new.ended ≡ self.old.ended }
         ensures status { self.new.status ≡ self.old.status }
         ensures owed { self.new.owed ≡ self.old.owed }
+        ensures stays { StaysAt self.old self.new }
         ensures err { OnErr result (disk.new ≡ disk.old) }
     {
         self.descriptors.reserve(1)?;
@@ -144,22 +160,27 @@ impl Actor {
         }
     }
 
-    /// What of its child is due to it at this moment, with this ready, if that is due next: to start one, to give it its input, or to take
+    /// What of a child is due to it at this moment, with this ready, if that is due next: to start one, to give it its input, or to take
     /// its status.
-    pub fn asks(&mut self, alloc: Global, at: Setting) -> Result<Option<NeedData>, Memory>
+    pub fn asks(
+        &mut self,
+        alloc: Global,
+        mouths: &[Mouths],
+        at: Setting,
+    ) -> Result<Option<NeedData>, Memory>
         requires moment { IsMoment at.now }
         requires found { CanFind self.old.machine at.ready }
         ensures due { IfOk result (λ asked. IfSome asked (λ due. IsAsked self.new.machine at.now at.ready due)) }
         ensures next { IfOk result (λ asked. IfSome asked (λ due. (program : Program) (past : List Own) → Follows self.old.machine program past
             → next_of program past at.now at.ready ≡ due)) }
-        ensures of_child { IfOk result (λ asked. IfSome asked (λ due. is_of_child at.seat at.has_child due ≡ true)) }
+        ensures of_child { IfOk result (λ asked. IfSome asked (λ due. is_due_of_child (has_actor mouths.now self.old.wire) due ≡ true)) }
         ensures none { IfOk result (λ asked. IsNone asked → (program : Program) (past : List Own) → Follows self.old.machine program past
-            → is_of_child at.seat at.has_child (next_of program past at.now at.ready) ≡ false) }
+            → is_due_of_child (has_actor mouths.now self.old.wire) (next_of program past at.now at.ready) ≡ false) }
         ensures looked { HasLooked self.old self.new }
     {
         self.machine.look(at.now, at.ready);
         let need = self.machine.need();
-        if is_of_child(at.seat, at.has_child, &need) {
+        if is_of_child(mouths, self.wire, &need) {
             Ok(Some(need_data(alloc, need)?))
         } else {
             Ok(None)
@@ -168,9 +189,8 @@ impl Actor {
 
     /// One step: what is due, or its end, in which its descriptors are closed and what it gives to is shut; `None` if nothing of what
     /// is due can be done yet. From the call on only its machine takes memory: if that finds none, it owes the event. The
-    /// conditions: it owes none, what is due may be made, what it has open is open, there is room for the event, it is a member with
-    /// pipes, or no member, to which a call or its end is due or that waits, it is known whether a child runs, and nothing of a
-    /// child is due.
+    /// conditions: it owes none, what is due may be made, what it has open is open, there is room for the event, its pipes are among
+    /// these, or it has none, and a call or its end is due to it or it waits, and nothing of a child is due.
     pub fn act<D: CallFs>(
         &mut self,
         alloc: Global,
@@ -180,12 +200,11 @@ impl Actor {
         at: Setting,
     ) -> Result<Option<Did>, Memory>
         requires moment { IsMoment at.now }
-        requires may { MayAct (D.disk disk.old) self.old.machine at.seat at.has_child at.now at.ready }
+        requires may { MayAct (D.disk disk.old) self.old.machine self.old.wire mouths.old.items at.now at.ready }
         requires paid { self.old.owed ≡ None }
         requires opens { OnTold (D.disk disk.old) (λ before. AreOpen before self.old.descriptors.items) }
         requires room { HasRoom history.old 1 }
-        requires seat { IsSeated at.seat self.old.name mouths.old.items }
-        requires child { at.has_child ≡ has_actor mouths.old.items }
+        requires seat { IsSeated self.old.wire mouths.old.items }
         ensures acted { IfOk result (λ did. HasStepped did (D.disk disk.old) (D.disk disk.new) mouths.old.items mouths.new.items at.pid
             self.old self.new (events_of history.old) (events_of history.new) at.now at.ready) }
         ensures plan { IfOk result (λ did. IsSome did → GoesByPlan D.plan D.disk disk.old disk.new
@@ -218,7 +237,7 @@ impl Actor {
                     status,
                 });
                 self.end(disk, index, Some(status));
-                shut_after(mouths, at.seat, self.name.as_slice());
+                shut_after(mouths, self.wire, self.slot, self.name.as_slice());
                 Ok(Some(Did::new(index, Some(status), false)))
             }
             Came::Due(due) => self.pass(alloc, history, mouths, at, due),
@@ -226,8 +245,7 @@ impl Actor {
     }
 
     /// What is due and is no call: it passes something to another program, or takes it. The conditions: it has looked and owes no
-    /// event, this is due, it is a member with pipes, or waits, nothing is given to an actor in a slot, and there is room for the
-    /// event.
+    /// event, this is due, it has pipes among these, or waits, nothing of an actor in a slot is due, and there is room for the event.
     fn pass(
         &mut self,
         alloc: Global,
@@ -242,9 +260,10 @@ impl Actor {
         requires found { found_of self.old.machine ≡ at.ready }
         requires due { need_of self.old.machine ≡ due }
         requires pass { IsNoAct due }
-        requires seat { IsSeated at.seat self.old.name mouths.old.items }
-        requires member { at.seat ≡ None → due ≡ Wait }
-        requires alone { (i : ℕ) → at.seat ≡ Some i → GivesNoActor mouths.old.items i due }
+        requires seat { IsSeated self.old.wire mouths.old.items }
+        requires waits { self.old.wire ≡ None → due ≡ Wait }
+        requires alone { (i : ℕ) → self.old.wire ≡ Some i → GivesNoActor mouths.old.items i due }
+        requires suits { (i : ℕ) → self.old.wire ≡ Some i → SuitsPlace i due }
         requires room { HasRoom history.old 1 }
         ensures passed { IfOk result (λ did. HasGiven did mouths.old.items mouths.new.items at.pid
             self.old self.new (events_of history.old) (events_of history.new) at.now at.ready due) }
@@ -256,11 +275,12 @@ impl Actor {
         ensures same { OnErr result (history.new ≡ history.old) }
         ensures pipes { OnErr result (AreAsBefore mouths.old.items mouths.new.items) }
     {
-        let Some(seat) = at.seat else {
+        let Some(wire) = self.wire else {
             return Ok(None);
         };
         let most = self.machine.taking_room();
-        let Some(came) = exchange(alloc, mouths, seat, most, at.pid, &due)? else {
+        let name = self.name.as_slice();
+        let Some(came) = exchange(alloc, mouths, wire, self.slot, name, most, at.pid, &due)? else {
             return Ok(None);
         };
         let index = history.len() as u64;
@@ -295,6 +315,7 @@ impl Actor {
         ensures name { self.new.name ≡ self.old.name }
         ensures ended { self.new.ended ≡ self.old.ended }
         ensures status { self.new.status ≡ self.old.status }
+        ensures stays { StaysAt self.old self.new }
     {
         let searching = self.machine.is_searching();
         match self.hand_in(alloc, own) {
@@ -319,6 +340,7 @@ impl Actor {
         ensures name { self.new.name ≡ self.old.name }
         ensures ended { self.new.ended ≡ self.old.ended }
         ensures status { self.new.status ≡ self.old.status }
+        ensures stays { StaysAt self.old self.new }
         ensures err { OnErr result (self.new ≡ self.old) }
     {
         let Some(at) = self.owed else {
@@ -350,22 +372,18 @@ impl Actor {
         ensures ended { self.new.ended ≡ self.old.ended }
         ensures status { self.new.status ≡ self.old.status }
         ensures owed { self.new.owed ≡ self.old.owed }
+        ensures stays { StaysAt self.old self.new }
     {
         self.machine.done(alloc, got_of(&own.came))
     }
 
     /// It is stopped from outside: the event is appended, its descriptors are closed, what it gives to is shut, and an event that it
-    /// owes is dropped. Takes no memory. The conditions: what it has open is open, and there is room for the event.
-    pub fn stop<D: CallFs>(
-        &mut self,
-        disk: &mut D,
-        history: &mut History,
-        mouths: &mut Vec<Mouths>,
-        seat: Option<usize>,
-    )
+    /// owes is dropped. Takes no memory. The conditions: what it has open is open, there is room for the event, and its pipes are among
+    /// these, if it has some.
+    pub fn stop<D: CallFs>(&mut self, disk: &mut D, history: &mut History, mouths: &mut Vec<Mouths>)
         requires opens { OnTold (D.disk disk.old) (λ before. AreOpen before self.old.descriptors.items) }
         requires room { HasRoom history.old 1 }
-        requires seat { IsSeated seat self.old.name mouths.old.items }
+        requires seat { IsSeated self.old.wire mouths.old.items }
         ensures stopped { IsFinished (kept.Stop self.old.name) None (D.disk disk.old) (D.disk disk.new) mouths.old.items mouths.new.items
             self.old self.new (events_of history.old) (events_of history.new) }
         ensures plan { GoesByPlan D.plan D.disk disk.old disk.new
@@ -377,7 +395,7 @@ impl Actor {
             actor: self.name.copy(),
         });
         self.end(disk, index, None);
-        shut_after(mouths, seat, self.name.as_slice());
+        shut_after(mouths, self.wire, self.slot, self.name.as_slice());
     }
 
     /// It is over, with the event of this index and this exit status, if it has one, and its descriptors are closed. The condition:
@@ -392,6 +410,7 @@ impl Actor {
         ensures status { self.new.status ≡ status }
         ensures name { self.new.name ≡ self.old.name }
         ensures machine { self.new.machine ≡ self.old.machine }
+        ensures stays { StaysAt self.old self.new }
     {
         self.ended = Some(at);
         self.status = status;

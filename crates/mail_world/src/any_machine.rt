@@ -8,8 +8,8 @@ ghost use Rattle.mail_world.specs.ByKind.{Follows, HasRoom, HasGone, looked_of, 
 use crate::Program;
 use call_fs::{Got, Machine, Need, Ready};
 use fed_injector::FedInjector;
+use local_spawn::LocalSpawn;
 use mail_bytes::{ByteText, Memory};
-use no_mailbox::NoMailbox;
 use queue_clean::Cleaner;
 use remote_spawn::RemoteSpawn;
 use send_core::Sender;
@@ -24,8 +24,8 @@ pub enum AnyMachine {
     Clean(Cleaner),
     /// A sender.
     Send(Sender),
-    /// A local spawner. It finds no user.
-    Local(NoMailbox),
+    /// A local spawner.
+    Local(LocalSpawn),
     /// A remote spawner.
     Remote(RemoteSpawn),
 }

@@ -1,6 +1,6 @@
-// The sender's child: its place, its start, its input, and what the sender is handed of it.
+// The children of actors: their places, their start, their input, and what an actor is handed of one.
 ghost use Rattle.std.specs.Prelude.{◌≡◌, ◌<◌, ◌^◌, [], List, ℕ, Some, None, true, length, IfOk, OnOk, OnErr, vec_len, vec_capacity};
-ghost use Rattle.actor_names.specs.BounceNames.{bounce_name};
+ghost use Rattle.actor_names.specs.ChildNames.{bounce_name};
 ghost use Rattle.call_fs.specs.declared.past.Own.{Own as Done};
 ghost use Rattle.call_fs.specs.Maps.{put_at};
 ghost use Rattle.fed_injector.specs.Inputs.{FedStands, IsNoInput, awaits};
@@ -27,22 +27,27 @@ use std::alloc::Global;
 use world_events::Places;
 use world_pipes::Mouths;
 
-/// The place of the child in the sender's slot, if there is one. The condition: it is one of a usize.
-pub fn child_at(mouths: &[Mouths], places: &Places, crew: usize) -> Option<usize>
-    requires { (i : ℕ) → child_place mouths.now crew (place_of places.now) ≡ Some i → i < 2 ^ 64 }
-    ensures { result ≡ child_place mouths.now crew (place_of places.now) }
+/// The place of the child in the first slot of whose pipes are here, if there is one. The condition: it is one of a usize.
+pub fn child_at(
+    mouths: &[Mouths],
+    wire: Option<usize>,
+    places: &Places,
+    crew: usize,
+) -> Option<usize>
+    requires { (i : ℕ) → child_place mouths.now wire crew (place_of places.now) ≡ Some i → i < 2 ^ 64 }
+    ensures { result ≡ child_place mouths.now wire crew (place_of places.now) }
 {
-    let name = mouths.first()?.actor_in(0)?;
+    let name = mouths.get(wire?)?.actor_in(0)?;
     Some(crew + places.find(name.as_slice())?)
 }
 
-/// If the actor at this place is over, and it is the sender, its child, which has that place, is given no input any more. Takes no
-/// memory. The condition: the child's place is one of the actors'.
-pub fn leave(actors: &mut [Actor], over: bool, place: usize, child: Option<usize>)
+/// If an actor is over, its child, which has this place, is given no input any more. Takes no memory. The condition: the child's place
+/// is one of the actors'.
+pub fn leave(actors: &mut [Actor], over: bool, child: Option<usize>)
     requires { (i : ℕ) → child ≡ Some i → i < length actors.old }
-    ensures { HasLeftIf over place child actors.old actors.new }
+    ensures { HasLeftIf over child actors.old actors.new }
 {
-    if let (true, 0, Some(child)) = (over, place, child) {
+    if let (true, Some(child)) = (over, child) {
         cut_off_input(&mut actors[child]);
     }
 }
@@ -76,23 +81,23 @@ pub fn room_of(due: NeedData) -> u64
     room
 }
 
-/// Makes room for so many events, and hands the sender the event that it owes. After `Memory` it is as before, and so is what happened.
+/// Makes room for so many events, and hands an actor the event that it owes. After `Memory` it is as before, and so is what happened.
 /// The condition: the history has that event.
-pub fn pay_sender(
+pub fn pay_with_room(
     alloc: Global,
     history: &mut History,
-    sender: &mut Actor,
+    actor: &mut Actor,
     room: usize,
 ) -> Result<(), Memory>
-    requires { (at : ℕ) → sender.old.owed ≡ Some at → (past : List Done) × Owes sender.old (events_of history.old) past at }
+    requires { (at : ℕ) → actor.old.owed ≡ Some at → (past : List Done) × Owes actor.old (events_of history.old) past at }
     ensures same { events_of history.new ≡ events_of history.old }
     ensures stays { (more : ℕ) → HasRoom history.old more → HasRoom history.new more }
     ensures holds { OnOk result (HasRoom history.new room) }
-    ensures paid { OnOk result (IsPaid sender.old sender.new (events_of history.old)) }
-    ensures err { OnErr result (sender.new ≡ sender.old) }
+    ensures paid { OnOk result (IsPaid actor.old actor.new (events_of history.old)) }
+    ensures err { OnErr result (actor.new ≡ actor.old) }
 {
     history.reserve(room)?;
-    sender.pay(alloc, history)?;
+    actor.pay(alloc, history)?;
     Ok(())
 }
 
@@ -134,42 +139,44 @@ pub fn injector_at(
     Ok(injector)
 }
 
-/// The texts with which a child is given its input, each twice; with room for so many events, and the event that the sender owes handed
-/// to it. After `Memory` it is as before, and so is what happened. The conditions: this gives two texts, and as above.
+/// The texts with which a child is given its input, each twice; with room for so many events, and the event that its parent owes handed
+/// to that. After `Memory` it is as before, and so is what happened. The conditions: this gives two texts, and as above.
 pub fn ready_to_feed(
     alloc: Global,
     history: &mut History,
-    sender: &mut Actor,
+    parent: &mut Actor,
     room: usize,
     due: &NeedData,
 ) -> Result<(ByteText, ByteText, ByteText, ByteText), Memory>
     requires gives { GivesTwo due.now }
-    requires owes { (at : ℕ) → sender.old.owed ≡ Some at → (past : List Done) × Owes sender.old (events_of history.old) past at }
+    requires owes { (at : ℕ) → parent.old.owed ≡ Some at → (past : List Done) × Owes parent.old (events_of history.old) past at }
     ensures texts { IfOk result (λ texts. GivesTexts due.now texts.0 texts.1) }
     ensures message { IfOk result (λ texts. texts.2 ≡ texts.0) }
     ensures envelope { IfOk result (λ texts. texts.3 ≡ texts.1) }
     ensures same { events_of history.new ≡ events_of history.old }
     ensures stays { (more : ℕ) → HasRoom history.old more → HasRoom history.new more }
     ensures holds { OnOk result (HasRoom history.new room) }
-    ensures paid { OnOk result (IsPaid sender.old sender.new (events_of history.old)) }
-    ensures err { OnErr result (sender.new ≡ sender.old) }
+    ensures paid { OnOk result (IsPaid parent.old parent.new (events_of history.old)) }
+    ensures err { OnErr result (parent.new ≡ parent.old) }
 {
     let texts = texts_to_give(alloc, due)?;
-    pay_sender(alloc, history, sender, room)?;
+    pay_with_room(alloc, history, parent, room)?;
     Ok(texts)
 }
 
-/// The sender looks, and is handed what came of this event, which will have this index, or owes it. The conditions: it owes none, and
+/// An actor looks, and is handed what came of this event, which will have this index, or owes it. The conditions: it owes none, and
 /// this was due, and came.
-pub fn take_in(alloc: Global, sender: &mut Actor, own: &Own, at: Setting, index: usize) -> Did
+pub fn take_in(alloc: Global, actor: &mut Actor, own: &Own, at: Setting, index: usize) -> Did
     requires moment { IsMoment at.now }
-    requires paid { sender.old.owed ≡ None }
-    requires may { MayTakeIn sender.old.machine at.now at.ready own.now }
+    requires paid { actor.old.owed ≡ None }
+    requires may { MayTakeIn actor.old.machine at.now at.ready own.now }
     ensures did { (result.at ≡ index) × (result.ended ≡ None) }
-    ensures taken { HasTakenIn sender.old sender.new own.now index result.idle }
+    ensures taken { HasTakenIn actor.old actor.new own.now index result.idle }
 {
-    sender.machine.look(at.now, at.ready);
-    let idle = sender.take_in(alloc, own, index as u64);
+    actor.machine.look(at.now, at.ready);
+    // this is what it asks for now
+    actor.machine.need();
+    let idle = actor.take_in(alloc, own, index as u64);
     Did::new(index as u64, None, idle)
 }
 

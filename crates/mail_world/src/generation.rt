@@ -1,12 +1,13 @@
-// The members of a generation: where they stand, and their start.
-ghost use Rattle.std.specs.Prelude.{◌≡◌, ◌≤◌, Some, None, IfOk, length, if◌then◌else◌, nat_lt};
-ghost use Rattle.mail_world.specs.Crew.{IsFirst, AreNew};
+// The members of a generation, and their start.
+ghost use Rattle.std.specs.Prelude.{◌≡◌, ◌≤◌, IfOk, length};
+ghost use Rattle.std.specs.List.{slice_get};
+ghost use Rattle.mail_world.specs.Crew.{IsFirst, AreNew, lasts};
 
 use crate::ActorName;
 use crate::actor::Actor;
 use crate::any_machine::AnyMachine;
+use local_spawn::LocalSpawn;
 use mail_bytes::Memory;
-use no_mailbox::NoMailbox;
 use queue_clean::Cleaner;
 use remote_spawn::RemoteSpawn;
 use send_core::Sender;
@@ -15,12 +16,8 @@ use std::alloc::Global;
 /// How many members a generation has.
 const MEMBERS: usize = 4;
 
-/// The seat of the actor at this place, if so many are members.
-pub fn seat_at(place: usize, crew: usize) -> Option<usize>
-    ensures { result ≡ (if nat_lt place crew then Some place else None) }
-{
-    if place < crew { Some(place) } else { None }
-}
+/// The seat of the remote spawner.
+const SPAWNER: usize = 3;
 
 /// The first of these that lives.
 pub fn first_alive(crew: &[Actor]) -> Option<ActorName>
@@ -34,19 +31,29 @@ pub fn first_alive(crew: &[Actor]) -> Option<ActorName>
     None
 }
 
+/// Whether the remote spawner of these members lives.
+pub fn spawner_lives(crew: &[Actor]) -> bool
+    ensures { result ≡ lasts (slice_get crew.now 3) }
+{
+    match crew.get(SPAWNER) {
+        Some(actor) => actor.ended.is_none(),
+        None => false,
+    }
+}
+
 /// The members of a new generation, in their order.
 pub fn members(alloc: Global) -> Result<Vec<Actor>, Memory>
     ensures { IfOk result (λ crew. AreNew crew.items) }
 {
     let sender = AnyMachine::Send(Sender::new(alloc, None)?);
     let clean = AnyMachine::Clean(Cleaner::new());
-    let lspawn = AnyMachine::Local(NoMailbox::new(alloc)?);
+    let lspawn = AnyMachine::Local(LocalSpawn::new(alloc)?);
     let rspawn = AnyMachine::Remote(RemoteSpawn::new(alloc)?);
     let mut crew = Vec::with_capacity(alloc, MEMBERS)?;
-    crew.push(Actor::new(alloc, named(b"sender"), sender))?;
-    crew.push(Actor::new(alloc, named(b"clean"), clean))?;
-    crew.push(Actor::new(alloc, named(b"lspawn"), lspawn))?;
-    crew.push(Actor::new(alloc, named(b"rspawn"), rspawn))?;
+    crew.push(Actor::new(alloc, named(b"sender"), sender, Some(0), None, None))?;
+    crew.push(Actor::new(alloc, named(b"clean"), clean, Some(1), None, None))?;
+    crew.push(Actor::new(alloc, named(b"lspawn"), lspawn, Some(2), None, None))?;
+    crew.push(Actor::new(alloc, named(b"rspawn"), rspawn, Some(3), None, None))?;
     Ok(crew)
 }
 

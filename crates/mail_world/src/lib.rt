@@ -1,10 +1,10 @@
 //! The world of the queue's programs: one disk, the actors that use it, and the history of all that they did.
 //!
 //! Each event of the world is one file call, one taking or giving, or one start, end or stop, of one actor, the start of a child by
-//! the sender, which injects a bounce, the start of a generation, the report of a remote program, or a moment that comes. It is appended to the history. If the disk tells and
-//! was an initial one, that is legal by the definition in `specs/History.antt`. While no generation was started, each accepted
-//! message waits in todo (`specs/Waiting.antt`). world_law says what holds of every legal history: no accepted message is
-//! lost. The world's books, `specs/Books.antt`, say what became of each mail.
+//! the sender, which injects a bounce, the start of a generation, the report of a remote program, or a moment that comes. It is
+//! appended to the history. If the disk tells and was an initial one, that is legal by the definition in `specs/History.antt`.
+//! While no generation was started, each accepted message waits in todo (`specs/Waiting.antt`). world_law says what holds of every
+//! legal history: no accepted message is lost. The world's books, `specs/Books.antt`, say what became of each mail.
 #![tactic(auto)]
 
 mod actor;
@@ -13,7 +13,6 @@ mod children;
 mod error;
 mod generation;
 pub mod laws;
-mod reports;
 mod starts;
 mod world;
 

@@ -25,17 +25,16 @@ ghost use Rattle.mail_world.specs.Books.{entries_of, books_of, books_in, noted};
 use crate::actor::{Actor, Setting, cut_off_all, status_of};
 use crate::any_machine::AnyMachine;
 use crate::children::{
-    child_at, give_input, injector_at, leave, own_at, pay_sender, ready_to_feed, room_for_one,
+    child_at, give_input, injector_at, leave, own_at, pay_with_room, ready_to_feed, room_for_one,
     room_of, take_in,
 };
-use crate::generation::{first_alive, members, named, seat_at};
+use crate::generation::{first_alive, members, named, spawner_lives};
 use crate::laws::books_are_the_models;
-use crate::reports::{first_unreported, is_unreported};
 use crate::starts::Starts;
 use crate::{ActorName, Books, Event, History, Program, WorldError};
 use actor_names::{bounce_name, is_mail_name};
 use call_fs::{CallFs, ChildData, CrashFs, GotData, NeedData, Port, Survival, Taken};
-use crew_pipes::{pipes, ready_at, seat};
+use crew_pipes::{first_unreported, is_unreported, pipes, ready_at, seat};
 use fed_injector::FedInjector;
 use mail_bytes::{ByteText, Memory};
 use received_line::Invoked;
@@ -105,7 +104,7 @@ impl<D: CallFs> Model for World<D> {
 
     ghost view = { λ w. record { disk = w.disk; events = w.history.events.items; present = w.present } };
 
-    ghost invariant = { λ w. IsWorld (D.disk w.disk) (among_all w.crew (place_of w.places)) w.actors.items (known w.history.events.items) w.history.events.items w.present w.next_pid w.bounces × HasRoom w.history (living w.actors.items) × AreBooked (entries_of w.books) (drop w.crew w.actors.items) w.history.events.items × ArePiped w.crew w.mouths.items w.actors.items (known w.history.events.items) w.history.events.items × AreStarts w.starts w.crew (place_of w.places) (starts_of (reverse w.history.events.items)) };
+    ghost invariant = { λ w. IsWorld (D.disk w.disk) (among_all w.crew (place_of w.places)) w.actors.items (known w.history.events.items) w.history.events.items w.present w.next_pid w.bounces × HasRoom w.history (living w.actors.items) × AreBooked w.crew (entries_of w.books) w.actors.items w.history.events.items × ArePiped w.crew w.mouths.items w.actors.items (known w.history.events.items) w.history.events.items × AreStarts w.starts w.crew (place_of w.places) (starts_of (reverse w.history.events.items)) };
 }
 
 impl<D: CallFs> World<D> {
@@ -219,7 +218,9 @@ impl<D: CallFs> World<D> {
         self.starts.make_room(1)?;
         self.places
             .add(alloc, name.as_slice(), self.actors.len() - self.crew)?;
-        let actor = Actor::new(alloc, name.copy(), AnyMachine::Mail(injector));
+        let entry = next_entry(&self.books);
+        let machine = AnyMachine::Mail(injector);
+        let actor = Actor::new(alloc, name.copy(), machine, None, None, Some(entry));
         self.actors.push(actor).unwrap();
         self.books.add(name, &arguments);
         self.starts.add_mail(self.actors.len() - self.crew - 1);
@@ -302,19 +303,17 @@ impl<D: CallFs> World<D> {
         let place = living(&self.places, self.crew, &self.actors, actor)?;
         // for this event, and for the stop of each actor
         self.history.reserve(self.actors.len() + 1)?;
-        let seat = seat_at(place, self.crew);
-        let child = child_at(&self.mouths, &self.places, self.crew);
         let acting = &mut self.actors[place];
+        let entry = acting.entry;
+        let child = child_at(&self.mouths, acting.wire, &self.places, self.crew);
         acting.pay(alloc, &self.history)?;
         let at = Setting {
             now: self.present,
-            ready: ready_at(&self.mouths, seat, acting.machine.awaits()),
-            seat,
+            ready: ready_at(&self.mouths, acting.wire, acting.machine.awaits()),
             pid: self.next_pid,
-            has_child: child.is_some(),
         };
-        if let Some(due) = acting.asks(alloc, at)? {
-            return self.serve(alloc, due);
+        if let Some(due) = acting.asks(alloc, &self.mouths, at)? {
+            return self.serve(alloc, actor, due);
         }
         let did = acting.act(
             alloc,
@@ -328,75 +327,85 @@ impl<D: CallFs> World<D> {
         };
         let newest = self.history.newest();
         self.next_pid = self.next_pid.saturating_add(started_by(newest));
-        note(&mut self.books, place, self.crew, newest);
-        leave(&mut self.actors, did.ended.is_some(), place, child);
+        note(&mut self.books, entry, newest);
+        leave(&mut self.actors, did.ended.is_some(), child);
         Ok(did)
     }
 
-    /// What of its child is due to the sender. The condition: this is.
-    fn serve(&mut self, alloc: Global, due: NeedData) -> Result<Did, WorldError>
-        requires { IsDueOfChild self.old due }
-        ensures served { IfOk result (λ did. Serves D.disk self.old self.new did) }
+    /// What of a child of its is due to this actor. The condition: this is.
+    fn serve(&mut self, alloc: Global, actor: &ActorName, due: NeedData) -> Result<Did, WorldError>
+        requires { IsDueOfChild self.old actor.now due }
+        ensures served { IfOk result (λ did. Serves D.disk actor.now self.old self.new did) }
         ensures waits { (name : List ℕ) → result ≡ Err (WorldError.NotWaiting name)
-            → (name ≡ codes "sender") × Waits (known self.old.events) self.old.present (codes "sender") }
-        ensures others { IfErr result (λ why. (why ≡ WorldError.Memory) ⊎ (why ≡ WorldError.NotWaiting (codes "sender"))) }
+            → (name ≡ actor.now) × Waits (known self.old.events) self.old.present actor.now }
+        ensures others { IfErr result (λ why. (why ≡ WorldError.Memory) ⊎ (why ≡ WorldError.NotWaiting actor.now)) }
         ensures err { OnErr result (self.new ≡ self.old) }
     {
         match due {
-            NeedData::Start(_) => Ok(self.start_child(alloc, due)?),
-            NeedData::Give(..) => Ok(self.feed_child(alloc, due)?),
-            _ => match self.take_status(alloc, due)? {
+            NeedData::Start(_) => Ok(self.start_child(alloc, actor, due)?),
+            NeedData::Give(..) => Ok(self.feed_child(alloc, actor, due)?),
+            _ => match self.take_status(alloc, actor, due)? {
                 Some(did) => Ok(did),
-                None => Err(WorldError::NotWaiting(named(b"sender"))),
+                None => Err(WorldError::NotWaiting(actor.copy())),
             },
         }
     }
 
-    /// What a step of the sender goes by. The condition: it lives.
-    fn setting(&self) -> Setting
-        requires { lives_in ((known self.now.events).actors (codes "sender")) ≡ true }
+    /// What a step of this actor goes by. The condition: it lives.
+    fn setting(&self, actor: &ActorName) -> Setting
+        requires { lives_in ((known self.now.events).actors actor.now) ≡ true }
         ensures now { result.now ≡ self.now.present }
-        ensures ready { result.ready ≡ found_in (known self.now.events) (codes "sender") }
+        ensures ready { result.ready ≡ found_in (known self.now.events) actor.now }
         ensures pid { result.pid ≡ next_pid self.now.events }
     {
+        let place = place_among(&self.places, self.crew, actor).unwrap();
+        let acting = &self.actors[place];
         Setting {
             now: self.present,
-            ready: ready_at(&self.mouths, Some(0), false),
-            seat: Some(0),
+            ready: ready_at(&self.mouths, acting.wire, acting.machine.awaits()),
             pid: self.next_pid,
-            has_child: true,
         }
     }
 
-    /// The sender starts the injector of a bounce, which awaits its input then. The condition: this is due.
-    fn start_child(&mut self, alloc: Global, due: NeedData) -> Result<Did, Memory>
-        requires due { IsDueOfChild self.old due }
+    /// This actor starts the injector of a bounce, which awaits its input then. The condition: this is due.
+    fn start_child(
+        &mut self,
+        alloc: Global,
+        actor: &ActorName,
+        due: NeedData,
+    ) -> Result<Did, Memory>
+        requires due { IsDueOfChild self.old actor.now due }
         requires start { IsStart due }
-        ensures served { IfOk result (λ did. Serves D.disk self.old self.new did) }
+        ensures served { IfOk result (λ did. Serves D.disk actor.now self.old self.new did) }
         ensures err { OnErr result (self.new ≡ self.old) }
     {
         let room = room_of(due);
-        let at = self.setting();
+        let at = self.setting(actor);
+        let parent_at = place_among(&self.places, self.crew, actor).unwrap();
         let bounces = self.bounces + 1;
         let place = self.actors.len() - self.crew;
         room_for_one(&mut self.actors, &mut self.books, &mut self.starts)?;
         // for this event, and for the stop of each actor, of this one too
         let events = self.actors.len() + 2;
-        let sender = &mut self.actors[0];
-        pay_sender(alloc, &mut self.history, sender, events)?;
+        let parent = &mut self.actors[parent_at];
+        let wire = parent.wire.unwrap();
+        pay_with_room(alloc, &mut self.history, parent, events)?;
         let injector = injector_at(alloc, &mut self.places, bounces, place, at)?;
         let started = GotData::Started { pid: at.pid };
         let own = own_at(at, NeedData::Start(ChildData::Bounce { room }), started);
-        let did = take_in(alloc, sender, &own, at, self.history.len());
+        let did = take_in(alloc, parent, &own, at, self.history.len());
         let name = bounce_name(bounces);
-        let child = Actor::new(alloc, name.copy(), AnyMachine::Mail(injector));
+        let entry = next_entry(&self.books);
+        let machine = AnyMachine::Mail(injector);
+        let slot = Some((wire, 0));
+        let child = Actor::new(alloc, name.copy(), machine, None, slot, Some(entry));
         self.actors.push(child).unwrap();
         let arguments = bounce_of(alloc, at.pid, at.now);
         self.books.add(&name, &arguments);
         self.starts.add_mail(place);
-        self.mouths[0].start_actor(0, name.copy());
+        self.mouths[wire].start_actor(0, name.copy());
         self.history.put(Event::Child {
-            actor: named(b"sender"),
+            actor: actor.copy(),
             own,
             child: name,
             program: Program::Injector(arguments),
@@ -406,34 +415,36 @@ impl<D: CallFs> World<D> {
         Ok(did)
     }
 
-    /// The sender gives its child its whole input; if that was stopped, it goes nowhere. The conditions: this is due, and there is a
+    /// This actor gives its child its whole input; if that was stopped, it goes nowhere. The conditions: this is due, and there is a
     /// child.
-    fn feed_child(&mut self, alloc: Global, due: NeedData) -> Result<Did, Memory>
-        requires due { IsDueOfChild self.old due }
+    fn feed_child(&mut self, alloc: Global, actor: &ActorName, due: NeedData) -> Result<Did, Memory>
+        requires due { IsDueOfChild self.old actor.now due }
         requires give { IsGive due }
-        ensures served { IfOk result (λ did. Serves D.disk self.old self.new did) }
+        ensures served { IfOk result (λ did. Serves D.disk actor.now self.old self.new did) }
         ensures err { OnErr result (self.new ≡ self.old) }
     {
-        let at = self.setting();
-        let child = child_at(&self.mouths, &self.places, self.crew).unwrap();
+        let at = self.setting(actor);
+        let parent_at = place_among(&self.places, self.crew, actor).unwrap();
         // for this event, and for the stop of each actor
         let room = self.actors.len() + 1;
-        let sender = &mut self.actors[0];
+        let parent = &mut self.actors[parent_at];
+        let child = child_at(&self.mouths, parent.wire, &self.places, self.crew).unwrap();
         let (message, envelope, kept_message, kept_envelope) = ready_to_feed(
             alloc,
             &mut self.history,
-            sender,
+            parent,
             room,
             &due,
         )?;
         let own = own_at(at, due, GotData::Gave);
-        let did = take_in(alloc, sender, &own, at, self.history.len());
-        self.books.feed(child - self.crew, envelope.as_slice());
+        let did = take_in(alloc, parent, &own, at, self.history.len());
         let fed = &mut self.actors[child];
+        let entry = fed.entry.unwrap();
+        self.books.feed(entry, envelope.as_slice());
         let name = fed.name.copy();
         give_input(fed, message, envelope);
         self.history.put(Event::Feed {
-            actor: named(b"sender"),
+            actor: actor.copy(),
             own,
             child: name,
             message: kept_message,
@@ -442,28 +453,35 @@ impl<D: CallFs> World<D> {
         Ok(did)
     }
 
-    /// The sender takes the status of its child, if that is over. The conditions: this is due, and there is a child.
-    fn take_status(&mut self, alloc: Global, due: NeedData) -> Result<Option<Did>, Memory>
-        requires due { IsDueOfChild self.old due }
+    /// This actor takes the status of its child, if that is over. The conditions: this is due, and there is a child.
+    fn take_status(
+        &mut self,
+        alloc: Global,
+        actor: &ActorName,
+        due: NeedData,
+    ) -> Result<Option<Did>, Memory>
+        requires due { IsDueOfChild self.old actor.now due }
         requires take { IsTake due }
-        ensures served { IfOk result (λ did. IfSome did (λ did. Serves D.disk self.old self.new did)) }
-        ensures waits { IfOk result (λ did. IsNone did → Waits (known self.old.events) self.old.present (codes "sender") × (self.new ≡ self.old)) }
+        ensures served { IfOk result (λ did. IfSome did (λ did. Serves D.disk actor.now self.old self.new did)) }
+        ensures waits { IfOk result (λ did. IsNone did → Waits (known self.old.events) self.old.present actor.now × (self.new ≡ self.old)) }
         ensures err { OnErr result (self.new ≡ self.old) }
     {
         drop(due);
-        let at = self.setting();
-        let child = child_at(&self.mouths, &self.places, self.crew).unwrap();
+        let at = self.setting(actor);
+        let parent_at = place_among(&self.places, self.crew, actor).unwrap();
+        let wire = self.actors[parent_at].wire.unwrap();
+        let child = child_at(&self.mouths, Some(wire), &self.places, self.crew).unwrap();
         let Some(came) = status_of(&self.actors[child]) else {
             return Ok(None);
         };
         let room = self.actors.len() + 1;
-        let sender = &mut self.actors[0];
-        pay_sender(alloc, &mut self.history, sender, room)?;
+        let parent = &mut self.actors[parent_at];
+        pay_with_room(alloc, &mut self.history, parent, room)?;
         let own = own_at(at, NeedData::Take(Port::Status(0)), came);
-        let did = take_in(alloc, sender, &own, at, self.history.len());
-        self.mouths[0].free(0);
+        let did = take_in(alloc, parent, &own, at, self.history.len());
+        self.mouths[wire].free(0);
         self.history.put(Event::Act {
-            actor: named(b"sender"),
+            actor: actor.copy(),
             own,
         });
         Ok(Some(did))
@@ -485,7 +503,8 @@ impl<D: CallFs> World<D> {
         ensures others { IfErr result (λ why. ((name : List ℕ) × (why ≡ WorldError.NotWaiting name)) ⊎ (why ≡ WorldError.Memory)) }
         ensures err { OnErr result (self.new ≡ self.old) }
     {
-        if !is_unreported(&self.actors[..self.crew], &self.mouths, slot) {
+        let lives = spawner_lives(&self.actors[..self.crew]);
+        if !is_unreported(lives, &self.mouths, slot) {
             return Err(WorldError::NotWaiting(named(b"rspawn")));
         }
         Ok(self.end_program(alloc, slot, letter, text)?)
@@ -528,7 +547,8 @@ impl<D: CallFs> World<D> {
     pub fn unreported(&self, from: u8) -> Option<u8>
         ensures { result ≡ lowest_unreported from (known self.now.events) }
     {
-        first_unreported(&self.actors[..self.crew], &self.mouths, from)
+        let lives = spawner_lives(&self.actors[..self.crew]);
+        first_unreported(lives, &self.mouths, from)
     }
 
     /// Stops an actor from outside: its descriptors are closed, what it gives to is shut, and it makes no step any more. An event that
@@ -548,16 +568,12 @@ impl<D: CallFs> World<D> {
         ensures err { OnErr result (self.new ≡ self.old) }
     {
         let place = living(&self.places, self.crew, &self.actors, actor)?;
-        let child = child_at(&self.mouths, &self.places, self.crew);
         let stopped = &mut self.actors[place];
-        stopped.stop(
-            &mut self.disk,
-            &mut self.history,
-            &mut self.mouths,
-            seat_at(place, self.crew),
-        );
-        note(&mut self.books, place, self.crew, self.history.newest());
-        leave(&mut self.actors, true, place, child);
+        let entry = stopped.entry;
+        let child = child_at(&self.mouths, stopped.wire, &self.places, self.crew);
+        stopped.stop(&mut self.disk, &mut self.history, &mut self.mouths);
+        note(&mut self.books, entry, self.history.newest());
+        leave(&mut self.actors, true, child);
         Ok(())
     }
 
@@ -675,14 +691,21 @@ fn place_among(places: &Places, crew: usize, name: &ActorName) -> Option<usize>
     }
 }
 
-/// The books take the newest event into account, which is that of the actor at this place, if it is a mail's.
-fn note(books: &mut Books, place: usize, crew: usize, newest: &Event)
-    requires { crew ≤ place → place - crew < length (entries_of books.old) }
-    ensures member { place < crew → books.new ≡ books.old }
-    ensures mail { crew ≤ place → (e : Entry) → slice_get (entries_of books.old) (place - crew) ≡ Some e
-        → entries_of books.new ≡ set (entries_of books.old) (place - crew) (noted newest.now e) }
+/// The place of the next entry in the books.
+fn next_entry(books: &Books) -> usize
+    ensures { result ≡ length (entries_of books.now) }
 {
-    if crew <= place {
-        books.note(place - crew, newest);
+    books.entries().len()
+}
+
+/// The books take the newest event into account, which is that of the actor with this entry, if it has one.
+fn note(books: &mut Books, entry: Option<usize>, newest: &Event)
+    requires { (k : ℕ) → entry ≡ Some k → k < length (entries_of books.old) }
+    ensures none { entry ≡ None → books.new ≡ books.old }
+    ensures own { (k : ℕ) (e : Entry) → entry ≡ Some k → slice_get (entries_of books.old) k ≡ Some e
+        → entries_of books.new ≡ set (entries_of books.old) k (noted newest.now e) }
+{
+    if let Some(entry) = entry {
+        books.note(entry, newest);
     }
 }

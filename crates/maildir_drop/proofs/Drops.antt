@@ -27,26 +27,10 @@ use Rattle.maildir_drop.specs.declared.row.Row.TheVariants as at
 use Rattle.maildir_drop.specs.declared.row.Why.TheVariants as why
 use Rattle.maildir_drop.specs.Laws.{HasDropped, IsWhole}
 use Rattle.maildir_drop.specs.Names.{names_of, pair_at, is_name, file_name}
+use Rattle.maildir_drop.specs.Rests.{IsKept, IsKeptOpen, LeavesAlone, Rests, RestsOn, Writing, due_of}
 use Rattle.maildir_drop.specs.Run.{IsRun}
-use Rattle.maildir_drop.specs.Table.{Place, appended, begin_row, create_row, due_at, failed, is_complete, link_row, moved, next_row, place_after, sync_row, taken_row}
+use Rattle.maildir_drop.specs.Table.{Place, appended, begin_row, begun, create_row, due_at, failed, is_complete, link_row, moved, next_row, place_after, sync_row, taken_row}
 use Rattle.maildir_drop.proofs.Coming.{by_fit}
-
--- the file is being written: it has its name, is open, and what it holds and what is left are all the bytes
-abbrev Writing : List ℕ → List ℕ → Fd → List ℕ → Disk → Type 0
-Writing name bytes fd left d =
-    (k : ℕ) × (d.names name ≡ Some k) × (d.opens fd.0 ≡ Some (record { number = k; mode = Mode.Created })) × ((d.files k).bytes ++ left ≡ bytes)
-
-abbrev pub Rests : DropNames → List ℕ → Row → List ℕ → Disk → Type 0
-Rests names bytes (at.Create a) left d = left ≡ bytes
-Rests names bytes (at.Append a fd) left d = Writing (pair_at names a).tmp bytes fd left d
-Rests names bytes (at.Sync a fd) left d = Writing (pair_at names a).tmp bytes fd [] d
-Rests names bytes (at.Close a fd) left d = IsWhole d (pair_at names a).tmp bytes
-Rests names bytes (at.Link a) left d = IsWhole d (pair_at names a).tmp bytes
-Rests names bytes (at.Shut a fd reason) left d = Unit {0}
-Rests names bytes (at.Unlink a Dropped) left d = IsWhole d (pair_at names a).new bytes
-Rests names bytes (at.Unlink a (Failed reason)) left d = Unit {0}
-Rests names bytes (at.Ended a Dropped) left d = IsWhole d (pair_at names a).new bytes
-Rests names bytes (at.Ended a (Failed reason)) left d = Unit {0}
 
 -- The names in `tmp` and `new` differ.
 
@@ -185,15 +169,47 @@ module _ (names : DropNames) (bytes : List ℕ) where
     step (at.Unlink a o) got differ may = by_fit (call.Unlink (pair_at names a).tmp) (StepOf (at.Unlink a o)) got may (λ told fit e r made. unlinks a o told.answer e (differ a) r fit made.0)
     step (at.Ended a o) got differ may = absurd may
 
-rests : (args : Arguments) (past : List Own) (first last : Disk) → IsRun args past → LeadsTo first past last
-    → Rests (names_of args) args.bytes (place_after args past).row (place_after args past).left last
-rests args [] first last run leads = begins (names_of args) args.bytes First args.bytes last refl
+pub begun_rests : (args : Arguments) (d : Disk) → RestsOn args (begun args) d
+begun_rests args d = begins (names_of args) args.bytes First args.bytes d refl
+
+pub rests_on : (args : Arguments) (p : Place) (now : ℕ) (got : GotData) (before after : Disk) → RestsOn args p before → MayCome (due_of args p) got
+    → Makes before now (due_of args p) got after → RestsOn args (moved (names_of args) p got) after
+rests_on args p now got before after r may made = step (names_of args) args.bytes p.left before now p.row got (apart args) may after r made
+
+-- It rests on another disk too that has what it rests on.
+
+kept_whole : (name bytes : List ℕ) (d e : Disk) → IsKept name d e → IsWhole d name bytes → IsWhole e name bytes
+kept_whole name bytes d e kept w =
+    let k = kept w.0 w.1 in
+    (w.0, k.0, subst (λ (f : File). IsSynced f bytes) (sym k.1) w.2)
+
+kept_writing : (name bytes : List ℕ) (fd : Fd) (left : List ℕ) (d e : Disk) → IsKeptOpen name fd d e → Writing name bytes fd left d → Writing name bytes fd left e
+kept_writing name bytes fd left d e kept w =
+    let k = kept.0 w.0 w.1 in
+    (w.0, k.0, kept.1 (record { number = w.0; mode = Mode.Created }) w.2, ap (λ (f : File). f.bytes ++ left) k.1 ∙ w.3)
+
+stays_at : (names : DropNames) (bytes : List ℕ) (row : Row) (left : List ℕ) (d e : Disk) → LeavesAlone names row d e → Rests names bytes row left d → Rests names bytes row left e
+stays_at names bytes (at.Create a) left d e kept r = r
+stays_at names bytes (at.Append a fd) left d e kept r = kept_writing (pair_at names a).tmp bytes fd left d e kept r
+stays_at names bytes (at.Sync a fd) left d e kept r = kept_writing (pair_at names a).tmp bytes fd [] d e kept r
+stays_at names bytes (at.Close a fd) left d e kept r = kept_whole (pair_at names a).tmp bytes d e kept r
+stays_at names bytes (at.Link a) left d e kept r = kept_whole (pair_at names a).tmp bytes d e kept r
+stays_at names bytes (at.Shut a fd reason) left d e kept r = tt
+stays_at names bytes (at.Unlink a Dropped) left d e kept r = kept_whole (pair_at names a).new bytes d e kept r
+stays_at names bytes (at.Unlink a (Failed reason)) left d e kept r = tt
+stays_at names bytes (at.Ended a Dropped) left d e kept r = kept_whole (pair_at names a).new bytes d e kept r
+stays_at names bytes (at.Ended a (Failed reason)) left d e kept r = tt
+
+pub rests_still : (args : Arguments) (p : Place) (d e : Disk) → LeavesAlone (names_of args) p.row d e → RestsOn args p d → RestsOn args p e
+rests_still args p d e kept r = stays_at (names_of args) args.bytes p.row p.left d e kept r
+
+rests : (args : Arguments) (past : List Own) (first last : Disk) → IsRun args past → LeadsTo first past last → RestsOn args (place_after args past) last
+rests args [] first last run leads = begun_rests args last
 rests args (event ∷ before) first last run leads =
     let p : Place = place_after args before in
-    let names = names_of args in
     let may = subst (λ x. MayCome x event.came) (sym run.1.0) run.1.1 in
     let made = subst (λ x. Makes leads.0 event.read x event.came last) (sym run.1.0) leads.2 in
-    step names args.bytes p.left leads.0 event.read p.row event.came (apart args) may last (rests args before first leads.0 run.0 leads.1) made
+    rests_on args p event.read event.came leads.0 last (rests args before first leads.0 run.0 leads.1) may made
 
 pub whole_before : (args : Arguments) (past : List Own) (attempt : Attempt) (first last : Disk) → IsRun args past → LeadsTo first past last
     → (place_after args past).row ≡ at.Link attempt → IsWhole last (pair_at (names_of args) attempt).tmp args.bytes

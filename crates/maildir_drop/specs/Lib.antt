@@ -16,3 +16,5 @@ pub mod Run
 pub mod Causes
 -- the laws
 pub mod Laws
+-- what a drop rests on
+pub mod Rests

@@ -1,8 +1,15 @@
-//! The laws of drops: when one ends dropped, what then stands on the disk, and why one fails.
+//! The laws of drops: when one ends dropped, what stands on the disk then and before, and why one fails.
 ghost use Rattle.std.specs.Prelude.{◌≡◌, ◌↔◌, List, ℕ, true};
+ghost use Rattle.call_fs.specs.declared.past.GotData.{GotData};
+ghost use Rattle.call_fs.specs.Disk.{Disk};
 ghost use Rattle.call_fs.specs.Names.{IsName};
+ghost use Rattle.call_fs.specs.Past.{Makes};
+ghost use Rattle.call_fs.specs.Program.{MayCome};
+ghost use Rattle.maildir_drop.specs.declared.arguments.Arguments.{Arguments};
 ghost use Rattle.maildir_drop.specs.Laws.{DroppedIfLinked, DropsAreWhole, FailuresHaveCauses};
-ghost use Rattle.maildir_drop.specs.Names.{is_name};
+ghost use Rattle.maildir_drop.specs.Names.{is_name, names_of};
+ghost use Rattle.maildir_drop.specs.Rests.{LeavesAlone, RestsOn, due_of};
+ghost use Rattle.maildir_drop.specs.Table.{Place, begun, moved};
 
 /// A drop ends dropped exactly if its link into `new` was made. What comes of the unlink after it changes nothing.
 pub fn dropped_exactly_if_linked()
@@ -13,6 +20,16 @@ pub fn dropped_exactly_if_linked()
 /// disk; and it still stands there when the drop has ended.
 pub fn what_is_dropped_is_whole()
     ensures { DropsAreWhole }
+{}
+
+/// A drop rests on any disk when it begins; and its next call, made on any disk on which it rests, leads to one on which it
+/// rests. Other programs may change the disk between its calls: if they leave alone the file that it has at its row, with its
+/// name and its descriptor, it rests on what they leave.
+pub fn drops_rest_on()
+    ensures begins { (args : Arguments) (d : Disk) → RestsOn args (begun args) d }
+    ensures goes_on { (args : Arguments) (p : Place) (now : ℕ) (got : GotData) (before after : Disk) → RestsOn args p before
+        → MayCome (due_of args p) got → Makes before now (due_of args p) got after → RestsOn args (moved (names_of args) p got) after }
+    ensures stays { (args : Arguments) (p : Place) (d e : Disk) → LeavesAlone (names_of args) p.row d e → RestsOn args p d → RestsOn args p e }
 {}
 
 /// Why a drop failed.

@@ -153,7 +153,7 @@ module _ (controls : Controls) (now : ℕ) (q : Queue) (a : List ℕ) (G : Sound
   stays_closed =
       let r = with_fds q q.disk.opens q.holder in
       leads_on controls now a q r G n (fds_elsewhere now a q G.suits n shut q.disk.opens q.holder (λ _ _ _ _ k. k)) G.suits (Sorted h) G.over (outside_same q.disk q.disk.opens)
-      (record { files = λ _ _ _ _. refl; roles = λ _ _ _ k. k })
+      (record { files = λ _ _ _ _. refl; roles = λ _ _ _. refl })
 
   -- the file is made
   pub begun_leads : (ch : Channel) → HasLane (about q n) ch → (fd i read : ℕ) → IsNew q.disk (path (Of Bounce n)) fd i
@@ -230,7 +230,7 @@ module _ (controls : Controls) (now : ℕ) (q : Queue) (a : List ℕ) (G : Sound
       subst (λ (o : Option Entry). NotesState controls h.taken.injection (file_in o)) (sym (part_gone q n Bounce)) state in
       leads_on controls now a q r G n (part_elsewhere now a q G.suits n shut Bounce) (part_suits q G.suits n Bounce)
       (Sorted (rebounced controls (about q n) (about r n) (part_other q n Bounce) refl h notes))
-      G.over (part_outside q n Bounce) (record { files = λ _ _ _ _. refl; roles = λ _ _ _ k. k })
+      G.over (part_outside q n Bounce) (record { files = λ _ _ _ _. refl; roles = λ _ _ _. refl })
 
   -- it is dropped, which the ledger tells
   pub dropped_leads : ((ch : Channel) → (about q n).parts (lane_part ch) ≡ None) → sender_of h.taken.injection.args ≡ codes "#@[]"
@@ -249,7 +249,7 @@ module _ (controls : Controls) (now : ℕ) (q : Queue) (a : List ℕ) (G : Sound
       lined_leads controls now q a G n Drops (gone q n Bounce) (part_elsewhere now a q G.suits n shut Bounce) (part_suits q G.suits n Bounce)
       (Sorted (rebounced_with controls (about q n) (about r n) Drops (part_other q n Bounce) h (entered_living controls now q a G n Drops i h.taken.lives) spots
       (λ ch some. absurd (some (bare ch))) notes))
-      (part_outside q n Bounce) (record { files = λ _ _ _ _. refl; roles = λ _ _ _ k. k })
+      (part_outside q n Bounce) (record { files = λ _ _ _ _. refl; roles = λ _ _ _. refl })
 
 -- The laws
 
@@ -423,5 +423,5 @@ closes_enter controls now q a read n fd line answer.Done wrote G may holds fits 
     (fds_elsewhere now a q G.suits n shut opens holder (λ o k how other h.
     let far : k ≢ fd.0 = λ same. let v : Some o ≡ Some a = sym h.held ∙ ap q.holder same ∙ holds in other (cc) in
     record { opened = put_other q.disk.opens fd.0 None k far ∙ h.opened; held = put_other q.holder fd.0 None k far ∙ h.held }))
-    G.suits (entered_phase controls now q a G n line may (G.fine n)) (outside_same q.disk opens) (record { files = λ _ _ _ _. refl; roles = λ _ _ _ k. k })
+    G.suits (entered_phase controls now q a G n line may (G.fine n)) (outside_same q.disk opens) (record { files = λ _ _ _ _. refl; roles = λ _ _ _. refl })
 closes_enter controls now q a read n fd line told wrote G may holds fits = absurd fits

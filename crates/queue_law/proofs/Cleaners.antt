@@ -37,7 +37,7 @@ use Rattle.send_jobs.specs.declared.channels.Channel.TheVariants as channel
 use Rattle.queue_law.specs.Books.{Injection}
 use Rattle.queue_law.specs.Routes.{lane_part, lane_text, channel_of, Recipient, spot_of}
 use Rattle.queue_law.specs.Numbers.{Entry, entry, Role, Queue, look, IsPidRole, IsRecent, About, about, file_in, Phase, LaneState, IsPreprocessed, Sound}
-use Rattle.queue_law.specs.Numbers.Role.{AsMessage, AsPart, AsOld}
+use Rattle.queue_law.specs.Numbers.Role.{AsMessage, AsPart, AsDrop, AsOld}
 use Rattle.queue_law.specs.Numbers.Phase.{Free, Queued, Sorted, Finished}
 use Rattle.queue_law.specs.Numbers.LaneState.{LaneThere, LaneGone}
 use Rattle.queue_law.specs.Notes.NotesDone.{Nothing}
@@ -49,7 +49,7 @@ use Rattle.queue_law.specs.Ready.IsMade.{NotNeeded, IsThere}
 use Rattle.queue_law.specs.Rests.{IsAccepted, IsClosed, RestsAs, IsOldName, IsJudged}
 use Rattle.queue_law.specs.Steps.{Concerns, Elsewhere, LeavesOld}
 use Rattle.queue_law.specs.Senders.{called_queue}
-use Rattle.queue_law.specs.Cleaners.{number_at, Needs, Rests, row_of, waiting, StandsAt, CleanerStands, CleanerLeads, CleanersKeep}
+use Rattle.queue_law.specs.Cleaners.{number_at, Needs, Rests, row_of, waiting, IsOnePart, StandsAt, CleanerStands, CleanerLeads, CleanersKeep}
 use Rattle.queue_law.proofs.Tests.{off, text_cases}
 use Rattle.queue_law.proofs.Looks.{find_same, find_some, find_none, found}
 use Rattle.queue_law.proofs.Frame.{about_same, still_there}
@@ -74,9 +74,9 @@ pub stands_frame : (controls : Controls) (now m : ℕ) (q r : Queue) (row : Row)
     → ((n : ℕ) → (number_at row ≡ Some n) ⊎ (number_at (waiting p) ≡ Some n) → IsClosed now q n → IsClosed m r n × (about r n ≡ about q n))
     → ((x : Option Name) (moment : ℕ) → IsJudged q x moment → IsJudged r x moment) → StandsAt controls now q row p → StandsAt controls m r row p
 stands_frame controls now m q r at.FindPid p keep judged h = rests_frame controls now m q r (waiting p) (λ n is. keep n (inr is)) h
-stands_frame controls now m q r at.StatPid p keep judged h = rests_frame controls now m q r (waiting p) (λ n is. keep n (inr is)) h
+stands_frame controls now m q r at.StatPid p keep judged h = (rests_frame controls now m q r (waiting p) (λ n is. keep n (inr is)) h.0, h.1)
 stands_frame controls now m q r (at.JudgePid moment) p keep judged h =
-    (rests_frame controls now m q r (waiting p) (λ n is. keep n (inr is)) h.0, judged (parse (pid_path p.name)) moment h.1)
+    (rests_frame controls now m q r (waiting p) (λ n is. keep n (inr is)) h.0, judged (parse (pid_path p.name)) moment h.1, h.2)
 stands_frame controls now m q r at.TakeInput p keep judged h = tt
 stands_frame controls now m q r (at.UnlinkIntd it) p keep judged h =
     rests_frame controls now m q r (at.UnlinkIntd it) (λ n is. keep n (inl is)) h
@@ -209,7 +209,7 @@ module _ (controls : Controls) (now : ℕ) (a : List ℕ) (q : Queue) (G : Sound
     number = None;
     elsewhere = nothing_elsewhere now q a;
     outside = record { names = λ _ _. inl refl; files = λ _. refl; unqueued = λ i out x. out.unqueued x };
-    old = record { files = λ _ _ _ _. refl; roles = λ _ _ _ h. h };
+    old = record { files = λ _ _ _ _. refl; roles = λ _ _ _. refl };
     abouts = λ _ _. refl;
     spares = record { closed = λ _ _ c. c; abouts = λ _ _ _. refl };
     pids = λ pid start seq y there none. absurd (cc);
@@ -225,7 +225,7 @@ module _ (controls : Controls) (now : ℕ) (a : List ℕ) (q : Queue) (G : Sound
       let r = gone q n part in
       let E = part_elsewhere now a q G.suits n c part in
       let out = part_outside q n part in
-      let old : LeavesOld q r = record { files = λ _ _ _ _. refl; roles = λ _ _ _ h. h } in
+      let old : LeavesOld q r = record { files = λ _ _ _ _. refl; roles = λ _ _ _. refl } in
       let L = leads_on controls now a q r G n E (part_suits q G.suits n part) fine G.over out old in
       record {
         sound = L.sound;
@@ -341,16 +341,16 @@ module _ (controls : Controls) (now : ℕ) (a : List ℕ) (q : Queue) (G : Sound
     -- The rows of a scan of `pid`
 
     find_pid : (row : Row) (p : Place) → Rests controls now q (waiting p) → (never : (n : ℕ) → row ≡ at.UnlinkSecond (command.Todo n) → ⊥) → (o : Option (List ℕ))
-        → CleanerLeads controls now a q q row (goes_on (found_step o) p)
-    find_pid row p h never None = still row _ (next_stands controls now q p h) (λ n is plus. never n is)
-    find_pid row p h never (Some name) = still row _ h (λ n is plus. never n is)
+        → ((name : List ℕ) → o ≡ Some name → IsOnePart name) → CleanerLeads controls now a q q row (goes_on (found_step o) p)
+    find_pid row p h never None one = still row _ (next_stands controls now q p h) (λ n is plus. never n is)
+    find_pid row p h never (Some name) one = still row _ (h, one name refl) (λ n is plus. never n is)
 
     searched : (row : Row) (p : Place) → Rests controls now q (waiting p) → ((n : ℕ) → row ≡ at.UnlinkSecond (command.Todo n) → ⊥) → (given : Answer)
         → Fits q.disk (NextName (codes "pid") p.name) given wrote
         → CleanerLeads controls now a q (called_queue q a read (NextName (codes "pid") p.name) given wrote q.role) row (goes_on (found_step (name_told given)) p)
-    searched row p h never (answer.Name name) fits = find_pid row p h never (Some name)
-    searched row p h never answer.NoName fits = find_pid row p h never None
-    searched row p h never (answer.Refused why) fits = find_pid row p h never None
+    searched row p h never (answer.Name name) fits = find_pid row p h never (Some name) (λ other e. let same : name ≡ other = cc in subst IsOnePart same fits.1.stands.1.whole)
+    searched row p h never answer.NoName fits = find_pid row p h never None (λ _ e. absurd (cc))
+    searched row p h never (answer.Refused why) fits = find_pid row p h never None (λ _ e. absurd (cc))
     searched row p h never given fits = absurd fits
 
     -- of a name in `pid` the moment is told
@@ -369,21 +369,22 @@ module _ (controls : Controls) (now : ℕ) (a : List ℕ) (q : Queue) (G : Sound
             → (start ≤ stat.moment) ⊎ IsOldName q (Pid pid start seq)
         by_role (AsMessage actor args) is' suits recent = inl (let w = told.moment_is in omega (arith, suits, recent, w))
         by_role (AsPart k n) is' suits recent = absurd suits
+        by_role (AsDrop o) is' suits recent = absurd suits
         by_role AsOld is' suits recent =
             let there : q.disk.names (path (Pid pid start seq)) ≡ Some stat.number = ap q.disk.names (sym (path-parse text (Pid pid start seq) e)) ∙ told.number in
             inr (record { file = entry q.disk.files stat.number; there = find_some q.disk.names q.disk.files (Pid pid start seq) stat.number there; made = is' })
 
-    stat_pid : (p : Place) → Rests controls now q (waiting p) → Steps at.StatPid p (Stat (pid_path p.name))
-    stat_pid p h (answer.Stat stat) fits =
-        still at.StatPid _ (h, judged (pid_path p.name) p.name refl stat fits (parse (pid_path p.name)) refl) (λ n is. absurd (cc))
-    stat_pid p h (answer.Refused why) fits = still at.StatPid _ h (λ n is. absurd (cc))
-    stat_pid p h given fits = absurd fits
+    stat_pid : (p : Place) → Rests controls now q (waiting p) → IsOnePart p.name → Steps at.StatPid p (Stat (pid_path p.name))
+    stat_pid p h one (answer.Stat stat) fits =
+        still at.StatPid _ (h, judged (pid_path p.name) p.name refl stat fits (parse (pid_path p.name)) refl, one) (λ n is. absurd (cc))
+    stat_pid p h one (answer.Refused why) fits = still at.StatPid _ h (λ n is. absurd (cc))
+    stat_pid p h one given fits = absurd fits
 
     -- a name in `pid` goes
     abbrev without : List ℕ → Queue
     without text = record { disk = with_name q.disk text None; holder = q.holder; books = q.books; role = q.role }
 
-    module _ (text part : List ℕ) (is : text ≡ codes "pid/" ++ part) where
+    module _ (text part : List ℕ) (is : text ≡ codes "pid/" ++ part) (one : IsOnePart part) where
       text_look : (y : Name) → path y ≢ text → look (without text) y ≡ look q y
       text_look y far = find_same q.disk.names (with_name q.disk text None).names q.disk.files q.disk.files y (put_at_other q.disk.names text None (path y) far) (λ _ _. refl)
 
@@ -424,7 +425,7 @@ module _ (controls : Controls) (now : ℕ) (a : List ℕ) (q : Queue) (G : Sound
         elsewhere = E;
         outside = record {
           names = λ name far. ⊎_elim
-              (λ c. inr (part, c.0 ∙ is, c.1))
+              (λ c. inr (part, c.0 ∙ is, c.1, one))
               (λ c. inl c.1)
               (put_at_cases q.disk.names text None name);
           files = λ _. refl;
@@ -433,7 +434,7 @@ module _ (controls : Controls) (now : ℕ) (a : List ℕ) (q : Queue) (G : Sound
               (λ c. out.unqueued y (sym c.1 ∙ there))
               (put_at_cases q.disk.names text None (path y));
         };
-        old = record { files = λ _ _ _ _. refl; roles = λ _ _ _ h. h };
+        old = record { files = λ _ _ _ _. refl; roles = λ _ _ _. refl };
         abouts = λ n _. text_about n;
         spares = record { closed = λ n _ c. text_closed n c; abouts = λ n _ _. text_about n };
         pids = pids;
@@ -509,24 +510,24 @@ module _ (controls : Controls) (now : ℕ) (a : List ℕ) (q : Queue) (G : Sound
           }
 
     -- the unlink of a name that was judged old
-    unlinked : (text part : List ℕ) → text ≡ codes "pid/" ++ part → (moment : ℕ) → moment + 129600 < now → (p : Place) → Rests controls now q (waiting p)
+    unlinked : (text part : List ℕ) → text ≡ codes "pid/" ++ part → IsOnePart part → (moment : ℕ) → moment + 129600 < now → (p : Place) → Rests controls now q (waiting p)
         → (there : Option ℕ) → q.disk.names text ≡ there → (x : Option Name) → parse text ≡ x → IsJudged q x moment
         → there ≢ None → CleanerLeads controls now a q (without text) (at.JudgePid moment) (record p { row = at.FindPid })
-    unlinked text part is moment old p h there named None e judge some = foreign_leads text part is e moment p h
-    unlinked text part is moment old p h there named (Some (Of k n)) e judge some = absurd judge
-    unlinked text part is moment old p h None named (Some (Pid pid start seq)) e judge some = absurd (some refl)
-    unlinked text part is moment old p h (Some i) named (Some (Pid pid start seq)) e judge some =
-        old_leads text part is pid start seq moment i (sym (path-parse text (Pid pid start seq) e)) named judge old p h
+    unlinked text part is one moment old p h there named None e judge some = foreign_leads text part is one e moment p h
+    unlinked text part is one moment old p h there named (Some (Of k n)) e judge some = absurd judge
+    unlinked text part is one moment old p h None named (Some (Pid pid start seq)) e judge some = absurd (some refl)
+    unlinked text part is one moment old p h (Some i) named (Some (Pid pid start seq)) e judge some =
+        old_leads text part is one pid start seq moment i (sym (path-parse text (Pid pid start seq) e)) named judge old p h
 
-    judge_pid : (moment : ℕ) (p : Place) → Rests controls now q (waiting p) → IsJudged q (parse (pid_path p.name)) moment → (t : Bool) → is_old moment read ≡ t
+    judge_pid : (moment : ℕ) (p : Place) → Rests controls now q (waiting p) → IsJudged q (parse (pid_path p.name)) moment → IsOnePart p.name → (t : Bool) → is_old moment read ≡ t
         → (call : CallData) → (if t then needs.File (Unlink (pid_path p.name)) else search_after p.name) ≡ needs.File call → (given : Answer) → Fits q.disk call given wrote
         → CleanerLeads controls now a q (called_queue q a read call given wrote q.role) (at.JudgePid moment)
         (goes_on (if t then Goes at.FindPid else found_step (name_told given)) p)
-    judge_pid moment p h judge false young call due given fits =
+    judge_pid moment p h judge one false young call due given fits =
         let same : NextName (codes "pid") p.name ≡ call = cc in
         subst (λ c. Fits q.disk c given wrote → CleanerLeads controls now a q (called_queue q a read c given wrote q.role) (at.JudgePid moment) (goes_on (found_step (name_told given)) p)) same
         (searched (at.JudgePid moment) p h (λ n is. absurd (cc)) given) fits
-    judge_pid moment p h judge true old call due given fits =
+    judge_pid moment p h judge one true old call due given fits =
         let same : Unlink (pid_path p.name) ≡ call = cc in
         subst (λ c. Fits q.disk c given wrote → CleanerLeads controls now a q (called_queue q a read c given wrote q.role) (at.JudgePid moment) (record p { row = at.FindPid })) same
         (at_old given) fits
@@ -535,7 +536,7 @@ module _ (controls : Controls) (now : ℕ) (a : List ℕ) (q : Queue) (G : Sound
             → CleanerLeads controls now a q (called_queue q a read (Unlink (pid_path p.name)) given wrote q.role) (at.JudgePid moment) (record p { row = at.FindPid })
         at_old answer.Done fits =
             let past : moment + 129600 < read = ltb-true _ _ old in
-            unlinked (pid_path p.name) p.name refl moment (omega (arith, past, soon)) p h (q.disk.names (pid_path p.name)) refl (parse (pid_path p.name)) refl judge
+            unlinked (pid_path p.name) p.name refl one moment (omega (arith, past, soon)) p h (q.disk.names (pid_path p.name)) refl (parse (pid_path p.name)) refl judge
             (λ none. some_none (q.disk.names (pid_path p.name)) fits none)
         at_old (answer.Refused why) fits = still (at.JudgePid moment) _ h (λ n is. absurd (cc))
         at_old given fits = absurd fits
@@ -546,8 +547,8 @@ module _ (controls : Controls) (now : ℕ) (a : List ℕ) (q : Queue) (G : Sound
 
     pub step : (row : Row) (p : Place) → StandsAt controls now q row p → (call : CallData) → due_at row p.name read ≡ needs.File call → Steps row p call
     step at.FindPid p h call due = due_call at.FindPid p _ call due (searched at.FindPid p h (λ n is. absurd (cc)))
-    step at.StatPid p h call due = due_call at.StatPid p _ call due (stat_pid p h)
-    step (at.JudgePid moment) p h call due = judge_pid moment p h.0 h.1 (is_old moment read) refl call due
+    step at.StatPid p h call due = due_call at.StatPid p _ call due (stat_pid p h.0 h.1)
+    step (at.JudgePid moment) p h call due = judge_pid moment p h.0 h.1 h.2 (is_old moment read) refl call due
     step at.TakeInput p h call due = absurd (cc)
     step (at.UnlinkIntd (command.Foop n)) p h call due = due_call (at.UnlinkIntd (command.Foop n)) p _ call due (foop_intd n p h)
     step (at.UnlinkIntd (command.Todo n)) p h call due = due_call (at.UnlinkIntd (command.Todo n)) p _ call due (todo_intd n p h)

@@ -12,7 +12,7 @@ use Rattle.queue_law.specs.Numbers.{Entry, Queue, look, IsRecent, NamesSuit, Abo
 use Rattle.queue_law.specs.Numbers.Role.{AsPart}
 use Rattle.queue_law.specs.Injectors.{IsHeld}
 use Rattle.queue_law.specs.Rests.{IsOverdue, IsAccepted, IsClosed}
-use Rattle.queue_law.specs.Steps.{Touches, Concerns, Apart, Elsewhere, Outside, LeavesOld}
+use Rattle.queue_law.specs.Steps.{Touches, Concerns, Apart, Elsewhere, Outside, IsForeignRole, LeavesOld}
 use Rattle.queue_law.specs.Senders.{LeadsOn}
 use Rattle.queue_law.proofs.Tests.{tells_number, tells_name}
 use Rattle.queue_law.proofs.Looks.{find_gone, find_far, found}
@@ -190,7 +190,7 @@ module _ (now : ℕ) (a : List ℕ) (q : Queue) (S : NamesSuit q) (n : ℕ) (c :
     }
 
     pub bytes_old : LeavesOld q new_bytes
-    bytes_old = written_old q file.number f (λ was. let w = mine in absurd (cc))
+    bytes_old = written_old q file.number f (λ was. subst IsForeignRole mine was)
 
     pub bytes_mess : look new_bytes (Of Mess n) ≡ look q (Of Mess n)
     bytes_mess = find_far q.disk.names q.disk.files (Of Mess n) file.number f (λ y h same.

@@ -17,9 +17,9 @@ use Rattle.queue_law.specs.Numbers.{Entry, entry, Role, Queue, look, IsPidRole, 
 use Rattle.queue_law.proofs.Looks.{find_some, find_none, not_found, find_far, find_put, find_other, found}
 use Rattle.queue_law.proofs.Frame.{still_there}
 use Rattle.queue_law.specs.Injectors.{IsBegun, Basis}
-use Rattle.queue_law.specs.Numbers.Role.{AsMessage, AsPart, AsOld}
+use Rattle.queue_law.specs.Numbers.Role.{AsMessage, AsPart, AsDrop, AsOld}
 use Rattle.queue_law.specs.Numbers.Phase.{Free}
-use Rattle.queue_law.specs.Steps.{Touches, Concerns, Apart, Elsewhere, Outside, LeavesLater, LeavesOld}
+use Rattle.queue_law.specs.Steps.{Touches, Concerns, Apart, Elsewhere, Outside, LeavesLater, IsForeignRole, LeavesOld}
 
 -- a new file with a new name
 abbrev pub made : Queue → List ℕ → Name → (fd i read : ℕ) → Role → Queue
@@ -99,11 +99,13 @@ at_number r P n h k same = let w : n ≡ k = cc in subst (λ k. P (about r k)) w
 abbrev is_later_role : Role → Bool
 is_later_role (AsMessage actor args) = false
 is_later_role (AsPart part n) = is_later part
+is_later_role (AsDrop actor) = false
 is_later_role AsOld = false
 
 early_role : (x : Name) (i : ℕ) (role : Role) → is_later_name x ≡ false → Suits x i role → is_later_role role ≡ false
 early_role (Pid p s k) i (AsMessage actor args) early h = refl
 early_role (Pid p s k) i (AsPart part n) early h = absurd h
+early_role (Pid p s k) i (AsDrop actor) early h = absurd h
 early_role (Pid p s k) i AsOld early h = refl
 early_role (Of Mess n) i role early h = ap is_later_role h.1.2
 early_role (Of Intd n) i role early h = ap is_later_role h
@@ -152,12 +154,21 @@ module _ (q : Queue) (x : Name) where
 abbrev pub made_for : ℕ → Role → ℕ
 made_for i (AsMessage actor args) = i
 made_for i (AsPart part n) = n
+made_for i (AsDrop actor) = i
 made_for i AsOld = i
 
 pid_number : (i start : ℕ) (role : Role) → IsPidRole start role → made_for i role ≡ i
 pid_number i start (AsMessage actor args) h = refl
 pid_number i start (AsPart part n) h = absurd h
+pid_number i start (AsDrop actor) h = absurd h
 pid_number i start AsOld h = refl
+
+-- what none of the queue's programs made is of its own number
+foreign_number : (i : ℕ) (role : Role) → IsForeignRole role → made_for i role ≡ i
+foreign_number i (AsMessage actor args) h = absurd h
+foreign_number i (AsPart part n) h = absurd h
+foreign_number i (AsDrop actor) h = refl
+foreign_number i AsOld h = refl
 
 module _ (now : ℕ) (q : Queue) (S : NamesSuit q) where
   -- each name of a file concerns the number that the file was made for
@@ -235,17 +246,17 @@ made_outside q x fd i read new = record {
       (put_at_cases q.disk.names (path x) (Some i) (path y));
 }
 
--- nor of those that were there at the beginning; and what is written is none of them either
+-- nor of those that none of the queue's programs made; and what is written is none of them either
 pub made_old : (q : Queue) (a : List ℕ) (x : Name) (fd i read : ℕ) (role : Role) → IsNew q.disk (path x) fd i → LeavesOld q (made q a x fd i read role)
 made_old q a x fd i read role new = record {
   files = λ name k there _. put_other q.disk.files i (empty_file read) k (λ same. new.unused.unnamed name (there ∙ ap Some same));
-  roles = λ name k there was. put_other q.role i role k (λ same. new.unused.unnamed name (there ∙ ap Some same)) ∙ was;
+  roles = λ name k there. put_other q.role i role k (λ same. new.unused.unnamed name (there ∙ ap Some same));
 }
 
-pub written_old : (q : Queue) (j : ℕ) (f : File) → q.role j ≢ AsOld → LeavesOld q (written q j f)
+pub written_old : (q : Queue) (j : ℕ) (f : File) → (IsForeignRole (q.role j) → ⊥) → LeavesOld q (written q j f)
 written_old q j f new = record {
-  files = λ name k there was. put_other q.disk.files j f k (λ same. new (ap q.role (sym same) ∙ was));
-  roles = λ _ _ _ was. was;
+  files = λ name k there was. put_other q.disk.files j f k (λ same. new (subst (λ n. IsForeignRole (q.role n)) same was));
+  roles = λ _ _ _. refl;
 }
 
 -- the outcome of each deed
@@ -317,7 +328,7 @@ module _ (controls : Controls) (now : ℕ) (q : Queue) (a : List ℕ) (args : Ar
       files = λ k out. put_other q.disk.files j f k (λ same. out.unqueued x (there ∙ ap Some (sym same)));
       unqueued = λ k out y is. out.unqueued y is;
     };
-    old = written_old q j f (λ was. let same : n ≡ j = sym own ∙ ap (made_for j) was in let w = ap q.role same in absurd (cc));
+    old = written_old q j f (λ was. let same : n ≡ j = sym own ∙ foreign_number j (q.role j) was in subst IsForeignRole (ap q.role (sym same) ∙ mine) was);
     next = next;
   }
 
@@ -354,6 +365,6 @@ module _ (controls : Controls) (now : ℕ) (q : Queue) (a : List ℕ) (args : Ar
           (λ c. out.unqueued y (sym c.1 ∙ is))
           (put_at_cases q.disk.names (path x) o (path y));
     };
-    old = record { files = λ _ _ _ _. refl; roles = λ _ _ _ h. h };
+    old = record { files = λ _ _ _ _. refl; roles = λ _ _ _. refl };
     next = next;
   }

@@ -2,25 +2,28 @@
 use Rattle.std.proofs.Common.{◌≡◌, ℕ, List, true, Some, None, sym, ap, ◌∙◌, subst}
 use Rattle.address_rules.specs.declared.controls.Controls.{Controls}
 use Rattle.call_fs.specs.Disk.{Among}
-use Rattle.queue_paths.specs.Names.{Name}
+use Rattle.queue_paths.specs.Names.{Name, path}
 use Rattle.queue_paths.specs.Names.Name.{Of}
 use Rattle.queue_paths.specs.Names.Part.{Todo}
 use Rattle.queue_law.specs.Books.{Injection, Books, IsInjected}
-use Rattle.queue_law.specs.Numbers.{Role, Queue, look, about, IsRight, Phase, NoneLost, Sound, IsEarly}
+use Rattle.queue_law.specs.Numbers.{Entry, Queue, look, about, IsRight, Phase, NoneLost, Sound, IsEarly}
 use Rattle.queue_law.proofs.Frame.{still_there}
 use Rattle.queue_law.specs.Steps.{Elsewhere, Foreign, ForeignersKeep}
-use Rattle.queue_law.proofs.Looks.{find_same}
+use Rattle.queue_law.proofs.Looks.{find_same, found}
 
 module _ (a : List ℕ) (q r : Queue) (F : Foreign a q r) where
   same : (x : Name) → look r x ≡ look q x
   same x = find_same q.disk.names r.disk.names q.disk.files r.disk.files x (F.names x) (F.files x)
+
+  kept : (x : Name) (y : Entry) → look q x ≡ Some y → r.role y.number ≡ q.role y.number
+  kept x y h = F.role (path x) y.number (found q.disk.names q.disk.files x y h).0
 
   pub foreign_about : (n : ℕ) → about r n ≡ about q n
   foreign_about n = λ i. record { parts = λ part. same (Of part n) i; living = (F.books i).living n }
 
   pub foreign_sound : (controls : Controls) → Sound controls q → Sound controls r
   foreign_sound controls G = record {
-    suits = λ x y h. subst (λ (role : ℕ → Role). IsRight x y (role y.number)) (sym F.role) (G.suits x y (sym (same x) ∙ h));
+    suits = λ x y h. let was = sym (same x) ∙ h in subst (IsRight x y) (sym (kept x y was)) (G.suits x y was);
     fine = λ n. subst (Phase controls) (sym (foreign_about n)) (G.fine n);
     over = subst (NoneLost controls) (sym F.books) G.over;
   }
@@ -30,7 +33,7 @@ module _ (a : List ℕ) (q r : Queue) (F : Foreign a q r) where
     looks = λ x _. same x;
     living = λ n _. ap (λ (b : Books). b.living n) F.books;
     opens = F.opens;
-    roles = λ x y _. ap (λ (role : ℕ → Role). role y.number) F.role;
+    roles = kept;
     apart = λ _ _ _ _ _ _ _ _ _ h. absurd (cc);
     accepted = λ i h _. still_there r.books i (subst (λ (b : Books). IsInjected b i) (sym F.books) h);
   }

@@ -21,7 +21,7 @@ use Rattle.queue_law.specs.Numbers.LaneState.{LaneThere, LaneGone}
 use Rattle.queue_law.proofs.Tests.{off}
 use Rattle.queue_law.proofs.Looks.{find_some, find_none, not_found, found}
 use Rattle.queue_law.specs.Injectors.{InjectorFares}
-use Rattle.queue_law.specs.Numbers.Role.{AsMessage, AsPart, AsOld}
+use Rattle.queue_law.specs.Numbers.Role.{AsMessage, AsPart, AsDrop, AsOld}
 use Rattle.queue_law.specs.Numbers.Phase.{Free, Queued, Sorted, Finished}
 use Rattle.queue_law.specs.Steps.{after_halt}
 
@@ -57,6 +57,7 @@ settled_synced f bytes text h s =
 settled_recent : (role : Role) (f : File) (bytes : List ℕ) → IsRecent f role → IsRecent (settled bytes f) role
 settled_recent (AsMessage actor args) f bytes h = h
 settled_recent (AsPart part n) f bytes h = h
+settled_recent (AsDrop actor) f bytes h = h
 settled_recent AsOld f bytes h = h
 
 module _ (q : Queue) (contents : ℕ → List ℕ) (survives : AllSurvive q.disk contents) where

@@ -81,7 +81,7 @@ module _ (controls : Controls) (now : ℕ) (a : List ℕ) (q : Queue) (G : Sound
       let r = with_fds q opens holder in
       record {
         leads = leads_on controls now a q r G n (fds_elsewhere now a q G.suits n R.closed opens holder others) G.suits (Queued R.rest) G.over (outside_same q.disk opens)
-            (record { files = λ _ _ _ _. refl; roles = λ _ _ _ h. h });
+            (record { files = λ _ _ _ _. refl; roles = λ _ _ _. refl });
         stands = record {
           rests = λ _. record { closed = closed_on now q r n refl refl refl R.closed; rest = R.rest };
           holds = holds;
@@ -101,7 +101,7 @@ module _ (controls : Controls) (now : ℕ) (a : List ℕ) (q : Queue) (G : Sound
       let w = queued_same controls (about q n) (about r n) refl (part_other q n part Mess f.mess) (part_other q n part Todo f.todo) (part_lost q n part Bounce R.rest.no_bounce) R.rest in
       record {
         leads = leads_on controls now a q r G n (part_elsewhere now a q G.suits n R.closed part) (part_suits q G.suits n part) (Queued w) G.over (part_outside q n part)
-            (record { files = λ _ _ _ _. refl; roles = λ _ _ _ h. h });
+            (record { files = λ _ _ _ _. refl; roles = λ _ _ _. refl });
         stands = record {
           rests = λ _. record { closed = closed_on now q r n (part_other q n part Mess f.mess) refl refl R.closed; rest = w };
           holds = holds;

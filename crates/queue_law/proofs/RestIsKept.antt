@@ -136,8 +136,8 @@ module _ (q : Queue) (contents : ℕ → List ℕ) (survives : AllSurvive q.disk
 
   stands_halt : (controls : Controls) (now : ℕ) (row : Row) (p : Place) → StandsAt controls now q row p → StandsAt controls now (after_halt contents q) row p
   stands_halt controls now at.FindPid p h = rests_halt controls now (waiting p) h
-  stands_halt controls now at.StatPid p h = rests_halt controls now (waiting p) h
-  stands_halt controls now (at.JudgePid moment) p h = (rests_halt controls now (waiting p) h.0, judged_halt (parse (pid_path p.name)) moment h.1)
+  stands_halt controls now at.StatPid p h = (rests_halt controls now (waiting p) h.0, h.1)
+  stands_halt controls now (at.JudgePid moment) p h = (rests_halt controls now (waiting p) h.0, judged_halt (parse (pid_path p.name)) moment h.1, h.2)
   stands_halt controls now at.TakeInput p h = tt
   stands_halt controls now (at.UnlinkIntd it) p h = rests_halt controls now (at.UnlinkIntd it) h
   stands_halt controls now (at.UnlinkSecond it) p h = rests_halt controls now (at.UnlinkSecond it) h

@@ -6,7 +6,7 @@ use Rattle.queue_paths.specs.Names.Name.{Pid, Of}
 use Rattle.queue_paths.specs.Names.Part.{Mess}
 use Rattle.queue_law.specs.Books.{begun}
 use Rattle.queue_law.specs.Numbers.{Role, Queue, Entry, look, about, NamesSuit}
-use Rattle.queue_law.specs.Numbers.Role.{AsMessage, AsPart, AsOld}
+use Rattle.queue_law.specs.Numbers.Role.{AsMessage, AsPart, AsDrop, AsOld}
 use Rattle.queue_law.specs.Injectors.{InTime}
 use Rattle.queue_law.specs.Rests.{IsOverdue, IsAccepted, IsClosed, IsOldName, IsJudged, Spares, SparesNames}
 use Rattle.queue_law.specs.Steps.{Touches, Elsewhere}
@@ -18,6 +18,7 @@ use Rattle.queue_law.proofs.Deeds.{IsNowhere, IsOwn}
 overdue_later : (now m : ℕ) → now ≤ m → (role : Role) → IsOverdue now role → IsOverdue m role
 overdue_later now m later (AsMessage actor args) h = omega (arith, later, h)
 overdue_later now m later (AsPart part n) h = absurd h
+overdue_later now m later (AsDrop actor) h = absurd h
 overdue_later now m later AsOld h = absurd h
 
 pub closed_later : (now m : ℕ) → now ≤ m → (q : Queue) (n : ℕ) → IsClosed now q n → IsClosed m q n

@@ -24,11 +24,11 @@ use Rattle.queue_law.specs.Marks.{IsDone, AllMarked, IsLaneDone}
 use Rattle.queue_law.specs.Notes.{NotesDone, NotesState}
 use Rattle.queue_law.specs.Notes.NotesState.{Gone, There}
 use Rattle.queue_law.specs.Numbers.{Entry, Role, Queue, look, Suits, IsRecent, About, about, NamesSuit, file_in, is_later, IsUnsorted, IsTaken, LaneState, IsPreprocessed, Phase, Sound}
-use Rattle.queue_law.specs.Numbers.Role.{AsOld, AsPart}
+use Rattle.queue_law.specs.Numbers.Role.{AsPart}
 use Rattle.queue_law.specs.Numbers.Phase.{Free, Queued, Sorted, Finished}
 use Rattle.queue_law.specs.Numbers.LaneState.{LaneThere, LaneGone}
 use Rattle.queue_law.specs.Injectors.{IsHeld}
-use Rattle.queue_law.specs.Steps.{Concerns, Apart, Elsewhere, LeavesOld, Outside}
+use Rattle.queue_law.specs.Steps.{Concerns, Apart, Elsewhere, IsForeignRole, LeavesOld, Outside}
 use Rattle.queue_law.specs.Senders.{called_queue, LeadsOn, OnlyReads, HasLane, MayMark, MayDrop, MayEnd, MayEnter, MayReturn, LineFits, entered_queue}
 use Rattle.queue_law.proofs.Tests.{off, tells_number}
 use Rattle.queue_law.proofs.Looks.{find_far, find_near, find_gone, found}
@@ -170,7 +170,7 @@ module _ (controls : Controls) (now : ℕ) (q : Queue) (a : List ℕ) (G : Sound
       accepted = λ i h _. still_there q.books i h;
     };
     outside = outside_same q.disk opens;
-    old = record { files = λ _ _ _ _. refl; roles = λ _ _ _ h. h };
+    old = record { files = λ _ _ _ _. refl; roles = λ _ _ _. refl };
   }
 
   abbrev Stays : Option ℕ → Type 0
@@ -192,7 +192,7 @@ module _ (controls : Controls) (now : ℕ) (q : Queue) (a : List ℕ) (G : Sound
       accepted = λ i h _. still_there q.books i h;
     };
     outside = outside_same q.disk q.disk.opens;
-    old = record { files = λ _ _ _ _. refl; roles = λ _ _ _ h. h };
+    old = record { files = λ _ _ _ _. refl; roles = λ _ _ _. refl };
   }
 
   pub reads_keep : (read : ℕ) (call : CallData) (told : Answer) (wrote : ℕ) → OnlyReads q a call → Fits q.disk call told wrote
@@ -226,7 +226,7 @@ module _ (controls : Controls) (now : ℕ) (q : Queue) (a : List ℕ) (G : Sound
       (λ far. subst (Phase controls) (sym (about_same now a (Some m) q r E k far)) (G.fine k))
       (tells_number (Some m) k)
 
-  pub written_leads : (x : Name) (j : ℕ) (f : File) (n : ℕ) → q.disk.names (path x) ≡ Some j → made_for j (q.role j) ≡ n → q.role j ≢ AsOld → Apart now q a (Some n)
+  pub written_leads : (x : Name) (j : ℕ) (f : File) (n : ℕ) → q.disk.names (path x) ≡ Some j → made_for j (q.role j) ≡ n → (IsForeignRole (q.role j) → ⊥) → Apart now q a (Some n)
       → IsRecent f (q.role j) → Phase controls (about (written q j f) n) → LeadsOn controls now a (Some n) q (written q j f)
   written_leads x j f n there own new apart recent fine =
       let E : Elsewhere now a (Some n) q (written q j f) = record {
@@ -276,7 +276,7 @@ module _ (controls : Controls) (now : ℕ) (q : Queue) (a : List ℕ) (G : Sound
               (λ c. out.unqueued y (sym c.1 ∙ is))
               (put_at_cases q.disk.names (path x) None (path y));
         };
-        old = record { files = λ _ _ _ _. refl; roles = λ _ _ _ h. h };
+        old = record { files = λ _ _ _ _. refl; roles = λ _ _ _. refl };
       }
 
   -- A mark
@@ -310,7 +310,7 @@ module _ (controls : Controls) (now : ℕ) (q : Queue) (a : List ℕ) (G : Sound
         let others = λ (P : Part) (far : P ≢ lane_part ch). find_far q.disk.names q.disk.files (Of P n) j f (λ z h same.
         far (lane_role P n z.number (q.role z.number) ch (G.suits (Of P n) z h).0 (ap q.role same ∙ lane_made))) in
         let there = find_near q.disk.names q.disk.files (Of (lane_part ch) n) may.lane.file f may.lane.there in
-        written_leads (Of (lane_part ch) n) j f n lane_name (ap (made_for j) lane_made) (λ was. let w = lane_made in absurd (cc)) (taken_apart controls now q a n marking.taken)
+        written_leads (Of (lane_part ch) n) j f n lane_name (ap (made_for j) lane_made) (λ was. subst IsForeignRole lane_made was) (taken_apart controls now q a n marking.taken)
         (subst (IsRecent f) (sym lane_made) tt)
         (Sorted (resorted controls ch (about q n) (about (written q j f) n) others refl marking (LaneThere (record { number = j; file = f }) there marked)
         (λ _. is_there (look q (Of (lane_part ch) n)) may.lane.file may.lane.there)))
@@ -540,4 +540,4 @@ module _ (controls : Controls) (now : ℕ) (q : Queue) (a : List ℕ) (G : Sound
           apart = accepted_apart now q a n may.injection (is_there (look q (Of Mess n)) may.mess may.there) may.lives may.accepted;
           accepted = λ i h _. still_there q.books i h;
         } in
-        lined_leads n line q E G.suits (entered_phase (G.fine n)) (outside_same q.disk q.disk.opens) (record { files = λ _ _ _ _. refl; roles = λ _ _ _ h. h })
+        lined_leads n line q E G.suits (entered_phase (G.fine n)) (outside_same q.disk q.disk.opens) (record { files = λ _ _ _ _. refl; roles = λ _ _ _. refl })

@@ -55,7 +55,7 @@ stays controls now q a args row G next = record {
   waits = λ e. e.waits;
   none_over = λ e. e.none_over;
   outside = outside_same q.disk q.disk.opens;
-  old = record { files = λ _ _ _ _. refl; roles = λ _ _ _ h. h };
+  old = record { files = λ _ _ _ _. refl; roles = λ _ _ _. refl };
   later = λ _ _ _. refl;
   unsorted = λ n h. absurd (cc);
   own = λ n h. absurd (cc);

@@ -1,5 +1,5 @@
 -- What a cleaner relies on at each row of its table, and what a call of it leaves.
-use Rattle.std.specs.Prelude.{◌≡◌, ◌≢◌, ◌⊎◌, ℕ, ◌≤◌, List, ◌∷◌, Option, Some, None, slice_get}
+use Rattle.std.specs.Prelude.{◌≡◌, ◌≢◌, ◌⊎◌, ℕ, ◌≤◌, List, ◌∷◌, Contains, Option, Some, None, slice_get}
 use Rattle.address_rules.specs.declared.controls.Controls.{Controls}
 use Rattle.call_fs.specs.declared.calls.CallData.{CallData}
 use Rattle.call_fs.specs.declared.calls.Told.{Told}
@@ -56,20 +56,24 @@ row_of (Some text) = first_row (command_of text)
 abbrev pub waiting : Place → Row
 waiting p = row_of (slice_get (commands p.taken) p.begun)
 
+-- one part of a name
+abbrev pub IsOnePart : List ℕ → Type 0
+IsOnePart part = ¬ (Contains part 47)
+
 -- What a cleaner relies on at a row: that the number at work rests. During a scan of `pid` it is that of the command which it
--- takes up next, if it took one.
+-- takes up next, if it took one; and the name that was found is one part.
 abbrev pub StandsAt : Controls → ℕ → Queue → Row → Place → Type 0
 StandsAt controls now q at.FindPid p = Rests controls now q (waiting p)
-StandsAt controls now q at.StatPid p = Rests controls now q (waiting p)
-StandsAt controls now q (at.JudgePid moment) p = Rests controls now q (waiting p) × IsJudged q (parse (pid_path p.name)) moment
+StandsAt controls now q at.StatPid p = Rests controls now q (waiting p) × IsOnePart p.name
+StandsAt controls now q (at.JudgePid moment) p = Rests controls now q (waiting p) × IsJudged q (parse (pid_path p.name)) moment × IsOnePart p.name
 StandsAt controls now q row p = Rests controls now q row
 
 abbrev pub CleanerStands : Controls → ℕ → Queue → Place → Type 0
 CleanerStands controls now q p = StandsAt controls now q p.row p
 
--- What a call of a cleaner leaves of all that isn't the queue's: all, except that a name in `pid` may go.
+-- What a call of a cleaner leaves of all that isn't the queue's: all, except that a name in `pid` may go, but none in a directory in it.
 pub record LeavesButPid (d e : Disk) : Type 0 where
-  pub names : (name : List ℕ) → ((x : Name) → path x ≢ name) → (e.names name ≡ d.names name) ⊎ ((part : List ℕ) × (name ≡ pid_path part) × (e.names name ≡ None))
+  pub names : (name : List ℕ) → ((x : Name) → path x ≢ name) → (e.names name ≡ d.names name) ⊎ ((part : List ℕ) × (name ≡ pid_path part) × (e.names name ≡ None) × IsOnePart part)
   pub files : (i : ℕ) → e.files i ≡ d.files i
   pub unqueued : (i : ℕ) → IsOutside d i → (x : Name) → e.names (path x) ≢ Some i
 

@@ -26,10 +26,11 @@ entry files i = record { number = i; file = files i }
 unfoldable pub find : (List ℕ → Option ℕ) → (ℕ → File) → Name → Option Entry
 find names files x = option_map (entry files) (names (path x))
 
--- what a file was made as: the message of an injector, or a part of a number; or it was there at the beginning
+-- what a file was made as: the message of an injector, a part of a number, or the drop of a delivery; or it was there at the beginning
 pub data Role : Type 0 where
   AsMessage : (actor : List ℕ) (args : Arguments) → Role
   AsPart : Part → ℕ → Role
+  AsDrop : (actor : List ℕ) → Role
   AsOld : Role
 
 -- The queue at one point: its disk, who holds each open descriptor, its books, and what each file was made as.
@@ -47,6 +48,7 @@ look q x = find q.disk.names q.disk.files x
 abbrev pub IsPidRole : ℕ → Role → Type 0
 IsPidRole start (AsMessage actor args) = args.start ≡ start
 IsPidRole start (AsPart part n) = ⊥
+IsPidRole start (AsDrop actor) = ⊥
 IsPidRole start AsOld = Unit {0}
 
 abbrev pub Suits : Name → ℕ → Role → Type 0
@@ -63,6 +65,7 @@ Suits (Of Bounce n) i role = role ≡ AsPart Bounce n
 abbrev pub IsRecent : File → Role → Type 0
 IsRecent f (AsMessage actor args) = args.start ≤ f.moment
 IsRecent f (AsPart part n) = Unit {0}
+IsRecent f (AsDrop actor) = Unit {0}
 IsRecent f AsOld = Unit {0}
 
 abbrev pub IsRight : Name → Entry → Role → Type 0

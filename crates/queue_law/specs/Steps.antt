@@ -18,7 +18,7 @@ use Rattle.queue_paths.specs.Names.Name.{Pid, Of}
 use Rattle.queue_paths.specs.Names.Part.{Mess}
 use Rattle.queue_law.specs.Books.{Injection, IsInjected, IsLater, begun, booked, held_by, last_read, own_call}
 use Rattle.queue_law.specs.Numbers.{Role, Queue, Entry, look, about, is_later, IsUnsorted, IsSorted, Sound, IsEarly}
-use Rattle.queue_law.specs.Numbers.Role.{AsMessage, AsOld}
+use Rattle.queue_law.specs.Numbers.Role.{AsMessage, AsPart, AsDrop, AsOld}
 use Rattle.queue_law.specs.Injectors.{InTime, IsHeld, InjectorFares}
 use Rattle.queue_law.specs.Rests.{Spares, SparesNames}
 
@@ -49,13 +49,13 @@ pub record Elsewhere (now : ℕ) (a : List ℕ) (m : Option ℕ) (q r : Queue) :
   pub accepted : (i : Injection) → IsInjected q.books i → i.accepted ≡ true → (j : Injection) × IsInjected r.books j × IsLater i j
 
 -- What a step of a, a program that is none of the queue's, leaves: the queue's names lead where they led, to files that are as
--- they were; others hold open what they did; and the books and what each file was made as are the same.
+-- they were; others hold open what they did; and the books are the same, and what each file was made as that has a name.
 pub record Foreign (a : List ℕ) (q r : Queue) : Type 0 where
   pub names : (x : Name) → r.disk.names (path x) ≡ q.disk.names (path x)
   pub files : (x : Name) (i : ℕ) → q.disk.names (path x) ≡ Some i → r.disk.files i ≡ q.disk.files i
   pub opens : (o : List ℕ) (fd : ℕ) (how : Open) → o ≢ a → IsHeld q.disk.opens q.holder o fd how → IsHeld r.disk.opens r.holder o fd how
   pub books : r.books ≡ q.books
-  pub role : r.role ≡ q.role
+  pub role : (name : List ℕ) (i : ℕ) → q.disk.names name ≡ Some i → r.role i ≡ q.role i
 
 -- a file that has a name, and none of the queue's
 pub record IsOutside (d : Disk) (i : ℕ) : Type 0 where
@@ -70,11 +70,18 @@ pub record Outside (d e : Disk) : Type 0 where
   pub files : (i : ℕ) → IsOutside d i → e.files i ≡ d.files i
   pub unqueued : (i : ℕ) → IsOutside d i → (x : Name) → e.names (path x) ≢ Some i
 
--- What a step leaves of the files that were there at the beginning: each that has a name is as it was, also if a name in `pid` that was
--- left over leads to it.
+-- made by none of the queue's programs: there at the beginning, or the drop of a delivery
+abbrev pub IsForeignRole : Role → Type 0
+IsForeignRole (AsMessage actor args) = ⊥
+IsForeignRole (AsPart part n) = ⊥
+IsForeignRole (AsDrop actor) = Unit {0}
+IsForeignRole AsOld = Unit {0}
+
+-- What a step of one of the queue's programs leaves of the files that have a name: what each was made as; and each that none of them
+-- made is as it was, also if a name in `pid` that was left over leads to it.
 pub record LeavesOld (q r : Queue) : Type 0 where
-  pub files : (name : List ℕ) (i : ℕ) → q.disk.names name ≡ Some i → q.role i ≡ AsOld → r.disk.files i ≡ q.disk.files i
-  pub roles : (name : List ℕ) (i : ℕ) → q.disk.names name ≡ Some i → q.role i ≡ AsOld → r.role i ≡ AsOld
+  pub files : (name : List ℕ) (i : ℕ) → q.disk.names name ≡ Some i → IsForeignRole (q.role i) → r.disk.files i ≡ q.disk.files i
+  pub roles : (name : List ℕ) (i : ℕ) → q.disk.names name ≡ Some i → r.role i ≡ q.role i
 
 -- the later names lead where they led, to the same files
 abbrev pub LeavesLater : Queue → Queue → Type 0

@@ -1,7 +1,7 @@
 //! The law of the queue: what holds of each name and number of the queue (`specs/Numbers.antt`), what an injector relies on at
 //! each row of its table (`specs/Injectors.antt`), and what a call and a machine stop keep of both (`specs/Steps.antt`); what a
 //! sender does to the queue (`specs/Senders.antt`); and how each recipient is accounted for (`specs/Accounts.antt`). The induction
-//! over histories is mail_world's.
+//! over histories is world_law's; that over those without generations is mail_world's.
 #![tactic(auto)]
 
 mod laws;

@@ -12,7 +12,7 @@ use Rattle.call_fs.specs.declared.past.Own.{Own}
 use Rattle.call_fs.specs.declared.program.Port.TheVariants as port
 use Rattle.call_fs.specs.declared.program.TheConstants.{INPUT_READY}
 use Rattle.call_fs.specs.declared.program.Ready.{Ready}
-use Rattle.actor_names.specs.BounceNames.{bounce_name}
+use Rattle.actor_names.specs.ChildNames.{bounce_name}
 use Rattle.world_events.specs.Inputs.{bounce, with_texts}
 use Rattle.world_events.specs.declared.event.Program.{Program}
 use Rattle.world_events.specs.declared.event.Program.TheVariants.{Injector}
@@ -129,10 +129,6 @@ module _ (c message envelope : List ℕ) where
 pub texts_same : (message envelope : List ℕ) (program : Program) → IsMail program → IsSameButInput program (with_texts message envelope program)
 texts_same message envelope (Injector args) mail = record { uid_is = refl; pid_is = refl; invoked_is = refl; start_is = refl }
 texts_same message envelope other mail = absurd mail
-
-pub texts_mail : (message envelope : List ℕ) (program : Program) → IsMail program → IsMail (with_texts message envelope program)
-texts_mail message envelope (Injector args) mail = tt
-texts_mail message envelope other mail = absurd mail
 
 -- each event might happen when it did all the same
 pub begins_so : (d : Disk) (h : List Event) (message envelope : List ℕ) → Legal d h → (b : HasBegun (after_events d h) h)

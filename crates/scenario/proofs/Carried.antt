@@ -25,14 +25,14 @@ use Rattle.call_fs.specs.Disk.{Disk}
 use Rattle.call_fs.specs.Apply.{Fits}
 use Rattle.call_fs.specs.Maps.{put_at}
 use Rattle.call_fs.proofs.Maps.{put_at_cases}
-use Rattle.actor_names.specs.BounceNames.{bounce_name}
+use Rattle.actor_names.specs.ChildNames.{bounce_name}
 use Rattle.actor_names.specs.MailNames.{IsMailName, members}
 use Rattle.world_events.specs.Inputs.{bounce}
 use Rattle.world_events.specs.declared.event.Program.{Program}
-use Rattle.world_events.specs.declared.event.Program.TheVariants.{Injector, Cleaner, Sender, LocalSpawner, RemoteSpawner}
+use Rattle.world_events.specs.declared.event.Program.TheVariants.{Injector, Cleaner, Sender, LocalSpawner, RemoteSpawner, Delivery}
 use Rattle.world_pipes.specs.Pipes.{offered, end_of}
 use Rattle.mail_world.specs.Generations.{lives_in, is_unreported}
-use Rattle.mail_world.specs.World.{most_of}
+use Rattle.mail_world.specs.World.{command_exits, most_of}
 use Rattle.mail_world.specs.History.{call_act, netstring, Actor, Life, State, MayRun, IsLiving, IsSender, IsStatusOf, ComesOf, TenantEnds, IsFed, next_of, latest, newborn, start_of, stopped, acted, begins, disk_after, holder_after, happens, called, finished, report_text, unless_by, shut_by}
 use Rattle.mail_world.specs.History.Event.{Act, Child, Report, End, Moment, Halt}
 use Rattle.mail_world.specs.History.Life.{Alive, Over, Stopped}
@@ -234,7 +234,17 @@ module _ (plan : Plan) (s : State) (pid bounces : ℕ) (a : List ℕ) (x : Actor
   stepped_due (needs.Give (port.Status d) bytes) next h = passes (needs.Give (port.Status d) bytes) tt (λ came w. w) tt next h
   stepped_due (needs.Start (child.Bounce room)) next h = borne_by room x.program refl next h
   stepped_due (needs.Start (child.Remote slot domain sender recipient)) next h = passes (needs.Start (child.Remote slot domain sender recipient)) tt (λ came w. w) tt next h
-  stepped_due (needs.Start (child.Forward uid room)) next h = passes (needs.Start (child.Forward uid room)) tt (λ came w. w) tt next h
+  stepped_due (needs.Start (child.Forward uid room)) next h =
+      Passes (record {
+        due = needs.Start (child.Forward uid room);
+        came = Failed;
+        no_file = tt;
+        next = next;
+        comes_so = refl;
+        no_birth = λ w. w;
+        to_none = tt;
+        is = same_deed deed (Came (Act a (own_by s a (needs.Start (child.Forward uid room)) Failed) 0)) h;
+      })
   stepped_due (needs.Start (child.Local slot words uid)) next h = passes (needs.Start (child.Local slot words uid)) tt (λ came w. w) tt next h
   stepped_due (needs.Command bytes) next h = passes (needs.Command bytes) tt (λ came w. w) tt next h
   stepped_due needs.Wait next h = passes needs.Wait tt (λ came w. w) tt next h
@@ -486,6 +496,7 @@ some_most (Injector args) = omega arith
 some_most (Sender start) = omega arith
 some_most (LocalSpawner start) = omega arith
 some_most (RemoteSpawner start) = omega arith
+some_most (Delivery start args) = omega arith
 
 -- so it may come, and is of the kind of what was due
 pub record Comes (s : State) (a : List ℕ) (due : NeedData) (came : GotData) : Type 0 where
@@ -549,7 +560,7 @@ module _ (s : State) (pid : ℕ) (a : List ℕ) (program : Program) where
   comes_may (needs.Start (child.Forward uid room)) came e unborn none = let same : Failed ≡ came = cc in subst (Comes s a (needs.Start (child.Forward uid room))) same (record { of = tt; may = tt })
   comes_may (needs.Start (child.Local slot words uid)) came e unborn none = let same : Failed ≡ came = cc in subst (Comes s a (needs.Start (child.Local slot words uid))) same (record { of = tt; may = tt })
   comes_may (needs.File call) came e unborn none = absurd (cc)
-  comes_may (needs.Command bytes) came e unborn none = let same : Failed ≡ came = cc in subst (Comes s a (needs.Command bytes)) same (record { of = tt; may = tt })
+  comes_may (needs.Command bytes) came e unborn none = let same : Ended (command_exits bytes) ≡ came = cc in subst (Comes s a (needs.Command bytes)) same (record { of = tt; may = tt })
   comes_may needs.Wait came e unborn none = absurd (cc)
   comes_may (needs.Ended status) came e unborn none = absurd (cc)
 

@@ -14,6 +14,8 @@ use Rattle.world_events.specs.Starting.{starts_in}
 use Rattle.world_events.specs.declared.event.Event.{Event as Kept}
 use Rattle.world_events.specs.declared.event.Event.TheVariants as kept
 use Rattle.world_events.specs.declared.event.Program.{Program}
+use Rattle.world_events.specs.declared.event.Program.TheVariants.{Injector}
+use Rattle.mail_world.specs.ByKind.{IsMail}
 use Rattle.mail_world.specs.Generations.{started_in as kept_started, starts_of as kept_starts}
 use Rattle.mail_world.specs.History.{Event, started_by}
 use Rattle.mail_world.specs.History.Event.{Start, Act, Child, Generation, Report, End, Stop, Moment, Halt}
@@ -177,13 +179,18 @@ fed_on d old new plan a own c message envelope h playing goes events =
     let is = fed_before old.events a own c message envelope h next.0 next.1 playing.told next.2 (subst (λ (l : List Kept). AllZip Tells (with_inputs (reverse l)) (next.0 ∷ next.1)) events next.3.told) in
     (next.0, subst (λ (l : List Event). IsHistory d (crash_disk new.disk) new.events new.present (next.0 ∷ l)) is.1 next.3, is.0)
 
--- no mail has a member's name, whatever input stands in its start
+-- an injector is one with any input
+pub texts_mail : (message envelope : List ℕ) (program : Program) → IsMail program → IsMail (with_texts message envelope program)
+texts_mail message envelope (Injector args) mail = tt
+texts_mail message envelope other mail = absurd mail
+
+-- the starts are of mails, whatever input stands in them
 pub starts_begun : (c message envelope : List ℕ) (h : List Event) → AreMailStarts h → AreMailStarts (begun_with c message envelope h)
 starts_begun c message envelope [] starts = tt
 starts_begun c message envelope ((Child parent own a program) ∷ h) starts = by_test (bytes_eq a c) (starts_begun c message envelope h starts.1) where
   by_test : (t : Bool) → AreMailStarts (begun_with c message envelope h)
       → AreMailStarts (if t then (Child parent own a (with_texts message envelope program)) ∷ h else (Child parent own a program ∷ begun_with c message envelope h))
-  by_test true rest = starts
+  by_test true rest = ((starts.0.0, texts_mail message envelope program starts.0.1), starts.1)
   by_test false rest = (starts.0, rest)
 starts_begun c message envelope ((Start a program) ∷ h) starts = (starts.0, starts_begun c message envelope h starts.1)
 starts_begun c message envelope ((Act a own wrote) ∷ h) starts = (starts.0, starts_begun c message envelope h starts.1)

@@ -4,22 +4,17 @@ use Rattle.std.specs.Prelude.{OnOk, Ok, Err, Result, codes}
 use Rattle.std.specs.List.{AllZip}
 use Rattle.std.specs.Option.{option_map}
 use Rattle.std.proofs.lemmas.List.{reverse-append, take_more}
-use Rattle.call_fs.specs.declared.calls.CallData.{CallData}
-use Rattle.call_fs.specs.declared.past.ChildData.{ChildData}
-use Rattle.call_fs.specs.declared.past.ChildData.TheVariants as child
 use Rattle.call_fs.specs.declared.past.GotData.{GotData}
 use Rattle.call_fs.specs.declared.past.GotData.TheVariants as got
 use Rattle.call_fs.specs.declared.past.NeedData.{NeedData}
 use Rattle.call_fs.specs.declared.past.NeedData.TheVariants as needs
 use Rattle.call_fs.specs.declared.past.Own.{Own}
-use Rattle.call_fs.specs.declared.program.Port.{Port}
-use Rattle.call_fs.specs.declared.program.Port.TheVariants as port
 use Rattle.call_fs.specs.declared.program.Ready.{Ready}
 use Rattle.call_fs.specs.Disk.{Disk}
 use Rattle.call_fs.specs.Maps.{put_at}
 use Rattle.call_fs.proofs.Maps.{put_at_cases, put_at_same, put_at_other}
 use Rattle.call_fs.specs.Past.{IsRunBy}
-use Rattle.call_fs.specs.Program.{IsTaken, MayCome}
+use Rattle.call_fs.specs.Program.{MayCome}
 use Rattle.mail_bytes.specs.Moments.{IsMoment}
 use Rattle.queue_inject.specs.declared.injection.Arguments.{Arguments}
 use Rattle.queue_law.specs.Books.{Books, Child as Bouncer}
@@ -29,105 +24,19 @@ use Rattle.send_core.specs.Table.{Next}
 use Rattle.world_events.specs.declared.event.Event.{Event as Kept}
 use Rattle.world_events.specs.declared.event.Event.TheVariants as kept
 use Rattle.world_events.specs.declared.event.Program.{Program}
-use Rattle.world_events.specs.declared.event.Program.TheVariants.{Injector, Cleaner, Sender, LocalSpawner, RemoteSpawner}
+use Rattle.world_events.specs.declared.event.Program.TheVariants.{Injector, Cleaner, Sender, LocalSpawner, RemoteSpawner, Delivery}
 use Rattle.mail_world.specs.ByKind.{IsMail}
-use Rattle.mail_world.specs.History.{Event, Actor, Life, State, Allowed, ComesOf, IsProgramOf, IsSender, IsStatusOf, Legal, MayBear, MayDo, MayRun, TenantEnds, acted, after, begins, books_after, bouncer_of, finished, happens, newborn, next_of, slot_by, stopped}
+use Rattle.mail_world.specs.History.{Event, Actor, Life, State, Allowed, IsSender, Legal, MayBear, MayDo, MayRun, acted, after, begins, books_after, bouncer_of, finished, happens, newborn, next_of, slot_by, stopped}
 use Rattle.mail_world.specs.History.Event.{Start, Act, Child, Generation, Report, End, Stop, Moment, Halt}
 use Rattle.mail_world.specs.History.Life.{Alive, Over, Stopped}
-use Rattle.mail_world.proofs.Opens.{fits_answer}
-use Rattle.mail_world.specs.Pipework.{Pipe, Pipework, Tenant, Yields, with_child, with_generation}
-use Rattle.mail_world.specs.Pipework.Tenant.{Runs, Remote}
+use Rattle.mail_world.specs.Pipework.{Pipework, with_child, with_generation}
 use Rattle.mail_world.specs.World.{Tells}
 use Rattle.scenario.specs.declared.fates.Fates.{Fates}
 use Rattle.scenario.specs.declared.fates.Following.{Following}
 use Rattle.scenario.specs.Fates.{AreFates, AreMailStarts, AreNamed, Follows, HasDone, HasDue, IsHeard, IsMailStart, IsReadAs, TellsRead, heard_by}
+use Rattle.mail_world.proofs.Coming.{may_come}
+use Rattle.mail_world.proofs.Programs.{mail_runs}
 use Rattle.scenario.proofs.KeptEvents.{act_told, child_told}
-
--- What came may come
-
-yields_taken : (pipe : Pipe) (p : Port) (came : GotData) → ((bytes : List ℕ) → IsTaken p (got.Took bytes)) → IsTaken p got.End → IsTaken p got.Failed → Yields pipe came → IsTaken p came
-yields_taken pipe p (got.Took bytes) took ends fails y = took bytes
-yields_taken pipe p got.End took ends fails y = ends
-yields_taken pipe p got.Failed took ends fails y = fails
-yields_taken pipe p (got.Answered told) took ends fails y = absurd y
-yields_taken pipe p (got.Ended status) took ends fails y = absurd y
-yields_taken pipe p got.Crashed took ends fails y = absurd y
-yields_taken pipe p got.Gave took ends fails y = absurd y
-yields_taken pipe p (got.Started pid) took ends fails y = absurd y
-yields_taken pipe p got.Memory took ends fails y = absurd y
-
-life_taken : (d : ℕ) (life : Life) (came : GotData) → IsStatusOf life came → IsTaken (port.Status d) came
-life_taken d Alive came e = absurd e
-life_taken d (Over status) came e = subst (IsTaken (port.Status d)) (sym e) tt
-life_taken d Stopped came e = subst (IsTaken (port.Status d)) (sym e) tt
-
-tenant_taken : (s : State) (d : ℕ) (o : Option Tenant) (came : GotData) → TenantEnds s o came → IsTaken (port.Status d) came
-tenant_taken s d None came e = absurd e
-tenant_taken s d (Some (Runs b)) came e = life_taken d e.0.life came e.2
-tenant_taken s d (Some (Remote true)) came e = subst (IsTaken (port.Status d)) (sym e) tt
-tenant_taken s d (Some (Remote false)) came e = absurd e
-
-call_may : (s : State) (a : List ℕ) (c : CallData) (came : GotData) (wrote : ℕ) → ComesOf s a (needs.File c) came wrote → MayCome (needs.File c) came
-call_may s a c (got.Answered told) wrote h = fits_answer s.disk c told.answer wrote h.0
-call_may s a c (got.Took bytes) wrote h = absurd h
-call_may s a c got.End wrote h = absurd h
-call_may s a c (got.Ended status) wrote h = absurd h
-call_may s a c got.Crashed wrote h = absurd h
-call_may s a c got.Gave wrote h = absurd h
-call_may s a c (got.Started pid) wrote h = absurd h
-call_may s a c got.Failed wrote h = absurd h
-call_may s a c got.Memory wrote h = absurd h
-
-give_may : (s : State) (a : List ℕ) (p : Port) (bytes : List ℕ) (came : GotData) (wrote : ℕ) → ComesOf s a (needs.Give p bytes) came wrote → MayCome (needs.Give p bytes) came
-give_may s a port.Input bytes got.Gave wrote h = tt
-give_may s a port.Input bytes got.Failed wrote h = tt
-give_may s a port.Input bytes came wrote h = absurd h
-give_may s a port.Output bytes got.Gave wrote h = tt
-give_may s a port.Output bytes got.Failed wrote h = tt
-give_may s a port.Output bytes came wrote h = absurd h
-give_may s a port.Clean bytes got.Gave wrote h = tt
-give_may s a port.Clean bytes got.Failed wrote h = tt
-give_may s a port.Clean bytes came wrote h = absurd h
-give_may s a port.Lspawn bytes got.Gave wrote h = tt
-give_may s a port.Lspawn bytes got.Failed wrote h = tt
-give_may s a port.Lspawn bytes came wrote h = absurd h
-give_may s a port.Rspawn bytes got.Gave wrote h = tt
-give_may s a port.Rspawn bytes got.Failed wrote h = tt
-give_may s a port.Rspawn bytes came wrote h = absurd h
-give_may s a port.Todo bytes got.Gave wrote h = tt
-give_may s a port.Todo bytes got.Failed wrote h = tt
-give_may s a port.Todo bytes came wrote h = absurd h
-give_may s a (port.Status d) bytes got.Gave wrote h = tt
-give_may s a (port.Status d) bytes got.Failed wrote h = tt
-give_may s a (port.Status d) bytes came wrote h = absurd h
-give_may s a (port.Program d) bytes got.Gave wrote h = tt
-give_may s a (port.Program d) bytes got.Failed wrote h = tt
-give_may s a (port.Program d) bytes came wrote h = absurd h
-
-start_may : (s : State) (a : List ℕ) (asked : ChildData) (came : GotData) (wrote : ℕ) → ComesOf s a (needs.Start asked) came wrote → MayCome (needs.Start asked) came
-start_may s a asked (got.Started pid) wrote h = tt
-start_may s a asked got.Failed wrote h = tt
-start_may s a asked got.Memory wrote h = tt
-start_may s a (child.Remote slot domain sender recipient) came wrote h = absurd h
-start_may s a (child.Bounce room) came wrote h = absurd h
-start_may s a (child.Forward uid room) came wrote h = absurd h
-start_may s a (child.Local slot words uid) came wrote h = absurd h
-
-pub may_come : (s : State) (a : List ℕ) (due : NeedData) (came : GotData) (wrote : ℕ) → ComesOf s a due came wrote → MayCome due came
-may_come s a (needs.File c) came wrote h = call_may s a c came wrote h
-may_come s a (needs.Take (port.Status d)) came wrote h = ⊎_elim (λ e. subst (IsTaken (port.Status d)) (sym e) tt) (λ e. tenant_taken s d (s.pipework.programs a d) came e) h
-may_come s a (needs.Take port.Input) came wrote h = yields_taken (s.pipework.pipes a port.Input) port.Input came (λ bytes. tt) tt tt h
-may_come s a (needs.Take port.Output) came wrote h = yields_taken (s.pipework.pipes a port.Output) port.Output came (λ bytes. tt) tt tt h
-may_come s a (needs.Take port.Clean) came wrote h = yields_taken (s.pipework.pipes a port.Clean) port.Clean came (λ bytes. tt) tt tt h
-may_come s a (needs.Take port.Lspawn) came wrote h = yields_taken (s.pipework.pipes a port.Lspawn) port.Lspawn came (λ bytes. tt) tt tt h
-may_come s a (needs.Take port.Rspawn) came wrote h = yields_taken (s.pipework.pipes a port.Rspawn) port.Rspawn came (λ bytes. tt) tt tt h
-may_come s a (needs.Take port.Todo) came wrote h = yields_taken (s.pipework.pipes a port.Todo) port.Todo came (λ bytes. tt) tt tt h
-may_come s a (needs.Take (port.Program d)) came wrote h = yields_taken (s.pipework.pipes a (port.Program d)) (port.Program d) came (λ bytes. tt) tt tt h
-may_come s a (needs.Give p bytes) came wrote h = give_may s a p bytes came wrote h
-may_come s a (needs.Start asked) came wrote h = start_may s a asked came wrote h
-may_come s a (needs.Command bytes) came wrote h = h
-may_come s a needs.Wait came wrote h = absurd h
-may_come s a (needs.Ended status) came wrote h = absurd h
 
 -- what an actor did by an event of its own, and by the start of a child
 pub act_done : (s : State) (a : List ℕ) (own : Own) (wrote : ℕ) → MayDo s a own wrote → HasDone s a own
@@ -196,17 +105,7 @@ mail_run (Cleaner start) runs = absurd runs
 mail_run (Sender start) runs = absurd runs
 mail_run (LocalSpawner start) runs = absurd runs
 mail_run (RemoteSpawner start) runs = absurd runs
-
--- a child that was asked for
-bred_runs : (asked : ChildData) (pid : ℕ) (program : Program) → IsProgramOf asked pid program → MayRun program
-bred_runs asked pid (Injector args) is = tt
-bred_runs (child.Bounce room) pid program is = absurd is
-bred_runs (child.Forward uid room) pid program is = absurd is
-bred_runs (child.Local slot words uid) pid program is = absurd is
-bred_runs (child.Remote slot domain sender recipient) pid program is = absurd is
-
-pub bred_mail : (asked : ChildData) (pid : ℕ) (program : Program) → IsProgramOf asked pid program → IsMail program
-bred_mail asked pid program is = mail_run program (bred_runs asked pid program is)
+mail_run (Delivery start args) runs = absurd runs
 
 sender_runs : (program : Program) → MayRun program → IsSender program → ⊥
 sender_runs (Injector args) runs sends = sends
@@ -214,6 +113,7 @@ sender_runs (Cleaner start) runs sends = runs
 sender_runs (Sender start) runs sends = runs
 sender_runs (LocalSpawner start) runs sends = runs
 sender_runs (RemoteSpawner start) runs sends = runs
+sender_runs (Delivery start args) runs sends = runs
 
 -- the members of a generation
 is_member_sender : Contains members (codes "sender")
@@ -249,7 +149,7 @@ named_event s k (Start a program) told mail may named =
 named_event s k (Act a own wrote) told mail may named = named_acted s a own wrote (s.actors a) refl named
 named_event s k (Child parent own a program) told mail may named =
     named_put (acted s parent own 0 (s.actors parent)) (happens s (Child parent own a program)) a (newborn program) refl
-    (named_start a program mail (bred_runs may.asked may.pid program may.is)) (named_acted s parent own 0 (s.actors parent) refl named)
+    (named_start a program mail.0 (mail_runs program mail.1)) (named_acted s parent own 0 (s.actors parent) refl named)
 named_event s k (Generation sender clean lspawn rspawn) told mail may named =
     let are = told.2 in
     rw (are.sender_is, are.clean_is, are.lspawn_is, are.rspawn_is) (named_generation s told.0 named)
@@ -429,7 +329,7 @@ bred_told new s k e a own c program is told mail may follows =
     let it : e ≡ Child a own c whole = child_told a own c whole e (subst (λ (k : Kept). Tells k e) read.1.1 read.2) in
     let s' = acted s a own 0 (s.actors a) in
     subst (λ (e : Event). Follows new (happens s e)) (sym it)
-    (follows_begins new s' c whole (with_child s'.pipework a (slot_by own.due) c) (subst IsMailStart it mail) (follows 0 (child_done s a own c whole (subst (Allowed s) it may))))
+    (follows_begins new s' c whole (with_child s'.pipework a (slot_by own.due) c) (subst IsMailStart it mail).0 (follows 0 (child_done s a own c whole (subst (Allowed s) it may))))
 
 -- An event of the sender
 
@@ -514,6 +414,8 @@ quiet_books child b a (LocalSpawner start) past read ready (needs.File c) (got.A
 quiet_books child b a (LocalSpawner start) past read ready due came runs sends = refl
 quiet_books child b a (RemoteSpawner start) past read ready (needs.File c) (got.Answered told) runs sends = refl
 quiet_books child b a (RemoteSpawner start) past read ready due came runs sends = refl
+quiet_books child b a (Delivery start args) past read ready (needs.File c) (got.Answered told) runs sends = refl
+quiet_books child b a (Delivery start args) past read ready due came runs sends = refl
 
 pub follows_member : (f : Following) (s : State) (a : List ℕ) (own : Own) (wrote : ℕ) → AreNamed s → a ≢ codes "sender" → Contains members a → Follows f s → Follows f (acted s a own wrote (s.actors a))
 follows_member f s a own wrote named apart member h = by (s.actors a) refl where
@@ -533,6 +435,7 @@ mail_is (Cleaner start) mail = absurd mail
 mail_is (Sender start) mail = absurd mail
 mail_is (LocalSpawner start) mail = absurd mail
 mail_is (RemoteSpawner start) mail = absurd mail
+mail_is (Delivery start args) mail = absurd mail
 
 pub follows_mail : (old new : Following) (s : State) (a : List ℕ) (own : Own) (wrote : ℕ) → AreNamed s → ¬ (Contains members a) → new.sender ≡ old.sender
     → ((child : Option Bouncer) (books : Books) (args : Arguments) (past : List Own) → AreFates old.fates books → AreFates new.fates (books_after child books a (Injector args) past own.read own.ready own.due own.came))

@@ -21,7 +21,7 @@ use Rattle.call_fs.proofs.Maps.{put_at_same, put_at_other}
 use Rattle.call_fs.specs.Past.{IsRunBy}
 use Rattle.call_fs.specs.Plan.{Plan}
 use Rattle.mail_bytes.specs.Moments.{IsMoment}
-use Rattle.actor_names.specs.BounceNames.{bounce_name}
+use Rattle.actor_names.specs.ChildNames.{bounce_name}
 use Rattle.actor_names.specs.MailNames.{IsMailName, members}
 use Rattle.world_events.specs.Inputs.{bounce, with_texts}
 use Rattle.world_events.specs.declared.event.Program.{Program}
@@ -52,7 +52,8 @@ use Rattle.scenario.specs.Deeds.Deed.{Came, Fed}
 use Rattle.scenario.specs.Steps.{StepsTo, comes, own_by}
 use Rattle.scenario.specs.Steps.Outcome.{Happens}
 use Rattle.scenario.specs.Turns.{first_alive, generation_at, awaits_report}
-use Rattle.scenario.proofs.Births.{StartsNot, still_none, HasBegun, BegunIf, begins_so, texts_same, texts_mail, not_child, acted_begun, fed_begun, finished_begun, started_begun, borne_begun, generation_begun, report_begun, moment_begun, halted_begun}
+use Rattle.scenario.proofs.Deeds.{texts_mail}
+use Rattle.scenario.proofs.Births.{StartsNot, still_none, HasBegun, BegunIf, begins_so, texts_same, not_child, acted_begun, fed_begun, finished_begun, started_begun, borne_begun, generation_begun, report_begun, moment_begun, halted_begun}
 use Rattle.scenario.proofs.Carried.{Carries, HasDone, has_stepped, called_carries, finished_carries, begins_carries, starts_carries, other_carries, comes_may, passed_carries, moment_carries, halted_carries, generation_carries, report_carries, member_apart, sender_named, lives_actor, none_alive, living_in, unreported_is, both_true}
 use Rattle.scenario.proofs.Carried.HasDone.{Calls, Finishes, Passes, Bears, Feeds}
 use Rattle.scenario.proofs.LastingFiles.{halt_survives}

@@ -16,14 +16,14 @@ use Rattle.call_fs.specs.declared.program.Ready.{Ready}
 use Rattle.call_fs.specs.declared.program.TheConstants.{INPUT_READY}
 use Rattle.world_events.specs.declared.event.Event.{Event as Kept}
 use Rattle.world_events.specs.declared.event.Program.{Program}
-use Rattle.world_events.specs.declared.event.Program.TheVariants.{Injector, Cleaner, Sender, LocalSpawner, RemoteSpawner}
+use Rattle.world_events.specs.declared.event.Program.TheVariants.{Injector, Cleaner, Sender, LocalSpawner, RemoteSpawner, Delivery}
 use Rattle.world_pipes.specs.Pipes.{offered}
 use Rattle.mail_world.specs.Generations.{CanNot, Waits, idled_by, is_unreported, lives_in, lowest_unreported}
 use Rattle.mail_world.specs.History.{Event, Actor, State, MayReport, TenantEnds, after, next_of}
 use Rattle.mail_world.specs.Known.{known}
 use Rattle.mail_world.specs.Pipework.{Pipework, Tenant, is_ready}
 use Rattle.mail_world.specs.Pipework.Tenant.{Runs, Remote}
-use Rattle.mail_world.specs.Readiness.{found_at, found_by, found_in, has_ended, input_alone, is_awaiting, is_gone, lies_ready, lowest_ended}
+use Rattle.mail_world.specs.Readiness.{found_at, found_by, found_in, has_ended, input_alone, input_or_child, is_awaiting, is_gone, lies_ready, lowest_ended}
 use Rattle.mail_world.specs.Wired.{AreWholeGivings}
 use Rattle.mail_world.specs.World.{ComesWhole, IsKeptBy, IsKeptGiving, Tells, most_of, with_inputs}
 use Rattle.mail_world.proofs.Known.{after_known, known_pipework}
@@ -48,16 +48,20 @@ module _ (s t : State) (actors : s.actors ≡ t.actors) (pipework : s.pipework �
   awaiting_same : (a : List ℕ) → is_awaiting s a ≡ is_awaiting t a
   awaiting_same a = ap (λ (w : Pipework). is_some (w.slots a) && not (is_ready (w.pipes a port.Input))) pipework
 
+  or_child_same : (a : List ℕ) → input_or_child s a ≡ input_or_child t a
+  or_child_same a =
+      let f : Bool → Option ℕ → Ready = λ b c. record { links = b ∷ false ∷ false ∷ false ∷ []; child = c } in
+      ap (λ (b : Bool). f b (lowest_ended s a)) (ready_same a port.Input) ∙ ap (λ (c : Option ℕ). f (lies_ready t a port.Input) c) (lowest_same a)
+
   by_program : (a : List ℕ) (program : Program) → found_by s a program ≡ found_by t a program
   by_program a (Injector args) = ap (λ (t : Bool). if t then input_alone false else INPUT_READY) (awaiting_same a)
   by_program a (Cleaner start) = ap (λ (b : Bool). input_alone b) (ready_same a port.Input)
   by_program a (Sender start) =
       let f : Pipework → Ready = λ w. record { links = is_ready (w.pipes a port.Clean) ∷ is_ready (w.pipes a port.Lspawn) ∷ is_ready (w.pipes a port.Rspawn) ∷ false ∷ []; child = None } in
       ap f pipework
-  by_program a (LocalSpawner start) = ap (λ (b : Bool). input_alone b) (ready_same a port.Input)
-  by_program a (RemoteSpawner start) =
-      let f : Bool → Option ℕ → Ready = λ b c. record { links = b ∷ false ∷ false ∷ false ∷ []; child = c } in
-      ap (λ (b : Bool). f b (lowest_ended s a)) (ready_same a port.Input) ∙ ap (λ (c : Option ℕ). f (lies_ready t a port.Input) c) (lowest_same a)
+  by_program a (LocalSpawner start) = or_child_same a
+  by_program a (RemoteSpawner start) = or_child_same a
+  by_program a (Delivery start args) = or_child_same a
 
   by_actor : (a : List ℕ) (o : Option Actor) → found_at s a o ≡ found_at t a o
   by_actor a None = refl

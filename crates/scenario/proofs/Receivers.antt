@@ -3,7 +3,6 @@ use Rattle.std.proofs.Common.{◌≡◌, ◌≢◌, ℕ, suc, ◌+◌, ◌<◌, 
 use Rattle.std.specs.Prelude.{if◌then◌else◌}
 use Rattle.std.specs.List.{AllByRecursion, AllZip}
 use Rattle.std.proofs.lemmas.List.{append-nil, drop_all, drop_more, get_or_default, length-map, length-reverse, map-append, reverse-append, reverse-reverse, set_split, take_all, take_at, take_more}
-use Rattle.call_fs.specs.Disk.{Disk}
 use Rattle.call_fs.specs.declared.past.Own.{Own}
 use Rattle.queue_inject.specs.declared.injection.Arguments.{Arguments}
 use Rattle.world_events.specs.Inputs.{start_with, with_inputs, with_texts}
@@ -11,15 +10,14 @@ use Rattle.world_events.specs.Programs.{injection_of}
 use Rattle.world_events.specs.declared.event.Event.{Event as Kept}
 use Rattle.world_events.specs.declared.event.Event.TheVariants as kept
 use Rattle.world_events.specs.declared.event.Program.{Program}
-use Rattle.world_events.specs.declared.event.Program.TheVariants.{Injector, Cleaner, Sender, LocalSpawner, RemoteSpawner}
+use Rattle.world_events.specs.declared.event.Program.TheVariants.{Injector, Cleaner, Sender, LocalSpawner, RemoteSpawner, Delivery}
 use Rattle.mail_world.specs.Books.{mail_by, mails_of}
 use Rattle.mail_world.specs.ByKind.{IsMail}
-use Rattle.mail_world.specs.History.{Event, Allowed, Legal, State, after}
+use Rattle.mail_world.specs.History.{Event}
 use Rattle.mail_world.specs.History.Event.{Start, Act, Child, Generation, Report, End, Stop, Moment, Halt}
 use Rattle.mail_world.specs.World.{Tells}
 use Rattle.scenario.specs.declared.showing.Given.{Given}
-use Rattle.scenario.specs.Fates.{Receiver, given_to, is_given, received_by, receiver, receivers_in}
-use Rattle.scenario.proofs.Followed.{bred_mail}
+use Rattle.scenario.specs.Fates.{AreMailStarts, IsMailStart, Receiver, given_to, is_given, received_by, receiver, receivers_in}
 
 -- The newest of some injectors that is that child
 
@@ -178,28 +176,28 @@ all_told [] (e ∷ h) told = absurd told
 all_told (k ∷ ks) [] told = absurd told
 all_told (k ∷ ks) (e ∷ h) told = one_told k e ks h told.0 (all_told ks h told.1)
 
--- An event that a history tells is no giving to a child, and each child is an injector.
+-- An event that a history of mails tells is no giving to a child, and each child is an injector.
 abbrev IsWhole : Kept → Type 0
 IsWhole (kept.Child a own c program) = IsMail program
 IsWhole (kept.Feed a own c message envelope) = ⊥
 IsWhole k = Unit {0}
 
-whole_event : (s : State) (k : Kept) (e : Event) → Tells k e → Allowed s e → IsWhole k
-whole_event s k (Start a program) told may = subst IsWhole (sym told) tt
-whole_event s k (Act a own wrote) told may = subst IsWhole (sym told) tt
-whole_event s k (Child parent own a program) told may = subst IsWhole (sym told) (bred_mail may.asked may.pid program may.is)
-whole_event s k (Generation sender clean lspawn rspawn) told may = subst IsWhole (sym told.1) tt
-whole_event s k (Report slot letter text) told may = subst IsWhole (sym told) tt
-whole_event s k (End a read ready status) told may = subst IsWhole (sym told) tt
-whole_event s k (Stop a) told may = subst IsWhole (sym told) tt
-whole_event s k (Moment m) told may = subst IsWhole (sym told) tt
-whole_event s k (Halt how contents) told may = subst IsWhole (sym told) tt
+whole_event : (k : Kept) (e : Event) → Tells k e → IsMailStart e → IsWhole k
+whole_event k (Start a program) told mail = subst IsWhole (sym told) tt
+whole_event k (Act a own wrote) told mail = subst IsWhole (sym told) tt
+whole_event k (Child parent own a program) told mail = subst IsWhole (sym told) mail.1
+whole_event k (Generation sender clean lspawn rspawn) told mail = subst IsWhole (sym told.1) tt
+whole_event k (Report slot letter text) told mail = subst IsWhole (sym told) tt
+whole_event k (End a read ready status) told mail = subst IsWhole (sym told) tt
+whole_event k (Stop a) told mail = subst IsWhole (sym told) tt
+whole_event k (Moment m) told mail = subst IsWhole (sym told) tt
+whole_event k (Halt how contents) told mail = subst IsWhole (sym told) tt
 
-whole_all : (d : Disk) (ks : List Kept) (h : List Event) → Legal d h → AllZip Tells ks h → AllByRecursion IsWhole ks
-whole_all d [] [] legal told = tt
-whole_all d [] (e ∷ h) legal told = absurd told
-whole_all d (k ∷ ks) [] legal told = absurd told
-whole_all d (k ∷ ks) (e ∷ h) legal told = (whole_event (after d h) k e told.0 legal.1, whole_all d ks h legal.0 told.1)
+whole_all : (ks : List Kept) (h : List Event) → AreMailStarts h → AllZip Tells ks h → AllByRecursion IsWhole ks
+whole_all [] [] mails told = tt
+whole_all [] (e ∷ h) mails told = absurd told
+whole_all (k ∷ ks) [] mails told = absurd told
+whole_all (k ∷ ks) (e ∷ h) mails told = (whole_event k e told.0 mails.0, whole_all ks h mails.1 told.1)
 
 -- so it was before a child was given its input
 mail_before : (message envelope : List ℕ) (program : Program) → IsMail (with_texts message envelope program) → IsMail program
@@ -208,6 +206,7 @@ mail_before message envelope (Cleaner start) is = is
 mail_before message envelope (Sender start) is = is
 mail_before message envelope (LocalSpawner start) is = is
 mail_before message envelope (RemoteSpawner start) is = is
+mail_before message envelope (Delivery start args) is = is
 
 whole_before : (c message envelope : List ℕ) (ks : List Kept) → AllByRecursion IsWhole (start_with c message envelope ks) → AllByRecursion IsWhole ks
 whole_before c message envelope [] whole = tt
@@ -247,6 +246,7 @@ started_with c message envelope ((kept.Child a own b program) ∷ ks) whole = by
   by_program (Sender start) mail same = absurd mail
   by_program (LocalSpawner start) mail same = absurd mail
   by_program (RemoteSpawner start) mail same = absurd mail
+  by_program (Delivery start args) mail same = absurd mail
 started_with c message envelope ((kept.Feed a own b text more) ∷ ks) whole = absurd whole.0
 started_with c message envelope ((kept.Start a program) ∷ ks) whole = by_kind (injection_of program) (started_with c message envelope ks whole.1) where
   by_kind : (o : Option Arguments) → receivers_in (start_with c message envelope ks) ≡ given_to c envelope (receivers_in ks)
@@ -288,10 +288,10 @@ turned_envelopes (g ∷ given) =
     ∙ ap (λ (l : List (List ℕ)). l ++ envelope_at g ∷ []) (turned_envelopes given)
     ∙ sym (reverse-append (envelope_at g ∷ []) (map envelope_at given))
 
-pub envelopes_told : (d : Disk) (ks : List Kept) (h : List Event) (given : List Given) → Legal d h → AllZip Tells (with_inputs ks) h → turned given ≡ receivers_in ks → map envelope_at given ≡ map envelope_in (mails_of h)
-envelopes_told d ks h given legal told is =
+pub envelopes_told : (ks : List Kept) (h : List Event) (given : List Given) → AreMailStarts h → AllZip Tells (with_inputs ks) h → turned given ≡ receivers_in ks → map envelope_at given ≡ map envelope_in (mails_of h)
+envelopes_told ks h given mails told is =
     let same : reverse (map envelope_at given) ≡ reverse (map envelope_in (mails_of h)) =
     sym (turned_envelopes given)
-    ∙ ap (map received) (is ∙ with_received ks (whole_all d (with_inputs ks) h legal told))
+    ∙ ap (map received) (is ∙ with_received ks (whole_all (with_inputs ks) h mails told))
     ∙ all_told (with_inputs ks) h told in
     sym (reverse-reverse (map envelope_at given)) ∙ ap reverse same ∙ reverse-reverse (map envelope_in (mails_of h))

@@ -1,7 +1,7 @@
 -- A step of a world is a step of the script's history.
 use Rattle.std.proofs.Common.{◌≡◌, ◌≢◌, ⊎_elim, ℕ, ◌+◌, List, [], ◌∷◌, ◌++◌, reverse, Bool, true, false, is_some, Option, Some, None, refl, sym, ap, ◌∙◌, subst, Result, Err}
 use Rattle.std.specs.List.{AllZip}
-use Rattle.actor_names.specs.BounceNames.{bounce_name}
+use Rattle.actor_names.specs.ChildNames.{bounce_name}
 use Rattle.call_fs.specs.declared.calls.CallData.{CallData}
 use Rattle.call_fs.specs.declared.calls.Answer.{Answer}
 use Rattle.call_fs.specs.declared.calls.Answer.TheVariants.{Refused}
@@ -552,7 +552,7 @@ module _ (o : Disk) (old new : Seen Crash) (plan : Plan) (a : List ℕ) (own : O
         deed = Came e;
         steps = steps_by (Happens (Came e)) alive (subst (λ (d : NeedData). DoesNext plan s (next_pid h) (bounces_in h) a did.actor.program d (Happens (Came e))) (sym due) does);
         playing = playing_push o old new plan plan (kept.Child a own c program) (Came e) h playing events now refl (by (kept.Child a own c program) events ∙ playing.planned) whole
-            (λ member. let no : true ≡ false = sym (contained_member c member) ∙ bounce_mail (kept_bounces old.events + 1) in absurd (cc));
+            (λ member. let no : true ≡ false = sym (contained_member c member) ∙ bounce_mail (kept_bounces old.events + 1) in absurd (cc), tt);
         living = record { actor = lives.0; is = lives.1; alive = lives.2 ∙ made.reads.alive };
         idle = refl;
       }

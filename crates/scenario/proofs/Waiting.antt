@@ -2,7 +2,7 @@
 use Rattle.std.proofs.Common.{◌≡◌, ℕ, ◌+◌, ◌==◌, List, ◌++◌, length, take, Bool, true, false, not, ◌||◌, if◌then◌else◌, Option, Some, None, refl, sym, ap, ◌∙◌, subst}
 use Rattle.call_fs.specs.Disk.{Disk}
 use Rattle.call_fs.specs.Plan.{Plan}
-use Rattle.actor_names.specs.BounceNames.{bounce_name}
+use Rattle.actor_names.specs.ChildNames.{bounce_name}
 use Rattle.call_fs.specs.declared.past.ChildData.{ChildData}
 use Rattle.call_fs.specs.declared.past.ChildData.TheVariants as child
 use Rattle.call_fs.specs.declared.past.GotData.{GotData}
@@ -14,7 +14,7 @@ use Rattle.call_fs.specs.declared.program.Port.TheVariants as port
 use Rattle.world_events.specs.Inputs.{bounce}
 use Rattle.world_events.specs.declared.event.Event.TheVariants as kept
 use Rattle.world_events.specs.declared.event.Program.{Program}
-use Rattle.world_events.specs.declared.event.Program.TheVariants.{Injector, Cleaner, Sender, LocalSpawner, RemoteSpawner}
+use Rattle.world_events.specs.declared.event.Program.TheVariants.{Injector, Cleaner, Sender, LocalSpawner, RemoteSpawner, Delivery}
 use Rattle.world_pipes.specs.Pipes.{offered, end_of}
 use Rattle.mail_world.specs.Generations.{CanNot}
 use Rattle.mail_world.specs.History.{Actor, Life, State, TenantEnds, IsStatusOf, netstring, next_of}
@@ -117,6 +117,7 @@ start_comes pid (Cleaner start) (child.Bounce room) came is = sym is
 start_comes pid (Sender start) (child.Bounce room) came is = sym is
 start_comes pid (LocalSpawner start) (child.Bounce room) came is = sym is
 start_comes pid (RemoteSpawner start) (child.Bounce room) came is = sym is
+start_comes pid (Delivery start args) (child.Bounce room) came is = sym is
 start_comes pid program (child.Forward uid room) came is = sym is
 start_comes pid program (child.Local slot words uid) came is = sym is
 

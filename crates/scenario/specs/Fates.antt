@@ -68,10 +68,10 @@ pub record Follows (f : Following) (s : State) : Type 0 where
   pub fates : AreFates f.fates s.books
   pub heard : IsHeard f.sender (s.actors (codes "sender"))
 
--- no mail has a member's name
+-- Who starts alone, or as a child, has no member's name, and a child is the injector of a mail.
 abbrev pub IsMailStart : Event → Type 0
 IsMailStart (Start a program) = ¬ (Contains members a)
-IsMailStart (Child parent own a program) = ¬ (Contains members a)
+IsMailStart (Child parent own a program) = (¬ (Contains members a)) × IsMail program
 IsMailStart other = Unit {0}
 
 abbrev pub AreMailStarts : List Event → Type 0

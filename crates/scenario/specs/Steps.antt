@@ -13,7 +13,7 @@ use Rattle.call_fs.specs.declared.past.GotData.{GotData}
 use Rattle.call_fs.specs.declared.past.GotData.TheVariants.{Answered, Gave, Started, Ended, Crashed, Failed}
 use Rattle.call_fs.specs.declared.past.Own.{Own}
 use Rattle.crash_fs.specs.Answers.{Answers, plan_left_by}
-use Rattle.actor_names.specs.BounceNames.{bounce_name}
+use Rattle.actor_names.specs.ChildNames.{bounce_name}
 use Rattle.world_events.specs.declared.event.Program.{Program}
 use Rattle.world_events.specs.declared.event.Program.TheVariants.{Injector, Sender}
 use Rattle.world_events.specs.Inputs.{bounce}
@@ -27,7 +27,7 @@ use Rattle.mail_world.specs.History.Event.{Start, Act, Child, Generation, Report
 use Rattle.mail_world.specs.History.Life.{Alive as Living, Over, Stopped}
 use Rattle.mail_world.specs.Readiness.{found_in}
 use Rattle.mail_world.specs.Generations.{idled_by}
-use Rattle.mail_world.specs.World.{most_of}
+use Rattle.mail_world.specs.World.{command_exits, most_of}
 use Rattle.scenario.specs.Shown.{line_of}
 use Rattle.scenario.specs.Deeds.{Deed, event_in, after, bounces_in}
 use Rattle.scenario.specs.Deeds.Deed.{Came, Fed}
@@ -109,13 +109,14 @@ starts_as pid (Sender start) (child.Bounce room) = Started pid
 starts_as pid program asked = Failed
 
 -- What comes of what is due to an actor, which runs this program, other than a file call or its end, if the next process
--- number is this one; None if the actor waits. A taking takes all that lies there, and a giving goes well. No command is run.
+-- number is this one; None if the actor waits. A taking takes all that lies there, a giving goes well, and a command exits as its text
+-- says.
 abbrev pub comes : State → ℕ → List ℕ → Program → NeedData → Option GotData
 comes s pid a program (needs.Take (port.Status slot)) = status_in s (s.pipework.programs a slot)
 comes s pid a program (needs.Take port) = offered (most_of program) (s.pipework.pipes a port)
 comes s pid a program (needs.Give port bytes) = Some Gave
 comes s pid a program (needs.Start asked) = Some (starts_as pid program asked)
-comes s pid a program (needs.Command bytes) = Some Failed
+comes s pid a program (needs.Command bytes) = Some (Ended (command_exits bytes))
 comes s pid a program due = None
 
 -- an event of an actor at the present moment, with all that it finds ready

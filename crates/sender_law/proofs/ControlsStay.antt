@@ -13,7 +13,7 @@ use Rattle.queue_paths.specs.Names.Part.{Mess, Intd, Todo, Info, Local, Remote, 
 use Rattle.send_steps.specs.Steps.{control_text}
 use Rattle.queue_law.specs.Cleaners.{LeavesButPid}
 use Rattle.queue_law.specs.Numbers.{Queue}
-use Rattle.queue_law.specs.Steps.{LeavesOld, Outside, after_halt}
+use Rattle.queue_law.specs.Steps.{IsForeignRole, LeavesOld, Outside, after_halt}
 use Rattle.sender_law.specs.Control.{AreControls, control_on, controls_on}
 use Rattle.sender_law.specs.ControlFiles.{AreOld, ControlsStay, LeavesControls}
 
@@ -40,14 +40,15 @@ not_in_pid f part e = heads 99 112 _ _ (λ (w : 99 ≡ 112). absurd (omega arith
 
 left_by : (q r : Queue) → ((f : ControlFile) → r.disk.names (control_text f) ≡ q.disk.names (control_text f)) → LeavesOld q r → AreOld q → LeavesControls q r
 left_by q r names left old =
-    let files : (f : ControlFile) (i : ℕ) → q.disk.names (control_text f) ≡ Some i → r.disk.files i ≡ q.disk.files i = λ f i there. left.files (control_text f) i there (old f i there).0 in
+    let files : (f : ControlFile) (i : ℕ) → q.disk.names (control_text f) ≡ Some i → r.disk.files i ≡ q.disk.files i =
+    λ f i there. left.files (control_text f) i there (subst IsForeignRole (sym (old f i there).0) tt) in
     record {
       names = names;
       bytes = λ f i there. ap (λ (g : File). g.bytes) (files f i there);
       old = λ f i there.
           let before : q.disk.names (control_text f) ≡ Some i = sym (names f) ∙ there in
           let w = old f i before in
-          (left.roles (control_text f) i before w.0, subst (λ (g : File). IsSynced g g.bytes) (sym (files f i before)) w.1);
+          (left.roles (control_text f) i before ∙ w.0, subst (λ (g : File). IsSynced g g.bytes) (sym (files f i before)) w.1);
     }
 
 outside_leaves : (q r : Queue) → Outside q.disk r.disk → LeavesOld q r → AreOld q → LeavesControls q r

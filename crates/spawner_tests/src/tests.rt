@@ -1,4 +1,3 @@
 mod local;
 mod remote;
 mod steps;
-mod without_users;

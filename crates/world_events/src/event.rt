@@ -4,6 +4,7 @@ ghost use Rattle.world_events.specs.Starting.{starts_in, starts_program};
 
 use actor_names::ActorName;
 use call_fs::{GotData, NeedData, Own, Ready, Survival};
+use local_steps::LocalArgs;
 use mail_bytes::{ByteText, Memory};
 use queue_inject::Arguments;
 use std::alloc::Global;
@@ -32,6 +33,13 @@ pub enum Program {
     RemoteSpawner {
         /// The moment of its start.
         start: u64,
+    },
+    /// A local delivery, which was started at this moment.
+    Delivery {
+        /// The moment of its start.
+        start: u64,
+        /// The words of its command line, and its numbers.
+        args: LocalArgs,
     },
 }
 

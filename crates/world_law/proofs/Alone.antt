@@ -20,7 +20,7 @@ use Rattle.mail_world.proofs.Waiting.{always_alone, legal_before, mails_wait}
 use Rattle.world_law.specs.Headline.{EachSafe, EndsWell, Safe, SafeWithoutGenerations, StaysSafe}
 use Rattle.world_law.proofs.Safe.{safe_by}
 
-ends_well : (now : ℕ) (q : Queue) (a : List ℕ) (program : Program) (past : List Own) (life : Life) → FaresBy now q a program past life → life ≡ Over 0 → EndsWell q.books a program
+ends_well : (now : ℕ) (q : Queue) (a : List ℕ) (program : Program) (past : List Own) (life : Life) → FaresBy now q a program past life → life ≡ Over 0 → EndsWell q.books a program past
 ends_well now q a (Injector args) past life F over = F.queued (F.ends (ap is_well over))
 ends_well now q a other past life F over = absurd F
 

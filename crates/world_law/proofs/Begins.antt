@@ -43,12 +43,12 @@ inv_begins controls d has o = record {
   sound = begins_sound controls d o;
   bounces = λ i kept x h. ⊎_elim (λ w. let v = w.1 in absurd (cc)) (λ none. absurd none) kept;
   crew = λ a x h. absurd (cc);
-  crewed = λ x there. absurd (cc);
+  crewed = λ a x there. absurd (cc);
   fares = λ a x h. absurd (cc);
   control = has;
   old = λ f i there. (refl, o.settled (control_text f) i there);
   tenants = λ a d b h. absurd (cc);
-  child = tt;
+  child = λ a x h. absurd (cc);
   errands = record {
     waits = None;
     errand = losses_keep.lost None fresh none_asked;

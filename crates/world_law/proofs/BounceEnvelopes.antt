@@ -1,85 +1,25 @@
 -- What the envelope of a bounce is read as: its sender, and its recipient alone.
-use Rattle.std.proofs.Common.{◌≡◌, ℕ, List, [], ◌∷◌, ◌++◌, length, take, drop, Bool, true, false, Option, Some, None, refl, sym, ap, ◌∙◌, subst, if◌then◌else◌, bytes_eq, codes, slice_get}
-use Rattle.std.specs.Prelude.{◌-◌, ◌==◌, All, flat_map, nat_eq}
+use Rattle.std.proofs.Common.{◌≡◌, ℕ, List, [], ◌∷◌, length, take, Bool, true, false, Option, Some, None, refl, sym, ap, ◌∙◌, subst, if◌then◌else◌, bytes_eq, codes}
+use Rattle.std.specs.Prelude.{◌-◌, ◌==◌, nat_eq}
 use Rattle.std.specs.List.{ends_with}
-use Rattle.std.proofs.lemmas.List.{append-nil, append_assoc, take-append-drop}
-use Rattle.std.proofs.lemmas.List.Elements.{All-nil, All-cons, All-append, All-head, All-take, All-from_recursion, recursion_from_All}
+use Rattle.std.proofs.lemmas.List.Elements.{All-nil, All-cons, All-append, All-take, All-from_recursion}
 use Rattle.address_rules.specs.declared.controls.Controls.{Controls}
 use Rattle.address_rules.specs.Nuls.{HasNoNul, HaveNoNul}
 use Rattle.bounce_record.specs.declared.bounces.Bounce.{Bounce}
 use Rattle.bounce_record.specs.Bounces.{bounce_of, return_address, user_at}
-use Rattle.envelope_records.specs.Envelope.{IsAddress, Reading, read_envelope, record_of, records_of}
+use Rattle.envelope_records.specs.Envelope.{Reading, read_envelope}
 use Rattle.envelope_records.specs.Envelope.Reading.{Whole, Broken}
 use Rattle.envelope_records.specs.Envelope.Reading.{Open as OpenReading}
 use Rattle.envelope_records.proofs.Envelopes.{sound_as}
 use Rattle.queue_inject.specs.declared.injection.Arguments.{Arguments}
-use Rattle.queue_inject.specs.declared.injection.InputEnd.{InputEnd}
-use Rattle.queue_inject.specs.Texts.{envelope_of as envelope_in, envelope_text, entered, intd_text, limit, recipients_of, recipients_read}
+use Rattle.queue_inject.specs.Texts.{entered, limit}
 use Rattle.queue_law.specs.Books.{IsValid}
 use Rattle.queue_law.specs.Routes.{sender_of, sender_read}
 use Rattle.world_law.specs.Bounces.{IsAddressed, IsBounceOf}
-use Rattle.world_law.proofs.Marks.{both, ends_alike}
+use Rattle.world_law.proofs.Envelopes.{addressed}
 
 abbrev IsPlain : ℕ → Type 0
 IsPlain b = b ≡ 0 → ⊥
-
--- One record alone
-
-unrolled : (recipient : List ℕ) (recipients : List (List ℕ)) (rest : List ℕ)
-    → flat_map record_of (recipient ∷ recipients) ++ 0 ∷ rest ≡ 84 ∷ (recipient ++ 0 ∷ (flat_map record_of recipients ++ 0 ∷ rest))
-unrolled recipient recipients rest =
-    append_assoc (record_of recipient) (flat_map record_of recipients) (0 ∷ rest)
-    ∙ ap (λ (t : List ℕ). 84 ∷ t) (append_assoc recipient (0 ∷ []) (flat_map record_of recipients ++ 0 ∷ rest))
-
-texts_alike : (a b xs ys : List ℕ) → HasNoNul a → HasNoNul b → a ++ 0 ∷ xs ≡ b ++ 0 ∷ ys → (a ≡ b) × (xs ≡ ys)
-texts_alike a b xs ys h k e = ends_alike IsPlain 0 (λ c plain. plain) a b xs ys (recursion_from_All IsPlain a h) (recursion_from_All IsPlain b k) e
-
-no_more : (recipients : List (List ℕ)) (rest : List ℕ) → ◌≡◌ {A = List ℕ} (0 ∷ []) (flat_map record_of recipients ++ 0 ∷ rest) → recipients ≡ []
-no_more [] rest e = refl
-no_more (q ∷ qs) rest e = let w = (both 0 84 [] _ (e ∙ unrolled q qs rest)).0 in absurd (cc)
-
-one_record : (r : List ℕ) (recipients : List (List ℕ)) (rest : List ℕ) → HasNoNul r → All IsAddress recipients
-    → flat_map record_of (r ∷ []) ++ 0 ∷ [] ≡ flat_map record_of recipients ++ 0 ∷ rest → recipients ≡ r ∷ []
-one_record r [] rest h k e = let w = (both 84 0 _ rest (sym (unrolled r [] []) ∙ e)).0 in absurd (cc)
-one_record r (q ∷ qs) rest h k e =
-    let w = both 84 84 _ _ (sym (unrolled r [] []) ∙ e ∙ unrolled q qs rest) in
-    let v = texts_alike r q (0 ∷ []) (flat_map record_of qs ++ 0 ∷ rest) h (All-head IsAddress q qs k).plain w.1 in
-    ap (λ (t : List ℕ). t ∷ qs) (sym v.0) ∙ ap (λ (t : List (List ℕ)). r ∷ t) (no_more qs rest v.1)
-
--- Records and what comes after them
-
-laid_out : (sender : List ℕ) (recipients : List (List ℕ)) (rest : List ℕ)
-    → (records_of sender recipients ++ 0 ∷ []) ++ rest ≡ 70 ∷ (sender ++ 0 ∷ (flat_map record_of recipients ++ 0 ∷ rest))
-laid_out sender recipients rest =
-    append_assoc (records_of sender recipients) (0 ∷ []) rest
-    ∙ append_assoc (70 ∷ (sender ++ 0 ∷ [])) (flat_map record_of recipients) (0 ∷ rest)
-    ∙ ap (λ (t : List ℕ). 70 ∷ t) (append_assoc sender (0 ∷ []) (flat_map record_of recipients ++ 0 ∷ rest))
-
-one_envelope : (s r sender : List ℕ) (recipients : List (List ℕ)) (rest : List ℕ) → HasNoNul s → HasNoNul r → IsAddress sender → All IsAddress recipients
-    → records_of s (r ∷ []) ++ 0 ∷ [] ≡ (records_of sender recipients ++ 0 ∷ []) ++ rest → (sender ≡ s) × (recipients ≡ r ∷ [])
-one_envelope s r sender recipients rest h k from to e =
-    let w = both 70 70 _ _ (sym (laid_out s (r ∷ []) []) ∙ append-nil (records_of s (r ∷ []) ++ 0 ∷ []) ∙ e ∙ laid_out sender recipients rest) in
-    let v = texts_alike s sender _ _ h from.plain w.1 in
-    (sym v.0, one_record r recipients rest k to v.1)
-
--- What is read
-
-module _ (args : Arguments) (s r : List ℕ) (h : HasNoNul s) (k : HasNoNul r) (is : args.envelope ≡ records_of s (r ∷ []) ++ 0 ∷ []) where
-  read_by : (reading : Reading) → read_envelope (take limit args.envelope) ≡ reading → (end : InputEnd) (next : Option ℕ) → (envelope_text reading end next).fault ≡ None
-      → (sender_read reading ≡ s) × (recipients_read reading ≡ r ∷ [])
-  read_by (Whole sender recipients) read end next none =
-      let w = sound_as (take limit args.envelope) (Whole sender recipients) read in
-      let later : List ℕ = w.rest ++ drop limit args.envelope in
-      let whole : records_of s (r ∷ []) ++ 0 ∷ [] ≡ (records_of sender recipients ++ 0 ∷ []) ++ later =
-      sym is ∙ sym (take-append-drop limit args.envelope) ∙ ap (λ (t : List ℕ). t ++ drop limit args.envelope) w.split
-      ∙ append_assoc w.prefix w.rest (drop limit args.envelope) ∙ ap (λ (t : List ℕ). t ++ later) w.whole.text in
-      one_envelope s r sender recipients later h k w.whole.from w.whole.to whole
-  read_by (OpenReading stage) read end next none = absurd (cc)
-  read_by (Broken before fault) read end next none = absurd (cc)
-
-  pub addressed : IsValid args → (sender_of args ≡ s) × (recipients_of args ≡ r ∷ [])
-  unfolding sender_of recipients_of intd_text envelope_in
-  addressed valid = read_by (read_envelope (take limit args.envelope)) refl args.envelope_end (slice_get args.envelope limit) valid.envelope
 
 -- No address of a bounce has a NUL
 
@@ -130,7 +70,7 @@ module _ (controls : Controls) (no_nul : HaveNoNul controls) (notes message : Li
 pub bounce_addressed : (controls : Controls) → HaveNoNul controls → (message : Arguments) (notes : List ℕ) (args : Arguments) → IsValid args → (it : IsBounceOf controls message notes args) → IsAddressed it.bounce args
 bounce_addressed controls no_nul message notes args valid it =
     let plain = bounce_plain controls no_nul notes _ it.moment (sender_of message) it.bounce (sender_plain message) it.made in
-    let w = addressed args it.bounce.sender it.bounce.recipient plain.sender plain.recipient it.envelope_is valid in
+    let w = addressed args it.bounce.sender (it.bounce.recipient ∷ []) plain.sender (plain.recipient, tt) it.envelope_is valid in
     record { from = w.0; to = w.1 }
 
 -- nothing comes of a double bounce

@@ -56,7 +56,7 @@ HasBounce b of x = (i : Injection) × IsKept b i × (i.args ≡ of) × Among x i
 abbrev pub KeepsAccepted : Books → Books → Type 0
 KeepsAccepted b c = (i : Injection) → IsInjected b i → i.accepted ≡ true → (j : Injection) × IsInjected c j × IsLater i j
 
-queued_on : (b c : Books) → KeepsAccepted b c → (a : List ℕ) (args : Arguments) → HasQueued b a args → HasQueued c a args
+pub queued_on : (b c : Books) → KeepsAccepted b c → (a : List ℕ) (args : Arguments) → HasQueued b a args → HasQueued c a args
 queued_on b c keeps a args h =
     let w = keeps h.0 h.1 h.4 in
     (w.0, w.1, w.2.actor_is ∙ h.2, w.2.args_are ∙ h.3, w.2.accepted_is ∙ h.4)
@@ -66,7 +66,7 @@ kept_returned : (controls : Controls) (b : Books) → BouncesAreQueued controls 
 kept_returned controls b B of x h =
     let w = B h.0 h.1 x h.3 in (w.accepted, subst (λ (z : Arguments). IsBounceOf controls z x.notes x.args) h.2 w.carries)
 
-put_some : (living : ℕ → Option Injection) (k n : ℕ) (o : Option Injection) (i : Injection) → put living k o n ≡ Some i → (o ≡ Some i) ⊎ (living n ≡ Some i)
+pub put_some : (living : ℕ → Option Injection) (k n : ℕ) (o : Option Injection) (i : Injection) → put living k o n ≡ Some i → (o ≡ Some i) ⊎ (living n ≡ Some i)
 put_some living k n o i is = ⊎_elim
     (λ (c : (n ≡ k) × (put living k o n ≡ o)). inl (sym c.1 ∙ is))
     (λ (c : (n ≢ k) × (put living k o n ≡ living n)). inr (sym c.1 ∙ is))
@@ -77,7 +77,7 @@ put_some living k n o i is = ⊎_elim
 begun_none : (a : List ℕ) (args : Arguments) (n : ℕ) (i : Injection) (x : Bounced) → ◌≡◌ {A = Option Injection} (Some (begun a args n)) (Some i) → Among x i.ledger.bounced → ⊥
 begun_none a args n i x e h = let same : i ≡ begun a args n = cc in subst (λ (j : Injection). Among x j.ledger.bounced) same h
 
-accepted_ledger : (a : List ℕ) (o : Option Injection) (i : Injection) → accept a o ≡ Some i → (j : Injection) × (o ≡ Some j) × (i.args ≡ j.args) × (i.ledger ≡ j.ledger)
+pub accepted_ledger : (a : List ℕ) (o : Option Injection) (i : Injection) → accept a o ≡ Some i → (j : Injection) × (o ≡ Some j) × (i.args ≡ j.args) × (i.ledger ≡ j.ledger)
 accepted_ledger a None i e = absurd (cc)
 accepted_ledger a (Some j) i e = let w = by (bytes_eq j.actor a) e in (j, refl, w.0, w.1)
   where
@@ -85,11 +85,11 @@ accepted_ledger a (Some j) i e = let w = by (bytes_eq j.actor a) e in (j, refl, 
     by true is = let same : i ≡ record j { accepted = true } = cc in (ap (λ (k : Injection). k.args) same, ap (λ (k : Injection). k.ledger) same)
     by false is = let same : i ≡ j = cc in (ap (λ (k : Injection). k.args) same, ap (λ (k : Injection). k.ledger) same)
 
-among_option : (o : Option Injection) (i : Injection) → Among i (option_to_list o) → o ≡ Some i
+pub among_option : (o : Option Injection) (i : Injection) → Among i (option_to_list o) → o ≡ Some i
 among_option None i h = absurd h
 among_option (Some j) i h = ⊎_elim (λ (same : i ≡ j). ap Some (sym same)) (λ (none : ⊥). absurd none) h
 
-among_append : (i : Injection) (xs ys : List Injection) → Among i (xs ++ ys) → Among i xs ⊎ Among i ys
+pub among_append : (i : Injection) (xs ys : List Injection) → Among i (xs ++ ys) → Among i xs ⊎ Among i ys
 among_append i [] ys h = inr h
 among_append i (y ∷ xs) ys h = ⊎_elim
     (λ (e : i ≡ y). inl (inl e))
@@ -154,7 +154,7 @@ line_bounced (Reads bytes) l x h = inl h
 line_bounced Drops l x h = inl h
 
 -- the message of that number has these arguments
-abbrev IsLiving : Books → ℕ → Arguments → Type 0
+abbrev pub IsLiving : Books → ℕ → Arguments → Type 0
 IsLiving b n of = (i : Injection) × (b.living n ≡ Some i) × (i.args ≡ of)
 
 entered_bounces : (b : Books) (n : ℕ) (line : Line) (of : Arguments) (x : Bounced) → HasBounce (entered_in b n line) of x → HasBounce b of x ⊎ (IsLineOf line x × IsLiving b n of)

@@ -1,52 +1,60 @@
--- The start of a child: the sender starts the injector of a bounce, and no other program starts an actor.
+-- The start of a child: the sender starts the injector of a bounce, the local spawner a delivery, and that the injector of its forwards; no
+-- other program starts an actor.
 use Rattle.std.specs.Prelude.{Contains}
-use Rattle.std.proofs.Common.{◌≡◌, ◌≢◌, ℕ, ◌≤◌, ◌==◌, List, ◌∷◌, Bool, true, false, ◌&&◌, Option, Some, None, refl, sym, ap, ◌∙◌, subst, bytes_eq, codes, if◌then◌else◌}
+use Rattle.std.proofs.Common.{◌≡◌, ◌≢◌, inl, ℕ, ◌≤◌, ◌==◌, List, [], ◌∷◌, Bool, true, false, ◌&&◌, Option, Some, None, refl, sym, ap, ◌∙◌, subst, ⊎_elim, bytes_eq, codes, if◌then◌else◌}
 use Rattle.address_rules.specs.declared.controls.Controls.{Controls}
 use Rattle.call_fs.proofs.Maps.{put_at_other, put_at_same}
+use Rattle.call_fs.specs.Maps.{put_at}
 use Rattle.call_fs.specs.declared.calls.CallData.{CallData}
 use Rattle.call_fs.specs.declared.calls.CallData.TheVariants as call
 use Rattle.call_fs.specs.declared.past.ChildData.{ChildData}
 use Rattle.call_fs.specs.declared.past.ChildData.TheVariants as child
+use Rattle.call_fs.specs.declared.past.DeliveryWordsData.{DeliveryWordsData}
 use Rattle.call_fs.specs.declared.past.GotData.{GotData}
 use Rattle.call_fs.specs.declared.past.GotData.TheVariants as got
 use Rattle.call_fs.specs.declared.past.NeedData.{NeedData}
 use Rattle.call_fs.specs.declared.past.NeedData.TheVariants as needs
 use Rattle.call_fs.specs.declared.past.Own.{Own}
-use Rattle.no_mailbox.specs.declared.place.Place.{Place as LocalPlace}
-use Rattle.no_mailbox.specs.declared.row.Row.{Row as LocalRow}
-use Rattle.no_mailbox.specs.declared.row.Row.TheVariants as local
-use Rattle.no_mailbox.specs.Table.{due_at as local_due, place_after as local_after, row_now as local_now}
+use Rattle.call_fs.specs.declared.program.Port.TheVariants as port
+use Rattle.delivery_law.proofs.Events.{deliveries_keep}
+use Rattle.local_spawn.specs.declared.place.Place.{Place as LocalPlace}
+use Rattle.local_spawn.specs.Table.{place_after as local_after, program_of as local_asks}
+use Rattle.local_steps.specs.declared.arguments.LocalArgs.{LocalArgs}
 use Rattle.queue_clean.specs.declared.row.Row.{Row as CleanRow}
 use Rattle.queue_clean.specs.declared.row.Row.TheVariants as clean
 use Rattle.queue_clean.specs.Table.{due_at as clean_due, is_old, pid_path, place_after as clean_after, search_after}
-use Rattle.queue_inject.specs.declared.injection.Arguments.{Arguments}
 use Rattle.queue_inject.specs.Table.{Next}
 use Rattle.queue_inject.proofs.Acts.{IsAlone, next_alone}
+use Rattle.queue_law.specs.Numbers.{Queue}
 use Rattle.queue_law.proofs.Injectors.{injector_start}
-use Rattle.received_line.specs.declared.line.Invoked.TheVariants as invoking
+use Rattle.queue_law.proofs.Tests.{text_cases}
 use Rattle.remote_spawn.specs.Table.{due_from, place_after as remote_after}
 use Rattle.send_core.specs.declared.desk.Desk.{Desk}
-use Rattle.send_core.specs.Table.{desk_after, due_at, row_now}
+use Rattle.send_core.specs.Table.{desk_after, row_now}
 use Rattle.sender_law.proofs.Programs.{starts_of}
-use Rattle.spawner_parts.specs.declared.place.Place.{Place as RemotePlace}
-use Rattle.spawner_parts.specs.declared.row.Row.{Row as RemoteRow}
-use Rattle.spawner_parts.specs.declared.row.Row.TheVariants as remote
-use Rattle.spawner_parts.specs.Table.{row_now as remote_now}
+use Rattle.spawner_parts.specs.declared.place.Place.{Place as SpawnPlace}
+use Rattle.spawner_parts.specs.declared.row.Row.{Row as SpawnRow}
+use Rattle.spawner_parts.specs.declared.row.Row.TheVariants as spawn
+use Rattle.spawner_parts.specs.Table.{row_now as spawn_now}
 use Rattle.actor_names.specs.MailNames.{members}
 use Rattle.world_events.specs.declared.event.Program.{Program}
-use Rattle.world_events.specs.declared.event.Program.TheVariants.{Injector, Cleaner, Sender, LocalSpawner, RemoteSpawner}
-use Rattle.world_pipes.specs.Pipework.{Pipework, Tenant, with_child}
+use Rattle.world_events.specs.declared.event.Program.TheVariants.{Injector, Cleaner, Sender, LocalSpawner, RemoteSpawner, Delivery}
+use Rattle.world_pipes.specs.Pipework.{Pipe, Pipework, Tenant, fresh, mouth, with_child}
 use Rattle.world_pipes.specs.Pipework.Tenant.{Runs}
-use Rattle.mail_world.specs.History.{Actor, IsProgramOf, Life, State, acted, bears, newborn, next_of}
+use Rattle.mail_world.specs.History.{Actor, IsProgramOf, Life, MayRun, State, acted, bears, newborn, next_of}
 use Rattle.mail_world.specs.History.Life.{Alive}
 use Rattle.mail_world.specs.Untouched.{queue}
 use Rattle.world_law.specs.Crew.{IsNamed}
-use Rattle.world_law.specs.Inv.{ChildFares, FedBy, Inv, IsTenantOf}
+use Rattle.world_law.specs.Fares.{FaresBy}
+use Rattle.world_law.specs.Inv.{Bears, ChildBy, FedBy, HasSlot, Inv, IsTenantOf}
 use Rattle.world_law.specs.Laws.{ChildrenKeep}
-use Rattle.world_law.proofs.Moved.{IsSeenAs, put_errands, put_one, with_one}
+use Rattle.world_law.proofs.Deliveries.{started, starts_on}
+use Rattle.world_law.proofs.Locals.{local_starts}
+use Rattle.world_law.proofs.Moved.{IsSameLink, IsSeenAs, each_put, put_errands, put_one, with_one}
+use Rattle.world_law.proofs.Pipes.{away_same}
 use Rattle.world_law.proofs.SendersEvents.{starting}
 use Rattle.world_law.proofs.SendersPut.{sender}
-use Rattle.world_law.proofs.Tenants.{GoesOn, one_keeps, slot_named, slot_numbered, tenant_kept}
+use Rattle.world_law.proofs.Tenants.{IsCrewed, KeepsPrograms, KeepsSlots, RunsNoMoreOf, child_kept_of, new_child, new_keeps, put_none, slot_named, slot_numbered, some_actor, tenant_kept}
 
 -- what is due starts no actor
 abbrev BearsNone : NeedData → Type 0
@@ -65,119 +73,186 @@ clean_bears : (row : CleanRow) (name : List ℕ) (now : ℕ) → BearsNone (clea
 clean_bears (clean.JudgePid moment) name now = judged_bears (is_old moment now) (call.Unlink (pid_path name)) name
 clean_bears row name now = tt
 
-local_bears : (row : LocalRow) (p : LocalPlace) → BearsNone (local_due row p)
-local_bears local.Greet p = tt
-local_bears local.Idle p = tt
-local_bears local.TakeInput p = tt
-local_bears local.Report p = tt
-local_bears (local.Ended code) p = tt
-
 -- a remote program is no actor
-remote_bears : (row : RemoteRow) (p : RemotePlace) → BearsNone (due_from row p)
-remote_bears remote.Start p = λ pid program is. is
+remote_bears : (row : SpawnRow) (p : SpawnPlace) → BearsNone (due_from row p)
+remote_bears spawn.Start p = λ pid program is. is
 remote_bears row p = tt
 
--- The sender starts the injector of a bounce
+-- what is started was given nothing yet
+fed_none : (t : State) (a : List ℕ) (due : NeedData) (asked : ChildData) (came : GotData) → due ≡ needs.Start asked → FedBy t a due came
+fed_none t a due asked came is = subst (λ (z : NeedData). FedBy t a z came) (sym is) tt
 
-module _ (controls : Controls) (s : State) (I : Inv controls s) (began : ℕ) (past : List Own) (own : Own) (is : s.actors (codes "sender") ≡ Some (sender began past)) (soon : own.read ≤ s.now)
-    (a : List ℕ) (new : s.actors a ≡ None) where
-  abbrev name : List ℕ
-  name = codes "sender"
+-- Who starts an actor doesn't start alone; and the new one is nothing to the sender and its cleaner.
 
-  abbrev d : Desk
-  d = desk_after None past
+bears_older : (runs program : Program) → Bears runs program → MayRun runs → ⊥
+bears_older (Injector args) program bears = absurd bears
+bears_older runs program bears = λ it. it
 
-  abbrev event : NeedData → GotData → Own
-  event due came = record { read = own.read; ready = own.ready; due = due; came = came }
+born_seen : (runs program : Program) → Bears runs program → IsSeenAs None (newborn program)
+born_seen (Sender since) (Injector args) bears = record { awaits = refl; place = refl; lives = λ h. absurd (cc) }
+born_seen (LocalSpawner since) (Delivery start args) bears = record { awaits = refl; place = refl; lives = λ h. absurd (cc) }
+born_seen (Delivery start words) (Injector args) bears = record { awaits = refl; place = refl; lives = λ h. absurd (cc) }
+born_seen runs program bears = absurd bears
 
-  abbrev asking : NeedData → GotData → State
-  asking due came = acted s name (event due came) 0 (Some (sender began past))
+born_named : (a : List ℕ) → (Contains members a → ⊥) → (runs program : Program) → Bears runs program → IsNamed a program
+born_named a apart (Sender since) (Injector args) bears = tt
+born_named a apart (LocalSpawner since) (Delivery start args) bears = apart
+born_named a apart (Delivery start words) (Injector args) bears = tt
+born_named a apart runs program bears = absurd bears
 
-  abbrev Born : NeedData → GotData → Program → Type 0
-  Born due came program = Inv controls (bears (asking due came) name (event due came) a program)
+born_fares : (controls : Controls) (now : ℕ) (q : Queue) (a : List ℕ) (runs program : Program) → Bears runs program → FaresBy controls now q a program [] Alive
+born_fares controls now q a (Sender since) (Injector args) bears = injector_start now q a args
+born_fares controls now q a (LocalSpawner since) (Delivery start args) bears = record { rests = deliveries_keep.begins q a args; forwards = tt; well = λ h. absurd (cc) }
+born_fares controls now q a (Delivery start words) (Injector args) bears = injector_start now q a args
+born_fares controls now q a runs program bears = absurd bears
+
+-- An actor is started in a slot of another one.
+
+module _ (controls : Controls) (t : State) (J : Inv controls t) (parent : List ℕ) (x : Actor) (bearer_is : t.actors parent ≡ Some x) (slot : ℕ) (a : List ℕ) (new : t.actors a ≡ None)
+    (program : Program) (may : Bears x.program program) (has : HasSlot x.program slot) where
+  abbrev pipes_then : Pipework
+  pipes_then = with_child t.pipework parent slot a
+
+  abbrev born_state : State
+  born_state = with_one t a (newborn program) pipes_then
+
+  older : MayRun x.program → ⊥
+  older = bears_older x.program program may
 
   -- who is new is no member, since each of them is there
   apart : Contains members a → ⊥
-  apart member = I.crewed (sender began past) is tt a member new
+  apart member = J.crewed parent x bearer_is older a member new
 
-  not_sender : a ≢ name
-  not_sender same = let v : ◌≡◌ {A = Option Actor} None (Some (sender began past)) = sym new ∙ ap s.actors same ∙ is in absurd (cc)
+  not_parent : parent ≢ a
+  not_parent same = let v : ◌≡◌ {A = Option Actor} None (Some x) = sym new ∙ ap t.actors (sym same) ∙ bearer_is in absurd (cc)
 
-  module _ (room pid : ℕ) (due : due_at (row_now d own.read own.ready) d ≡ needs.Start (child.Bounce room)) (args : Arguments) (invoked : args.invoked ≡ invoking.Bounce) where
-    abbrev asks : NeedData
-    asks = needs.Start (child.Bounce room)
+  parent_is : born_state.actors parent ≡ Some x
+  parent_is = put_at_other t.actors a (Some (newborn program)) parent not_parent ∙ bearer_is
 
-    abbrev then_state : State
-    then_state = asking asks (got.Started pid)
+  still : KeepsPrograms t.actors born_state.actors
+  still = new_keeps t.actors a (newborn program) new
 
-    -- the sender went on
-    went_on : Inv controls then_state
-    went_on = starting controls s I 0 began past own is soon (child.Bounce room) (got.Started pid) due (λ b e t there. there) (record { given = refl; answers = refl })
+  crewed_then : IsCrewed (put_at t.actors a (Some (newborn program)))
+  crewed_then o z there it m member gone = J.crewed parent x bearer_is older m member (put_none t.actors a (newborn program) m gone)
 
-    still_new : then_state.actors a ≡ None
-    still_new = put_at_other s.actors name (Some (sender began (event asks (got.Started pid) ∷ past))) a not_sender ∙ new
+  -- it has a slot of its own
+  slots_then : KeepsSlots t born_state
+  slots_then c z there = put_at_other t.pipework.slots a (Some (record { parent = parent; number = slot })) c
+      (λ same. let none : ◌≡◌ {A = Option Actor} (Some z) None = sym there ∙ ap t.actors same ∙ new in absurd (cc))
 
-    abbrev pipes_then : Pipework
-    pipes_then = with_child s.pipework name 0 a
+  in_slot : (here : Bool) (b : List ℕ) (e : ℕ) (u : Tenant) → (here ≡ true → (b ≡ parent) × (e ≡ slot)) → (if here then Some (Runs a) else t.pipework.programs b e) ≡ Some u → IsTenantOf born_state b e u
+  in_slot true b e u where_is told =
+      let one : Runs a ≡ u = cc in
+      subst (λ (z : Tenant). IsTenantOf born_state b e z) one
+      (record {
+        bearer = x;
+        bearer_is = ap born_state.actors (where_is refl).0 ∙ parent_is;
+        actor = newborn program;
+        is = put_at_same t.actors a (Some (newborn program));
+        bears = may;
+        has = subst (λ (d : ℕ). HasSlot x.program d) (sym (where_is refl).1) has;
+        back = subst (λ (p : List ℕ). born_state.pipework.slots a ≡ Some (record { parent = p; number = e })) (sym (where_is refl).0)
+            (subst (λ (d : ℕ). born_state.pipework.slots a ≡ Some (record { parent = parent; number = d })) (sym (where_is refl).1)
+            (put_at_same t.pipework.slots a (Some (record { parent = parent; number = slot }))));
+        apart = apart;
+      })
+  in_slot false b e u where_is told = tenant_kept t born_state still slots_then b e u (J.tenants b e u told)
 
-    abbrev injector : Actor
-    injector = newborn (Injector args)
+  -- in the slots of others runs who ran there, with the input that he had
 
-    abbrev born_state : State
-    born_state = with_one then_state a injector pipes_then
+  else_runs : (here : Bool) (o : Option Tenant) (u : Tenant) → here ≡ false → (if here then Some (Runs a) else o) ≡ Some u → o ≡ Some u
+  else_runs true o u off is = absurd (cc)
+  else_runs false o u off is = is
 
-    goes : GoesOn (then_state.actors a) (Injector args)
-    goes = subst (λ (o : Option Actor). GoesOn o (Injector args)) (sym still_new) (λ it. it)
+  others_run : (o : List ℕ) → bytes_eq o parent ≡ false → RunsNoMoreOf t.pipework pipes_then o
+  others_run o off d u is = inl (else_runs (bytes_eq o parent && (d == slot)) (t.pipework.programs o d) u (ap (λ (b : Bool). b && (d == slot)) off) is)
 
-    in_slot : (here : Bool) (b : List ℕ) (e : ℕ) (t : Tenant) → (here ≡ true → (b ≡ name) × (e ≡ 0)) → (if here then Some (Runs a) else s.pipework.programs b e) ≡ Some t → IsTenantOf born_state b e t
-    in_slot true b e t where_is told =
-        let one : Runs a ≡ t = cc in
-        subst (λ (z : Tenant). IsTenantOf born_state b e z) one
-        (record {
-          parent_is = (where_is refl).0;
-          slot_is = (where_is refl).1;
-          actor = injector;
-          is = put_at_same then_state.actors a (Some injector);
-          args = args;
-          program_is = refl;
-          invoked = invoked;
-          apart = apart;
-        })
-    in_slot false b e t where_is told = tenant_kept then_state born_state (one_keeps then_state.actors a injector goes) b e t (went_on.tenants b e t told)
+  child_then : ChildBy born_state parent x.program x.past x.life → (o : List ℕ) (z : Actor) → t.actors o ≡ Some z → ChildBy born_state o z.program z.past z.life
+  child_then fed o z there = ⊎_elim
+      (λ (c : (o ≡ parent) × (bytes_eq o parent ≡ true)).
+      let same : x ≡ z = some_actor x z (sym bearer_is ∙ ap t.actors (sym c.0) ∙ there) in
+      subst (λ (b : List ℕ). ChildBy born_state b z.program z.past z.life) (sym c.0) (subst (λ (y : Actor). ChildBy born_state parent y.program y.past y.life) same fed))
+      (λ (c : (o ≢ parent) × (bytes_eq o parent ≡ false)).
+      child_kept_of t born_state (λ b y far. still b y) J.tenants o (others_run o c.1) z.program z.past z.life (J.child o z there))
+      (text_cases o parent)
 
-    seen : IsSeenAs (then_state.actors a) injector
-    seen = subst (λ (o : Option Actor). IsSeenAs o injector) (sym still_new) (record { awaits = refl; place = refl; lives = λ h. absurd (cc); goes = λ it. it; quiet = λ it. it })
+  same_link : IsSameLink t.pipework pipes_then
+  same_link = record {
+    given = ap (λ (p : Pipe). p.bytes) (away_same t.pipework.pipes (Some (mouth parent (port.Program slot))) (λ p. fresh) (codes "clean") port.Input refl);
+    answers = ap (λ (p : Pipe). p.bytes) (away_same t.pipework.pipes (Some (mouth parent (port.Program slot))) (λ p. fresh) (codes "sender") port.Clean refl);
+  }
 
-    sender_is : born_state.actors name ≡ Some (sender began (event asks (got.Started pid) ∷ past))
-    sender_is = put_at_other then_state.actors a (Some injector) name (λ same. not_sender (sym same))
-        ∙ put_at_same s.actors name (Some (sender began (event asks (got.Started pid) ∷ past)))
+  seen : IsSeenAs (t.actors a) (newborn program)
+  seen = subst (λ (o : Option Actor). IsSeenAs o (newborn program)) (sym new) (born_seen x.program program may)
 
-    born : Born asks (got.Started pid) (Injector args)
-    born = put_one controls then_state went_on a injector pipes_then tt (injector_start s.now (queue then_state went_on.role) a args) goes
-        (λ b e t told. in_slot (bytes_eq b name && (e == 0)) b e t (λ both. (slot_named b name (e == 0) both, slot_numbered b name e 0 both)) told)
-        (subst (λ (o : Option Actor). ChildFares born_state o) (sym sender_is) (subst (λ (z : NeedData). FedBy born_state z (got.Started pid)) (sym due) tt))
-        (put_errands controls s.now (queue then_state went_on.role) then_state.actors a injector then_state.pipework pipes_then seen (record { given = refl; answers = refl }) went_on.errands)
+  -- Its parent has given it nothing yet.
+  born : ChildBy born_state parent x.program x.past x.life → Inv controls born_state
+  born fed = put_one controls t J a (newborn program) pipes_then (born_named a apart x.program program may) (born_fares controls t.now (queue t J.role) a x.program program may) crewed_then
+      (λ b e u told. in_slot (bytes_eq b parent && (e == slot)) b e u (λ both. (slot_named b parent (e == slot) both, slot_numbered b parent e slot both)) told)
+      (each_put t.actors a (newborn program) (λ o z. ChildBy born_state o z.program z.past z.life) (new_child born_state a program) (λ o z other there. child_then fed o z there))
+      (put_errands controls t.now (queue t J.role) t.actors a (newborn program) t.pipework pipes_then seen same_link J.errands)
 
-  bounce_born : (room pid : ℕ) (program : Program) → due_at (row_now d own.read own.ready) d ≡ needs.Start (child.Bounce room) → IsProgramOf (child.Bounce room) pid program
-      → Born (needs.Start (child.Bounce room)) (got.Started pid) program
-  bounce_born room pid (Injector args) due it = born room pid due args it.0
-  bounce_born room pid other due it = absurd it
+-- By who starts it
 
-  asked_born : (asked : ChildData) (pid : ℕ) (program : Program) → due_at (row_now d own.read own.ready) d ≡ needs.Start asked → IsProgramOf asked pid program
-      → Born (needs.Start asked) (got.Started pid) program
-  asked_born asked pid program due it =
-      let w = starts_of d (row_now d own.read own.ready) asked due in
-      subst (λ (x : ChildData). due_at (row_now d own.read own.ready) d ≡ needs.Start x → IsProgramOf x pid program → Born (needs.Start x) (got.Started pid) program) (sym w.asked_is)
-      (bounce_born d.bounce.room pid program) due it
+module _ (controls : Controls) (s : State) (I : Inv controls s) (parent : List ℕ) (own : Own) (a : List ℕ) (new : s.actors a ≡ None) (pid : ℕ) where
+  abbrev event : NeedData → Own
+  event due = record { read = own.read; ready = own.ready; due = due; came = got.Started pid }
 
-  any_born : (asked : ChildData) (pid : ℕ) (program : Program) → due_at (row_now d own.read own.ready) d ≡ own.due → own.due ≡ needs.Start asked → own.came ≡ got.Started pid
-      → IsProgramOf asked pid program → Born own.due own.came program
-  any_born asked pid program due starts came it =
-      subst (λ (z : NeedData). Born z own.came program) (sym starts)
-      (subst (λ (z : GotData). Born (needs.Start asked) z program) (sym came)
-      (asked_born asked pid program (due ∙ starts) it))
+  abbrev went : Program → List Own → NeedData → Actor
+  went runs past due = record { program = runs; past = event due ∷ past; life = Alive }
 
--- No other program starts an actor
+  abbrev asking : Program → List Own → NeedData → State
+  asking runs past due = acted s parent (event due) 0 (Some (record { program = runs; past = past; life = Alive }))
+
+  abbrev Born : Program → List Own → NeedData → Program → Type 0
+  Born runs past due program = Inv controls (bears (asking runs past due) parent (event due) a program)
+
+  module _ (runs : Program) (past : List Own) (is : s.actors parent ≡ Some (record { program = runs; past = past; life = Alive })) where
+    far : a ≢ parent
+    far same = let v : ◌≡◌ {A = Option Actor} None (Some (record { program = runs; past = past; life = Alive })) = sym new ∙ ap s.actors same ∙ is in absurd (cc)
+
+    still_new : (due : NeedData) → put_at s.actors parent (Some (went runs past due)) a ≡ None
+    still_new due = put_at_other s.actors parent (Some (went runs past due)) a far ∙ new
+
+    parent_went : (due : NeedData) → put_at s.actors parent (Some (went runs past due)) parent ≡ Some (went runs past due)
+    parent_went due = put_at_same s.actors parent (Some (went runs past due))
+
+  -- a sender
+  bounce_born : (began : ℕ) (past : List Own) (room : ℕ) (program : Program) → s.actors parent ≡ Some (record { program = Sender began; past = past; life = Alive })
+      → next_of (Sender began) past own.read own.ready ≡ needs.Start (child.Bounce room) → Inv controls (asking (Sender began) past (needs.Start (child.Bounce room)))
+      → IsProgramOf (child.Bounce room) pid program → Born (Sender began) past (needs.Start (child.Bounce room)) program
+  bounce_born began past room (Injector args) is next went_on it =
+      let due : NeedData = needs.Start (child.Bounce room) in
+      let then_state : State = asking (Sender began) past due in
+      born controls then_state went_on parent (went (Sender began) past due) (parent_went (Sender began) past is due) 0 a (still_new (Sender began) past is due) (Injector args) it.0 refl
+      (fed_none (with_one then_state a (newborn (Injector args)) (with_child then_state.pipework parent 0 a)) parent (next_of (Sender began) past own.read own.ready) (child.Bounce room) (got.Started pid) next)
+  bounce_born began past room other is next went_on it = absurd it
+
+  -- the local spawner
+  delivery_born : (began : ℕ) (past : List Own) (slot : ℕ) (words : DeliveryWordsData) (uid : ℕ) (program : Program) → s.actors parent ≡ Some (record { program = LocalSpawner began; past = past; life = Alive })
+      → Inv controls (asking (LocalSpawner began) past (needs.Start (child.Local slot words uid))) → IsProgramOf (child.Local slot words uid) pid program
+      → Born (LocalSpawner began) past (needs.Start (child.Local slot words uid)) program
+  delivery_born began past slot words uid (Delivery start args) is went_on it =
+      let due : NeedData = needs.Start (child.Local slot words uid) in
+      born controls (asking (LocalSpawner began) past due) went_on parent (went (LocalSpawner began) past due) (parent_went (LocalSpawner began) past is due) slot a
+      (still_new (LocalSpawner began) past is due) (Delivery start args) tt tt tt
+  delivery_born began past slot words uid other is went_on it = absurd it
+
+  -- a delivery
+  forward_born : (start : ℕ) (args : LocalArgs) (past : List Own) (room : ℕ) (program : Program) → s.actors parent ≡ Some (record { program = Delivery start args; past = past; life = Alive })
+      → next_of (Delivery start args) past own.read own.ready ≡ needs.Start (child.Forward args.uid room)
+      → Inv controls (asking (Delivery start args) past (needs.Start (child.Forward args.uid room))) → IsProgramOf (child.Forward args.uid room) pid program
+      → Born (Delivery start args) past (needs.Start (child.Forward args.uid room)) program
+  forward_born start args past room (Injector words) is next went_on it =
+      let due : NeedData = needs.Start (child.Forward args.uid room) in
+      let then_state : State = asking (Delivery start args) past due in
+      born controls then_state went_on parent (went (Delivery start args) past due) (parent_went (Delivery start args) past is due) 0 a (still_new (Delivery start args) past is due) (Injector words)
+      it.0 refl
+      (fed_none (with_one then_state a (newborn (Injector words)) (with_child then_state.pipework parent 0 a)) parent (next_of (Delivery start args) past own.read own.ready)
+      (child.Forward args.uid room) (got.Started pid) next)
+  forward_born start args past room other is next went_on it = absurd it
+
+-- No other program starts an actor.
 
 module _ (controls : Controls) (s : State) (I : Inv controls s) (parent : List ℕ) (own : Own) (a : List ℕ) (new : s.actors a ≡ None) (asked : ChildData) (pid : ℕ) (program : Program)
     (starts : own.due ≡ needs.Start asked) (came : own.came ≡ got.Started pid) (it : IsProgramOf asked pid program) (soon : own.read ≤ s.now) where
@@ -187,20 +262,70 @@ module _ (controls : Controls) (s : State) (I : Inv controls s) (parent : List �
   none_born : (runs : Program) (past : List Own) (life : Life) (due : NeedData) → BearsNone due → due ≡ own.due → Then runs past life
   none_born runs past life due none is = absurd (subst BearsNone (is ∙ starts) none pid program it)
 
+  abbrev this : NeedData → GotData → Own
+  this due g = record { read = own.read; ready = own.ready; due = due; came = g }
+
+  abbrev AsDue : Program → List Own → NeedData → GotData → Type 0
+  AsDue runs past due g = Inv controls (bears (acted s parent (this due g) 0 (Some (record { program = runs; past = past; life = Alive }))) parent (this due g) a program)
+
+  -- as its parent's event has it
+  as_asked : (runs : Program) (past : List Own) (other : ChildData) → other ≡ asked → (IsProgramOf other pid program → Born controls s I parent own a new pid runs past (needs.Start other) program)
+      → Then runs past Alive
+  as_asked runs past other same go =
+      let born_so : Born controls s I parent own a new pid runs past (needs.Start asked) program =
+      subst (λ (z : ChildData). IsProgramOf z pid program → Born controls s I parent own a new pid runs past (needs.Start z) program) same go it in
+      subst (λ (z : NeedData). AsDue runs past z own.came) (sym starts) (subst (λ (g : GotData). AsDue runs past (needs.Start asked) g) (sym came) born_so)
+
+  sender_bears : (began : ℕ) (past : List Own) → parent ≡ codes "sender" → s.actors parent ≡ Some (record { program = Sender began; past = past; life = Alive })
+      → next_of (Sender began) past own.read own.ready ≡ own.due → Then (Sender began) past Alive
+  sender_bears began past named is due =
+      let d : Desk = desk_after None past in
+      let next : next_of (Sender began) past own.read own.ready ≡ needs.Start asked = due ∙ starts in
+      let w = starts_of d (row_now d own.read own.ready) asked next in
+      let room : ℕ = d.bounce.room in
+      as_asked (Sender began) past (child.Bounce room) (sym w.asked_is)
+      (λ program_is. bounce_born controls s I parent own a new pid began past room program is (next ∙ ap needs.Start w.asked_is)
+      (subst (λ (b : List ℕ). Inv controls (acted s b (event controls s I parent own a new pid (needs.Start (child.Bounce room))) 0 (Some (sender began past)))) (sym named)
+      (starting controls s I 0 began past own (subst (λ (b : List ℕ). s.actors b ≡ Some (sender began past)) named is) soon (child.Bounce room) (got.Started pid) (next ∙ ap needs.Start w.asked_is)
+      (λ b e t there. there) (record { given = refl; answers = refl })))
+      program_is)
+
+  local_bears : (began : ℕ) (past : List Own) → parent ≡ codes "lspawn" → s.actors parent ≡ Some (record { program = LocalSpawner began; past = past; life = Alive })
+      → next_of (LocalSpawner began) past own.read own.ready ≡ own.due → Then (LocalSpawner began) past Alive
+  local_bears began past named is due =
+      let p : LocalPlace = local_after past in
+      let w = local_starts controls s I 0 began past own (subst (λ (b : List ℕ). s.actors b ≡ Some (record { program = LocalSpawner began; past = past; life = Alive })) named is) asked (got.Started pid) (due ∙ starts) in
+      as_asked (LocalSpawner began) past (local_asks p) w.0
+      (delivery_born controls s I parent own a new pid began past p.work.request.slot p.delivery.words p.delivery.uid program is
+      (subst (λ (b : List ℕ). Inv controls (acted s b (event controls s I parent own a new pid (needs.Start (local_asks p))) 0 (Some (record { program = LocalSpawner began; past = past; life = Alive }))))
+      (sym named) w.1))
+
+  delivery_bears : (start : ℕ) (args : LocalArgs) (past : List Own) → s.actors parent ≡ Some (record { program = Delivery start args; past = past; life = Alive })
+      → next_of (Delivery start args) past own.read own.ready ≡ own.due → Then (Delivery start args) past Alive
+  delivery_bears start args past is due =
+      let next : next_of (Delivery start args) past own.read own.ready ≡ needs.Start asked = due ∙ starts in
+      let w = starts_on s parent 0 start args past own controls I is asked next in
+      let room : ℕ = w.0 in
+      let forward : next_of (Delivery start args) past own.read own.ready ≡ needs.Start (child.Forward args.uid room) = next ∙ ap needs.Start w.1 in
+      as_asked (Delivery start args) past (child.Forward args.uid room) (sym w.1)
+      (λ program_is. forward_born controls s I parent own a new pid start args past room program is forward
+      (started s parent 0 start args past own controls I is (child.Forward args.uid room) (got.Started pid) forward tt) program_is)
+
   by_program : (runs : Program) (past : List Own) (life : Life) → IsNamed parent runs → life ≡ Alive → s.actors parent ≡ Some (record { program = runs; past = past; life = life })
       → next_of runs past own.read own.ready ≡ own.due → Then runs past life
   by_program (Injector args) past life named alive is due =
       none_born (Injector args) past life (Next args past own.read own.ready) (alone_bears (Next args past own.read own.ready) (next_alone args past own.read own.ready)) due
   by_program (Cleaner began) past life named alive is due =
       let p = clean_after past in none_born (Cleaner began) past life (clean_due p.row p.name own.read) (clean_bears p.row p.name own.read) due
-  by_program (Sender began) past Alive named alive is due =
-      subst (λ (b : List ℕ). Inv controls (bears (acted s b own 0 (Some (sender began past))) b own a program)) (sym named)
-      (any_born controls s I began past own (subst (λ (b : List ℕ). s.actors b ≡ Some (sender began past)) named is) soon a new asked pid program due starts came it)
+  by_program (Sender began) past Alive named alive is due = sender_bears began past named is due
   by_program (Sender began) past life named alive is due = absurd (cc)
-  by_program (LocalSpawner began) past life named alive is due =
-      let p = local_after past in none_born (LocalSpawner began) past life (local_due (local_now p own.ready) p) (local_bears (local_now p own.ready) p) due
+  by_program (LocalSpawner began) past Alive named alive is due = local_bears began past named is due
+  by_program (LocalSpawner began) past life named alive is due = absurd (cc)
   by_program (RemoteSpawner began) past life named alive is due =
-      let p = remote_after past in none_born (RemoteSpawner began) past life (due_from (remote_now p own.ready) p) (remote_bears (remote_now p own.ready) p) due
+      let p = remote_after past in
+      none_born (RemoteSpawner began) past life (due_from (spawn_now p own.ready) p) (remote_bears (spawn_now p own.ready) p) due
+  by_program (Delivery start args) past Alive named alive is due = delivery_bears start args past is due
+  by_program (Delivery start args) past life named alive is due = absurd (cc)
 
 pub children_keep : ChildrenKeep
 children_keep parent own a program controls s I may =

@@ -28,6 +28,7 @@ use Rattle.errand_law.specs.Errands.Awaits.{Answer, Nothing, Over}
 use Rattle.errand_law.specs.Laws.{Cleans, IsAnsweredBy}
 use Rattle.errand_law.proofs.Cleans.{cleans_keep}
 use Rattle.errand_law.proofs.Links.{idle_is, none_waits}
+use Rattle.delivery_law.proofs.Stay.{drops_stay}
 use Rattle.queue_law.specs.Cleaners.{CleanerLeads, CleanerStands, Needs, number_at}
 use Rattle.queue_law.specs.Numbers.{About, IsPreprocessed, Queue, about}
 use Rattle.queue_law.specs.Rests.{IsClosed, RestsAs, Spares}
@@ -306,13 +307,13 @@ module _ (controls : Controls) (s : State) (I : Inv controls s) (wrote : ℕ) (b
   taken : (came : GotData) → due_by place own.read ≡ needs.Take port.Input → Yields (s.pipework.pipes name port.Input) came → Inv controls (then_state (needs.Take port.Input) came)
   taken came next comes =
       let it = piped (needs.Take port.Input) came tt tt next (offered (s.pipework.pipes name port.Input) came comes) in
-      moved_by controls s I name (cleaner began (event (needs.Take port.Input) came ∷ past)) (pipework_after s.pipework name (needs.Take port.Input) came wrote) refl it.1 goes (λ none. none) (λ b d t h. inl h)
+      moved_by controls s I name (cleaner began (event (needs.Take port.Input) came ∷ past)) (pipework_after s.pipework name (needs.Take port.Input) came wrote) refl it.1 goes tt (λ b d t h. inl h) refl
       (then_errands (needs.Take port.Input) came tt q it.0)
 
   given : (bytes : List ℕ) (came : GotData) → due_by place own.read ≡ needs.Give port.Output bytes → Inv controls (then_state (needs.Give port.Output bytes) came)
   given bytes came next =
       let it = piped (needs.Give port.Output bytes) came tt tt next tt in
-      moved_by controls s I name (cleaner began (event (needs.Give port.Output bytes) came ∷ past)) (pipework_after s.pipework name (needs.Give port.Output bytes) came wrote) refl it.1 goes (λ none. none) (λ b d t h. inl h)
+      moved_by controls s I name (cleaner began (event (needs.Give port.Output bytes) came ∷ past)) (pipework_after s.pipework name (needs.Give port.Output bytes) came wrote) refl it.1 goes tt (λ b d t h. inl h) refl
       (then_errands (needs.Give port.Output bytes) came tt q it.0)
 
   -- a file call
@@ -358,10 +359,10 @@ module _ (controls : Controls) (s : State) (I : Inv controls s) (wrote : ℕ) (b
     called =
         led_keeps controls s I name r leads.number (number_at place.row) leads.elsewhere leads.spares
         (others_spare.cleaners controls s.now q name past own.read own.ready c told wrote I.sound stands no_later next fits)
-        (controls_stay.but_pid q r leads.outside leads.old I.old) leads.sound I.bounces
+        (controls_stay.but_pid q r leads.outside leads.old I.old) (drops_stay.but_pid name q r leads.outside leads.old) leads.sound I.bounces
         (λ o other since events there h. absurd (other (I.crew o (cleaner since events) there)))
         (λ o other since events there h. sender_left o since events there)
-        (cleaner began (this ∷ past)) refl goes (λ none. none) leads.stands
+        (cleaner began (this ∷ past)) refl goes tt leads.stands
         (then_errands (needs.File c) (got.Answered told) tt r
         (cleaned_errands controls s.now q r x errands this wrote (cleans_keep errands.waits this wrote x errands.errand (sym next) tt) leads.spares still_closed leads.done))
 

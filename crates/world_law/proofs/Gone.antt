@@ -16,8 +16,7 @@ use Rattle.queue_inject.specs.declared.row.Row.TheVariants as inject
 use Rattle.queue_inject.specs.Table.{row_after}
 use Rattle.queue_clean.specs.Commands.{message_of}
 use Rattle.queue_clean.specs.Table.{Place, place_after}
-use Rattle.spawner_parts.specs.declared.row.Row.{Row as SpawnRow}
-use Rattle.spawner_parts.specs.declared.row.Row.TheVariants as spawn
+use Rattle.local_spawn.specs.Table.{place_after as local_after}
 use Rattle.remote_spawn.specs.Table.{place_after as spawn_after}
 use Rattle.send_core.specs.declared.row.Row.{Row}
 use Rattle.send_core.specs.declared.row.Row.TheVariants as at
@@ -27,6 +26,12 @@ use Rattle.send_steps.specs.declared.rows.FinishRow.TheVariants as finish
 use Rattle.todo_pass.specs.declared.row.Row.{Row as PassRow}
 use Rattle.todo_pass.specs.declared.row.Row.TheVariants as todo
 use Rattle.todo_pass.specs.Table.{Pass}
+use Rattle.delivery_law.specs.Rests.{DeliveryRests}
+use Rattle.delivery_law.proofs.Stay.{drops_stay}
+use Rattle.local_deliver.specs.Carried.{IsCarried}
+use Rattle.local_deliver.proofs.Carrying.{carried_out}
+use Rattle.local_steps.specs.declared.arguments.LocalArgs.{LocalArgs}
+use Rattle.queue_law.specs.Books.{Books}
 use Rattle.queue_law.specs.Injectors.{IsHeld}
 use Rattle.queue_law.specs.Numbers.{Queue, About, about, IsPreprocessed}
 use Rattle.queue_law.specs.Cleaners.{Needs, IsBeside}
@@ -46,14 +51,17 @@ use Rattle.sender_law.proofs.ControlsStay.{controls_stay}
 use Rattle.sender_law.proofs.LeftAlone.{senders_are_left_alone}
 use Rattle.world_pipes.specs.Pipework.{Pipe, closed, without_writer, is_writer, writer}
 use Rattle.world_events.specs.declared.event.Program.{Program}
-use Rattle.world_events.specs.declared.event.Program.TheVariants.{Injector, Cleaner, Sender, LocalSpawner, RemoteSpawner}
+use Rattle.world_events.specs.declared.event.Program.TheVariants.{Injector, Cleaner, Sender, LocalSpawner, RemoteSpawner, Delivery}
 use Rattle.mail_world.specs.History.{Actor, Life, State, next_of, unless_by, shut_by, finished}
 use Rattle.mail_world.specs.History.Life.{Alive, Over, Stopped}
 use Rattle.mail_world.specs.Untouched.{queue}
 use Rattle.world_law.specs.Crew.{is_alive, is_well, awaits_by, awaits_in, place_in, lives_by, lives_in, link_in, IsNamed}
-use Rattle.world_law.specs.Fares.{FaresBy, SpawnerHolds}
+use Rattle.world_law.specs.Deliveries.{AreForwarded}
+use Rattle.world_law.specs.Fares.{FaresBy, IfAlive}
 use Rattle.world_law.specs.Inv.{Inv, ErrandRests, ErrandsRest}
 use Rattle.world_law.specs.Laws.{EndsKeep, StopsKeep}
+use Rattle.world_law.proofs.Forwarded.{delivery_left}
+use Rattle.world_law.proofs.Held.{lspawn_holds, spawner_holds}
 use Rattle.world_law.proofs.Tenants.{GoesOn, dead_child, one_child, one_crewed, one_keeps, tenants_kept}
 
 -- Steps that change nothing that concerns a number
@@ -128,15 +136,18 @@ bytes_shut false p = refl
 
 -- An actor is over
 
--- an injector that is at its end with 0
+-- an injector that is at its end with 0, and a delivery
 abbrev IsDone : Program → List Own → Type 0
 IsDone (Injector args) past = row_after args past ≡ inject.Queued
+IsDone (Delivery start args) past = IsCarried args past
 IsDone other past = Unit {0}
 
 done_at : (controls : Controls) (now : ℕ) (q : Queue) (a : List ℕ) (program : Program) (past : List Own) (life : Life) (read : ℕ) (ready : Ready)
     → FaresBy controls now q a program past life → life ≡ Alive → next_of program past read ready ≡ needs.Ended 0 → IsDone program past
 done_at controls now q a (Injector args) past life read ready F alive next =
     injector_done now q a args past (is_alive life) (is_well life) read ready F (ap is_alive alive) next
+done_at controls now q a (Delivery start args) past Alive read ready F alive next = carried_out args past read ready F.rests.run next
+done_at controls now q a (Delivery start args) past life read ready F alive next = absurd (cc)
 done_at controls now q a other past life read ready F alive next = tt
 
 zero_of : (status : ℕ) → is_well (Over status) ≡ true → status ≡ 0
@@ -146,7 +157,13 @@ zero_of status well = ⊎_elim (λ w. w.1) (λ w. let v = sym w.0 ∙ well in ab
 abbrev with_life : Actor → Life → Actor
 with_life x life = record { program = x.program; past = x.past; life = life }
 
--- of one that is over, only an injector's account of itself is asked
+-- a delivery that is over rests on nothing
+rests_over : (q r : Queue) (a : List ℕ) (args : LocalArgs) (past : List Own) (life : Life) → is_alive life ≡ false → IfAlive life (DeliveryRests r a args past)
+rests_over q r a args past Alive dead = absurd (cc)
+rests_over q r a args past (Over status) dead = tt
+rests_over q r a args past Stopped dead = tt
+
+-- of one that is over, only an injector's account of itself is asked, and a delivery's
 fares_over : (controls : Controls) (now : ℕ) (q r : Queue) → r.books ≡ q.books → (a : List ℕ) (program : Program) (past : List Own) (old life : Life)
     → is_alive life ≡ false → (is_well life ≡ true → IsDone program past) → FaresBy controls now q a program past old → FaresBy controls now r a program past life
 fares_over controls now q r same a (Injector args) past old life dead ends F =
@@ -157,10 +174,17 @@ fares_over controls now q r same a (Cleaner start) past old Stopped dead ends F 
 fares_over controls now q r same a (Sender start) past old Alive dead ends F = absurd (cc)
 fares_over controls now q r same a (Sender start) past old (Over status) dead ends F = tt
 fares_over controls now q r same a (Sender start) past old Stopped dead ends F = tt
-fares_over controls now q r same a (LocalSpawner start) past old life dead ends F = tt
+fares_over controls now q r same a (LocalSpawner start) past old Alive dead ends F = absurd (cc)
+fares_over controls now q r same a (LocalSpawner start) past old (Over status) dead ends F = tt
+fares_over controls now q r same a (LocalSpawner start) past old Stopped dead ends F = tt
 fares_over controls now q r same a (RemoteSpawner start) past old Alive dead ends F = absurd (cc)
 fares_over controls now q r same a (RemoteSpawner start) past old (Over status) dead ends F = tt
 fares_over controls now q r same a (RemoteSpawner start) past old Stopped dead ends F = tt
+fares_over controls now q r same a (Delivery start args) past old life dead ends F = record {
+  rests = rests_over q r a args past life dead;
+  forwards = subst (λ (b : Books). AreForwarded b past) (sym same) F.forwards;
+  well = ends;
+}
 
 awaits_over : (life : Life) (program : Program) (past : List Own) → is_alive life ≡ false → awaits_by life program past ≡ Lost
 awaits_over Alive program past dead = absurd (cc)
@@ -210,11 +234,6 @@ module _ (controls : Controls) (s : State) (I : Inv controls s) (a : List ℕ) (
     old = I.old;
   }
 
-  holds_other : (o : List ℕ) → o ≢ a → (row : SpawnRow) → SpawnerHolds before o row → SpawnerHolds over o row
-  holds_other o other (spawn.ReadMess fd) h = (h.0, still_open o fd.0 h.0 other h.1)
-  holds_other o other (spawn.CloseMess fd whole) h = (h.0, still_open o fd.0 h.0 other h.1)
-  holds_other o other row h = tt
-
   none_beside : (p : Place) → IsBeside None p
   none_beside p n h = absurd (cc)
 
@@ -235,10 +254,14 @@ module _ (controls : Controls) (s : State) (I : Inv controls s) (a : List ℕ) (
       }
   fares_other o other (Sender start) past (Over status) F = tt
   fares_other o other (Sender start) past Stopped F = tt
-  fares_other o other (LocalSpawner start) past lasts F = tt
-  fares_other o other (RemoteSpawner start) past Alive F = holds_other o other (spawn_after past).row F
+  fares_other o other (LocalSpawner start) past Alive F = lspawn_holds before over o (λ fd how. still_open o fd how other) (local_after past) F
+  fares_other o other (LocalSpawner start) past (Over status) F = tt
+  fares_other o other (LocalSpawner start) past Stopped F = tt
+  fares_other o other (RemoteSpawner start) past Alive F = spawner_holds before over o (λ fd how. still_open o fd how other) (spawn_after past).row F
   fares_other o other (RemoteSpawner start) past (Over status) F = tt
   fares_other o other (RemoteSpawner start) past Stopped F = tt
+  fares_other o other (Delivery start args) past lasts F =
+      delivery_left before over a o other (drops_stay.same a before over refl refl refl) (λ fd how. still_open o fd how other) (λ i h accepted. still_there s.books i h) args past lasts F
 
   -- the sender and the cleaner
 
@@ -299,9 +322,9 @@ module _ (controls : Controls) (s : State) (I : Inv controls s) (a : List ℕ) (
     control = controls_stay.said controls before over same_controls I.control;
     old = same_controls.old;
     crewed = one_crewed s.actors a (with_life x life) goes I.crewed;
-    tenants = tenants_kept s (finished s a life (Some x)) (one_keeps s.actors a (with_life x life) goes) (λ o d t h. inl h) I.tenants;
+    tenants = tenants_kept s (finished s a life (Some x)) (one_keeps s.actors a (with_life x life) goes) (λ b z there. refl) (λ o d t h. inl h) I.tenants;
     child = one_child s (finished s a life (Some x)) (one_keeps s.actors a (with_life x life) goes) (λ o d t h. inl h) I.tenants a (with_life x life)
-        (dead_child (finished s a life (Some x)) x.program x.past life dead) I.child;
+        (dead_child (finished s a life (Some x)) a x.program x.past life dead) I.child;
     errands = errands_over;
   }
 

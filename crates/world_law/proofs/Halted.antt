@@ -17,14 +17,14 @@ use Rattle.sender_law.specs.ControlFiles.{LeavesControls}
 use Rattle.sender_law.proofs.ControlsStay.{controls_stay}
 use Rattle.actor_names.specs.MailNames.{members}
 use Rattle.world_events.specs.declared.event.Program.{Program}
-use Rattle.world_events.specs.declared.event.Program.TheVariants.{Injector, Cleaner, Sender, LocalSpawner, RemoteSpawner}
-use Rattle.mail_world.specs.History.{Actor, IsSender, Life, State, cut_off, happens, stopped}
+use Rattle.world_events.specs.declared.event.Program.TheVariants.{Injector, Cleaner, Sender, LocalSpawner, RemoteSpawner, Delivery}
+use Rattle.mail_world.specs.History.{Actor, Life, MayRun, State, cut_off, happens, stopped}
 use Rattle.mail_world.specs.History.Event.{Halt}
 use Rattle.mail_world.specs.History.Life.{Alive, Over, Stopped}
 use Rattle.mail_world.specs.Untouched.{queue}
 use Rattle.world_law.specs.Crew.{IsNamed, awaits_by, awaits_in, is_alive, is_well, link_in, lives_in, place_in}
 use Rattle.world_law.specs.Fares.{FaresBy}
-use Rattle.world_law.specs.Inv.{ChildFares, ErrandRests, Inv}
+use Rattle.world_law.specs.Inv.{ChildBy, ErrandRests, Inv}
 use Rattle.world_law.specs.Laws.{HaltsKeep}
 use Rattle.world_law.proofs.Gone.{dead_cleaner}
 use Rattle.world_law.proofs.Tenants.{dead_child}
@@ -41,10 +41,15 @@ fares_stopped controls now q contents a (Cleaner began) past Stopped F = tt
 fares_stopped controls now q contents a (Sender began) past Alive F = tt
 fares_stopped controls now q contents a (Sender began) past (Over status) F = tt
 fares_stopped controls now q contents a (Sender began) past Stopped F = tt
-fares_stopped controls now q contents a (LocalSpawner began) past life F = tt
+fares_stopped controls now q contents a (LocalSpawner began) past Alive F = tt
+fares_stopped controls now q contents a (LocalSpawner began) past (Over status) F = tt
+fares_stopped controls now q contents a (LocalSpawner began) past Stopped F = tt
 fares_stopped controls now q contents a (RemoteSpawner began) past Alive F = tt
 fares_stopped controls now q contents a (RemoteSpawner began) past (Over status) F = tt
 fares_stopped controls now q contents a (RemoteSpawner began) past Stopped F = tt
+fares_stopped controls now q contents a (Delivery began args) past Alive F = record { rests = tt; forwards = F.forwards; well = λ h. absurd (cc) }
+fares_stopped controls now q contents a (Delivery began args) past (Over status) F = record { rests = tt; forwards = F.forwards; well = F.well }
+fares_stopped controls now q contents a (Delivery began args) past Stopped F = record { rests = tt; forwards = F.forwards; well = F.well }
 
 -- what the two come to
 
@@ -65,10 +70,6 @@ stopped_dead : (life : Life) → is_alive (cut_off life) ≡ false
 stopped_dead Alive = refl
 stopped_dead (Over status) = refl
 stopped_dead Stopped = refl
-
-child_halted : (t : State) (o : Option Actor) → ChildFares t (option_map stopped o)
-child_halted t None = tt
-child_halted t (Some x) = dead_child t x.program x.past (cut_off x.life) (stopped_dead x.life)
 
 lives_halted : (o : Option Actor) → lives_in (option_map stopped o) ≡ false
 lives_halted None = refl
@@ -103,10 +104,10 @@ module _ (controls : Controls) (s : State) (I : Inv controls s) (contents : ℕ 
   was_none None gone = refl
   was_none (Some x) gone = absurd (cc)
 
-  sender_stopped : (x : Actor) → option_map stopped (s.actors (codes "sender")) ≡ Some x → IsSender x.program → (a : List ℕ) → Contains members a → s.actors a ≡ None → ⊥
-  sender_stopped x there it =
-      let w = mapped_some stopped (s.actors (codes "sender")) x there in
-      I.crewed w.0 w.1 (subst (λ (z : Actor). IsSender z.program) (sym w.2) it)
+  crew_stopped : (a : List ℕ) (x : Actor) → option_map stopped (s.actors a) ≡ Some x → (MayRun x.program → ⊥) → (m : List ℕ) → Contains members m → s.actors m ≡ None → ⊥
+  crew_stopped a x there it =
+      let w = mapped_some stopped (s.actors a) x there in
+      I.crewed a w.0 w.1 (subst (λ (z : Actor). MayRun z.program → ⊥) (sym w.2) it)
 
   halted_keeps : (how : Survival) → Inv controls (happens s (Halt how contents))
   halted_keeps how = record {
@@ -118,9 +119,10 @@ module _ (controls : Controls) (s : State) (I : Inv controls s) (contents : ℕ 
     fares = each_stopped (λ a x. FaresBy controls s.now after a x.program x.past x.life) (λ a x is. fares_stopped controls s.now (queue s I.role) contents a x.program x.past x.life (I.fares a x is));
     control = controls_stay.said controls (queue s I.role) after same_controls I.control;
     old = same_controls.old;
-    crewed = λ x there it a member gone. sender_stopped x there it a member (was_none (s.actors a) gone);
+    crewed = λ a x there it m member gone. crew_stopped a x there it m member (was_none (s.actors m) gone);
     tenants = λ a d b h. absurd (cc);
-    child = child_halted (happens s (Halt how contents)) (s.actors (codes "sender"));
+    child = each_stopped (λ a x. ChildBy (happens s (Halt how contents)) a x.program x.past x.life)
+        (λ a x is. dead_child (happens s (Halt how contents)) a x.program x.past (cut_off x.life) (stopped_dead x.life));
     errands = halted_errands controls s.now (queue s I.role) after (lives_in (s.actors (codes "clean"))) (lives_in (option_map stopped (s.actors (codes "clean")))) (link_in s)
         (awaits_in (option_map stopped (s.actors (codes "sender")))) (place_in (option_map stopped (s.actors (codes "clean")))) I.errands
         (awaits_halted (s.actors (codes "sender"))) (place_halted (s.actors (codes "clean"))) (lives_halted (s.actors (codes "clean")));

@@ -2,10 +2,18 @@
 use Rattle.std.proofs.Common.{◌≡◌, inl, inr, ⊎_elim, ℕ, List, [], ◌∷◌, Option, Some, None, refl, sym, ap, ◌∙◌, subst, arith, IsSomeAnd}
 use Rattle.address_rules.specs.declared.controls.Controls.{Controls}
 use Rattle.call_fs.specs.Disk.{Among, Disk}
+use Rattle.call_fs.specs.declared.calls.CallData.TheVariants.{Link}
 use Rattle.call_fs.specs.declared.past.NeedData.{NeedData}
 use Rattle.call_fs.specs.declared.past.NeedData.TheVariants as needs
 use Rattle.call_fs.specs.declared.past.Own.{Own}
 use Rattle.call_fs.specs.declared.program.Ready.{Ready}
+use Rattle.delivery_law.proofs.Events.{linked_is_whole}
+use Rattle.local_deliver.specs.Deeds.{taken}
+use Rattle.local_deliver.specs.Table.{Next as DeliversNext}
+use Rattle.local_steps.specs.declared.arguments.LocalArgs.{LocalArgs}
+use Rattle.local_steps.specs.Inputs.{message_in}
+use Rattle.local_steps.specs.Texts.{maildir_text}
+use Rattle.maildir_drop.specs.Laws.{IsWhole}
 use Rattle.mail_bytes.specs.Moments.{IsMoment}
 use Rattle.queue_inject.specs.declared.injection.Arguments.{Arguments}
 use Rattle.queue_law.specs.Accounts.{Accounted}
@@ -24,15 +32,16 @@ use Rattle.sender_law.proofs.Arrive.{arrived}
 use Rattle.sender_law.proofs.Asking.{requests_are_texts}
 use Rattle.world_events.specs.declared.event.Event.{Event as Kept}
 use Rattle.world_events.specs.declared.event.Program.{Program}
-use Rattle.world_events.specs.declared.event.Program.TheVariants.{Injector, Cleaner, Sender, LocalSpawner, RemoteSpawner}
-use Rattle.mail_world.specs.History.{Actor, Event, IsCleaner, IsLocalSpawner, IsRemoteSpawner, IsSender, Legal, Life, MayDo, MayRun, State, after, happens, next_of}
+use Rattle.world_events.specs.declared.event.Program.TheVariants.{Injector, Cleaner, Sender, LocalSpawner, RemoteSpawner, Delivery}
+use Rattle.mail_world.specs.History.{Actor, Event, IsCleaner, IsDelivery, IsLocalSpawner, IsRemoteSpawner, IsSender, Legal, Life, MayDo, MayRun, State, after, happens, next_of}
 use Rattle.mail_world.specs.History.Event.{Start, Act, Child, Generation, Report, End, Stop, Moment, Halt}
 use Rattle.mail_world.specs.History.Life.{Alive}
 use Rattle.mail_world.specs.Untouched.{queue}
 use Rattle.mail_world.specs.World.{IsHistory}
 use Rattle.mail_world.proofs.Waiting.{legal_before}
 use Rattle.world_law.specs.Bounces.{BouncesAreAccepted, BouncesAreReadLast, IsAddressed, IsBounceOf, IsByBounce, IsNamedInBounce, ReturnedRecipientsAreNamed}
-use Rattle.world_law.specs.Fares.{FaresBy, SenderFares}
+use Rattle.world_law.specs.Deliveries.{DropsAreWhole}
+use Rattle.world_law.specs.Fares.{DeliveryFares, FaresBy, SenderFares}
 use Rattle.world_law.specs.Headline.{AttemptsAreSound, EachSafe, Headline, IsAttempt, WorldsAreSafe}
 use Rattle.world_law.specs.Inv.{Inv}
 use Rattle.world_law.specs.Laws.{Always, IsKeptBy}
@@ -41,6 +50,7 @@ use Rattle.world_law.proofs.BounceEnvelopes.{bounce_addressed, not_double}
 use Rattle.world_law.proofs.BouncesLast.{channels_are_gone, opening}
 use Rattle.world_law.proofs.Children.{children_keep}
 use Rattle.world_law.proofs.Cleaning.{cleaners_keep}
+use Rattle.world_law.proofs.Deliveries.{deliveries_keep}
 use Rattle.world_law.proofs.Gone.{ends_keep, stops_keep}
 use Rattle.world_law.proofs.Halted.{halts_keep}
 use Rattle.world_law.proofs.Injects.{injectors_keep}
@@ -59,6 +69,7 @@ act_keeps a own wrote controls s I may (Cleaner began) e = cleaners_keep a own w
 act_keeps a own wrote controls s I may (Sender began) e = senders_keep a own wrote controls s I may (subst IsSender (sym e) tt)
 act_keeps a own wrote controls s I may (LocalSpawner began) e = locals_keep a own wrote controls s I may (subst IsLocalSpawner (sym e) tt)
 act_keeps a own wrote controls s I may (RemoteSpawner began) e = remotes_keep a own wrote controls s I may (subst IsRemoteSpawner (sym e) tt)
+act_keeps a own wrote controls s I may (Delivery start args) e = deliveries_keep a own wrote controls s I may (subst IsDelivery (sym e) tt)
 
 event_keeps : (e : Event) → IsKeptBy e
 event_keeps (Start a program) = starts_keep a program
@@ -178,3 +189,34 @@ bounces_are_read_last controls d a own wrote before has legal x is start program
     let may = legal.1 in
     let same : may.actor ≡ x = same_actor may.actor x (sym may.reads.is ∙ is) in
     read_last controls (after d before) (always controls d before has legal.0) a own wrote may start (ap (λ (y : Actor). y.program) same ∙ program) n due ch
+
+-- Drops
+
+delivery_fares : (controls : Controls) (now : ℕ) (q : Queue) (a : List ℕ) (program : Program) (past : List Own) (life : Life) (start : ℕ) (args : LocalArgs) → program ≡ Delivery start args → life ≡ Alive
+    → FaresBy controls now q a program past life → DeliveryFares q a args past Alive
+delivery_fares controls now q a (Delivery began words) past Alive start args is alive F = let same : words ≡ args = cc in subst (λ (z : LocalArgs). DeliveryFares q a z past Alive) same F
+delivery_fares controls now q a (Delivery began words) past life start args is alive F = absurd (cc)
+delivery_fares controls now q a other past life start args is alive F = absurd (cc)
+
+-- what is due to a delivery
+delivery_due : (program : Program) (past : List Own) (read : ℕ) (ready : Ready) (start : ℕ) (args : LocalArgs) (due : NeedData) → program ≡ Delivery start args → next_of program past read ready ≡ due
+    → DeliversNext args past read ready ≡ due
+delivery_due program past read ready start args due is next = subst (λ (p : Program). next_of p past read ready ≡ due) is next
+
+module _ (controls : Controls) (s : State) (I : Inv controls s) (a : List ℕ) (own : Own) (wrote : ℕ) (may : MayDo s a own wrote) (start : ℕ) (args : LocalArgs)
+    (is : may.actor.program ≡ Delivery start args) where
+  linked_whole : (from to : List ℕ) → own.due ≡ needs.File (Link from to)
+      → (message : List ℕ) × (message_in (taken may.actor.past) ≡ Some message) × IsWhole s.disk from (maildir_text args message)
+  linked_whole from to due =
+      let x = may.actor in
+      let q = queue s I.role in
+      let F = delivery_fares controls s.now q a x.program x.past x.life start args is may.reads.alive (I.fares a x may.reads.is) in
+      linked_is_whole q a args x.past own.read own.ready from to F.rests
+      (delivery_due x.program x.past own.read own.ready start args (needs.File (Link from to)) is (may.due ∙ due))
+
+pub drops_are_whole : DropsAreWhole
+drops_are_whole controls d a own wrote before has legal x is start args program from to due =
+    let may = legal.1 in
+    let same : may.actor ≡ x = same_actor may.actor x (sym may.reads.is ∙ is) in
+    subst (λ (y : Actor). (message : List ℕ) × (message_in (taken y.past) ≡ Some message) × IsWhole (after d before).disk from (maildir_text args message)) same
+    (linked_whole controls (after d before) (always controls d before has legal.0) a own wrote may start args (ap (λ (y : Actor). y.program) same ∙ program) from to due)

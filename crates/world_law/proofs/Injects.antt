@@ -11,6 +11,7 @@ use Rattle.call_fs.specs.declared.past.Own.{Own}
 use Rattle.queue_inject.specs.declared.injection.Arguments.{Arguments}
 use Rattle.queue_inject.specs.Table.{Next}
 use Rattle.queue_inject.proofs.Acts.{IsAlone, next_alone}
+use Rattle.delivery_law.proofs.Stay.{drops_stay}
 use Rattle.queue_law.specs.Numbers.{Queue}
 use Rattle.queue_law.specs.Steps.{queue_after}
 use Rattle.queue_law.proofs.Injectors.{injector_calls}
@@ -26,6 +27,7 @@ use Rattle.world_law.specs.Laws.{InjectorsKeep}
 use Rattle.world_law.proofs.Bounces.{called_bounces}
 use Rattle.world_law.proofs.Moved.{IsSeenAs}
 use Rattle.world_law.proofs.Stepped.{stepped_keeps}
+use Rattle.world_law.proofs.Tenants.{GoesOn}
 
 module _ (controls : Controls) (s : State) (I : Inv controls s) (a : List ℕ) (wrote : ℕ) (args : Arguments) (past : List Own) (own : Own) where
   abbrev injector : List Own → Actor
@@ -44,10 +46,11 @@ module _ (controls : Controls) (s : State) (I : Inv controls s) (a : List ℕ) (
       let c = injector_calls controls s.now q a args past own.read own.ready call told wrote I.sound (I.fares a (injector past) may.is) may.no_earlier may.no_stall due comes.0 in
       let r : Queue = queue_after q a args own.read call told.answer wrote c.role in
       let y : Actor = injector (event (needs.File call) (got.Answered told) ∷ past) in
-      let seen : IsSeenAs (s.actors a) y = subst (λ (o : Option Actor). IsSeenAs o y) (sym may.is) (record { awaits = refl; place = refl; lives = λ h. h; goes = refl; quiet = λ it. it }) in
+      let seen : IsSeenAs (s.actors a) y = subst (λ (o : Option Actor). IsSeenAs o y) (sym may.is) (record { awaits = refl; place = refl; lives = λ h. h }) in
+      let goes : GoesOn (s.actors a) (Injector args) = subst (λ (o : Option Actor). GoesOn o (Injector args)) (sym may.is) refl in
       stepped_keeps controls s I a r c.number c.elsewhere c.spares c.names (others_spare.injectors controls s.now q a args past own.read own.ready call told wrote c)
-      (controls_stay.outside q r c.outside c.old I.old) c.sound
-      (called_bounces controls s.books a args call told.answer c.elsewhere.accepted I.bounces) y tt seen c.fares
+      (controls_stay.outside q r c.outside c.old I.old) (drops_stay.outside a q r c.outside c.old) c.sound
+      (called_bounces controls s.books a args call told.answer c.elsewhere.accepted I.bounces) y tt goes seen tt c.fares
 
   came_keeps : MayRead s a (injector past) own.read → (call : CallData) → Next args past own.read own.ready ≡ needs.File call → (came : GotData)
       → ComesOf s a (needs.File call) came wrote → Inv controls (then_state (needs.File call) came)

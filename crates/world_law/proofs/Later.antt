@@ -12,7 +12,7 @@ use Rattle.queue_law.proofs.Rests.{closed_later}
 use Rattle.queue_law.proofs.RestIsKept.{rest_is_kept}
 use Rattle.sender_law.proofs.LeftAlone.{senders_are_left_alone}
 use Rattle.world_events.specs.declared.event.Program.{Program}
-use Rattle.world_events.specs.declared.event.Program.TheVariants.{Injector, Cleaner, Sender, LocalSpawner, RemoteSpawner}
+use Rattle.world_events.specs.declared.event.Program.TheVariants.{Injector, Cleaner, Sender, LocalSpawner, RemoteSpawner, Delivery}
 use Rattle.world_pipes.specs.Pipework.{Pipework, with_report}
 use Rattle.world_pipes.specs.Pipework.Tenant.{Remote}
 use Rattle.mail_world.specs.History.{Life, happens, report_text}
@@ -35,8 +35,9 @@ fares_later controls now m later q a (Sender start) past Alive F =
     record { stands = senders_are_left_alone.later controls now m later q a (desk_after None past) F.stands; control = F.control; texts = F.texts }
 fares_later controls now m later q a (Sender start) past (Over status) F = tt
 fares_later controls now m later q a (Sender start) past Stopped F = tt
-fares_later controls now m later q a (LocalSpawner start) past life F = tt
+fares_later controls now m later q a (LocalSpawner start) past life F = F
 fares_later controls now m later q a (RemoteSpawner start) past life F = F
+fares_later controls now m later q a (Delivery start args) past life F = F
 
 errands_later : (controls : Controls) (now m : ℕ) → now ≤ m → (q : Queue) (cleans : Bool) (x : Link) → ErrandRests controls now q cleans x → ErrandRests controls m q cleans x
 errands_later controls now m later q cleans x E = record {
@@ -58,8 +59,8 @@ moments_keep m controls s I may = record {
   fares = λ a x h. fares_later controls s.now m may.no_earlier (queue s I.role) a x.program x.past x.life (I.fares a x h);
   control = I.control;
   old = I.old;
-  tenants = tenants_kept s (happens s (Moment m)) (λ a x h. (x, h, refl)) (λ a d t h. inl h) I.tenants;
-  child = child_kept s (happens s (Moment m)) (λ a x h. (x, h, refl)) (λ a d t h. inl h) I.tenants (s.actors (codes "sender")) I.child;
+  tenants = tenants_kept s (happens s (Moment m)) (λ a x h. (x, h, refl)) (λ a x h. refl) (λ a d t h. inl h) I.tenants;
+  child = λ a x h. child_kept s (happens s (Moment m)) (λ a x h. (x, h, refl)) (λ a d t h. inl h) I.tenants a x.program x.past x.life (I.child a x h);
   errands = errands_later controls s.now m may.no_earlier (queue s I.role) (lives_in (s.actors (codes "clean"))) (link_in s) I.errands;
 }
 
@@ -80,7 +81,7 @@ reports_keep slot letter text controls s I may = record {
   fares = I.fares;
   control = I.control;
   old = I.old;
-  tenants = tenants_kept s (happens s (Report slot letter text)) (λ a x h. (x, h, refl)) (reported_runs s.pipework slot (report_text letter text)) I.tenants;
-  child = child_kept s (happens s (Report slot letter text)) (λ a x h. (x, h, refl)) (reported_runs s.pipework slot (report_text letter text)) I.tenants (s.actors (codes "sender")) I.child;
+  tenants = tenants_kept s (happens s (Report slot letter text)) (λ a x h. (x, h, refl)) (λ a x h. refl) (reported_runs s.pipework slot (report_text letter text)) I.tenants;
+  child = λ a x h. child_kept s (happens s (Report slot letter text)) (λ a x h. (x, h, refl)) (reported_runs s.pipework slot (report_text letter text)) I.tenants a x.program x.past x.life (I.child a x h);
   errands = I.errands;
 }

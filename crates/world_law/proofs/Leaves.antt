@@ -12,20 +12,22 @@ use Rattle.call_fs.specs.declared.past.Own.{Own}
 use Rattle.call_fs.specs.declared.program.Port.{Port}
 use Rattle.call_fs.specs.declared.program.Port.TheVariants as port
 use Rattle.mail_bytes.specs.Moments.{IsMoment}
-use Rattle.no_mailbox.specs.Table.{place_after as local_after, row_now as local_now}
+use Rattle.delivery_law.proofs.Events.{deliveries_keep as rests_keep}
+use Rattle.local_spawn.specs.Table.{place_after as local_after}
+use Rattle.local_steps.specs.declared.arguments.LocalArgs.{LocalArgs}
 use Rattle.queue_paths.specs.Names.Name.{Of}
 use Rattle.queue_inject.specs.declared.injection.Arguments.{Arguments}
 use Rattle.queue_law.specs.Books.{Books, Child as Bouncer, Injection, IsInjected, IsLater}
 use Rattle.queue_law.specs.Injectors.{IsHeld}
 use Rattle.queue_law.specs.Numbers.{IsSorted, Queue, find}
-use Rattle.queue_law.specs.Senders.{OnlyReads}
 use Rattle.queue_law.specs.Steps.{Outside}
 use Rattle.queue_law.proofs.Cleaners.{cleaners_keep as calls_keep}
+use Rattle.queue_law.proofs.Foreigners.{foreign_about}
 use Rattle.queue_law.proofs.Injectors.{injector_calls}
 use Rattle.queue_law.proofs.Frame.{about_same, outside_same, still_there}
 use Rattle.queue_law.proofs.Sends.{reads_keep}
 use Rattle.queue_law.proofs.Tests.{unless_same}
-use Rattle.remote_spawn.specs.Table.{due_from, place_after as remote_after}
+use Rattle.remote_spawn.specs.Table.{place_after as remote_after, program_of as remote_asks}
 use Rattle.send_core.specs.Booked.{booked_at}
 use Rattle.send_core.specs.Table.{desk_after, due_at, row_now}
 use Rattle.send_core.specs.declared.desk.Desk.{Desk}
@@ -34,25 +36,23 @@ use Rattle.sender_law.specs.Takings.{booked_queue}
 use Rattle.sender_law.proofs.ControlsRead.{controls_are_read}
 use Rattle.sender_law.proofs.Whole.{senders_keep as sender_keeps}
 use Rattle.spawner_parts.specs.Table.{row_now as remote_now}
-use Rattle.spawner_parts.specs.declared.place.Place.{Place}
-use Rattle.spawner_parts.specs.declared.row.Row.{Row as SpawnRow}
-use Rattle.spawner_parts.specs.declared.row.Row.TheVariants as spawn
 use Rattle.world_events.specs.declared.event.Program.{Program}
-use Rattle.world_events.specs.declared.event.Program.TheVariants.{Injector, Cleaner, Sender, LocalSpawner, RemoteSpawner}
+use Rattle.world_events.specs.declared.event.Program.TheVariants.{Injector, Cleaner, Sender, LocalSpawner, RemoteSpawner, Delivery}
 use Rattle.mail_world.specs.History.{Actor, Allowed, ComesOf, Event, Life, MayBear, MayDo, MayRead, State, acted, after, bears, books_after, bouncer_of, disk_after, finished, happens, holder_after, next_of, unless_by}
 use Rattle.mail_world.specs.History.Event.{Start, Act, Child, Generation, Report, End, Stop, Moment, Halt}
 use Rattle.mail_world.specs.History.Life.{Alive, Over, Stopped}
 use Rattle.mail_world.specs.Untouched.{IsOther, about_in, doer, program_of, queue}
-use Rattle.world_law.specs.Fares.{SenderFares, SpawnerHolds}
+use Rattle.mail_world.proofs.Coming.{may_come}
+use Rattle.world_law.specs.Fares.{DeliveryFares, SenderFares}
 use Rattle.world_law.specs.Inv.{Inv}
 use Rattle.world_law.specs.Leaves.{EventsLeave, IsSparing, LeavesMost, LeavesOutside}
 use Rattle.world_law.proofs.Histories.{always}
-use Rattle.world_law.proofs.Locals.{IsLocal, local_due}
-use Rattle.world_law.proofs.Remotes.{arrive_holds}
+use Rattle.world_law.proofs.Locals.{local_reads}
 use Rattle.world_law.proofs.SendersChild.{taken_has}
 use Rattle.world_law.proofs.SendersEvents.{none_entered, told_other}
 use Rattle.world_law.proofs.SendersOthers.{through}
 use Rattle.world_law.proofs.SendersPipes.{IsOther as IsElsewhere}
+use Rattle.world_law.proofs.Spawners.{answered, arrive_holds, only_reads}
 
 -- what an event of this actor, with this program, leaves of a state
 record Leaves (p : Option Program) (a : List ℕ) (s t : State) : Type 0 where
@@ -68,6 +68,7 @@ outside_by (Some (Injector args)) d opens = outside_same d opens
 outside_by (Some (Sender since)) d opens = outside_same d opens
 outside_by (Some (LocalSpawner since)) d opens = outside_same d opens
 outside_by (Some (RemoteSpawner since)) d opens = outside_same d opens
+outside_by (Some (Delivery since args)) d opens = record { names = λ name far. refl; files = λ name i there far. refl }
 outside_by (Some (Cleaner since)) d opens = record { names = λ name free. inl refl; files = λ i. refl; unqueued = λ i out x is. out.unqueued x is }
 
 -- Nothing of the queue changes
@@ -95,11 +96,7 @@ module _ (p : Option Program) (a : List ℕ) (s : State) where
 
 -- An event of an actor
 
--- it is no file call, or it is none and no taking either
-abbrev IsNoFile : NeedData → Type 0
-IsNoFile (needs.File c) = ⊥
-IsNoFile due = Unit {0}
-
+-- it is neither a file call nor a taking
 abbrev IsNoTaking : NeedData → Type 0
 IsNoTaking (needs.File c) = ⊥
 IsNoTaking (needs.Take from) = ⊥
@@ -130,24 +127,11 @@ module _ (controls : Controls) (s : State) (I : Inv controls s) (a : List ℕ) (
   passed program past needs.Wait came none = idle (Some program) a s _ refl refl refl
   passed program past (needs.Ended status) came none = idle (Some program) a s _ refl refl refl
 
-  -- a file call is answered
-  answered : (P : GotData → Type 0) (c : CallData) (came : GotData) → ComesOf s a (needs.File c) came wrote
-      → ((told : Told) → ComesOf s a (needs.File c) (got.Answered told) wrote → P (got.Answered told)) → P came
-  answered P c (got.Answered told) comes then = then told comes
-  answered P c (got.Took bytes) comes then = absurd comes
-  answered P c got.End comes then = absurd comes
-  answered P c (got.Ended status) comes then = absurd comes
-  answered P c got.Crashed comes then = absurd comes
-  answered P c got.Gave comes then = absurd comes
-  answered P c (got.Started pid) comes then = absurd comes
-  answered P c got.Failed comes then = absurd comes
-  answered P c got.Memory comes then = absurd comes
-
   -- An injector
 
   injector_left : (args : Arguments) (past : List Own) → Runs (Injector args) past → (due : NeedData) (came : GotData) → next_of (Injector args) past own.read own.ready ≡ due
       → ComesOf s a due came wrote → Then (Injector args) past due came
-  injector_left args past may (needs.File c) came next comes = answered (Then (Injector args) past (needs.File c)) c came comes
+  injector_left args past may (needs.File c) came next comes = answered s a wrote (Then (Injector args) past (needs.File c)) c came comes
       (λ told fits.
       let w = injector_calls controls s.now q a args past own.read own.ready c told wrote I.sound (I.fares a (actor (Injector args) past) may.is) may.no_earlier may.no_stall next fits.0 in
       record { outside = w.outside; opens = w.elsewhere.opens; accepted = w.elsewhere.accepted; sorted = λ sparing. w.sorted })
@@ -158,7 +142,7 @@ module _ (controls : Controls) (s : State) (I : Inv controls s) (a : List ℕ) (
 
   cleaner_left : (since : ℕ) (past : List Own) → Runs (Cleaner since) past → (due : NeedData) (came : GotData) → next_of (Cleaner since) past own.read own.ready ≡ due
       → ComesOf s a due came wrote → Then (Cleaner since) past due came
-  cleaner_left since past may (needs.File c) came next comes = answered (Then (Cleaner since) past (needs.File c)) c came comes
+  cleaner_left since past may (needs.File c) came next comes = answered s a wrote (Then (Cleaner since) past (needs.File c)) c came comes
       (λ told fits.
       let w = calls_keep controls s.now q a past own.read own.ready c told wrote I.sound (I.fares a (actor (Cleaner since) past) may.is) may.no_later next fits.0 in
       record { outside = w.outside; opens = w.elsewhere.opens; accepted = w.elsewhere.accepted; sorted = λ sparing. absurd sparing })
@@ -217,55 +201,55 @@ module _ (controls : Controls) (s : State) (I : Inv controls s) (a : List ℕ) (
     sender_took from came due comes = took_left from came (entered_other from came tt due comes)
 
     sender_left : (due : NeedData) (came : GotData) → next_of (Sender since) past own.read own.ready ≡ due → ComesOf s a due came wrote → Then (Sender since) past due came
-    sender_left (needs.File c) came next comes = answered (Then (Sender since) past (needs.File c)) c came comes (λ told comes. sender_called c told next comes)
+    sender_left (needs.File c) came next comes = answered s a wrote (Then (Sender since) past (needs.File c)) c came comes (λ told comes. sender_called c told next comes)
     sender_left (needs.Take from) came next comes = sender_took from came next comes
     sender_left due came next comes = passed (Sender since) past due came tt
 
-  -- The local spawner, which calls no file
+  -- The local spawner, which reads users/assign and messages
 
-  local_files : (due : NeedData) → IsLocal due → IsNoFile due
-  local_files (needs.File c) is = absurd is
-  local_files due is = tt
-
-  local_passed : (since : ℕ) (past : List Own) (due : NeedData) (came : GotData) → IsNoFile due → Then (LocalSpawner since) past due came
-  local_passed since past (needs.File c) came none = absurd none
-  local_passed since past (needs.Take from) came none = idle (Some (LocalSpawner since)) a s _ refl refl refl
-  local_passed since past due came none = passed (LocalSpawner since) past due came tt
-
-  local_left : (since : ℕ) (past : List Own) (due : NeedData) (came : GotData) → next_of (LocalSpawner since) past own.read own.ready ≡ due → Then (LocalSpawner since) past due came
-  local_left since past due came next =
-      let p = local_after past in
-      local_passed since past due came (local_files due (subst IsLocal next (local_due (local_now p own.ready) p)))
+  local_left : (since : ℕ) (past : List Own) → Runs (LocalSpawner since) past → (due : NeedData) (came : GotData) → next_of (LocalSpawner since) past own.read own.ready ≡ due
+      → ComesOf s a due came wrote → Then (LocalSpawner since) past due came
+  local_left since past may (needs.File c) came next comes = answered s a wrote (Then (LocalSpawner since) past (needs.File c)) c came comes
+      (λ told fits.
+      let reads = local_reads q a (local_after past) own.ready c (I.fares a (actor (LocalSpawner since) past) may.is) next in
+      let w = reads_keep controls s.now q a I.sound own.read c told.answer wrote reads fits.0 in
+      record { outside = w.outside; opens = w.elsewhere.opens; accepted = w.elsewhere.accepted; sorted = λ sparing n h. about_same s.now a None q _ w.elsewhere n (λ e. absurd (cc)) })
+  local_left since past may (needs.Take from) came next comes = idle (Some (LocalSpawner since)) a s _ refl refl refl
+  local_left since past may due came next comes = passed (LocalSpawner since) past due came tt
 
   -- The remote spawner, which reads messages
 
-  abbrev OnlyReadsOf : NeedData → Type 0
-  OnlyReadsOf (needs.File c) = OnlyReads q a c
-  OnlyReadsOf due = Unit {0}
-
-  only_reads : (row : SpawnRow) (p : Place) (c : CallData) → SpawnerHolds q a row → due_from row p ≡ needs.File c → OnlyReads q a c
-  only_reads spawn.OpenMess p c h due = subst OnlyReadsOf due tt
-  only_reads (spawn.ReadMess fd) p c h due = subst OnlyReadsOf due tt
-  only_reads (spawn.CloseMess fd whole) p c h due = subst OnlyReadsOf due h.1.held
-  only_reads row p c h due = absurd (cc)
-
   remote_left : (since : ℕ) (past : List Own) → Runs (RemoteSpawner since) past → (due : NeedData) (came : GotData) → next_of (RemoteSpawner since) past own.read own.ready ≡ due
       → ComesOf s a due came wrote → Then (RemoteSpawner since) past due came
-  remote_left since past may (needs.File c) came next comes = answered (Then (RemoteSpawner since) past (needs.File c)) c came comes
+  remote_left since past may (needs.File c) came next comes = answered s a wrote (Then (RemoteSpawner since) past (needs.File c)) c came comes
       (λ told fits.
       let p = remote_after past in
       let holds = arrive_holds q a p.row p own.ready (I.fares a (actor (RemoteSpawner since) past) may.is) in
-      let w = reads_keep controls s.now q a I.sound own.read c told.answer wrote (only_reads (remote_now p own.ready) p c holds next) fits.0 in
+      let w = reads_keep controls s.now q a I.sound own.read c told.answer wrote (only_reads q a (remote_asks p.request) (remote_now p own.ready) p c holds next) fits.0 in
       record { outside = w.outside; opens = w.elsewhere.opens; accepted = w.elsewhere.accepted; sorted = λ sparing n h. about_same s.now a None q _ w.elsewhere n (λ e. absurd (cc)) })
   remote_left since past may (needs.Take from) came next comes = idle (Some (RemoteSpawner since)) a s _ refl refl refl
   remote_left since past may due came next comes = passed (RemoteSpawner since) past due came tt
+
+  -- A delivery, which touches nothing but drops
+
+  delivery_left : (since : ℕ) (args : LocalArgs) (past : List Own) → Runs (Delivery since args) past → (due : NeedData) (came : GotData) → next_of (Delivery since args) past own.read own.ready ≡ due
+      → ComesOf s a due came wrote → Then (Delivery since args) past due came
+  delivery_left since args past may (needs.File c) came next comes = answered s a wrote (Then (Delivery since args) past (needs.File c)) c came comes
+      (λ told fits.
+      let F : DeliveryFares q a args past Alive = I.fares a (actor (Delivery since args) past) may.is in
+      let l = rests_keep.calls q a args past own.read own.ready c told wrote I.sound.suits F.rests (next, may_come s a (needs.File c) (got.Answered told) wrote fits) fits.0 fits.1 in
+      let w = l.1 in
+      record { outside = w.outside; opens = w.foreign.opens; accepted = λ i h accepted. still_there s.books i h; sorted = λ sparing n h. foreign_about a q _ w.foreign n })
+  delivery_left since args past may (needs.Take from) came next comes = idle (Some (Delivery since args)) a s _ refl refl refl
+  delivery_left since args past may due came next comes = passed (Delivery since args) past due came tt
 
   by_program : (program : Program) (past : List Own) → Runs program past → next_of program past own.read own.ready ≡ own.due → ComesOf s a own.due own.came wrote → Then program past own.due own.came
   by_program (Injector args) past may next comes = injector_left args past may own.due own.came next comes
   by_program (Cleaner since) past may next comes = cleaner_left since past may own.due own.came next comes
   by_program (Sender since) past may next comes = sender_left since past may own.due own.came next comes
-  by_program (LocalSpawner since) past may next comes = local_left since past own.due own.came next
+  by_program (LocalSpawner since) past may next comes = local_left since past may own.due own.came next comes
   by_program (RemoteSpawner since) past may next comes = remote_left since past may own.due own.came next comes
+  by_program (Delivery since args) past may next comes = delivery_left since args past may own.due own.came next comes
 
   by_life : (program : Program) (past : List Own) (life : Life) → life ≡ Alive → MayRead s a (record { program = program; past = past; life = life }) own.read
       → next_of program past own.read own.ready ≡ own.due → ComesOf s a own.due own.came wrote

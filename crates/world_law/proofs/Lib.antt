@@ -2,10 +2,14 @@
 pub mod Begins
 -- what time and a report leave
 pub mod Later
+-- what a delivery that ended with 0 did
+pub mod DeliveryEnds
 -- the state is safe
 pub mod Safe
 -- who runs in the slots, and which members are there
 pub mod Tenants
+-- what a spawner holds open, through what others do
+pub mod Held
 -- an end and a stop
 pub mod Gone
 -- the bounces in ledgers
@@ -14,10 +18,18 @@ pub mod Bounces
 pub mod Marks
 -- what a child is given
 pub mod Inputs
--- what the envelope of a bounce is read as
+-- what an envelope is read as
+pub mod Envelopes
+-- and that of a bounce
 pub mod BounceEnvelopes
+-- the addresses to which lines forward
+pub mod PlainLines
+-- the words of a delivery, as the local spawner asks for it
+pub mod PlainWords
 -- when a bounce file is opened to be returned
 pub mod BouncesLast
+-- what others leave of a delivery
+pub mod Forwarded
 -- one actor that moves
 pub mod Moved
 -- the start of an injector and of a generation
@@ -28,10 +40,18 @@ pub mod Halted
 pub mod Stepped
 -- the events of an injector
 pub mod Injects
--- the events of the remote spawner
+-- a change of a pipe that isn't between the sender and its cleaner
+pub mod Pipes
+-- the events of a spawner
+pub mod Spawners
+-- those of the remote spawner
 pub mod Remotes
--- the events of the local spawner
+-- and those of the local spawner
 pub mod Locals
+-- what a delivery leaves of the control files
+pub mod ControlsLeft
+-- the events of a delivery
+pub mod Deliveries
 -- the events of the cleaner
 pub mod Cleaning
 -- what lies between the sender and its cleaner after an event of the sender
@@ -46,10 +66,14 @@ pub mod SendersPipes
 pub mod SendersChild
 -- the events of the sender
 pub mod SendersEvents
--- the start of an injector of a bounce
+-- the start of a child
 pub mod Children
 -- what holds after each legal history
 pub mod Histories
+-- the words of each delivery
+pub mod PlainDeliveries
+-- to whom its forwards go
+pub mod Addressed
 -- what holds if no generation was started
 pub mod Alone
 -- what led to a world
@@ -58,3 +82,25 @@ pub mod Led
 pub mod Leaves
 -- the commands under way at a cleaner
 pub mod UnderWay
+-- the pipes between the sender and the local spawner
+pub mod PostPipes
+-- what an event leaves of what lies between them
+pub mod PostViews
+-- events of others than these two
+pub mod PostEvents
+-- those of the sender
+pub mod PostSends
+-- those of the local spawner
+pub mod PostServes
+-- each event
+pub mod PostKept
+-- what the sender hears
+pub mod PostHeard
+-- what ledgers have as delivered, as the books change
+pub mod DeliveredBooks
+-- and by which deliveries
+pub mod Delivered
+-- what a sender has in hand, channel files, and injectors at work
+pub mod Standing
+-- what a sender had in flight
+pub mod Flights

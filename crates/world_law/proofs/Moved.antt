@@ -4,15 +4,15 @@ use Rattle.address_rules.specs.declared.controls.Controls.{Controls}
 use Rattle.call_fs.specs.Maps.{put_at}
 use Rattle.call_fs.specs.declared.program.Port.TheVariants as port
 use Rattle.call_fs.proofs.Maps.{put_at_cases}
-use Rattle.world_pipes.specs.Pipework.{Pipework, Tenant}
-use Rattle.mail_world.specs.History.{Actor, IsSender, State}
+use Rattle.world_pipes.specs.Pipework.{Pipework, Slot, Tenant}
+use Rattle.mail_world.specs.History.{Actor, State}
 use Rattle.queue_law.specs.Numbers.{Queue}
 use Rattle.mail_world.specs.Untouched.{queue}
 use Rattle.world_law.specs.Crew.{awaits_in, place_in, lives_in, link_by, IsNamed}
 use Rattle.world_law.specs.Fares.{FaresBy}
-use Rattle.world_law.specs.Inv.{ChildFares, ErrandRests, ErrandsRest, Inv, IsTenantOf}
+use Rattle.world_law.specs.Inv.{ChildBy, ChildrenFare, ErrandRests, ErrandsRest, Inv, IsTenantOf}
 use Rattle.world_law.proofs.Gone.{errands_at}
-use Rattle.world_law.proofs.Tenants.{GoesOn, RunsNoMore, one_child, one_crewed, one_keeps, quiet_child, tenants_kept}
+use Rattle.world_law.proofs.Tenants.{GoesOn, IsCrewed, RunsNoMore, one_child, one_crewed, one_keeps, tenants_kept}
 
 -- the two pipes of the sender and its cleaner have the same bytes
 pub record IsSameLink (v w : Pipework) : Type 0 where
@@ -24,8 +24,6 @@ pub record IsSeenAs (o : Option Actor) (y : Actor) : Type 0 where
   pub awaits : awaits_in (Some y) ≡ awaits_in o
   pub place : place_in (Some y) ≡ place_in o
   pub lives : lives_in (Some y) ≡ true → lives_in o ≡ true
-  pub goes : GoesOn o y.program
-  pub quiet : IsSender y.program → ⊥
 
 -- the state then
 abbrev pub with_one : State → List ℕ → Actor → Pipework → State
@@ -75,13 +73,13 @@ module _ (controls : Controls) (now : ℕ) (q : Queue) (actors : List ℕ → Op
       (inr awaits_same) place_same same.given same.answers
 
 module _ (controls : Controls) (s : State) (I : Inv controls s) (a : List ℕ) (y : Actor) (w : Pipework) (named : IsNamed a y.program)
-    (F : FaresBy controls s.now (queue s I.role) a y.program y.past y.life) (goes : GoesOn (s.actors a) y.program) where
+    (F : FaresBy controls s.now (queue s I.role) a y.program y.past y.life) where
   -- those that run in slots then
   abbrev pub RunAsTold : Type 0
   RunAsTold = (b : List ℕ) (d : ℕ) (t : Tenant) → w.programs b d ≡ Some t → IsTenantOf (with_one s a y w) b d t
 
-  pub put_one : RunAsTold → ChildFares (with_one s a y w) (put_at s.actors a (Some y) (codes "sender")) → ErrandsRest controls (with_one s a y w) I.role → Inv controls (with_one s a y w)
-  put_one tenants child errands = record {
+  pub put_one : IsCrewed (put_at s.actors a (Some y)) → RunAsTold → ChildrenFare (with_one s a y w) → ErrandsRest controls (with_one s a y w) I.role → Inv controls (with_one s a y w)
+  put_one crewed tenants child errands = record {
     role = I.role;
     moment = I.moment;
     sound = I.sound;
@@ -90,18 +88,20 @@ module _ (controls : Controls) (s : State) (I : Inv controls s) (a : List ℕ) (
     fares = each_put s.actors a y (λ o z. FaresBy controls s.now (queue s I.role) o z.program z.past z.life) F (λ o z _. I.fares o z);
     control = I.control;
     old = I.old;
-    crewed = one_crewed s.actors a y goes I.crewed;
+    crewed = crewed;
     tenants = tenants;
     child = child;
     errands = errands;
   }
 
-  pub moved_by : (IsSender y.program → ⊥) → RunsNoMore s.pipework w → ErrandsRest controls (with_one s a y w) I.role → Inv controls (with_one s a y w)
-  moved_by quiet no_more = put_one (tenants_kept s (with_one s a y w) (one_keeps s.actors a y goes) no_more I.tenants)
-      (one_child s (with_one s a y w) (one_keeps s.actors a y goes) no_more I.tenants a y (quiet_child (with_one s a y w) y.program y.past y.life quiet) I.child)
+  pub moved_by : GoesOn (s.actors a) y.program → ChildBy (with_one s a y w) a y.program y.past y.life → RunsNoMore s.pipework w → w.slots ≡ s.pipework.slots
+      → ErrandsRest controls (with_one s a y w) I.role → Inv controls (with_one s a y w)
+  moved_by goes child no_more slots = put_one (one_crewed s.actors a y goes I.crewed)
+      (tenants_kept s (with_one s a y w) (one_keeps s.actors a y goes) (λ b x there. ap (λ (f : List ℕ → Option Slot). f b) slots) no_more I.tenants)
+      (one_child s (with_one s a y w) (one_keeps s.actors a y goes) no_more I.tenants a y child I.child)
 
 module _ (controls : Controls) (s : State) (I : Inv controls s) (a : List ℕ) (y : Actor) (w : Pipework) (named : IsNamed a y.program)
     (F : FaresBy controls s.now (queue s I.role) a y.program y.past y.life) (seen : IsSeenAs (s.actors a) y)
     (same : IsSameLink s.pipework w) where
-  pub moved_keeps : RunsNoMore s.pipework w → Inv controls (with_one s a y w)
-  moved_keeps no_more = moved_by controls s I a y w named F seen.goes seen.quiet no_more (put_errands controls s.now (queue s I.role) s.actors a y s.pipework w seen same I.errands)
+  pub moved_keeps : GoesOn (s.actors a) y.program → ChildBy (with_one s a y w) a y.program y.past y.life → RunsNoMore s.pipework w → w.slots ≡ s.pipework.slots → Inv controls (with_one s a y w)
+  moved_keeps goes child no_more slots = moved_by controls s I a y w named F goes child no_more slots (put_errands controls s.now (queue s I.role) s.actors a y s.pipework w seen same I.errands)

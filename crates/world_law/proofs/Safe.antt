@@ -18,11 +18,12 @@ use Rattle.mail_world.specs.History.{Actor, Life, State}
 use Rattle.mail_world.specs.History.Life.{Over}
 use Rattle.mail_world.specs.Untouched.{queue}
 use Rattle.world_events.specs.declared.event.Program.{Program}
-use Rattle.world_events.specs.declared.event.Program.TheVariants.{Injector}
+use Rattle.world_events.specs.declared.event.Program.TheVariants.{Delivery, Injector}
 use Rattle.world_law.specs.Crew.{is_well}
 use Rattle.world_law.specs.Fares.{FaresBy}
 use Rattle.world_law.specs.Headline.{EndsWell, Safe}
 use Rattle.world_law.specs.Laws.{InvIsSafe}
+use Rattle.world_law.proofs.DeliveryEnds.{forwarded_in}
 
 fourth : (mess intd todo info local remote bounce : Bool) → mess ≡ true → todo ≡ true → bounce ≡ false → state_by mess intd todo info local remote bounce ≢ Other
 fourth true true true info local remote false m t b = λ e. absurd (cc)
@@ -73,14 +74,15 @@ booked controls now q a (Injector args) past life F = F.queued
 booked controls now q a other past life F = tt
 
 well : (controls : Controls) (now : ℕ) (q : Queue) (a : List ℕ) (program : Program) (past : List Own) (life : Life) → FaresBy controls now q a program past life
-    → life ≡ Over 0 → EndsWell q.books a program
+    → life ≡ Over 0 → EndsWell q.books a program past
 well controls now q a (Injector args) past life F over = F.queued (F.ends (ap is_well over))
+well controls now q a (Delivery start args) past life F over = record { carried = F.well (ap is_well over); forwarded = forwarded_in q.books past F.forwards }
 well controls now q a other past life F over = tt
 
 -- what holds of the queue says that the state is safe, if its actors have ended as they say
 pub safe_by : (controls : Controls) (s : State) (role : ℕ → Role) → Sound controls (queue s role)
     → ((a : List ℕ) (x : Actor) → s.actors a ≡ Some x → IsBooked s.books a x.program x.past)
-    → ((a : List ℕ) (x : Actor) → s.actors a ≡ Some x → x.life ≡ Over 0 → EndsWell s.books a x.program) → Safe controls s
+    → ((a : List ℕ) (x : Actor) → s.actors a ≡ Some x → x.life ≡ Over 0 → EndsWell s.books a x.program x.past) → Safe controls s
 safe_by controls s role sound queued ends =
     let q = queue s role in
     let S = sound_is_safe controls q sound in

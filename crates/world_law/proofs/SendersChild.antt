@@ -17,7 +17,7 @@ use Rattle.received_line.specs.declared.line.Invoked.TheVariants as invoking
 use Rattle.send_core.specs.declared.desk.Desk.{Desk}
 use Rattle.send_core.specs.declared.row.Row.{Row}
 use Rattle.send_core.specs.declared.row.Row.TheVariants as at
-use Rattle.send_core.specs.Table.{desk_after, row_now}
+use Rattle.send_core.specs.Table.{Next, desk_after, row_now}
 use Rattle.send_steps.specs.declared.rows.FinishRow.TheVariants as finish
 use Rattle.send_known.specs.Known.{sender_of}
 use Rattle.queue_law.specs.Numbers.{about}
@@ -34,11 +34,11 @@ use Rattle.mail_world.specs.History.Life.{Alive, Over, Stopped}
 use Rattle.mail_world.specs.Untouched.{queue}
 use Rattle.world_law.specs.Bounces.{IsBounceOf}
 use Rattle.world_law.specs.Fares.{FaresBy}
-use Rattle.world_law.specs.Inv.{ChildFares, FedBy, Inv, IsBouncer, PastFed}
+use Rattle.world_law.specs.Inv.{FedBy, Inv, IsChild, PastFed}
 use Rattle.world_law.proofs.Bounces.{IsStatusTaken}
 use Rattle.world_law.proofs.Inputs.{two_texts}
 use Rattle.world_law.proofs.SendersPipes.{IsOther}
-use Rattle.world_law.proofs.Tenants.{some_actor}
+use Rattle.world_law.proofs.Tenants.{IsBouncer, is_bouncer, some_actor}
 
 -- what ends with a status is the child
 abbrev pub IsOfChild : Option Bouncer → GotData → Type 0
@@ -47,6 +47,18 @@ IsOfChild child came = Unit {0}
 
 some_child : (x y : Bouncer) → ◌≡◌ {A = Option Bouncer} (Some x) (Some y) → x ≡ y
 some_child x y e = cc
+
+module _ (controls : Controls) (s : State) (I : Inv controls s) where
+  -- one that has ended with 0 has queued its message
+  pub ended_queued : (b : List ℕ) (args : Arguments) (program : Program) (past : List Own) (life : Life) → FaresBy controls s.now (queue s I.role) b program past life → program ≡ Injector args
+      → IsStatusOf life (got.Ended 0) → HasQueued s.books b args
+  ended_queued b args (Injector other) past (Over status) F is ended =
+      let zero : 0 ≡ status = cc in
+      let same : other ≡ args = cc in
+      subst (λ (z : Arguments). HasQueued s.books b z) same (F.queued (F.ends (sym (ap (λ (n : ℕ). n == 0) zero))))
+  ended_queued b args (Injector other) past Alive F is ended = absurd ended
+  ended_queued b args (Injector other) past Stopped F is ended = absurd (cc)
+  ended_queued b args program past life F is ended = absurd (cc)
 
 module _ (controls : Controls) (s : State) (I : Inv controls s) (a : List ℕ) (named : a ≡ codes "sender") where
   abbrev child : Option Bouncer
@@ -65,7 +77,8 @@ module _ (controls : Controls) (s : State) (I : Inv controls s) (a : List ℕ) (
 
   tenant_has : (slot : ℕ) (came : GotData) (o : Option Tenant) → s.pipework.programs a slot ≡ o → TenantEnds s o came → IsOfChild child came
   tenant_has slot came (Some (Runs b)) e ends =
-      let w : IsBouncer s a slot b = I.tenants a slot (Runs b) e in
+      let h : IsChild s a slot b = I.tenants a slot (Runs b) e in
+      let w : IsBouncer s slot b = is_bouncer s a slot b named h (I.crew a h.bearer h.bearer_is) in
       let has : child ≡ Some (record { actor = b; args = w.args }) =
       ap (bouncer_in s.actors) (ap (s.pipework.programs a) (sym w.slot_is) ∙ e) ∙ ap (bouncer_at b) w.is ∙ ap (bouncing b) w.program_is in
       child_has (record { actor = b; args = w.args }) has came
@@ -81,26 +94,16 @@ module _ (controls : Controls) (s : State) (I : Inv controls s) (a : List ℕ) (
   taken_has wrote (port.Status slot) came it comes = status_has slot came comes
   taken_has wrote from came it comes = yields_has (s.pipework.pipes a from) came comes
 
-  -- one that has ended with 0 has queued its message
-  ended_queued : (b : List ℕ) (args : Arguments) (program : Program) (past : List Own) (life : Life) → FaresBy controls s.now (queue s I.role) b program past life → program ≡ Injector args
-      → IsStatusOf life (got.Ended 0) → HasQueued s.books b args
-  ended_queued b args (Injector other) past (Over status) F is ended =
-      let zero : 0 ≡ status = cc in
-      let same : other ≡ args = cc in
-      subst (λ (z : Arguments). HasQueued s.books b z) same (F.queued (F.ends (sym (ap (λ (n : ℕ). n == 0) zero))))
-  ended_queued b args (Injector other) past Alive F is ended = absurd ended
-  ended_queued b args (Injector other) past Stopped F is ended = absurd (cc)
-  ended_queued b args program past life F is ended = absurd (cc)
-
   tenant_queued : (slot : ℕ) (o : Option Tenant) → s.pipework.programs a slot ≡ o → TenantEnds s o (got.Ended 0) → (c : Bouncer) → child ≡ Some c → HasQueued s.books c.actor c.args
   tenant_queued slot (Some (Runs b)) e ends c has =
-      let w : IsBouncer s a slot b = I.tenants a slot (Runs b) e in
+      let h : IsChild s a slot b = I.tenants a slot (Runs b) e in
+      let w : IsBouncer s slot b = is_bouncer s a slot b named h (I.crew a h.bearer h.bearer_is) in
       let it : child ≡ Some (record { actor = b; args = w.args }) =
       ap (bouncer_in s.actors) (ap (s.pipework.programs a) (sym w.slot_is) ∙ e) ∙ ap (bouncer_at b) w.is ∙ ap (bouncing b) w.program_is in
       let one : record { actor = b; args = w.args } ≡ c = some_child (record { actor = b; args = w.args }) c (sym it ∙ has) in
       let same : ends.0 ≡ w.actor = some_actor ends.0 w.actor (sym ends.1 ∙ w.is) in
       subst (λ (z : Bouncer). HasQueued s.books z.actor z.args) one
-      (ended_queued b w.args w.actor.program w.actor.past w.actor.life (I.fares b w.actor w.is) w.program_is (subst (λ (z : Actor). IsStatusOf z.life (got.Ended 0)) same ends.2))
+      (ended_queued controls s I b w.args w.actor.program w.actor.past w.actor.life (I.fares b w.actor w.is) w.program_is (subst (λ (z : Actor). IsStatusOf z.life (got.Ended 0)) same ends.2))
   tenant_queued slot (Some (Remote reported)) e ends c has = absurd (sender_alone (I.tenants a slot (Remote reported) e))
   tenant_queued slot None e ends c has = absurd ends
 
@@ -120,7 +123,8 @@ module _ (controls : Controls) (s : State) (I : Inv controls s) (a : List ℕ) (
   -- what was given to it is its input
   child_carries : (c : Bouncer) → child ≡ Some c → (input : List ℕ) (o : Option Tenant) → s.pipework.programs a 0 ≡ o → IsFed s o input → IsInputOf (Injector c.args) input × (c.args.invoked ≡ invoking.Bounce)
   child_carries c has input (Some (Runs b)) e fed =
-      let w : IsBouncer s a 0 b = I.tenants a 0 (Runs b) e in
+      let h : IsChild s a 0 b = I.tenants a 0 (Runs b) e in
+      let w : IsBouncer s 0 b = is_bouncer s a 0 b named h (I.crew a h.bearer h.bearer_is) in
       let it : child ≡ Some (record { actor = b; args = w.args }) = ap (bouncer_in s.actors) e ∙ ap (bouncer_at b) w.is ∙ ap (bouncing b) w.program_is in
       let one : record { actor = b; args = w.args } ≡ c = some_child (record { actor = b; args = w.args }) c (sym it ∙ has) in
       let input_is : IsInputOf (Injector w.args) input = subst (λ (z : Program). IsInputOf z input) w.program_is (fed w.actor w.is) in
@@ -130,17 +134,17 @@ module _ (controls : Controls) (s : State) (I : Inv controls s) (a : List ℕ) (
 
 -- While a living sender awaits the status of its child, that has the input that the sender kept for it.
 module _ (controls : Controls) (s : State) (I : Inv controls s) where
-  awaiting_by : (past : List Own) → PastFed s past → AwaitsAt (desk_after None past).row (desk_after None past).bounce
+  awaiting_by : (past : List Own) → PastFed s (codes "sender") (Next None) past → AwaitsAt (desk_after None past).row (desk_after None past).bounce
       → IsFed s (s.pipework.programs (codes "sender") 0) (desk_after None past).bounce.input
   awaiting_by [] fed awaits = absurd awaits
   awaiting_by (own ∷ before) fed awaits =
       let g = last_gave (desk_after None before) own.read own.ready own.came awaits in
-      subst (λ (z : GotData). FedBy s (needs.Give (port.Program 0) (desk_after None (own ∷ before)).bounce.input) z) g.came_is
-      (subst (λ (z : NeedData). FedBy s z own.came) g.due_is fed)
+      subst (λ (z : GotData). FedBy s (codes "sender") (needs.Give (port.Program 0) (desk_after None (own ∷ before)).bounce.input) z) g.came_is
+      (subst (λ (z : NeedData). FedBy s (codes "sender") z own.came) g.due_is fed)
 
   pub awaiting_fed : (began : ℕ) (past : List Own) → s.actors (codes "sender") ≡ Some (record { program = Sender began; past = past; life = Alive })
       → AwaitsAt (desk_after None past).row (desk_after None past).bounce → IsFed s (s.pipework.programs (codes "sender") 0) (desk_after None past).bounce.input
-  awaiting_fed began past is awaits = awaiting_by past (subst (λ (o : Option Actor). ChildFares s o) is I.child) awaits
+  awaiting_fed began past is awaits = awaiting_by past (I.child (codes "sender") (record { program = Sender began; past = past; life = Alive }) is) awaits
 
   -- So the bounce that is entered when that ends with 0 is that of the message at work, with the notes that were read of its bounce file.
   module _ (began : ℕ) (past : List Own) (is : s.actors (codes "sender") ≡ Some (record { program = Sender began; past = past; life = Alive })) where

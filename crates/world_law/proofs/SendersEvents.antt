@@ -1,5 +1,4 @@
 -- The events of the sender: file calls, what it gives to its cleaner and to the spawners, and what it takes from them.
-use Rattle.std.specs.Prelude.{Contains}
 use Rattle.std.proofs.Common.{◌≡◌, ◌≢◌, ◌⊎◌, inl, inr, ℕ, ◌≤◌, ◌==◌, List, [], ◌∷◌, ◌++◌, length, take, drop, Bool, true, false, if◌then◌else◌, Option, Some, None, refl, sym, ap, ◌∙◌, subst, arith, codes, ⊎_elim}
 use Rattle.std.proofs.lemmas.List.{drop_at}
 use Rattle.address_rules.specs.declared.controls.Controls.{Controls}
@@ -20,7 +19,7 @@ use Rattle.call_fs.specs.declared.program.Port.{Port}
 use Rattle.call_fs.specs.declared.program.Port.TheVariants as port
 use Rattle.errand_law.specs.Errands.{Awaits}
 use Rattle.errand_law.specs.Errands.Awaits.{Nothing, Answer}
-use Rattle.actor_names.specs.MailNames.{members}
+use Rattle.delivery_law.proofs.Stay.{drops_stay}
 use Rattle.mail_bytes.specs.Moments.{IsMoment}
 use Rattle.queue_clean.specs.Commands.{ended, text_of}
 use Rattle.queue_law.specs.Books.{Child as Bouncer, HasQueued}
@@ -73,7 +72,7 @@ use Rattle.world_law.proofs.SendersLink.{IsBusy, answered_errands, asked_errands
 use Rattle.world_law.proofs.SendersOthers.{others_fare, others_fare_on, through}
 use Rattle.world_law.proofs.SendersPipes.{IsOther, NoTenantMore, gives_same, takes_same, takes_slots}
 use Rattle.world_law.proofs.SendersPut.{OthersFare, idle_by, sender, sent, sent_keeps, texts_booked, texts_on}
-use Rattle.world_law.proofs.Tenants.{GoesOn, KeepsPrograms, came_kept, one_keeps}
+use Rattle.world_law.proofs.Tenants.{GoesOn, KeepsPrograms, came_kept, one_keeps, tenant_other}
 
 -- What is due by its table
 
@@ -164,9 +163,8 @@ module _ (controls : Controls) (s : State) (I : Inv controls s) (wrote began : �
   is_free : (due : NeedData) (came : GotData) → due_at row d ≡ due → GivesNone due → IsFree (awaits (next came))
   is_free due came e none = free d own.read own.ready came (λ text given. subst GivesNone (sym e ∙ given) none)
 
-  -- the injector of a bounce has no member's name
   apart : (a : List ℕ) (slot : ℕ) (b : List ℕ) → s.pipework.programs a slot ≡ Some (Runs b) → b ≢ codes "clean"
-  apart a slot b e same = (I.tenants a slot (Runs b) e).apart (subst (λ (n : List ℕ). Contains members n) (sym same) (1, omega arith, refl))
+  apart = tenant_other s I.tenants
 
   same_controls : LeavesControls q q
   same_controls = record { names = λ f. refl; bytes = λ f i there. refl; old = I.old }
@@ -188,8 +186,8 @@ module _ (controls : Controls) (s : State) (I : Inv controls s) (wrote began : �
       (awaits (next came)) (is_free due came e none)))
 
   -- what was due is told by its table
-  fed_when : (t : State) (due : NeedData) (came : GotData) → due_at row d ≡ due → FedBy t due came → FedBy t (due_at row d) came
-  fed_when t due came is fed = subst (λ (z : NeedData). FedBy t z came) (sym is) fed
+  fed_when : (t : State) (due : NeedData) (came : GotData) → due_at row d ≡ due → FedBy t name due came → FedBy t name (due_at row d) came
+  fed_when t due came is fed = subst (λ (z : NeedData). FedBy t name z came) (sym is) fed
 
   -- no file call enters a bounce
   call_books : (told : Told) → MayBook controls child (booked_at row (got.Answered told) d) s.books
@@ -223,7 +221,7 @@ module _ (controls : Controls) (s : State) (I : Inv controls s) (wrote began : �
       (booked_bounces controls child (booked_at row came d) s.books l.1.leads.elsewhere.accepted (call_books told) I.bounces)
       C
       (λ o x other there.
-      others_fare controls s.now l.1.number q r l.1.leads.elsewhere I.sound.suits l.1.closed o other x.program x.past x.life (I.crew o x there)
+      others_fare controls s.now l.1.number q r l.1.leads.elsewhere I.sound.suits l.1.closed (drops_stay.outside name q r l.1.leads.outside l.1.leads.old) o other x.program x.past x.life (I.crew o x there)
       (idle_by controls s I none o x.program x.past x.life there (I.crew o x there)) (I.fares o x there))
       (record {
         stands = l.1.stands;
@@ -231,12 +229,12 @@ module _ (controls : Controls) (s : State) (I : Inv controls s) (wrote began : �
         texts = texts_booked child (booked_at row came d) made (next came)
             (texts_on q made refl (next came) (texts_keep.goes_on controls s.now q name d own.read own.ready came soon moment fares.stands fares.texts));
       })
-      (λ b e t there. there) (fed_when (sent s r began (event (needs.File call) came ∷ past) (pipes_then (needs.File call) came)) (needs.File call) came due tt)
+      (λ b e t there. there) refl (fed_when (sent s r began (event (needs.File call) came ∷ past) (pipes_then (needs.File call) came)) (needs.File call) came due tt)
       (idle_then r (needs.File call) came due tt tt (record { given = refl; answers = refl }))
 
   -- A giving
 
-  gave : (to : Port) (bytes : List ℕ) (came : GotData) → due_at row d ≡ needs.Give to bytes → FedBy (then_state (needs.Give to bytes) came) (needs.Give to bytes) came → Then q (needs.Give to bytes) came → Inv controls (then_state (needs.Give to bytes) came)
+  gave : (to : Port) (bytes : List ℕ) (came : GotData) → due_at row d ≡ needs.Give to bytes → FedBy (then_state (needs.Give to bytes) came) name (needs.Give to bytes) came → Then q (needs.Give to bytes) came → Inv controls (then_state (needs.Give to bytes) came)
   gave to bytes came due fed errands =
       sent_keeps controls s I q began past (event (needs.Give to bytes) came ∷ past) (pipes_then (needs.Give to bytes) came) is I.sound I.bounces same_controls (λ o x other there. I.fares o x there)
       (record {
@@ -244,10 +242,10 @@ module _ (controls : Controls) (s : State) (I : Inv controls s) (wrote began : �
         control = controls_are_read.rest q name d own.read own.ready came (subst IsOnLink (sym due) tt);
         texts = texts_keep.goes_on controls s.now q name d own.read own.ready came soon moment fares.stands fares.texts;
       })
-      (λ b e t there. there) (fed_when (then_state (needs.Give to bytes) came) (needs.Give to bytes) came due fed) errands
+      (λ b e t there. there) refl (fed_when (then_state (needs.Give to bytes) came) (needs.Give to bytes) came due fed) errands
 
   -- what a child is given is its input
-  fed_of : (to : Port) (bytes : List ℕ) (came : GotData) → ComesOf s name (needs.Give to bytes) came wrote → FedBy s (needs.Give to bytes) came
+  fed_of : (to : Port) (bytes : List ℕ) (came : GotData) → ComesOf s name (needs.Give to bytes) came wrote → FedBy s name (needs.Give to bytes) came
   fed_of (port.Program slot) bytes got.Gave comes = comes
   fed_of to bytes came comes = tt
 
@@ -257,7 +255,7 @@ module _ (controls : Controls) (s : State) (I : Inv controls s) (wrote began : �
   gave_other : (to : Port) (bytes : List ℕ) (came : GotData) → due_at row d ≡ needs.Give to bytes → IsOther to → GivesNone (needs.Give to bytes)
       → ComesOf s name (needs.Give to bytes) came wrote → Inv controls (then_state (needs.Give to bytes) came)
   gave_other to bytes came due it none comes = gave to bytes came due
-      (came_kept s (then_state (needs.Give to bytes) came) (still_sends (needs.Give to bytes) came) (λ b e t there. inl there) I.tenants (needs.Give to bytes) came (fed_of to bytes came comes))
+      (came_kept s (then_state (needs.Give to bytes) came) (still_sends (needs.Give to bytes) came) (λ b e t there. inl there) I.tenants name (needs.Give to bytes) came (fed_of to bytes came comes))
       (idle_then q (needs.Give to bytes) came due tt none (gives_same s.pipework apart wrote to bytes came it))
 
   -- a command, whole or in part
@@ -298,7 +296,7 @@ module _ (controls : Controls) (s : State) (I : Inv controls s) (wrote began : �
         control = controls_are_read.rest (told_then came) name d own.read own.ready came (subst IsOnLink (sym due) tt);
         texts = texts_booked child (booked_at row came d) q (next came) (texts_keep.goes_on controls s.now q name d own.read own.ready came soon moment fares.stands fares.texts);
       })
-      (takes_slots s.pipework apart wrote from came) (fed_when (sent s (told_then came) began (event (needs.Take from) came ∷ past) (pipes_then (needs.Take from) came)) (needs.Take from) came due tt) errands
+      (takes_slots s.pipework apart wrote from came) refl (fed_when (sent s (told_then came) began (event (needs.Take from) came ∷ past) (pipes_then (needs.Take from) came)) (needs.Take from) came due tt) errands
 
   -- from a spawner, or of the injector of a bounce
   took_other : (from : Port) (came : GotData) → due_at row d ≡ needs.Take from → IsOther from → IsBusy (needs.Take from) → IsOfChild child came
@@ -356,7 +354,7 @@ module _ (controls : Controls) (s : State) (I : Inv controls s) (wrote began : �
         control = controls_are_read.rest q name d own.read own.ready came (subst IsOnLink (sym due) tt);
         texts = texts_keep.goes_on controls s.now q name d own.read own.ready came soon moment fares.stands fares.texts;
       })
-      slots (fed_when (then_state (needs.Start asked) came) (needs.Start asked) came due tt) (idle_then q (needs.Start asked) came due tt tt same)
+      slots refl (fed_when (then_state (needs.Start asked) came) (needs.Start asked) came due tt) (idle_then q (needs.Start asked) came due tt tt same)
 
   bounce_failed : (room : ℕ) (came : GotData) → due_at row d ≡ needs.Start (child_kinds.Bounce room) → ComesOf s name (needs.Start (child_kinds.Bounce room)) came wrote
       → Inv controls (then_state (needs.Start (child_kinds.Bounce room)) came)

@@ -3,9 +3,10 @@ use Rattle.std.proofs.Common.{◌≡◌, ◌≢◌, ℕ, List, true, Option, Som
 use Rattle.address_rules.specs.declared.controls.Controls.{Controls}
 use Rattle.call_fs.specs.declared.past.Own.{Own}
 use Rattle.queue_clean.specs.Table.{place_after}
-use Rattle.spawner_parts.specs.declared.row.Row.{Row as SpawnRow}
-use Rattle.spawner_parts.specs.declared.row.Row.TheVariants as spawn
+use Rattle.local_spawn.specs.Table.{place_after as local_after}
 use Rattle.remote_spawn.specs.Table.{place_after as spawn_after}
+use Rattle.delivery_law.specs.Leaves.{LeavesDrops}
+use Rattle.delivery_law.proofs.Stay.{drops_stay}
 use Rattle.queue_law.specs.Books.{Books, Injection, IsInjected, IsLater}
 use Rattle.queue_law.specs.Cleaners.{IsBeside}
 use Rattle.queue_law.specs.Numbers.{NamesSuit, Queue, Sound}
@@ -17,25 +18,23 @@ use Rattle.queue_law.proofs.RestIsKept.{rest_is_kept}
 use Rattle.sender_law.specs.Takings.{LeadsThrough}
 use Rattle.sender_law.specs.Takings.LeadsThrough.{Goes, Stays}
 use Rattle.world_events.specs.declared.event.Program.{Program}
-use Rattle.world_events.specs.declared.event.Program.TheVariants.{Injector, Cleaner, Sender, LocalSpawner, RemoteSpawner}
+use Rattle.world_events.specs.declared.event.Program.TheVariants.{Injector, Cleaner, Sender, LocalSpawner, RemoteSpawner, Delivery}
 use Rattle.mail_world.specs.History.{Life}
 use Rattle.mail_world.specs.History.Life.{Alive, Over, Stopped}
 use Rattle.world_law.specs.Crew.{IsNamed, is_alive, is_well}
-use Rattle.world_law.specs.Fares.{FaresBy, SpawnerHolds}
+use Rattle.world_law.specs.Fares.{FaresBy}
+use Rattle.world_law.proofs.Forwarded.{delivery_left}
+use Rattle.world_law.proofs.Held.{lspawn_holds, spawner_holds}
 
 -- a cleaner is at work at no number, and takes up none
 abbrev pub IsIdle : Program → List Own → Type 0
 IsIdle (Cleaner began) past = (m : Option ℕ) → IsBeside m (place_after past)
 IsIdle program past = Unit {0}
 
-module _ (controls : Controls) (now : ℕ) (n : Option ℕ) (q r : Queue) (E : Elsewhere now (codes "sender") n q r) (suits : NamesSuit q) (closed : (k : ℕ) → n ≡ Some k → IsClosed now q k) where
+module _ (controls : Controls) (now : ℕ) (n : Option ℕ) (q r : Queue) (E : Elsewhere now (codes "sender") n q r) (suits : NamesSuit q) (closed : (k : ℕ) → n ≡ Some k → IsClosed now q k)
+    (D : LeavesDrops (codes "sender") q r) where
   spared : Spares now n q r × SparesNames q r
   spared = rest_is_kept.closed now (codes "sender") n q r E suits closed
-
-  holds_other : (o : List ℕ) → o ≢ codes "sender" → (row : SpawnRow) → SpawnerHolds q o row → SpawnerHolds r o row
-  holds_other o other (spawn.ReadMess fd) h = (h.0, E.opens o fd.0 h.0 other h.1)
-  holds_other o other (spawn.CloseMess fd whole) h = (h.0, E.opens o fd.0 h.0 other h.1)
-  holds_other o other row h = tt
 
   pub others_fare : (o : List ℕ) → o ≢ codes "sender" → (program : Program) (past : List Own) (life : Life) → IsNamed o program → IsIdle program past
       → FaresBy controls now q o program past life → FaresBy controls now r o program past life
@@ -44,10 +43,13 @@ module _ (controls : Controls) (now : ℕ) (n : Option ℕ) (q r : Queue) (E : E
   others_fare o other (Cleaner began) past (Over status) named idle F = tt
   others_fare o other (Cleaner began) past Stopped named idle F = tt
   others_fare o other (Sender began) past life named idle F = absurd (other named)
-  others_fare o other (LocalSpawner began) past life named idle F = tt
-  others_fare o other (RemoteSpawner began) past Alive named idle F = holds_other o other (spawn_after past).row F
+  others_fare o other (LocalSpawner began) past Alive named idle F = lspawn_holds q r o (λ fd how. E.opens o fd how other) (local_after past) F
+  others_fare o other (LocalSpawner began) past (Over status) named idle F = tt
+  others_fare o other (LocalSpawner began) past Stopped named idle F = tt
+  others_fare o other (RemoteSpawner began) past Alive named idle F = spawner_holds q r o (λ fd how. E.opens o fd how other) (spawn_after past).row F
   others_fare o other (RemoteSpawner began) past (Over status) named idle F = tt
   others_fare o other (RemoteSpawner began) past Stopped named idle F = tt
+  others_fare o other (Delivery began args) past life named idle F = delivery_left q r (codes "sender") o other D (λ fd how. E.opens o fd how other) E.accepted args past life F
 
 some_closed : (now : ℕ) (q : Queue) (n : ℕ) → IsClosed now q n → (k : ℕ) → ◌≡◌ {A = Option ℕ} (Some n) (Some k) → IsClosed now q k
 some_closed now q n closed k is = let same : n ≡ k = (cc) in subst (λ (m : ℕ). IsClosed now q m) same closed
@@ -58,7 +60,7 @@ pub others_fare_on : (controls : Controls) (now : ℕ) (o : List ℕ) → o ≢ 
 others_fare_on controls now o other program past life named idle q r (Stays z) G F = F
 others_fare_on controls now o other program past life named idle q r (Goes x y z n closed leads through) G F =
     others_fare_on controls now o other program past life named idle y z through leads.sound
-    (others_fare controls now (Some n) x y leads.elsewhere G.suits (some_closed now x n closed) o other program past life named idle F)
+    (others_fare controls now (Some n) x y leads.elsewhere G.suits (some_closed now x n closed) (drops_stay.outside (codes "sender") x y leads.outside leads.old) o other program past life named idle F)
 
 -- What was accepted stays so
 

@@ -1,9 +1,8 @@
 -- The state after an event of the sender: what it is enough to show.
-use Rattle.std.proofs.Common.{◌≡◌, ◌≢◌, ℕ, List, [], ◌∷◌, Option, Some, None, refl, sym, ap, ◌∙◌, subst, codes, ⊎_elim}
+use Rattle.std.proofs.Common.{◌≡◌, ◌≢◌, inl, ℕ, List, [], ◌∷◌, Option, Some, None, refl, sym, ap, ◌∙◌, subst, codes}
 use Rattle.address_rules.specs.declared.controls.Controls.{Controls}
 use Rattle.call_fs.specs.declared.past.Own.{Own}
 use Rattle.call_fs.specs.Maps.{put_at}
-use Rattle.call_fs.proofs.Maps.{put_at_cases, put_at_other}
 use Rattle.errand_law.specs.Errands.Awaits.{Nothing}
 use Rattle.queue_clean.specs.Table.{Place}
 use Rattle.queue_law.specs.Books.{Child as Bouncer, line_said, notes_read}
@@ -12,7 +11,7 @@ use Rattle.queue_law.specs.Ledgers.Line.{Drops, Notes, Reads, Returns}
 use Rattle.queue_law.specs.Numbers.{Queue, Sound}
 use Rattle.send_core.specs.declared.desk.Desk.{Desk}
 use Rattle.send_core.specs.Desk.{link}
-use Rattle.send_core.specs.Table.{desk_after}
+use Rattle.send_core.specs.Table.{Next, desk_after}
 use Rattle.send_jobs.specs.declared.attempts.Attempt.{Attempt}
 use Rattle.send_jobs.specs.Bookings.{Booking}
 use Rattle.send_jobs.specs.Bookings.Booking.{Dropped, Noted, ReadNotes, Reported, Returned}
@@ -24,19 +23,19 @@ use Rattle.sender_law.proofs.Asking.{texts_keep}
 use Rattle.sender_law.proofs.ControlsStay.{controls_stay}
 use Rattle.sender_law.proofs.Goes.{cleaners_go_on}
 use Rattle.world_events.specs.declared.event.Program.{Program}
-use Rattle.world_events.specs.declared.event.Program.TheVariants.{Cleaner, Injector, Sender}
-use Rattle.world_pipes.specs.Pipework.{Pipework, Tenant}
-use Rattle.world_pipes.specs.Pipework.Tenant.{Remote, Runs}
+use Rattle.world_events.specs.declared.event.Program.TheVariants.{Cleaner, Sender}
+use Rattle.world_pipes.specs.Pipework.{Pipework, Slot}
 use Rattle.mail_world.specs.History.{Actor, Life, State}
 use Rattle.mail_world.specs.History.Life.{Alive}
 use Rattle.mail_world.specs.Untouched.{queue}
 use Rattle.world_law.specs.Bounces.{BouncesAreQueued}
 use Rattle.world_law.specs.Crew.{IsNamed, link_by, link_in, lives_in, place_in}
 use Rattle.world_law.specs.Fares.{FaresBy, SenderFares}
-use Rattle.world_law.specs.Inv.{ErrandRests, Inv, IsBouncer, IsTenantOf, PastFed}
+use Rattle.world_law.specs.Inv.{ErrandRests, Inv, PastFed}
 use Rattle.world_law.proofs.Moved.{each_put}
 use Rattle.world_law.proofs.SendersOthers.{IsIdle}
 use Rattle.world_law.proofs.SendersPipes.{NoTenantMore}
+use Rattle.world_law.proofs.Tenants.{GoesOn, KeepsPrograms, one_child, one_keeps, put_none, tenants_kept}
 
 -- The requests that lie ready are of what the books say.
 
@@ -78,34 +77,10 @@ sent s r began past w = record { disk = r.disk; holder = r.holder; now = s.now; 
 abbrev pub OthersFare : Controls → State → Queue → Type 0
 OthersFare controls s r = (o : List ℕ) (x : Actor) → o ≢ codes "sender" → s.actors o ≡ Some x → FaresBy controls s.now r o x.program x.past x.life
 
--- Who runs in a slot then: whoever ran there before
-
-some_actor : (x y : Actor) → ◌≡◌ {A = Option Actor} (Some x) (Some y) → x ≡ y
-some_actor x y e = cc
-
+-- each actor runs what it ran
 module _ (s : State) (r : Queue) (began : ℕ) (was past : List Own) (w : Pipework) (is : s.actors (codes "sender") ≡ Some (sender began was)) where
-  -- the injector of a bounce isn't the sender
-  other_name : (a : List ℕ) (d : ℕ) (b : List ℕ) → IsBouncer s a d b → b ≢ codes "sender"
-  other_name a d b h same =
-      let one : h.actor ≡ sender began was = some_actor h.actor (sender began was) (sym h.is ∙ ap s.actors same ∙ is) in
-      let program : Injector h.args ≡ Sender began = sym h.program_is ∙ ap (λ (x : Actor). x.program) one in
-      absurd (cc)
-
-  bounces_on : (a : List ℕ) (d : ℕ) (b : List ℕ) → IsBouncer s a d b → IsBouncer (sent s r began past w) a d b
-  bounces_on a d b h = record {
-    parent_is = h.parent_is;
-    slot_is = h.slot_is;
-    actor = h.actor;
-    is = put_at_other s.actors (codes "sender") (Some (sender began past)) b (other_name a d b h) ∙ h.is;
-    args = h.args;
-    program_is = h.program_is;
-    invoked = h.invoked;
-    apart = h.apart;
-  }
-
-  pub tenant_on : (a : List ℕ) (d : ℕ) (t : Tenant) → IsTenantOf s a d t → IsTenantOf (sent s r began past w) a d t
-  tenant_on a d (Runs b) h = bounces_on a d b h
-  tenant_on a d (Remote reported) h = h
+  pub still_sends : KeepsPrograms s.actors (sent s r began past w).actors
+  still_sends = one_keeps s.actors (codes "sender") (sender began past) (subst (λ (o : Option Actor). GoesOn o (Sender began)) (sym is) refl)
 
 module _ (controls : Controls) (s : State) (I : Inv controls s) where
   -- the cleaner, while the sender waits for nothing
@@ -118,11 +93,11 @@ module _ (controls : Controls) (s : State) (I : Inv controls s) where
 
   pub sent_keeps : (r : Queue) (began : ℕ) (was past : List Own) (w : Pipework) → s.actors (codes "sender") ≡ Some (sender began was) → Sound controls r → BouncesAreQueued controls r.books
       → LeavesControls (queue s I.role) r → OthersFare controls s r
-      → SenderFares controls s.now r (codes "sender") (desk_after None past) → NoTenantMore s.pipework w → PastFed (sent s r began past w) past
+      → SenderFares controls s.now r (codes "sender") (desk_after None past) → NoTenantMore s.pipework w → w.slots ≡ s.pipework.slots → PastFed (sent s r began past w) (codes "sender") (Next None) past
       → ErrandRests controls s.now r (lives_in (s.actors (codes "clean"))) (link_by (Some (sender began past)) (s.actors (codes "clean")) w)
       → Inv controls (sent s r began past w)
   unfolding put_at
-  sent_keeps r began was past w is G B C others F slots fed errands = record {
+  sent_keeps r began was past w is G B C others F slots same fed errands = record {
     role = r.role;
     moment = I.moment;
     sound = G;
@@ -131,15 +106,8 @@ module _ (controls : Controls) (s : State) (I : Inv controls s) where
     fares = each_put s.actors (codes "sender") (sender began past) (λ o z. FaresBy controls s.now r o z.program z.past z.life) F (λ o z other is. others o z other is);
     control = controls_stay.said controls (queue s I.role) r C I.control;
     old = C.old;
-    crewed = λ x there it a member gone. I.crewed (sender began was) is tt a member (was_none a gone);
-    tenants = λ a d t e. tenant_on s r began was past w is a d t (I.tenants a d t (slots a d t e));
-    child = fed;
+    crewed = λ b x there it m member gone. I.crewed (codes "sender") (sender began was) is (λ runs. runs) m member (put_none s.actors (codes "sender") (sender began past) m gone);
+    tenants = tenants_kept s (sent s r began past w) (still_sends s r began was past w is) (λ a x there. ap (λ (f : List ℕ → Option Slot). f a) same) (λ a d t e. inl (slots a d t e)) I.tenants;
+    child = one_child s (sent s r began past w) (still_sends s r began was past w is) (λ a d t e. inl (slots a d t e)) I.tenants (codes "sender") (sender began past) fed I.child;
     errands = errands;
   }
-    where
-      -- a member that isn't there wasn't there
-      was_none : (a : List ℕ) → put_at s.actors (codes "sender") (Some (sender began past)) a ≡ None → s.actors a ≡ None
-      was_none a gone = ⊎_elim
-          (λ here. let some : ◌≡◌ {A = Option Actor} (Some (sender began past)) None = sym here.1 ∙ gone in absurd (cc))
-          (λ there. sym there.1 ∙ gone)
-          (put_at_cases s.actors (codes "sender") (Some (sender began past)) a)

@@ -3,6 +3,7 @@ use Rattle.std.specs.Prelude.{Contains}
 use Rattle.std.proofs.Common.{◌≡◌, inl, ℕ, List, Bool, true, false, Option, Some, None, refl, sym, ap, ◌∙◌, subst, ⊎_elim, codes, if◌then◌else◌}
 use Rattle.address_rules.specs.declared.controls.Controls.{Controls}
 use Rattle.call_fs.specs.Maps.{put_at}
+use Rattle.call_fs.specs.declared.past.Own.{Own}
 use Rattle.queue_law.proofs.Injectors.{injector_start}
 use Rattle.sender_law.proofs.Asking.{texts_keep}
 use Rattle.sender_law.proofs.Begins.{begins as sender_begins}
@@ -12,16 +13,17 @@ use Rattle.world_pipes.specs.Pipework.{Tenant, is_member}
 use Rattle.world_pipes.specs.Pipework.Tenant.{Remote, Runs}
 use Rattle.world_events.specs.declared.event.Program.{Program}
 use Rattle.world_events.specs.declared.event.Program.TheVariants.{Injector, Cleaner, Sender, LocalSpawner, RemoteSpawner}
-use Rattle.mail_world.specs.History.{Actor, State, newborn, happens, MayRun, IsSender, IsCleaner, IsLocalSpawner, IsRemoteSpawner}
+use Rattle.mail_world.specs.History.{Actor, Life, State, newborn, happens, MayRun, IsSender, IsCleaner, IsLocalSpawner, IsRemoteSpawner}
 use Rattle.mail_world.specs.History.Event.{Start, Generation}
 use Rattle.mail_world.specs.Untouched.{queue}
-use Rattle.mail_world.proofs.Members.{contained_member, four_new, four_other, member_cases, whether, with_four}
+use Rattle.mail_world.proofs.Members.{contained_member, four_new, four_other, member_cases, member_contained, whether, with_four}
 use Rattle.world_law.specs.Crew.{IsNamed}
 use Rattle.world_law.specs.Fares.{FaresBy}
-use Rattle.world_law.specs.Inv.{Inv, IsTenantOf}
+use Rattle.world_law.specs.Inv.{ChildBy, Inv, IsChild, IsTenantOf}
 use Rattle.world_law.specs.Laws.{GenerationsKeep, StartsKeep}
 use Rattle.world_law.proofs.Begins.{none_asked}
 use Rattle.world_law.proofs.Moved.{IsSeenAs, moved_keeps}
+use Rattle.world_law.proofs.Tenants.{GoesOn, KeepsChildren, child_kept_of}
 
 -- One program starts
 
@@ -29,14 +31,20 @@ started_runs : (controls : Controls) (s : State) (I : Inv controls s) (a : List 
     → Inv controls (happens s (Start a program))
 started_runs controls s I a (Injector args) new runs =
     moved_keeps controls s I a (newborn (Injector args)) s.pipework tt (injector_start s.now (queue s I.role) a args)
-    (subst (λ (o : Option Actor). IsSeenAs o (newborn (Injector args))) (sym new) (record { awaits = refl; place = refl; lives = λ h. absurd (cc); goes = λ it. it; quiet = λ it. it }))
-    (record { given = refl; answers = refl }) (λ b d t h. inl h)
+    (subst (λ (o : Option Actor). IsSeenAs o (newborn (Injector args))) (sym new) (record { awaits = refl; place = refl; lives = λ h. absurd (cc) }))
+    (record { given = refl; answers = refl }) (subst (λ (o : Option Actor). GoesOn o (Injector args)) (sym new) tt) tt (λ b d t h. inl h) refl
 started_runs controls s I a other new runs = absurd runs
 
 pub starts_keep : StartsKeep
 starts_keep a program controls s I may = started_runs controls s I a program may.new may.runs
 
 -- Four start together
+
+no_member : (a : List ℕ) → (Contains members a → ⊥) → is_member a ≡ false
+no_member a apart = ⊎_elim
+    (λ (is : is_member a ≡ true). absurd (apart (member_contained a is)))
+    (λ (other : is_member a ≡ false). other)
+    (whether (is_member a))
 
 module _ (controls : Controls) (s : State) (I : Inv controls s) (first second third last : ℕ) where
   abbrev four : List ℕ → Option Actor
@@ -64,20 +72,53 @@ module _ (controls : Controls) (s : State) (I : Inv controls s) (first second th
           let same : x ≡ y = (let v = sym is ∙ (sym (ap four e) ∙ h) in cc) in
           subst (λ (b : List ℕ). P b y) (sym e) (subst (P name) same own)
 
-  -- only members ran programs, and their slots are free now
-  ran_in_member : (b : List ℕ) (d : ℕ) (t : Tenant) → is_member b ≡ false → IsTenantOf s b d t → ⊥
-  ran_in_member b d (Runs c) other h = let v : true ≡ false = sym (ap is_member h.parent_is) ∙ other in absurd (cc)
-  ran_in_member b d (Remote reported) other h = let v : true ≡ false = sym (ap is_member h) ∙ other in absurd (cc)
-
-  nobody_runs : (member : Bool) (b : List ℕ) (d : ℕ) (t : Tenant) → is_member b ≡ member → (if member then None else s.pipework.programs b d) ≡ Some t → ⊥
-  nobody_runs true b d t e is = absurd (cc)
-  nobody_runs false b d t e is = ran_in_member b d t e (I.tenants b d t is)
-
   each_is_there : (a : List ℕ) → Contains members a → four a ≡ None → ⊥
   each_is_there a member gone =
       let w = four_new s.actors (Sender first) (Cleaner second) (LocalSpawner third) (RemoteSpawner last) a (contained_member a member) in
       let some : ◌≡◌ {A = Option Actor} (Some (newborn w.0)) None = sym w.1 ∙ gone in
       absurd (cc)
+
+  abbrev then_state : State
+  then_state = happens s (Generation (Sender first) (Cleaner second) (LocalSpawner third) (RemoteSpawner last))
+
+  -- who is no member is as before
+  same_other : (o : List ℕ) → (Contains members o → ⊥) → four o ≡ s.actors o
+  same_other o apart = four_other s.actors (Sender first) (Cleaner second) (LocalSpawner third) (RemoteSpawner last) o (no_member o apart)
+
+  -- The slots of the members are free now, and in those of deliveries run the injectors that ran there.
+
+  still_runs : (b : List ℕ) (d : ℕ) (c : List ℕ) → is_member b ≡ false → IsChild s b d c → IsChild then_state b d c
+  still_runs b d c other h = record {
+    bearer = h.bearer;
+    bearer_is = four_other s.actors (Sender first) (Cleaner second) (LocalSpawner third) (RemoteSpawner last) b other ∙ h.bearer_is;
+    actor = h.actor;
+    is = same_other c h.apart ∙ h.is;
+    bears = h.bears;
+    has = h.has;
+    back = h.back;
+    apart = h.apart;
+  }
+
+  tenant_stays : (b : List ℕ) (d : ℕ) (t : Tenant) → is_member b ≡ false → IsTenantOf s b d t → IsTenantOf then_state b d t
+  tenant_stays b d (Runs c) other h = still_runs b d c other h
+  tenant_stays b d (Remote reported) other h = h
+
+  runs_then : (member : Bool) (b : List ℕ) (d : ℕ) (t : Tenant) → is_member b ≡ member → (if member then None else s.pipework.programs b d) ≡ Some t → IsTenantOf then_state b d t
+  runs_then true b d t e is = absurd (cc)
+  runs_then false b d t e is = tenant_stays b d t e (I.tenants b d t is)
+
+  -- What an actor gave to its child is the input that it was started with.
+
+  still_there : KeepsChildren s.actors four
+  still_there o x apart is = (x, same_other o apart ∙ is, refl)
+
+  no_more_by : (member : Bool) (o : Option Tenant) (t : Tenant) → (if member then None else o) ≡ Some t → o ≡ Some t
+  no_more_by true o t is = absurd (cc)
+  no_more_by false o t is = is
+
+  fed_then : (o : List ℕ) (program : Program) (past : List Own) (life : Life) → ChildBy s o program past life → ChildBy then_state o program past life
+  fed_then o program past life h =
+      child_kept_of s then_state still_there I.tenants o (λ d t is. inl (no_more_by (is_member o) (s.pipework.programs o d) t is)) program past life h
 
   generation_keeps : Inv controls (happens s (Generation (Sender first) (Cleaner second) (LocalSpawner third) (RemoteSpawner last)))
   unfolding put_at
@@ -93,12 +134,12 @@ module _ (controls : Controls) (s : State) (I : Inv controls s) (first second th
           control = controls_are_read.begins (queue s I.role) (codes "sender") None;
           texts = texts_keep.begins (queue s I.role) None;
         })
-        tt tt tt I.fares;
+        tt refl tt I.fares;
     control = I.control;
     old = I.old;
-    crewed = λ x there it a member gone. each_is_there a member gone;
-    tenants = λ b d t is. absurd (nobody_runs (is_member b) b d t refl is);
-    child = tt;
+    crewed = λ b x there it m member gone. each_is_there m member gone;
+    tenants = λ b d t is. runs_then (is_member b) b d t refl is;
+    child = each_member (λ o y. ChildBy then_state o y.program y.past y.life) tt tt tt tt (λ o y is. fed_then o y.program y.past y.life (I.child o y is));
     errands = record {
       waits = None;
       errand = none_asked;
@@ -108,19 +149,19 @@ module _ (controls : Controls) (s : State) (I : Inv controls s) (first second th
     };
   }
 
-is_sender : (program : Program) → IsSender program → (start : ℕ) × (program ≡ Sender start)
+pub is_sender : (program : Program) → IsSender program → (start : ℕ) × (program ≡ Sender start)
 is_sender (Sender start) is = (start, refl)
 is_sender other is = absurd is
 
-is_cleaner : (program : Program) → IsCleaner program → (start : ℕ) × (program ≡ Cleaner start)
+pub is_cleaner : (program : Program) → IsCleaner program → (start : ℕ) × (program ≡ Cleaner start)
 is_cleaner (Cleaner start) is = (start, refl)
 is_cleaner other is = absurd is
 
-is_local : (program : Program) → IsLocalSpawner program → (start : ℕ) × (program ≡ LocalSpawner start)
+pub is_local : (program : Program) → IsLocalSpawner program → (start : ℕ) × (program ≡ LocalSpawner start)
 is_local (LocalSpawner start) is = (start, refl)
 is_local other is = absurd is
 
-is_remote : (program : Program) → IsRemoteSpawner program → (start : ℕ) × (program ≡ RemoteSpawner start)
+pub is_remote : (program : Program) → IsRemoteSpawner program → (start : ℕ) × (program ≡ RemoteSpawner start)
 is_remote (RemoteSpawner start) is = (start, refl)
 is_remote other is = absurd is
 

@@ -3,11 +3,11 @@ use Rattle.std.proofs.Common.{◌≡◌, ◌≢◌, inl, ℕ, List, Option, Some
 use Rattle.address_rules.specs.declared.controls.Controls.{Controls}
 use Rattle.call_fs.specs.declared.past.Own.{Own}
 use Rattle.call_fs.specs.Maps.{put_at}
+use Rattle.delivery_law.specs.Leaves.{LeavesDrops}
 use Rattle.errand_law.specs.Errands.Awaits.{Answer}
 use Rattle.queue_clean.specs.declared.command.Command.TheVariants.{Todo}
 use Rattle.queue_clean.specs.Table.{Place, place_after}
-use Rattle.spawner_parts.specs.declared.row.Row.{Row as SpawnRow}
-use Rattle.spawner_parts.specs.declared.row.Row.TheVariants as spawn
+use Rattle.local_spawn.specs.Table.{place_after as local_after}
 use Rattle.remote_spawn.specs.Table.{place_after as spawn_after}
 use Rattle.send_core.specs.declared.row.Row.{Row}
 use Rattle.send_core.specs.declared.row.Row.TheVariants as at
@@ -37,17 +37,19 @@ use Rattle.sender_law.proofs.ControlsRead.{controls_are_read}
 use Rattle.sender_law.proofs.ControlsStay.{controls_stay}
 use Rattle.sender_law.proofs.LeftAlone.{senders_are_left_alone}
 use Rattle.world_events.specs.declared.event.Program.{Program}
-use Rattle.world_events.specs.declared.event.Program.TheVariants.{Injector, Cleaner, Sender, LocalSpawner, RemoteSpawner}
-use Rattle.mail_world.specs.History.{Actor, IsSender, Life, State}
+use Rattle.world_events.specs.declared.event.Program.TheVariants.{Injector, Cleaner, Sender, LocalSpawner, RemoteSpawner, Delivery}
+use Rattle.mail_world.specs.History.{Actor, Life, State}
 use Rattle.mail_world.specs.History.Life.{Alive, Over, Stopped}
 use Rattle.mail_world.specs.Untouched.{queue}
 use Rattle.world_law.specs.Bounces.{BouncesAreQueued}
 use Rattle.world_law.specs.Crew.{IsNamed, awaits_in, is_alive, is_well, link_in, lives_in}
-use Rattle.world_law.specs.Fares.{FaresBy, SpawnerHolds}
-use Rattle.world_law.specs.Inv.{ErrandsRest, Inv}
+use Rattle.world_law.specs.Fares.{FaresBy}
+use Rattle.world_law.specs.Inv.{ChildBy, ErrandsRest, Inv}
 use Rattle.world_law.proofs.Gone.{errands_spared}
+use Rattle.world_law.proofs.Forwarded.{delivery_left}
+use Rattle.world_law.proofs.Held.{lspawn_holds, spawner_holds}
 use Rattle.world_law.proofs.Moved.{IsSeenAs, each_put, put_errands}
-use Rattle.world_law.proofs.Tenants.{GoesOn, one_child, one_crewed, one_keeps, quiet_child, tenants_kept}
+use Rattle.world_law.proofs.Tenants.{GoesOn, one_child, one_crewed, one_keeps, tenants_kept}
 
 -- What it leaves a sender at its row
 
@@ -94,7 +96,8 @@ stepped s a r y = record { disk = r.disk; holder = r.holder; now = s.now; actors
 -- Each of the others, after a step that spares all closed numbers but the one in k
 
 module _ (controls : Controls) (s : State) (I : Inv controls s) (a : List ℕ) (r : Queue) (m k : Option ℕ) (E : Elsewhere s.now a m (queue s I.role) r)
-    (S : Spares s.now k (queue s I.role) r) (SS : SparesSorted (queue s I.role) r) (C : LeavesControls (queue s I.role) r) (G : Sound controls r) (B : BouncesAreQueued controls r.books) where
+    (S : Spares s.now k (queue s I.role) r) (SS : SparesSorted (queue s I.role) r) (C : LeavesControls (queue s I.role) r) (D : LeavesDrops a (queue s I.role) r) (G : Sound controls r)
+    (B : BouncesAreQueued controls r.books) where
   abbrev before : Queue
   before = queue s I.role
 
@@ -106,11 +109,6 @@ module _ (controls : Controls) (s : State) (I : Inv controls s) (a : List ℕ) (
   abbrev pub LeavesSender : List ℕ → Type 0
   LeavesSender o = (began : ℕ) (past : List Own) → s.actors o ≡ Some (record { program = Sender began; past = past; life = Alive })
       → SenderStands controls s.now before o (desk_after None past) → LeavesRow (desk_after None past).row (desk_after None past).pass k before r
-
-  holds_other : (o : List ℕ) → o ≢ a → (row : SpawnRow) → SpawnerHolds before o row → SpawnerHolds r o row
-  holds_other o other (spawn.ReadMess fd) h = (h.0, E.opens o fd.0 h.0 other h.1)
-  holds_other o other (spawn.CloseMess fd whole) h = (h.0, E.opens o fd.0 h.0 other h.1)
-  holds_other o other row h = tt
 
   fares_other : (o : List ℕ) → o ≢ a → LeavesCleaner o → LeavesSender o → (program : Program) (past : List Own) (life : Life)
       → s.actors o ≡ Some (record { program = program; past = past; life = life }) → FaresBy controls s.now before o program past life → FaresBy controls s.now r o program past life
@@ -127,14 +125,17 @@ module _ (controls : Controls) (s : State) (I : Inv controls s) (a : List ℕ) (
       }
   fares_other o other cleaner sender (Sender began) past (Over status) is F = tt
   fares_other o other cleaner sender (Sender began) past Stopped is F = tt
-  fares_other o other cleaner sender (LocalSpawner began) past life is F = tt
-  fares_other o other cleaner sender (RemoteSpawner began) past Alive is F = holds_other o other (spawn_after past).row F
+  fares_other o other cleaner sender (LocalSpawner began) past Alive is F = lspawn_holds before r o (λ fd how. E.opens o fd how other) (local_after past) F
+  fares_other o other cleaner sender (LocalSpawner began) past (Over status) is F = tt
+  fares_other o other cleaner sender (LocalSpawner began) past Stopped is F = tt
+  fares_other o other cleaner sender (RemoteSpawner began) past Alive is F = spawner_holds before r o (λ fd how. E.opens o fd how other) (spawn_after past).row F
   fares_other o other cleaner sender (RemoteSpawner began) past (Over status) is F = tt
   fares_other o other cleaner sender (RemoteSpawner began) past Stopped is F = tt
+  fares_other o other cleaner sender (Delivery began args) past life is F = delivery_left before r a o other D (λ fd how. E.opens o fd how other) E.accepted args past life F
 
-  pub led_keeps : ((o : List ℕ) → o ≢ a → LeavesCleaner o) → ((o : List ℕ) → o ≢ a → LeavesSender o) → (y : Actor) → IsNamed a y.program → GoesOn (s.actors a) y.program → (IsSender y.program → ⊥)
-      → FaresBy controls s.now r a y.program y.past y.life → ErrandsRest controls (stepped s a r y) r.role → Inv controls (stepped s a r y)
-  led_keeps cleaners senders y named goes quiet F errands = record {
+  pub led_keeps : ((o : List ℕ) → o ≢ a → LeavesCleaner o) → ((o : List ℕ) → o ≢ a → LeavesSender o) → (y : Actor) → IsNamed a y.program → GoesOn (s.actors a) y.program
+      → ChildBy (stepped s a r y) a y.program y.past y.life → FaresBy controls s.now r a y.program y.past y.life → ErrandsRest controls (stepped s a r y) r.role → Inv controls (stepped s a r y)
+  led_keeps cleaners senders y named goes child F errands = record {
     role = r.role;
     moment = I.moment;
     sound = G;
@@ -145,8 +146,8 @@ module _ (controls : Controls) (s : State) (I : Inv controls s) (a : List ℕ) (
     control = controls_stay.said controls (queue s I.role) r C I.control;
     old = C.old;
     crewed = one_crewed s.actors a y goes I.crewed;
-    tenants = tenants_kept s (stepped s a r y) (one_keeps s.actors a y goes) (λ b d t h. inl h) I.tenants;
-    child = one_child s (stepped s a r y) (one_keeps s.actors a y goes) (λ b d t h. inl h) I.tenants a y (quiet_child (stepped s a r y) y.program y.past y.life quiet) I.child;
+    tenants = tenants_kept s (stepped s a r y) (one_keeps s.actors a y goes) (λ b z there. refl) (λ b d t h. inl h) I.tenants;
+    child = one_child s (stepped s a r y) (one_keeps s.actors a y goes) (λ b d t h. inl h) I.tenants a y child I.child;
     errands = errands;
   }
 
@@ -154,7 +155,7 @@ module _ (controls : Controls) (s : State) (I : Inv controls s) (a : List ℕ) (
 
 module _ (controls : Controls) (s : State) (I : Inv controls s) (a : List ℕ) (r : Queue) (m : Option ℕ) (E : Elsewhere s.now a m (queue s I.role) r)
     (S : Spares s.now None (queue s I.role) r) (N : SparesNames (queue s I.role) r) (SS : SparesSorted (queue s I.role) r) (C : LeavesControls (queue s I.role) r)
-    (G : Sound controls r) (B : BouncesAreQueued controls r.books) where
+    (D : LeavesDrops a (queue s I.role) r) (G : Sound controls r) (B : BouncesAreQueued controls r.books) where
   abbrev here : Queue
   here = queue s I.role
 
@@ -173,11 +174,11 @@ module _ (controls : Controls) (s : State) (I : Inv controls s) (a : List ℕ) (
       put_errands controls s.now r s.actors a y s.pipework s.pipework seen (record { given = refl; answers = refl })
       (errands_spared controls s.now here r S (lives_in (s.actors (codes "clean"))) (link_in s) I.errands)
 
-  pub stepped_keeps : (y : Actor) → IsNamed a y.program → IsSeenAs (s.actors a) y → FaresBy controls s.now r a y.program y.past y.life
-      → Inv controls (stepped s a r y)
-  stepped_keeps y named seen F =
-      led_keeps controls s I a r m None E S SS C G B
+  pub stepped_keeps : (y : Actor) → IsNamed a y.program → GoesOn (s.actors a) y.program → IsSeenAs (s.actors a) y → ChildBy (stepped s a r y) a y.program y.past y.life
+      → FaresBy controls s.now r a y.program y.past y.life → Inv controls (stepped s a r y)
+  stepped_keeps y named goes seen child F =
+      led_keeps controls s I a r m None E S SS C D G B
       (λ o other began past is. rest_is_kept.spared controls s.now None here r S N (place_after past) (beside_none (place_after past)))
       (λ o other began past is h.
       let d = desk_after None past in row_left controls s.now here r o S d.row d.book d.slots (works d) h.rests (asked_closed o began past is))
-      y named seen.goes seen.quiet F (stepped_errands y seen)
+      y named goes child F (stepped_errands y seen)

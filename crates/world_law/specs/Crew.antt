@@ -1,11 +1,12 @@
 -- Which name goes with which program, and what lies between the sender and its cleaner, by the state.
-use Rattle.std.specs.Prelude.{◌≡◌, ℕ, ◌==◌, List, Bool, true, false, Option, Some, None, codes}
+use Rattle.std.specs.Prelude.{◌≡◌, ℕ, ◌==◌, List, Bool, true, false, Option, Some, None, codes, Contains}
+use Rattle.actor_names.specs.MailNames.{members}
 use Rattle.call_fs.specs.declared.program.Port.TheVariants as port
 use Rattle.call_fs.specs.declared.past.Own.{Own}
 use Rattle.queue_clean.specs.Table.{Place, start, place_after}
 use Rattle.send_core.specs.Table.{desk_after}
 use Rattle.world_events.specs.declared.event.Program.{Program}
-use Rattle.world_events.specs.declared.event.Program.TheVariants.{Injector, Cleaner, Sender, LocalSpawner, RemoteSpawner}
+use Rattle.world_events.specs.declared.event.Program.TheVariants.{Injector, Cleaner, Sender, LocalSpawner, RemoteSpawner, Delivery}
 use Rattle.errand_law.specs.Errands.{Awaits, Link}
 use Rattle.errand_law.specs.Errands.Awaits.{Over}
 use Rattle.sender_law.specs.Waits.{awaits}
@@ -13,13 +14,15 @@ use Rattle.mail_world.specs.Pipework.{Pipework}
 use Rattle.mail_world.specs.History.{Actor, Life, State}
 use Rattle.mail_world.specs.History.Life.{Alive, Over as Ended, Stopped}
 
--- A member of a generation has the name of its program. An injector may have any name, also one of theirs, as long as no generation started.
+-- A member of a generation has the name of its program, and a delivery none of theirs. An injector may have any name, also one of theirs, as
+-- long as no generation started.
 abbrev pub IsNamed : List ℕ → Program → Type 0
 IsNamed a (Injector args) = Unit {0}
 IsNamed a (Cleaner since) = a ≡ codes "clean"
 IsNamed a (Sender since) = a ≡ codes "sender"
 IsNamed a (LocalSpawner since) = a ≡ codes "lspawn"
 IsNamed a (RemoteSpawner since) = a ≡ codes "rspawn"
+IsNamed a (Delivery since args) = Contains members a → ⊥
 
 -- it lives, or has ended with 0
 abbrev pub is_alive : Life → Bool

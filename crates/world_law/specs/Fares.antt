@@ -1,6 +1,6 @@
 -- What each actor has, by its program: what an injector rests on and how it has fared, what a living cleaner and a living sender rely on,
--- and what a living remote spawner holds open. A local spawner touches no file.
-use Rattle.std.specs.Prelude.{ℕ, List, None}
+-- what a living spawner holds open, and what a delivery rests on and did.
+use Rattle.std.specs.Prelude.{◌≡◌, ℕ, List, true, None}
 use Rattle.address_rules.specs.declared.controls.Controls.{Controls}
 use Rattle.call_fs.specs.declared.past.Own.{Own}
 use Rattle.queue_clean.specs.Table.{place_after}
@@ -8,7 +8,14 @@ use Rattle.send_core.specs.declared.desk.Desk.{Desk}
 use Rattle.send_core.specs.Table.{desk_after}
 use Rattle.spawner_parts.specs.declared.row.Row.{Row as SpawnRow}
 use Rattle.spawner_parts.specs.declared.row.Row.TheVariants as spawn
+use Rattle.local_spawn.specs.declared.place.Place.{Place as LocalPlace}
+use Rattle.local_spawn.specs.declared.row.Row.{Row as LocalRow}
+use Rattle.local_spawn.specs.declared.row.Row.TheVariants as local
+use Rattle.local_spawn.specs.Table.{place_after as local_after}
 use Rattle.remote_spawn.specs.Table.{place_after as spawn_after}
+use Rattle.delivery_law.specs.Rests.{DeliveryRests}
+use Rattle.local_deliver.specs.Carried.{IsCarried}
+use Rattle.local_steps.specs.declared.arguments.LocalArgs.{LocalArgs}
 use Rattle.queue_law.specs.Cleaners.{CleanerStands}
 use Rattle.queue_law.specs.Injectors.{InjectorFares}
 use Rattle.queue_law.specs.Numbers.{Queue}
@@ -17,10 +24,11 @@ use Rattle.sender_law.specs.Asking.{TextsStand}
 use Rattle.sender_law.specs.ControlFiles.{ControlStands}
 use Rattle.sender_law.specs.Stands.{SenderStands}
 use Rattle.world_events.specs.declared.event.Program.{Program}
-use Rattle.world_events.specs.declared.event.Program.TheVariants.{Injector, Cleaner, Sender, LocalSpawner, RemoteSpawner}
+use Rattle.world_events.specs.declared.event.Program.TheVariants.{Injector, Cleaner, Sender, LocalSpawner, RemoteSpawner, Delivery}
 use Rattle.mail_world.specs.History.{Life}
 use Rattle.mail_world.specs.History.Life.{Alive}
 use Rattle.world_law.specs.Crew.{is_alive, is_well}
+use Rattle.world_law.specs.Deliveries.{AreForwarded}
 
 -- while it lives
 abbrev pub IfAlive : Life → Type 0 → Type 0
@@ -33,15 +41,34 @@ pub record SenderFares (controls : Controls) (now : ℕ) (q : Queue) (a : List �
   pub control : ControlStands q a d.row d.book
   pub texts : TextsStand q d
 
--- what a remote spawner holds open at a row
+-- what a spawner holds open at a row, as it serves requests
 abbrev pub SpawnerHolds : Queue → List ℕ → SpawnRow → Type 0
 SpawnerHolds q a (spawn.ReadMess fd) = HasOpen q a fd.0
 SpawnerHolds q a (spawn.CloseMess fd whole) = HasOpen q a fd.0
 SpawnerHolds q a row = Unit {0}
 
+-- and a local spawner, which first reads users/assign, before any work
+abbrev pub HoldsUsers : Queue → List ℕ → LocalRow → (work : SpawnRow) → Type 0
+HoldsUsers q a local.OpenUsers work = work ≡ spawn.Greet
+HoldsUsers q a (local.ReadUsers fd) work = HasOpen q a fd.0 × (work ≡ spawn.Greet)
+HoldsUsers q a (local.CloseUsers fd whole) work = HasOpen q a fd.0 × (work ≡ spawn.Greet)
+HoldsUsers q a local.Serves work = SpawnerHolds q a work
+HoldsUsers q a local.OutOfMemory work = Unit {0}
+
+abbrev pub LspawnHolds : Queue → List ℕ → LocalPlace → Type 0
+LspawnHolds q a p = HoldsUsers q a p.row p.work.row
+
+-- A living delivery has what its drops rest on; the injections of its forwards that ended with 0 were accepted; and if it ended with 0 itself,
+-- its instructions were carried out.
+pub record DeliveryFares (q : Queue) (a : List ℕ) (args : LocalArgs) (past : List Own) (life : Life) : Type 0 where
+  pub rests : IfAlive life (DeliveryRests q a args past)
+  pub forwards : AreForwarded q.books past
+  pub well : is_well life ≡ true → IsCarried args past
+
 abbrev pub FaresBy : Controls → ℕ → Queue → List ℕ → Program → List Own → Life → Type 0
 FaresBy controls now q a (Injector args) past life = InjectorFares now q a args past (is_alive life) (is_well life)
 FaresBy controls now q a (Cleaner start) past life = IfAlive life (CleanerStands controls now q (place_after past))
 FaresBy controls now q a (Sender start) past life = IfAlive life (SenderFares controls now q a (desk_after None past))
-FaresBy controls now q a (LocalSpawner start) past life = Unit {0}
+FaresBy controls now q a (LocalSpawner start) past life = IfAlive life (LspawnHolds q a (local_after past))
 FaresBy controls now q a (RemoteSpawner start) past life = IfAlive life (SpawnerHolds q a (spawn_after past).row)
+FaresBy controls now q a (Delivery start args) past life = DeliveryFares q a args past life

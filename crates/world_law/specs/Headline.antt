@@ -31,12 +31,15 @@ use Rattle.mail_world.specs.Untouched.{queue}
 use Rattle.mail_world.specs.Waiting.{EachWaiting, HasNoGeneration, IsBooked}
 use Rattle.mail_world.specs.World.{Happened, Seen}
 use Rattle.world_events.specs.declared.event.Program.{Program}
-use Rattle.world_events.specs.declared.event.Program.TheVariants.{Injector, Sender}
+use Rattle.world_events.specs.declared.event.Program.TheVariants.{Delivery, Injector, Sender}
+use Rattle.world_law.specs.Deliveries.{IsCarriedOut}
 
--- what a program's end with 0 says: an injector's, that it has an accepted injection
-abbrev pub EndsWell : Books → List ℕ → Program → Type 0
-EndsWell b a (Injector args) = HasQueued b a args
-EndsWell b a other = Unit {0}
+-- What a program's end with 0 says, after this past: an injector's, that it has an accepted injection; a delivery's, that its instructions
+-- were carried out, and that the injection of its forwards, if it has any, was accepted.
+abbrev pub EndsWell : Books → List ℕ → Program → List Own → Type 0
+EndsWell b a (Injector args) past = HasQueued b a args
+EndsWell b a (Delivery start args) past = IsCarriedOut b args past
+EndsWell b a other past = Unit {0}
 
 pub record Safe (controls : Controls) (s : State) : Type 0 where
   -- each number is in one of the states S1 to S5
@@ -53,8 +56,8 @@ pub record Safe (controls : Controls) (s : State) : Type 0 where
   pub accounted : (q : Injection) → IsInjected s.books q → q.accepted ≡ true → (r : Recipient q.args) → Accounted controls s.disk s.books q r
   -- an injector's Ok link to todo accepts its injection, however it ends
   pub queued : (a : List ℕ) (x : Actor) → s.actors a ≡ Some x → IsBooked s.books a x.program x.past
-  -- an injector's end with 0 comes only of an accepted injection
-  pub ends : (a : List ℕ) (x : Actor) → s.actors a ≡ Some x → x.life ≡ Over 0 → EndsWell s.books a x.program
+  -- an injector's end with 0 comes only of an accepted injection, and a delivery's only of instructions that were carried out
+  pub ends : (a : List ℕ) (x : Actor) → s.actors a ≡ Some x → x.life ≡ Over 0 → EndsWell s.books a x.program x.past
 
 -- However the calls interleave and wherever a program or the machine stops: each prefix of a legal history is safe, with the controls of the
 -- disk that it begins with. Each disk has some (the law `controls_exist` of sender_law).

@@ -8,8 +8,8 @@ use Rattle.call_fs.specs.declared.past.NeedData.{NeedData}
 use Rattle.call_fs.specs.declared.past.NeedData.TheVariants as needs
 use Rattle.call_fs.specs.declared.past.Own.{Own}
 use Rattle.call_fs.specs.declared.program.Port.TheVariants as port
+use Rattle.call_fs.specs.declared.program.Ready.{Ready}
 use Rattle.mail_bytes.specs.Moments.{IsMoment}
-use Rattle.queue_inject.specs.declared.injection.Arguments.{Arguments}
 use Rattle.received_line.specs.declared.line.Invoked.TheVariants as invoking
 use Rattle.queue_clean.specs.declared.command.Command.{Command}
 use Rattle.queue_clean.specs.declared.command.Command.TheVariants.{Todo}
@@ -17,14 +17,15 @@ use Rattle.errand_law.specs.Errands.{Link, Errand, SaysWell}
 use Rattle.errand_law.specs.Errands.Awaits.{Answer}
 use Rattle.queue_law.specs.Numbers.{Role, Queue, IsPreprocessed, Sound}
 use Rattle.queue_law.specs.Rests.{IsClosed, RestsAs}
+use Rattle.local_deliver.specs.Table.{Next as DeliversNext}
 use Rattle.send_core.specs.Table.{Next}
 use Rattle.sender_law.specs.Commands.{WaitsAtRest}
 use Rattle.world_pipes.specs.Pipework.{Tenant}
 use Rattle.world_pipes.specs.Pipework.Tenant.{Remote, Runs}
 use Rattle.world_events.specs.declared.event.Program.{Program}
-use Rattle.world_events.specs.declared.event.Program.TheVariants.{Injector, Sender}
+use Rattle.world_events.specs.declared.event.Program.TheVariants.{Delivery, Injector, LocalSpawner, Sender}
 use Rattle.actor_names.specs.MailNames.{members}
-use Rattle.mail_world.specs.History.{Actor, IsFed, IsSender, Life, State}
+use Rattle.mail_world.specs.History.{Actor, IsFed, Life, MayRun, State}
 use Rattle.mail_world.specs.History.Life.{Alive}
 use Rattle.mail_world.specs.Untouched.{queue}
 use Rattle.sender_law.specs.Control.{AreControls}
@@ -48,39 +49,54 @@ pub record ErrandRests (controls : Controls) (now : ℕ) (q : Queue) (cleans : B
 abbrev pub ErrandsRest : Controls → State → (ℕ → Role) → Type 0
 ErrandsRest controls s role = ErrandRests controls s.now (queue s role) (lives_in (s.actors (codes "clean"))) (link_in s)
 
--- The injector of a bounce: it runs in slot 0 of the sender, which has started it, and has no name of a member.
-pub record IsBouncer (s : State) (parent : List ℕ) (slot : ℕ) (a : List ℕ) : Type 0 where
-  pub parent_is : parent ≡ codes "sender"
-  pub slot_is : slot ≡ 0
+-- which programs start an actor: a sender the injector of a bounce, the local spawner a delivery, and that the injector of its forwards, as
+-- its user
+abbrev pub Bears : Program → Program → Type 0
+Bears (Sender since) (Injector args) = args.invoked ≡ invoking.Bounce
+Bears (LocalSpawner since) (Delivery start args) = Unit {0}
+Bears (Delivery start words) (Injector args) = args.invoked ≡ invoking.Uid words.uid
+Bears program other = ⊥
+
+-- and in which slots: the local spawner in any, others in the first alone
+abbrev pub HasSlot : Program → ℕ → Type 0
+HasSlot (LocalSpawner since) slot = Unit {0}
+HasSlot program slot = slot ≡ 0
+
+-- An actor that runs in a slot of another one, which has started it: it has no name of a member.
+pub record IsChild (s : State) (parent : List ℕ) (slot : ℕ) (a : List ℕ) : Type 0 where
+  pub bearer : Actor
+  pub bearer_is : s.actors parent ≡ Some bearer
   pub actor : Actor
   pub is : s.actors a ≡ Some actor
-  pub args : Arguments
-  pub program_is : actor.program ≡ Injector args
-  pub invoked : args.invoked ≡ invoking.Bounce
+  pub bears : Bears bearer.program actor.program
+  pub has : HasSlot bearer.program slot
+  -- that is its own slot
+  pub back : s.pipework.slots a ≡ Some (record { parent = parent; number = slot })
   pub apart : Contains members a → ⊥
 
 -- what runs in a slot is that, or a program of the remote spawner
 abbrev pub IsTenantOf : State → List ℕ → ℕ → Tenant → Type 0
-IsTenantOf s parent slot (Runs a) = IsBouncer s parent slot a
+IsTenantOf s parent slot (Runs a) = IsChild s parent slot a
 IsTenantOf s parent slot (Remote reported) = parent ≡ codes "rspawn"
 
--- What a sender gave to its child is the input that stands in the child's start.
-abbrev pub FedBy : State → NeedData → GotData → Type 0
-FedBy s (needs.Give (port.Program d) bytes) got.Gave = IsFed s (s.pipework.programs (codes "sender") d) bytes
-FedBy s due came = Unit {0}
+-- What an actor gave to its child is the input that stands in the child's start.
+abbrev pub FedBy : State → List ℕ → NeedData → GotData → Type 0
+FedBy s a (needs.Give (port.Program d) bytes) got.Gave = IsFed s (s.pipework.programs a d) bytes
+FedBy s a due came = Unit {0}
 
-abbrev pub PastFed : State → List Own → Type 0
-PastFed s [] = Unit {0}
-PastFed s (own ∷ before) = FedBy s (Next None before own.read own.ready) own.came
+-- of one whose newest event was that, by its table
+abbrev pub PastFed : State → List ℕ → (List Own → ℕ → Ready → NeedData) → List Own → Type 0
+PastFed s a next [] = Unit {0}
+PastFed s a next (own ∷ before) = FedBy s a (next before own.read own.ready) own.came
 
-abbrev pub ChildBy : State → Program → List Own → Life → Type 0
-ChildBy s (Sender began) past Alive = PastFed s past
-ChildBy s program past life = Unit {0}
+-- a sender or a delivery that lives
+abbrev pub ChildBy : State → List ℕ → Program → List Own → Life → Type 0
+ChildBy s a (Sender began) past Alive = PastFed s a (Next None) past
+ChildBy s a (Delivery began args) past Alive = PastFed s a (DeliversNext args) past
+ChildBy s a program past life = Unit {0}
 
--- of a living sender whose newest event was that, by its table
-abbrev pub ChildFares : State → Option Actor → Type 0
-ChildFares s None = Unit {0}
-ChildFares s (Some x) = ChildBy s x.program x.past x.life
+abbrev pub ChildrenFare : State → Type 0
+ChildrenFare s = (a : List ℕ) (x : Actor) → s.actors a ≡ Some x → ChildBy s a x.program x.past x.life
 
 pub record Inv (controls : Controls) (s : State) : Type 0 where
   -- what each file number was made as
@@ -94,16 +110,16 @@ pub record Inv (controls : Controls) (s : State) : Type 0 where
   pub bounces : BouncesAreQueued controls s.books
   -- each member has the name of its program
   pub crew : (a : List ℕ) (x : Actor) → s.actors a ≡ Some x → IsNamed a x.program
-  -- with a sender each member is there
-  pub crewed : (x : Actor) → s.actors (codes "sender") ≡ Some x → IsSender x.program → (a : List ℕ) → Contains members a → s.actors a ≡ None → ⊥
+  -- with one that doesn't start alone each member is there
+  pub crewed : (a : List ℕ) (x : Actor) → s.actors a ≡ Some x → (MayRun x.program → ⊥) → (m : List ℕ) → Contains members m → s.actors m ≡ None → ⊥
   -- each actor has what it rests on
   pub fares : (a : List ℕ) (x : Actor) → s.actors a ≡ Some x → FaresBy controls s.now (queue s role) a x.program x.past x.life
   -- the control files say what these controls say, and nobody changes them
   pub control : AreControls controls s.disk
   pub old : AreOld (queue s role)
-  -- the sender starts the injectors of bounces, the remote spawner its programs, and nobody else starts any
+  -- who runs in a slot was started there by who may start it: only the sender, the local spawner and deliveries start actors
   pub tenants : (a : List ℕ) (d : ℕ) (t : Tenant) → s.pipework.programs a d ≡ Some t → IsTenantOf s a d t
-  -- after the sender gave to its child, until its next event, that child was given what it was started for
-  pub child : ChildFares s (s.actors (codes "sender"))
+  -- after an actor gave to its child, until its next event, that child was given what it was started for
+  pub child : ChildrenFare s
   -- the sender and its cleaner
   pub errands : ErrandsRest controls s role

@@ -6,7 +6,7 @@ use Rattle.call_fs.specs.Disk.{Disk}
 use Rattle.call_fs.specs.declared.past.Own.{Own}
 use Rattle.call_fs.specs.declared.program.Ready.{Ready}
 use Rattle.world_events.specs.declared.event.Program.{Program}
-use Rattle.mail_world.specs.History.{Event, State, Allowed, IsCleaner, IsLocalSpawner, IsRemoteSpawner, IsSender, Legal, MayDo, MayRun, Opening, after, happens, opening}
+use Rattle.mail_world.specs.History.{Event, State, Allowed, IsCleaner, IsDelivery, IsLocalSpawner, IsRemoteSpawner, IsSender, Legal, MayDo, MayRun, Opening, after, happens, opening}
 use Rattle.mail_world.specs.History.Event.{Start, Act, Child, Generation, Report, End, Stop, Moment, Halt}
 use Rattle.sender_law.specs.Control.{AreControls}
 use Rattle.world_law.specs.Headline.{Safe}
@@ -71,7 +71,12 @@ abbrev pub SendersKeep : Type 0
 SendersKeep = (a : List ℕ) (own : Own) (wrote : ℕ) (controls : Controls) (s : State) → Inv controls s → (may : MayDo s a own wrote)
     → IsSender may.actor.program → Inv controls (happens s (Act a own wrote))
 
--- The start of a child: only a sender starts one, the injector of a bounce.
+-- and each event of a delivery but the start of a child
+abbrev pub DeliveriesKeep : Type 0
+DeliveriesKeep = (a : List ℕ) (own : Own) (wrote : ℕ) (controls : Controls) (s : State) → Inv controls s → (may : MayDo s a own wrote)
+    → IsDelivery may.actor.program → Inv controls (happens s (Act a own wrote))
+
+-- The start of a child: a sender starts the injector of a bounce, the local spawner a delivery, and that the injector of its forwards.
 abbrev pub ChildrenKeep : Type 0
 ChildrenKeep = (parent : List ℕ) (own : Own) (a : List ℕ) (program : Program) → IsKeptBy (Child parent own a program)
 

@@ -1,5 +1,7 @@
 -- the members of a generation, and what lies between the sender and its cleaner
 pub mod Crew
+-- what local deliveries did
+pub mod Deliveries
 -- what each actor has
 pub mod Fares
 -- the bounces in ledgers, and the recipients that they name
@@ -14,3 +16,7 @@ pub mod Laws
 pub mod Leaves
 -- the commands under way at a cleaner
 pub mod UnderWay
+-- what lies between the sender and the local spawner
+pub mod Posts
+-- what else holds in each state
+pub mod Standing

@@ -1,8 +1,11 @@
 // Laws of the whole system. Each is the contract of a function that does nothing.
 ghost use Rattle.world_law.specs.Bounces.{BouncesAreAccepted, BouncesAreReadLast, ReturnedRecipientsAreNamed};
+ghost use Rattle.world_law.specs.Deliveries.{DropsAreWhole, ForwardsAreAddressed};
 ghost use Rattle.world_law.specs.Headline.{AttemptsAreSound, Headline, SafeWithoutGenerations, WorldsAreSafe};
 ghost use Rattle.world_law.specs.Leaves.{EventsLeave};
-ghost use Rattle.world_law.specs.Laws.{Always, ChildrenKeep, CleanersKeep, EndsKeep, GenerationsKeep, HaltsKeep, InjectorsKeep, InvBegins, InvIsSafe, LocalsKeep, MomentsKeep, RemotesKeep, ReportsKeep, SendersKeep, StartsKeep, StopsKeep};
+ghost use Rattle.world_law.specs.Laws.{Always, ChildrenKeep, CleanersKeep, DeliveriesKeep, EndsKeep, GenerationsKeep, HaltsKeep, InjectorsKeep, InvBegins, InvIsSafe, LocalsKeep, MomentsKeep, RemotesKeep, ReportsKeep, SendersKeep, StartsKeep, StopsKeep};
+ghost use Rattle.world_law.specs.Posts.{DeliveredAreCarried, KReportsAreCarried};
+ghost use Rattle.world_law.specs.Standing.{FlightsStand, HandsAlwaysStand, InjectionsAreApart, InjectionsAreInTime, LinksAreOfWholeFiles, RecordsAreRouted};
 ghost use Rattle.world_law.specs.UnderWay.{CommandsRest};
 
 /// What holds of the whole system holds at the start.
@@ -67,7 +70,13 @@ pub fn senders_keep()
     ensures { SendersKeep }
 {}
 
-/// So does each start of a child, which is the injector of a bounce that the sender starts.
+/// So does each event of a local delivery.
+pub fn deliveries_keep()
+    ensures { DeliveriesKeep }
+{}
+
+/// So does each start of a child: the sender starts the injector of a bounce, the local spawner a delivery, and that the injector of
+/// its forwards.
 pub fn children_keep()
     ensures { ChildrenKeep }
 {}
@@ -122,4 +131,59 @@ pub fn returned_recipients_are_named()
 /// A sender opens a bounce file to return what it holds only where no channel file of that message is left.
 pub fn bounces_are_read_last()
     ensures { BouncesAreReadLast }
+{}
+
+/// A local delivery makes a link only of a file that holds the lines of a maildir and the message that it took, whole and on the disk.
+pub fn drops_are_whole()
+    ensures { DropsAreWhole }
+{}
+
+/// Each report that the sender takes of the local spawner is of an attempt in flight in its slot; and if it tells of a success, a delivery
+/// for the attempt's recipient has ended with 0, and in its own past its instructions were carried out.
+pub fn k_reports_are_carried()
+    ensures { KReportsAreCarried }
+{}
+
+/// So each local recipient that is accounted for as delivered has such a delivery, for its routed address.
+pub fn delivered_are_carried()
+    ensures { DeliveredAreCarried }
+{}
+
+/// Of a local delivery that ended with 0 the injection of its forwards was accepted: it is from whom the delivery forwards, to just
+/// the addresses of the lines that were reached, in their order, and its message is the one that was taken, with its Delivered-To
+/// line.
+pub fn forwards_are_addressed()
+    ensures { ForwardsAreAddressed }
+{}
+
+/// Each attempt that a living sender has in flight or still to give is at a record that reads `T`, no two in flight at one record, and of a
+/// message in S5. So is each message that is due on a channel.
+pub fn hands_always_stand()
+    ensures { HandsAlwaysStand }
+{}
+
+/// After todo is gone the records of a channel file are those of its message's recipients, with their routed addresses, and one that reads
+/// `D` was reported delivered or is noted.
+pub fn records_are_routed()
+    ensures { RecordsAreRouted }
+{}
+
+/// No two injectors that may call still are at one number.
+pub fn injections_are_apart()
+    ensures { InjectionsAreApart }
+{}
+
+/// An injector makes a call within a day and the longest stall of its start.
+pub fn injections_are_in_time()
+    ensures { InjectionsAreInTime }
+{}
+
+/// Before the link to todo both files of the injection hold its texts, and all of them is on the disk.
+pub fn links_are_of_whole_files()
+    ensures { LinksAreOfWholeFiles }
+{}
+
+/// What a sender had in flight or still to give is of numbers in S5 also once it has ended or was stopped, until a new generation starts.
+pub fn flights_stand()
+    ensures { FlightsStand }
 {}

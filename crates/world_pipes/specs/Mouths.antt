@@ -32,7 +32,7 @@ pipe_of m other = fresh
 
 -- the program in a slot
 abbrev pub tenant_kept : Kept → Tenant
-tenant_kept (kept.Actor name) = Runs name
+tenant_kept (kept.Actor name over) = Runs name
 tenant_kept (kept.Remote reported) = Remote reported
 
 abbrev pub runs_in : Option Slot → Option Tenant
@@ -41,6 +41,19 @@ runs_in (Some slot) = option_map tenant_kept slot.tenant
 
 abbrev pub tenant_of : Mouths → ℕ → Option Tenant
 tenant_of m d = runs_in (slice_get m.slots.items d)
+
+-- it has ended: an actor that is over, or a remote program whose report came
+abbrev pub is_ended : Option Kept → Bool
+is_ended None = false
+is_ended (Some (kept.Actor name over)) = over
+is_ended (Some (kept.Remote reported)) = reported
+
+abbrev pub ended_in : Option Slot → Bool
+ended_in None = false
+ended_in (Some slot) = is_ended slot.tenant
+
+abbrev pub ended_of : Mouths → ℕ → Bool
+ended_of m d = ended_in (slice_get m.slots.items d)
 
 -- the actor that runs there, if one does
 abbrev pub actor_of : Option Tenant → Option (List ℕ)
@@ -88,6 +101,7 @@ change_at at change pipes port = if is_port port at then change (pipes port) els
 pub record IsSame (old new : Mouths) : Type 0 where
   pub pipes : (port : Port) → pipe_of new port ≡ pipe_of old port
   pub tenants : (d : ℕ) → tenant_of new d ≡ tenant_of old d
+  pub ended : (d : ℕ) → ended_of new d ≡ ended_of old d
   pub slots : length new.slots.items ≡ length old.slots.items
 
 -- the output of a remote program that its report stands for
@@ -98,4 +112,5 @@ report_text letter text = codes "r" ++ (0 ∷ letter ∷ text ++ (0 ∷ []))
 pub record HasReport (old new : Mouths) (slot : ℕ) (output : List ℕ) : Type 0 where
   pub pipes : (at : Port) → pipe_of new at ≡ change_at (port.Program slot) (λ pipe. closed (given output pipe)) (pipe_of old) at
   pub tenants : (d : ℕ) → tenant_of new d ≡ (if d == slot then Some (Remote true) else tenant_of old d)
+  pub ended : (d : ℕ) → ended_of new d ≡ (if d == slot then true else ended_of old d)
   pub slots : length new.slots.items ≡ length old.slots.items

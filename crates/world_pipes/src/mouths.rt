@@ -1,11 +1,11 @@
 // The pipes that one actor takes from.
-ghost use Rattle.std.specs.Prelude.{◌≡◌, ◌==◌, ◌≤◌, ◌<◌, ℕ, true, false, if◌then◌else◌, Some, None, option_map, IfOk, IsOk, OnOk, OnErr, All, length};
+ghost use Rattle.std.specs.Prelude.{◌≡◌, ◌==◌, ◌≤◌, ◌<◌, ℕ, true, false, if◌then◌else◌, Some, None, option_map, IfOk, IsOk, IsSome, OnOk, OnErr, All, length};
 ghost use Rattle.call_fs.specs.declared.program.Port.{Port as Gate};
-ghost use Rattle.call_fs.specs.declared.program.Port.TheVariants.{Program};
+ghost use Rattle.call_fs.specs.declared.program.Port.TheVariants.{Input, Program};
 ghost use Rattle.world_pipes.specs.Pipework.{fresh, given, closed, is_ready};
 ghost use Rattle.world_pipes.specs.Pipework.Tenant.{Runs, Remote};
 ghost use Rattle.world_pipes.specs.Pipes.{lies, told, offered, left_by};
-ghost use Rattle.world_pipes.specs.Mouths.{IsVacant, pipe_of, runs_in, tenant_of, actor_of, is_remote, IsLowest, HasPipe, HasRoomAt, change_at};
+ghost use Rattle.world_pipes.specs.Mouths.{IsVacant, pipe_of, runs_in, tenant_of, ended_in, ended_of, actor_of, is_remote, IsLowest, HasPipe, HasRoomAt, change_at};
 
 use crate::{Pipe, Taken};
 use actor_names::ActorName;
@@ -17,7 +17,12 @@ use std::alloc::Global;
 #[derive(Drop)]
 pub enum Tenant {
     /// An actor.
-    Actor(ActorName),
+    Actor {
+        /// Its name.
+        name: ActorName,
+        /// Whether it ended or was stopped.
+        over: bool,
+    },
     /// A remote program, which is none.
     Remote {
         /// Whether its report came.
@@ -60,7 +65,31 @@ impl Slot {
     {
         match &self.tenant {
             Some(Tenant::Remote { reported: came }) => *came == reported,
-            Some(Tenant::Actor(_)) | None => false,
+            Some(Tenant::Actor { .. }) | None => false,
+        }
+    }
+
+    /// Whether its program has ended: a remote one whose report came, or an actor that is over.
+    fn has_ended(&self) -> bool
+        ensures { result ≡ ended_in (Some self.now) }
+    {
+        match &self.tenant {
+            Some(Tenant::Remote { reported }) => *reported,
+            Some(Tenant::Actor { over, .. }) => *over,
+            None => false,
+        }
+    }
+
+    /// The actor in it is over, and gives nothing more. The condition: there is one.
+    fn end_actor(&mut self)
+        requires { IsSome (actor_of (runs_in (Some self.old))) }
+        ensures shut { lies self.new.output ≡ closed (lies self.old.output) }
+        ensures same { runs_in (Some self.new) ≡ runs_in (Some self.old) }
+        ensures ended { ended_in (Some self.new) ≡ true }
+    {
+        self.output.close();
+        if let Some(Tenant::Actor { over, .. }) = &mut self.tenant {
+            *over = true;
         }
     }
 
@@ -88,6 +117,7 @@ impl Mouths {
     pub fn new(alloc: Global, slots: u16) -> Result<Mouths, Memory>
         ensures pipes { IfOk result (λ m. (port : Gate) → pipe_of m port ≡ fresh) }
         ensures tenants { IfOk result (λ m. (d : ℕ) → tenant_of m d ≡ None) }
+        ensures ended { IfOk result (λ m. (d : ℕ) → ended_of m d ≡ false) }
         ensures slots { IfOk result (λ m. length m.slots.items ≡ slots) }
     {
         Ok(Mouths {
@@ -143,11 +173,38 @@ impl Mouths {
         }
     }
 
+    /// Whether the program in this slot has ended: a remote one whose report came, or an actor that is over.
+    pub fn has_ended(&self, slot: u8) -> bool
+        ensures { result ≡ ended_of self.now slot }
+    {
+        match self.slots.get(slot as usize) {
+            Some(slot) => slot.has_ended(),
+            None => false,
+        }
+    }
+
+    /// The lowest slot whose program has ended.
+    pub fn lowest_ended(&self) -> Option<u8>
+        ensures { IsLowest (ended_of self.now) 0 result }
+    {
+        let mut slot: u8 = 0;
+        'slots: loop {
+            if self.has_ended(slot) {
+                return Some(slot);
+            }
+            if slot == u8::MAX {
+                return None;
+            }
+            slot += 1;
+        }
+    }
+
     /// Makes room for so many bytes more in the pipe by this port. The condition: there is one.
     pub fn make_room(&mut self, port: Port, more: usize) -> Result<(), Memory>
         requires { HasPipe self.old port }
         ensures pipes { (at : Gate) → pipe_of self.new at ≡ pipe_of self.old at }
         ensures tenants { (d : ℕ) → tenant_of self.new d ≡ tenant_of self.old d }
+        ensures ended { (d : ℕ) → ended_of self.new d ≡ ended_of self.old d }
         ensures slots { length self.new.slots.items ≡ length self.old.slots.items }
         ensures room { OnOk result (HasRoomAt self.new port more) }
     {
@@ -166,6 +223,7 @@ impl Mouths {
         requires { HasRoomAt self.old port (length bytes.now) }
         ensures pipes { (at : Gate) → pipe_of self.new at ≡ change_at port (given bytes.now) (pipe_of self.old) at }
         ensures tenants { (d : ℕ) → tenant_of self.new d ≡ tenant_of self.old d }
+        ensures ended { (d : ℕ) → ended_of self.new d ≡ ended_of self.old d }
         ensures slots { length self.new.slots.items ≡ length self.old.slots.items }
     {
         match port {
@@ -178,6 +236,18 @@ impl Mouths {
         }
     }
 
+    /// Bytes are given as its whole input: nothing more will come there. Takes no memory. The condition: there is room for them.
+    pub fn give_all(&mut self, bytes: &[u8])
+        requires { HasRoomAt self.old Input (length bytes.now) }
+        ensures pipes { (at : Gate) → pipe_of self.new at ≡ change_at Input (λ pipe. closed (given bytes.now pipe)) (pipe_of self.old) at }
+        ensures tenants { (d : ℕ) → tenant_of self.new d ≡ tenant_of self.old d }
+        ensures ended { (d : ℕ) → ended_of self.new d ≡ ended_of self.old d }
+        ensures slots { length self.new.slots.items ≡ length self.old.slots.items }
+    {
+        self.input.give(bytes);
+        self.input.close();
+    }
+
     /// Takes what lies in the pipe by this port, at most so many bytes, or else its end; `None` if neither is there, or
     /// there is no such pipe. If that is all, it takes no memory.
     pub fn take(&mut self, alloc: Global, port: Port, most: usize) -> Result<Option<Taken>, Memory>
@@ -185,6 +255,7 @@ impl Mouths {
         ensures pipes { IfOk result (λ what. (at : Gate)
             → pipe_of self.new at ≡ change_at port (left_by (told what)) (pipe_of self.old) at) }
         ensures tenants { (d : ℕ) → tenant_of self.new d ≡ tenant_of self.old d }
+        ensures ended { (d : ℕ) → ended_of self.new d ≡ ended_of self.old d }
         ensures slots { length self.new.slots.items ≡ length self.old.slots.items }
         ensures ok { length (pipe_of self.old port).bytes ≤ most → IsOk result }
         ensures err { OnErr result ((at : Gate) → pipe_of self.new at ≡ pipe_of self.old at) }
@@ -207,6 +278,7 @@ impl Mouths {
         requires { HasPipe self.old port }
         ensures pipes { (at : Gate) → pipe_of self.new at ≡ change_at port closed (pipe_of self.old) at }
         ensures tenants { (d : ℕ) → tenant_of self.new d ≡ tenant_of self.old d }
+        ensures ended { (d : ℕ) → ended_of self.new d ≡ ended_of self.old d }
         ensures slots { length self.new.slots.items ≡ length self.old.slots.items }
     {
         match port {
@@ -223,6 +295,7 @@ impl Mouths {
     pub fn clear(&mut self)
         ensures pipes { (at : Gate) → pipe_of self.new at ≡ fresh }
         ensures tenants { (d : ℕ) → tenant_of self.new d ≡ None }
+        ensures ended { (d : ℕ) → ended_of self.new d ≡ false }
         ensures slots { length self.new.slots.items ≡ length self.old.slots.items }
     {
         self.input.clear();
@@ -237,6 +310,7 @@ impl Mouths {
         requires { slot < length self.old.slots.items }
         ensures pipes { (at : Gate) → pipe_of self.new at ≡ change_at (Program slot) (λ _. fresh) (pipe_of self.old) at }
         ensures tenants { (d : ℕ) → tenant_of self.new d ≡ (if d == slot then Some (Remote false) else tenant_of self.old d) }
+        ensures ended { (d : ℕ) → ended_of self.new d ≡ (if d == slot then false else ended_of self.old d) }
         ensures slots { length self.new.slots.items ≡ length self.old.slots.items }
     {
         self.slots[slot as usize].start(Tenant::Remote { reported: false });
@@ -247,9 +321,13 @@ impl Mouths {
         requires { slot < length self.old.slots.items }
         ensures pipes { (at : Gate) → pipe_of self.new at ≡ change_at (Program slot) (λ _. fresh) (pipe_of self.old) at }
         ensures tenants { (d : ℕ) → tenant_of self.new d ≡ (if d == slot then Some (Runs actor) else tenant_of self.old d) }
+        ensures ended { (d : ℕ) → ended_of self.new d ≡ (if d == slot then false else ended_of self.old d) }
         ensures slots { length self.new.slots.items ≡ length self.old.slots.items }
     {
-        self.slots[slot as usize].start(Tenant::Actor(actor));
+        self.slots[slot as usize].start(Tenant::Actor {
+            name: actor,
+            over: false,
+        });
     }
 
     /// The actor in this slot.
@@ -257,9 +335,20 @@ impl Mouths {
         ensures { option_map (λ name. name.now) result ≡ actor_of (tenant_of self.now slot) }
     {
         match &self.slots.get(slot as usize)?.tenant {
-            Some(Tenant::Actor(actor)) => Some(actor),
+            Some(Tenant::Actor { name, .. }) => Some(name),
             Some(Tenant::Remote { .. }) | None => None,
         }
+    }
+
+    /// The actor in this slot is over, and gives nothing more. Takes no memory. The condition: there is one.
+    pub fn end_actor(&mut self, slot: u8)
+        requires { IsSome (actor_of (tenant_of self.old slot)) }
+        ensures pipes { (at : Gate) → pipe_of self.new at ≡ change_at (Program slot) closed (pipe_of self.old) at }
+        ensures tenants { (d : ℕ) → tenant_of self.new d ≡ tenant_of self.old d }
+        ensures ended { (d : ℕ) → ended_of self.new d ≡ (if d == slot then true else ended_of self.old d) }
+        ensures slots { length self.new.slots.items ≡ length self.old.slots.items }
+    {
+        self.slots[slot as usize].end_actor();
     }
 
     /// The remote program in this slot has ended: its report came. Takes no memory. The condition: there is such a slot.
@@ -267,6 +356,7 @@ impl Mouths {
         requires { slot < length self.old.slots.items }
         ensures pipes { (at : Gate) → pipe_of self.new at ≡ pipe_of self.old at }
         ensures tenants { (d : ℕ) → tenant_of self.new d ≡ (if d == slot then Some (Remote true) else tenant_of self.old d) }
+        ensures ended { (d : ℕ) → ended_of self.new d ≡ (if d == slot then true else ended_of self.old d) }
         ensures slots { length self.new.slots.items ≡ length self.old.slots.items }
     {
         self.slots[slot as usize].tenant = Some(Tenant::Remote { reported: true });
@@ -277,6 +367,7 @@ impl Mouths {
         requires { slot < length self.old.slots.items }
         ensures pipes { (at : Gate) → pipe_of self.new at ≡ pipe_of self.old at }
         ensures tenants { (d : ℕ) → tenant_of self.new d ≡ (if d == slot then None else tenant_of self.old d) }
+        ensures ended { (d : ℕ) → ended_of self.new d ≡ (if d == slot then false else ended_of self.old d) }
         ensures slots { length self.new.slots.items ≡ length self.old.slots.items }
     {
         self.slots[slot as usize].tenant = None;

@@ -11,7 +11,7 @@ ghost use Rattle.local_deliver.specs.Stands.{Stands};
 ghost use Rattle.local_steps.specs.declared.arguments.LocalArgs.{LocalArgs as Words};
 ghost use Rattle.deliver_tests.specs.Deliveries.{IsRunning};
 
-use call_fs::{Answer, CallFs, Child, Got, Need, PIECE, Port, Ready, perform};
+use call_fs::{Answer, CallFs, Child, DeliveryWordsData, Got, Need, PIECE, Port, Ready, perform};
 use crash_fs::CrashDisk;
 use local_deliver::{Local, LocalArgs};
 use mail_bytes::{ByteText, LAST_MOMENT, Memory};
@@ -368,11 +368,9 @@ fn run<D: CallFs>(
     }
 }
 
-/// A delivery as the case says, which has done nothing yet.
-fn made(alloc: Global, case: &Case) -> Result<Local, Memory>
-    ensures { IfOk result (λ m. (args : Words) × Stands m args []) }
-{
-    let args = LocalArgs {
+/// The words of a case's command line.
+fn words_of(alloc: Global, case: &Case) -> Result<DeliveryWordsData, Memory> {
+    Ok(DeliveryWordsData {
         user: ByteText::from_slice(alloc, b"j")?,
         home: ByteText::from_slice(alloc, case.home)?,
         local: ByteText::from_slice(alloc, case.local)?,
@@ -381,9 +379,15 @@ fn made(alloc: Global, case: &Case) -> Result<Local, Memory>
         domain: ByteText::from_slice(alloc, case.domain)?,
         sender: ByteText::from_slice(alloc, case.sender)?,
         line: ByteText::from_slice(alloc, case.line)?,
-        uid: 1000,
-        pid: 82,
-    };
+    })
+}
+
+/// A delivery as the case says, which has done nothing yet.
+fn made(alloc: Global, case: &Case) -> Result<Local, Memory>
+    ensures { IfOk result (λ m. (args : Words) × Stands m args []) }
+{
+    let words = words_of(alloc, case)?;
+    let args = LocalArgs::of(alloc, &words, 1000, 82)?;
     Local::new(alloc, args)
 }
 

@@ -5,13 +5,12 @@ use Rattle.mail_world.specs.Children.{IsCut}
 use Rattle.mail_world.proofs.Leaving.{left_by}
 use Rattle.mail_world.proofs.children.leave.Goals as goal
 
-pub returns-in-true-eq0-Some : goal.returns-in-true-eq0-Some
-returns-in-true-eq0-Some c =
-    let child = c.in-true-eq0-Some.child in
+pub returns-in-true-Some : goal.returns-in-true-Some
+returns-in-true-Some c =
+    let child = c.in-true-Some.child in
     let old = c.args.actors.now in
     let over_is : c.args.over ≡ true = cc in
-    let first : c.args.place ≡ 0 = cc in
     let some : c.args.child ≡ Some child = cc in
-    left_by c.args.over c.args.place c.args.child child old c.index-actors-child.result c.cut_off_input.new.actor over_is first some
+    left_by c.args.over c.args.child child old c.index-actors-child.result c.cut_off_input.new.actor over_is some
     (slice_get_read old (length old) child c.index-actors-child.result refl (c.requires child some) c.index-actors-child.is)
     (subst (λ (x : Held). IsCut x c.cut_off_input.new.actor) (sym c.index-actors-child.is) c.cut_off_input.ensures)

@@ -11,10 +11,12 @@ use Rattle.std.specs.Prelude.{IfOk, OnErr, IsNone}
 use Rattle.mail_bytes.specs.Told.{Meets}
 use Rattle.mail_world.specs.declared.world.Did.{Did}
 use Rattle.call_fs.specs.Disk.{Disk}
-use Rattle.mail_world.specs.Acting.{IsAct, IsMade, IsUntouched, IsNoAct, IsStated, IsReadAt, HasStepped, HaveShut, is_of_child, due_by, opened_by, shut}
-use Rattle.mail_world.proofs.Feeds.{shuts_after}
+use Rattle.mail_world.specs.History.{next_of}
+use Rattle.mail_world.specs.Acting.{IsAct, IsMade, IsUntouched, IsNoAct, IsSeated, IsStated, IsReadAt, SuitsPlace, HasStepped, is_due_of_child, has_actor, due_by, opened_by, shut}
+use Rattle.crew_pipes.proofs.Shuts.{shuts_after}
 use Rattle.mail_world.proofs.Machines.{own_is, call_kind, call_within}
 use Rattle.mail_world.proofs.Passes.{only_waits, gives_no_actor}
+use Rattle.mail_world.proofs.Acts.{shut_of}
 use Rattle.mail_world.proofs.Passed.{HasAsked, passed_result, told_idle}
 use Rattle.mail_world.proofs.actor.Actor.act.Goals as goal
 use Rattle.mail_world.proofs.actor.Actor.act.Goals.{In-Due}
@@ -27,6 +29,9 @@ if_waits d e h q y z (Err why) still waits = tt
 if_err : {T E D : Type 0} {d e : D} (r : Result T E) → e ≡ d → OnErr r (e ≡ d)
 if_err (Ok x) still = tt
 if_err (Err e) still = still
+
+pub ask-requires-clause-may : goal.ask-requires-clause-may
+ask-requires-clause-may g c = c.requires.may.asks
 
 pub take_in-idle-requires-clause-kind : goal.take_in-idle-requires-clause-kind
 take_in-idle-requires-clause-kind g c =
@@ -76,6 +81,7 @@ returns-in-Did-clause-acted g c =
       made = subst (λ (came : Came). IsMade came at.now (g.D.CallFs.disk c.args.disk.now) (g.D.CallFs.disk c.ask.new.disk)) c.in-Did.is asked.made;
       passed = inl (subst IsStated c.in-Did.is asked.stated, refl);
       name = c.take_in-idle.ensures.name ∙ name;
+      stays = record { wire = c.take_in-idle.ensures.stays.wire ∙ asked.stays.wire; slot = c.take_in-idle.ensures.stays.slot ∙ asked.stays.slot; entry = c.take_in-idle.ensures.stays.entry ∙ asked.stays.entry };
       descriptors = c.take_in-idle.ensures.descriptors ∙ c.keep_open.ensures ∙ ap (λ (fds : List Fd). opened_by fds own.due own.came) asked.descriptors;
       ended = c.take_in-idle.ensures.ended ∙ asked.ended;
       status = c.take_in-idle.ensures.status ∙ asked.status;
@@ -115,22 +121,33 @@ asked_of g c =
       ended = asked.ended;
       status = asked.status;
       owed = asked.owed;
+      stays = asked.stays;
     }
 
-pub pass-requires-clause-member : goal.pass-requires-clause-member
-pass-requires-clause-member g c =
-    let may = c.requires.may in
-    let next = c.in_ok-own.ensures.due may.program may.past may.follows ∙ ap due_by c.in-Due.is in
-    λ none. only_waits c.in-Due.due (subst IsAct next (may.acts none)) (subst IsStated c.in-Due.is c.in_ok-own.ensures.stated)
+pub pass-requires-clause-seat : goal.pass-requires-clause-seat
+pass-requires-clause-seat g c = subst (λ (o : Option ℕ). IsSeated o c.args.mouths.now.items) (sym c.in_ok-own.ensures.stays.wire) c.requires.seat
+
+-- what is due is next
+next_is : (g : _) (c : In-Due g) → next_of c.requires.may.asks.program c.requires.may.asks.past c.args.at.now c.args.at.ready ≡ c.in-Due.due
+next_is g c = let may = c.requires.may.asks in c.in_ok-own.ensures.due may.program may.past may.follows ∙ ap due_by c.in-Due.is
+
+pub pass-requires-clause-waits : goal.pass-requires-clause-waits
+pass-requires-clause-waits g c =
+    let next = next_is g (goal.at.pass-requires-clause-waits g c).In-Due in
+    λ none. only_waits c.in-Due.due (subst IsAct next (c.requires.may.acts (sym c.in_ok-own.ensures.stays.wire ∙ none))) (subst IsStated c.in-Due.is c.in_ok-own.ensures.stated)
+
+pub pass-requires-clause-suits : goal.pass-requires-clause-suits
+pass-requires-clause-suits g c =
+    let next = next_is g (goal.at.pass-requires-clause-suits g c).In-Due in
+    λ i wire. subst (SuitsPlace i) next (c.requires.may.suits i (sym c.in_ok-own.ensures.stays.wire ∙ wire))
 
 -- nothing of a child is due
 pub pass-requires-clause-alone : goal.pass-requires-clause-alone
 pass-requires-clause-alone g c =
-    let may = c.requires.may in
-    let at = c.args.at in
-    let next = c.in_ok-own.ensures.due may.program may.past may.follows ∙ ap due_by c.in-Due.is in
-    λ i seated. gives_no_actor c.args.mouths.now.items i at.has_child c.in-Due.due c.requires.seat.one c.requires.child
-    (subst (λ (o : Option ℕ). is_of_child o at.has_child c.in-Due.due ≡ false) seated (subst (λ (due : NeedData). is_of_child at.seat at.has_child due ≡ false) next may.own))
+    let next = next_is g (goal.at.pass-requires-clause-alone g c).In-Due in
+    let mouths = c.args.mouths.now.items in
+    λ i wire. gives_no_actor mouths c.args.self.now.wire i c.in-Due.due (sym c.in_ok-own.ensures.stays.wire ∙ wire)
+    (subst (λ (due : NeedData). is_due_of_child (has_actor mouths c.args.self.now.wire) due ≡ false) next c.requires.may.own)
 
 pub returns-in-Due-clause-acted : goal.returns-in-Due-clause-acted
 returns-in-Due-clause-acted g c =
@@ -174,11 +191,13 @@ returns-in-Ended-clause-acted g c =
         event = c.put-in-Ended.ensures.event ∙ ap (λ (k : Kept). c.args.history.now.events.items ++ k ∷ []) event;
         closed = subst (λ (t : Option Disk). Meets t new (λ d e. e ≡ shut x.descriptors.items d)) still
             (subst (λ (fds : List Fd). Meets (g.D.CallFs.disk c.ask.new.disk) new (λ d e. e ≡ shut fds d)) asked.descriptors c.end.ensures.closed);
-        shuts = shuts_after c.args.mouths.now.items c.shut_after.new.mouths.items x.name at.seat c.requires.seat.is c.requires.seat.one c.requires.seat.many
-            (subst (λ (a : List ℕ). HaveShut at.seat a c.args.mouths.now.items c.shut_after.new.mouths.items) (c.as_slice.ensures ∙ c.end.ensures.name ∙ name) c.shut_after.ensures);
+        shuts = shuts_after c.args.mouths.now.items c.shut_after.new.mouths.items x.name x.wire x.slot c.requires.seat.four
+            (shut_of c.args.mouths.now.items c.shut_after.new.mouths.items c.end.new.self.wire x.wire c.end.new.self.slot x.slot c.as_slice.result.now x.name
+            (c.end.ensures.stays.wire ∙ asked.stays.wire) (c.end.ensures.stays.slot ∙ asked.stays.slot) (c.as_slice.ensures ∙ c.end.ensures.name ∙ name) c.shut_after.ensures);
         name = c.end.ensures.name ∙ asked.name;
         descriptors = c.end.ensures.descriptors;
         ended = c.end.ensures.ended ∙ ap Some c.len-index.ensures;
         status_is = c.end.ensures.status;
+        entry = c.end.ensures.stays.entry ∙ asked.stays.entry;
       };
     })

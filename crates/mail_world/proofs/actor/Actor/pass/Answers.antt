@@ -1,4 +1,4 @@
-use Rattle.std.proofs.Common.{◌≡◌, ℕ, [], ◌∷◌, ◌++◌, Option, sym, ap, ◌∙◌, subst}
+use Rattle.std.proofs.Common.{◌≡◌, [], ◌∷◌, ◌++◌, Option, Some, sym, ap, ◌∙◌, subst}
 use Rattle.call_fs.specs.declared.past.GotData.{GotData}
 use Rattle.call_fs.specs.declared.past.NeedData.{NeedData}
 use Rattle.call_fs.specs.declared.past.Own.{Own}
@@ -6,28 +6,23 @@ use Rattle.call_fs.specs.Program.{IsKind, IsWithin}
 use Rattle.world_events.specs.declared.event.Event.{Event as Kept}
 use Rattle.world_events.specs.declared.event.Event.TheVariants as kept
 use Rattle.mail_world.specs.Acting.{Exchanges, HasExchanged}
-use Rattle.mail_world.proofs.Passed.{exchanged_kind, exchanged_within, told_idle}
+use Rattle.mail_world.proofs.Passed.{told_idle}
 use Rattle.mail_world.proofs.actor.Actor.pass.Goals as goal
+use Rattle.mail_world.proofs.actor.Actor.pass.Goals.{In-Some-2}
+
+-- what came was exchanged
+exchanged : (c : In-Some-2) → Exchanges (Some c.in-Some.wire) c.args.self.now.slot c.args.mouths.now.items c.exchange.new.mouths.items c.args.at.pid c.taking_room-most.result c.as_slice-name.result.now c.args.due c.in-Some-2.came
+exchanged c =
+    subst (λ (o : Option GotData). HasExchanged (Some c.in-Some.wire) c.args.self.now.slot c.args.mouths.now.items c.exchange.new.mouths.items c.args.at.pid c.taking_room-most.result c.as_slice-name.result.now c.args.due o)
+    c.in-Some-2.is c.in_ok-came.ensures.done
 
 pub take_in-idle-requires-clause-kind : goal.take_in-idle-requires-clause-kind
 take_in-idle-requires-clause-kind c =
-    let a = c.args.self.now.name in
-    let came = c.in-Some-2.came in
-    let old = c.args.mouths.now.items in
-    let new = c.exchange.new.mouths.items in
-    let exchanged : Exchanges old new c.args.at.pid c.taking_room-most.result a c.args.due came =
-    subst (λ (o : Option GotData). HasExchanged old new c.args.at.pid c.taking_room-most.result a c.args.due o) c.in-Some-2.is (c.in_ok-came.ensures.done a (c.requires.seat.is ∙ c.in-Some.is)) in
-    subst (λ (due : NeedData). IsKind due came) (sym c.requires.due) (exchanged_kind old new c.args.at.pid c.taking_room-most.result a c.args.due came exchanged)
+    subst (λ (due : NeedData). IsKind due c.in-Some-2.came) (sym c.requires.due) (exchanged (goal.at.take_in-idle-requires-clause-kind c).In-Some-2).kind
 
 pub take_in-idle-requires-clause-within : goal.take_in-idle-requires-clause-within
 take_in-idle-requires-clause-within c =
-    let a = c.args.self.now.name in
-    let came = c.in-Some-2.came in
-    let old = c.args.mouths.now.items in
-    let new = c.exchange.new.mouths.items in
-    let exchanged : Exchanges old new c.args.at.pid c.taking_room-most.result a c.args.due came =
-    subst (λ (o : Option GotData). HasExchanged old new c.args.at.pid c.taking_room-most.result a c.args.due o) c.in-Some-2.is (c.in_ok-came.ensures.done a (c.requires.seat.is ∙ c.in-Some.is)) in
-    subst (λ (m : ℕ). IsWithin m came) c.taking_room-most.ensures (exchanged_within old new c.args.at.pid c.taking_room-most.result a c.args.due came exchanged)
+    subst (λ m. IsWithin m c.in-Some-2.came) c.taking_room-most.ensures (exchanged (goal.at.take_in-idle-requires-clause-within c).In-Some-2).within
 
 pub returns-clause-idle : goal.returns-clause-idle
 returns-clause-idle c =

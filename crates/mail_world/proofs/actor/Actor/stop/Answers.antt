@@ -1,8 +1,8 @@
-use Rattle.std.proofs.Common.{◌≡◌, ℕ, List, [], ◌∷◌, ◌++◌, Some, ap, ◌∙◌, subst}
+use Rattle.std.proofs.Common.{◌≡◌, [], ◌∷◌, ◌++◌, Some, ap, ◌∙◌}
 use Rattle.world_events.specs.declared.event.Event.{Event as Kept}
 use Rattle.world_events.specs.declared.event.Event.TheVariants as kept
-use Rattle.mail_world.specs.Acting.{HaveShut}
-use Rattle.mail_world.proofs.Feeds.{shuts_after}
+use Rattle.crew_pipes.proofs.Shuts.{shuts_after}
+use Rattle.mail_world.proofs.Acts.{shut_of}
 use Rattle.mail_world.proofs.actor.Actor.stop.Goals as goal
 
 pub returns-clause-stopped : goal.returns-clause-stopped
@@ -14,10 +14,12 @@ returns-clause-stopped g c =
     record {
       event = c.put.ensures.event ∙ ap (λ (k : Kept). c.args.history.now.events.items ++ k ∷ []) event;
       closed = c.end.ensures.closed;
-      shuts = shuts_after c.args.mouths.now.items c.shut_after.new.mouths.items x.name c.args.seat c.requires.seat.is c.requires.seat.one c.requires.seat.many
-          (subst (λ (a : List ℕ). HaveShut c.args.seat a c.args.mouths.now.items c.shut_after.new.mouths.items) (c.as_slice.ensures ∙ c.end.ensures.name) c.shut_after.ensures);
+      shuts = shuts_after c.args.mouths.now.items c.shut_after.new.mouths.items x.name x.wire x.slot c.requires.seat.four
+          (shut_of c.args.mouths.now.items c.shut_after.new.mouths.items c.end.new.self.wire x.wire c.end.new.self.slot x.slot c.as_slice.result.now x.name
+          c.end.ensures.stays.wire c.end.ensures.stays.slot (c.as_slice.ensures ∙ c.end.ensures.name) c.shut_after.ensures);
       name = c.end.ensures.name;
       descriptors = c.end.ensures.descriptors;
       ended = c.end.ensures.ended ∙ ap Some c.len-index.ensures;
       status_is = c.end.ensures.status;
+      entry = c.end.ensures.stays.entry;
     }

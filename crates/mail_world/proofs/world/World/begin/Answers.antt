@@ -1,6 +1,5 @@
 use Rattle.std.proofs.Common.{◌≡◌, ℕ, ◌+◌, ◌-◌, List, [], ◌∷◌, ◌++◌, length, reverse, false, is_some, Option, Some, None, refl, sym, ap, ◌∙◌, subst, arith}
 use Rattle.std.proofs.Math.Path.{fun_ext}
-use Rattle.std.specs.Prelude.{drop}
 use Rattle.std.proofs.lemmas.List.{length-append}
 use Rattle.mail_world.specs.Generations.{starts_of}
 use Rattle.mail_world.specs.Starts.{AreStarts}
@@ -25,7 +24,6 @@ use Rattle.mail_world.proofs.Borne.{stranger_awaits}
 use Rattle.mail_world.proofs.Members.{mail_is_none}
 use Rattle.mail_world.proofs.Living.{living_push, room_less}
 use Rattle.mail_world.proofs.Booked.{start_booked}
-use Rattle.mail_world.proofs.Lists.{drop_push}
 use Rattle.mail_world.proofs.Noted.{put_among}
 use Rattle.mail_world.proofs.Piped.{start_piped}
 use Rattle.mail_world.proofs.Seats.{seat_none}
@@ -138,7 +136,8 @@ invariant_of-self-2 g c =
     let counted : c.len-3.result ≡ length c.push.new.self.items = c.len-3.ensures ∙ c.push.new.self.ok.0 in
     let last : c.len-3.result - i.crew - 1 + 4 ≡ length i.actors.items - i.crew + 4 = omega (arith, grown, counted, within) in
     let bound = living_push i.actors.items c.new-actor.result in
-    let mails : drop i.crew (i.actors.items ++ c.new-actor.result ∷ []) ≡ drop i.crew i.actors.items ++ c.new-actor.result ∷ [] = drop_push i.crew i.actors.items c.new-actor.result within in
+    let numbered : c.new-actor.result.entry ≡ Some (length i.books.entries.items) =
+    c.new-actor.ensures.entry ∙ ap Some (c.next_entry-entry.ensures ∙ ap (λ (l : List Entry). length l) c.in_ok-make_room.ensures.same) in
     let entry : c.add-2.new.self.entries.items ≡ i.books.entries.items ++ new_entry a args ∷ [] =
     c.add-2.ensures ∙ ap (λ (l : List Entry). l ++ new_entry a c.in_ok-arguments.arguments ∷ []) c.in_ok-make_room.ensures.same
     ∙ ap (λ (w : Arguments). i.books.entries.items ++ new_entry a w ∷ []) c.in_ok-arguments.ensures in
@@ -155,8 +154,8 @@ invariant_of-self-2 g c =
           c.new-actor.result a (Injector args) tt other c.requires.named c.self.invariant.0 new placed name c.new-actor.ensures.ended c.new-actor.ensures.status c.new-actor.ensures.owed c.new-actor.ensures.descriptors machine awaits refl c.saturating_add-self-inside.ensures),
       rw (actors) (c.put.ensures.room (living (i.actors.items ++ c.new-actor.result ∷ [])) (room_less c.reserve.new.self (c.len.result + 2) (living (i.actors.items ++ c.new-actor.result ∷ []) + 1)
           (omega (arith, len, bound)) c.in_ok-reserve.ensures.room)),
-      rw (actors, event, entry, mails) (start_booked (drop i.crew i.actors.items) i.history.events.items c.new-actor.result a args i.books.entries.items c.self.invariant.2 name),
-      rw (actors, event) (start_piped i.crew i.mouths.items i.actors.items i.history.events.items c.new-actor.result a (Injector args) other stranger.unknown c.self.invariant.3),
+      rw (actors, event, entry) (start_booked i.crew i.actors.items i.history.events.items c.new-actor.result a args i.books.entries.items within c.self.invariant.2 name numbered),
+      rw (actors, event) (start_piped i.crew i.mouths.items i.actors.items i.history.events.items c.new-actor.result a (Injector args) other stranger.unknown name c.new-actor.ensures.wire c.new-actor.ensures.slot c.self.invariant.3),
       rw (event) (subst (AreStarts c.add_mail.new.self i.crew (place_of c.add.new.self)) (sym (starts_push i.history.events.items (kept.Start a (Injector args))))
           (mail_starts c.make_room-2.new.self c.add_mail.new.self i.crew (length i.actors.items) (place_of i.places) (place_of c.add.new.self) (starts_of (reverse i.history.events.items)) a within
           (c.add_mail.ensures.order ∙ ap (λ (n : ℕ). c.make_room-2.new.self.order.items ++ n ∷ []) last) c.add_mail.ensures.newest new placed

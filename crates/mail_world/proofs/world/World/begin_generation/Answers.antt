@@ -4,14 +4,14 @@ use Rattle.std.proofs.lemmas.List.{length-append, length-drop}
 use Rattle.world_events.specs.declared.event.Event.{Event as Kept}
 use Rattle.world_events.specs.declared.event.Event.TheVariants as kept
 use Rattle.mail_world.specs.declared.actor.Actor.{Actor as Held}
-use Rattle.mail_world.specs.Books.{AreBooked, entries_of}
+use Rattle.mail_world.specs.Books.{entries_of}
 use Rattle.mail_world.specs.Crew.{AreNew}
 use Rattle.mail_world.specs.Generations.{IsNoneAlive, starts_of}
 use Rattle.mail_world.specs.Starts.{AreStarts}
 use Rattle.mail_world.specs.Places.{place_of}
 use Rattle.mail_world.specs.World.{Seen}
 use Rattle.mail_world.specs.Inside.{known, living}
-use Rattle.mail_world.proofs.Begun.{begun_keeps, begun_leads_on, begun_piped, sender_over}
+use Rattle.mail_world.proofs.Begun.{begun_keeps, begun_leads_on, begun_piped, members_over}
 use Rattle.mail_world.proofs.Booked.{begun_booked}
 use Rattle.mail_world.proofs.Firsts.{lives_none}
 use Rattle.mail_world.proofs.Histories.{goes_on}
@@ -50,10 +50,6 @@ invariant_of-self-in_err-mails g c =
       rw (c.in_ok-reserve-2.ensures.same) (same_starts i.starts c.make_room.new.self i.crew (place_of i.places) (starts_of (reverse i.history.events.items)) c.in_ok-make_room.ensures.same c.self.invariant.4),
     )
 
--- the mails after the new members
-mails_are : (four rest : List Held) → AreNew four → drop 4 (four ++ rest) ≡ rest
-mails_are four rest new = ap (λ (l : List Held). drop 4 (l ++ rest)) new.are
-
 -- there is room for the stop of each
 few : (crew : ℕ) (four actors : List Held) → AreNew four → living (four ++ drop crew actors) ≤ length actors + 4
 few crew four actors new =
@@ -82,10 +78,9 @@ invariant_of-self-2 g c =
       rw (actors, event) (begun_keeps told (place_of i.places) i.crew i.actors.items four events i.present i.next_pid c.saturating_add-self-inside.result i.bounces c.self.invariant.0 none c.self.invariant.3.few
           c.self.invariant.3.wired.members new c.saturating_add-self-inside.ensures),
       rw (actors) (c.put.ensures.room (living (four ++ rest)) (room_less c.reserve-2.new.self (c.len-2.result + 5) (living (four ++ rest) + 1) (omega (arith, len, bound)) c.in_ok-reserve-2.ensures.room)),
-      rw (actors, event) (subst (λ (l : List Held). AreBooked (entries_of i.books) l (events ++ kept.Generation i.present ∷ [])) (sym (mails_are four rest new))
-          (begun_booked rest events i.present (entries_of i.books) c.self.invariant.2)),
+      rw (actors, event) (begun_booked i.crew i.actors.items four events (entries_of i.books) new c.self.invariant.2 i.present),
       rw (actors, event) (begun_piped i.crew i.mouths.items c.in_ok-mouths.mouths.items i.actors.items four events i.present c.self.invariant.3
-          (sender_over told (place_of i.places) i.crew i.actors.items events i.present i.next_pid i.bounces c.self.invariant.0 none c.self.invariant.3.few) new c.in_ok-mouths.ensures),
+          (members_over told (place_of i.places) i.crew i.actors.items events i.present i.next_pid i.bounces c.self.invariant.0 none c.self.invariant.3.few) new c.in_ok-mouths.ensures),
       rw (event) (subst (AreStarts c.add_members.new.self 4 (place_of i.places)) (sym (starts_push events (kept.Generation i.present)))
           (members_start c.make_room.new.self c.add_members.new.self i.crew (place_of i.places) (starts_of (reverse events)) c.add_members.ensures.order c.add_members.ensures.newest
           (same_starts i.starts c.make_room.new.self i.crew (place_of i.places) (starts_of (reverse events)) c.in_ok-make_room.ensures.same c.self.invariant.4))),

@@ -1,5 +1,4 @@
-use Rattle.std.proofs.Common.{◌≡◌, ℕ, ◌+◌, ◌<◌, List, [], ◌∷◌, ◌++◌, Some, length, codes, refl, sym, ap, ◌∙◌, subst, arith}
-use Rattle.std.specs.Prelude.{drop}
+use Rattle.std.proofs.Common.{◌≡◌, ℕ, ◌+◌, ◌<◌, List, [], ◌∷◌, ◌++◌, Some, length, refl, sym, ap, ◌∙◌, subst, arith}
 use Rattle.std.specs.List.{slice_get}
 use Rattle.std.proofs.lemmas.Option.{slice_get_read}
 use Rattle.world_events.specs.declared.event.Event.{Event as Kept}
@@ -10,7 +9,7 @@ use Rattle.mail_world.specs.Places.{place_of}
 use Rattle.mail_world.specs.World.{Seen}
 use Rattle.mail_world.specs.Inside.{among_all, known, living}
 use Rattle.mail_world.proofs.Booked.{report_booked}
-use Rattle.mail_world.proofs.Feeds.{same_set}
+use Rattle.mail_world.proofs.Feeds.{as_before}
 use Rattle.mail_world.proofs.Histories.{report_told, goes_on}
 use Rattle.mail_world.proofs.Living.{living_within, room_less}
 use Rattle.mail_world.proofs.Reported.{report_low, report_keeps, report_piped, same_piped}
@@ -62,7 +61,7 @@ invariant_of-self-in_err-put_report g c =
       c.in_ok-reserve.ensures.stays (living i.actors.items) c.self.invariant.1,
       rw (c.in_ok-reserve.ensures.same) c.self.invariant.2,
       rw (c.in_ok-reserve.ensures.same) (same_piped i.crew i.mouths.items _ i.actors.items (known i.history.events.items) i.history.events.items c.self.invariant.3
-          (same_set i.mouths.items (codes "rspawn") 3 c.index_mut.result.now c.put_report.new.mouths refl (is g at.After-index_mut (low g at.After-reserve)) c.in_err-put_report.ensures.err)),
+          (as_before i.mouths.items 3 c.index_mut.result.now c.put_report.new.mouths (is g at.After-index_mut (low g at.After-reserve)) c.in_err-put_report.ensures.err)),
       rw (c.in_ok-reserve.ensures.same) c.self.invariant.4,
     )
 
@@ -84,7 +83,7 @@ invariant_of-self-2 g c =
     let leads = report_told told events i.present c.args.slot c.args.letter c.args.text.now c.self.invariant.3.whole (may g at.After-reserve) in (
       rw (came g at.After-put) (report_keeps told (among_all i.crew (place_of i.places)) i.actors.items events i.present i.next_pid i.bounces c.args.slot c.args.letter c.args.text.now c.self.invariant.0 leads),
       c.put.ensures.room (living i.actors.items) (room_less c.reserve.new.self (c.len.result + 1) (living i.actors.items + 1) (omega (arith, len, bound)) c.in_ok-reserve.ensures.room),
-      rw (came g at.After-put) (report_booked (drop i.crew i.actors.items) events c.args.slot c.args.letter c.args.text.now (entries_of i.books) c.self.invariant.2),
+      rw (came g at.After-put) (report_booked i.crew i.actors.items events c.args.slot c.args.letter c.args.text.now (entries_of i.books) c.self.invariant.2),
       rw (came g at.After-put) (report_piped i.crew i.mouths.items i.actors.items events c.index_mut.result.now c.put_report.new.mouths c.args.slot c.args.letter c.args.text.now c.self.invariant.3
           (is g at.After-index_mut (low g at.After-reserve)) c.in_ok-put_report.ensures.ok),
       rw (came g at.After-put) (still_starts i.starts i.crew (place_of i.places) events (kept.Report c.args.slot c.args.letter c.args.text.now) refl c.self.invariant.4),

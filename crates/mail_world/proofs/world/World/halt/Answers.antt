@@ -1,6 +1,4 @@
-use Rattle.std.proofs.Common.{◌≡◌, ◌+◌, List, [], ◌∷◌, ◌++◌, length, ℕ, refl, sym, ap, ◌∙◌, subst, arith}
-use Rattle.std.specs.Prelude.{drop}
-use Rattle.std.proofs.lemmas.List.{length-drop}
+use Rattle.std.proofs.Common.{◌≡◌, ◌+◌, List, [], ◌∷◌, ◌++◌, length, ℕ, refl, ap, ◌∙◌, subst, arith}
 use Rattle.mail_bytes.specs.Told.{Meets}
 use Rattle.call_fs.specs.Choices.{Halts}
 use Rattle.mail_world.specs.declared.actor.Actor.{Actor as Held}
@@ -10,7 +8,7 @@ use Rattle.mail_world.specs.Places.{place_of}
 use Rattle.mail_world.specs.Inside.{among_all, known, living}
 use Rattle.mail_world.specs.Acting.{AreCutOff}
 use Rattle.mail_world.proofs.Histories.{halt_goes_with}
-use Rattle.mail_world.proofs.Lists.{written_back, get_drop}
+use Rattle.mail_world.proofs.Lists.{written_back}
 use Rattle.mail_world.proofs.Living.{living_within, room_less}
 use Rattle.mail_world.proofs.Booked.{halt_booked}
 use Rattle.mail_world.proofs.Piped.{halt_piped}
@@ -27,17 +25,6 @@ invariant_of-self g c = (
   rw (c.in_err-reserve.ensures.same) c.self.invariant.3,
   rw (c.in_err-reserve.ensures.same) c.self.invariant.4,
 )
-
--- so are those after some of them
-cut_drop : (n at : ℕ) (old new : List Held) → AreCutOff at old new → AreCutOff at (drop n old) (drop n new)
-cut_drop n at old new cut =
-    let many = cut.many in
-    let was = length-drop n old in
-    let is = length-drop n new in
-    record {
-      many = omega (arith, many, was, is);
-      each = λ i x y here there. cut.each (n + i) x y (sym (get_drop n old i) ∙ here) (sym (get_drop n new i) ∙ there);
-    }
 
 -- the event that was put
 halted : (g : _) (c : After-cut_off_all g) → c.put.new.self.events.items ≡ c.self.inside.history.events.items ++ kept.Halt c.args.how ∷ []
@@ -67,8 +54,7 @@ invariant_of-self-2 g c =
           c.self.invariant.0 over (stopped g at)),
       rw (items) (c.put.ensures.room (living c.cut_off_all.new.actors) (room_less c.reserve.new.self (c.len.result + 1) (living c.cut_off_all.new.actors + 1)
           (omega (arith, len, bound, many)) c.in_ok-reserve.ensures.room)),
-      rw (items, halted g at, c.cut_off.ensures) (halt_booked (length i.history.events.items) (drop i.crew i.actors.items) (drop i.crew c.cut_off_all.new.actors) i.history.events.items c.args.how i.books.entries.items c.self.invariant.2
-          (cut_drop i.crew (length i.history.events.items) i.actors.items c.cut_off_all.new.actors over)),
+      rw (items, halted g at, c.cut_off.ensures) (halt_booked i.crew (length i.history.events.items) i.actors.items c.cut_off_all.new.actors i.history.events.items c.args.how i.books.entries.items c.self.invariant.2 over),
       rw (items, halted g at, c.clear.ensures.items) (halt_piped i.crew i.mouths.items i.actors.items c.cut_off_all.new.actors i.history.events.items c.args.how c.self.invariant.3 over),
       rw (halted g at) (still_starts i.starts i.crew (place_of i.places) i.history.events.items (kept.Halt c.args.how) refl c.self.invariant.4),
     )

@@ -1,4 +1,4 @@
-use Rattle.std.proofs.Common.{◌≡◌, ◌<◌, ◌&&◌, List, length, true, false, Ok, Err, codes, sym, ap, ◌∙◌, subst}
+use Rattle.std.proofs.Common.{◌≡◌, ◌<◌, ◌&&◌, List, length, Bool, true, false, Ok, Err, codes, sym, ap, ◌∙◌, subst}
 use Rattle.std.specs.Prelude.{take}
 use Rattle.std.specs.List.{slice_get}
 use Rattle.std.proofs.lemmas.Result.{err_from_is_err_and}
@@ -20,14 +20,14 @@ is_unreported-requires g c =
     let i = c.self.inside in
     λ lives. subst (λ (l : List Mouths). 3 < length l) (sym c.deref-2.ensures.value)
     (spawner_piped i.crew i.mouths.items i.actors.items (known i.history.events.items) i.history.events.items c.self.invariant.3
-    (subst (λ (l : List Held). lasts (slice_get (take i.crew l) 3) ≡ true) c.deref.ensures.value lives))
+    (subst (λ (l : List Held). lasts (slice_get (take i.crew l) 3) ≡ true) c.deref.ensures.value (sym c.spawner_lives-lives.ensures ∙ lives)))
 
 -- what the test tells
 told : (g : _) (c : After-is_unreported g) →
     (lives_in ((known c.self.inside.history.events.items).actors (codes "rspawn")) && is_unreported ((known c.self.inside.history.events.items).pipework.programs (codes "rspawn") c.args.slot)) ≡ c.is_unreported.result
 told g c =
     let i = c.self.inside in
-    sym (c.is_unreported.ensures
+    sym (c.is_unreported.ensures ∙ ap (λ (t : Bool). t && is_remote false (tenant_in (slice_get c.deref-2.result.now 3) c.args.slot)) c.spawner_lives-lives.ensures
     ∙ ap (λ (l : List Held). lasts (slice_get (take i.crew l) 3) && is_remote false (tenant_in (slice_get c.deref-2.result.now 3) c.args.slot)) c.deref.ensures.value
     ∙ ap (λ (l : List Mouths). lasts (slice_get (take i.crew i.actors.items) 3) && is_remote false (tenant_in (slice_get l 3) c.args.slot)) c.deref-2.ensures.value
     ∙ unreported_is i.crew (place_of i.places) i.mouths.items i.actors.items (known i.history.events.items) i.history.events.items i.present c.self.invariant.0.kept c.self.invariant.3 c.args.slot)

@@ -1,5 +1,5 @@
-use Rattle.std.proofs.Common.{◌≡◌, ℕ, ◌+◌, ◌-◌, ◌^◌, ◌<◌, min, List, [], ◌∷◌, ◌++◌, length, set, arith, Bool, true, false, Option, Some, None, IsSomeAnd, Ok, Err, is_some, codes, refl, sym, ap, ◌∙◌, subst, length-drop}
-use Rattle.std.specs.Prelude.{drop, IsNone, IfSome, IfOk, IfErr}
+use Rattle.std.proofs.Common.{◌≡◌, ℕ, ◌+◌, ◌-◌, ◌^◌, ◌<◌, min, List, [], ◌∷◌, ◌++◌, length, set, arith, Bool, true, false, Option, Some, None, IsSomeAnd, Ok, Err, is_some, refl, sym, ap, ◌∙◌, subst}
+use Rattle.std.specs.Prelude.{IsNone, IfSome, IfOk, IfErr}
 use Rattle.std.proofs.lemmas.List.{length-set}
 use Rattle.std.proofs.lemmas.Result.{err_from_is_err_and}
 use Rattle.std.specs.List.{slice_get}
@@ -21,21 +21,21 @@ use Rattle.mail_world.specs.Generations.{Waits, has_idled}
 use Rattle.mail_world.specs.History.{next_of}
 use Rattle.mail_world.specs.Places.{place_of}
 use Rattle.mail_world.specs.Inside.{among_all, known, living, StandsFor, Owes}
-use Rattle.mail_world.specs.Acting.{IsNoLiving, IsSeated, MayAct, HasActed, HasStepped, HasIdled, is_of_child}
+use Rattle.mail_world.specs.Acting.{IsNoLiving, HasActed, HasStepped, HasIdled, is_due_of_child, has_actor}
 use Rattle.mail_world.specs.World.{IsStep, GoesOn, GoesByPlan}
 use Rattle.mail_world.proofs.Starting.{acted_starts}
 use Rattle.mail_world.proofs.Booked.{entry_within}
 use Rattle.mail_world.proofs.Leaving.{child_at}
-use Rattle.mail_world.proofs.Noted.{seat_of_place, is_seated}
+use Rattle.mail_world.proofs.Serving.{pipes_within}
 use Rattle.mail_world.proofs.Worlds.{StandsAt, stands_at, in_range, may_end}
 use Rattle.mail_world.proofs.Histories.{goes_on}
 use Rattle.mail_world.proofs.Living.{living_still, living_within, left_many_if, room_less}
 use Rattle.mail_world.proofs.Lists.{written_back}
 use Rattle.mail_world.proofs.Refusals.{no_end, not_gone, gone_exactly, memory_other, ok_other}
 use Rattle.mail_world.proofs.Served.{other_error, if_ok, if_err, either_way, waits_or, step_waits, step_planned}
-use Rattle.mail_world.proofs.Steps.{AreKept, StandsReady, paid_stands, looked_stands, next_by, asks_child, paid_turned, looked_turned, turned_keeps, may_find, may_step, acted_leads, acted_keeps, acted_step, acted_waits, waited_waits, acted_idle, no_living_waits, pipes_within}
+use Rattle.mail_world.proofs.Steps.{AreKept, StandsReady, paid_stands, looked_stands, next_by, asks_child, is_seated, paid_turned, looked_turned, turned_keeps, may_find, may_step, acted_leads, acted_keeps, acted_step, acted_waits, waited_waits, acted_idle, no_living_waits}
 use Rattle.mail_world.proofs.world.World.step.Goals as goal
-use Rattle.mail_world.proofs.world.World.step.Goals.{After-index_mut-acting, After-is_some, In_ok-due, In-Some, In_default, After-serve, In_ok-did}
+use Rattle.mail_world.proofs.world.World.step.Goals.{After-index_mut-acting, After-child_at-child, After-ready_at, In_ok-due, In-Some, In_default, After-serve, In_ok-did}
 
 -- what the world keeps
 keeps : (g : _) (c : After-index_mut-acting g) →
@@ -54,25 +54,33 @@ acting g c =
     stands_at (g.D.CallFs.disk i.disk) (among_all i.crew (place_of i.places)) i.actors.items (known i.history.events.items) i.history.events.items i.present i.next_pid i.bounces place c.args.actor.now c.index_mut-acting.result.now
     c.self.invariant.0 ok.0 (subst (λ (l : List Held). IsSomeAnd (slice_get l place) (λ x. x.ended ≡ None)) c.deref.ensures.value ok.1) c.index_mut-acting.ensures.value
 
--- the place of the sender's child, if there is one
-placed : (g : _) (c : After-index_mut-acting g) → c.child_at-child.result ≡ child_place c.self.inside.mouths.items c.self.inside.crew (place_of c.self.inside.places)
+-- the place of its child, if there is one
+placed : (g : _) (c : After-child_at-child g) → c.child_at-child.result ≡ child_place c.self.inside.mouths.items c.index_mut-acting.result.now.wire c.self.inside.crew (place_of c.self.inside.places)
 placed g c =
     let i = c.self.inside in
-    subst (λ (l : List Mouths). c.child_at-child.result ≡ child_place l i.crew (place_of i.places)) c.deref-2.ensures.value c.child_at-child.ensures
+    subst (λ (l : List Mouths). c.child_at-child.result ≡ child_place l c.index_mut-acting.result.now.wire i.crew (place_of i.places)) c.deref-2.ensures.value c.child_at-child.ensures
+
+-- it is within
+within : (g : _) (c : After-index_mut-acting g) (k : ℕ) → slice_get c.self.inside.actors.items c.in_ok-place.place ≡ Some c.index_mut-acting.result.now → c.index_mut-acting.result.now.ended ≡ None
+    → child_place c.self.inside.mouths.items c.index_mut-acting.result.now.wire c.self.inside.crew (place_of c.self.inside.places) ≡ Some k → k < length c.self.inside.actors.items
+within g c k is lives at =
+    let i = c.self.inside in
+    let x = c.index_mut-acting.result.now in
+    let there = child_at i.crew (place_of i.places) i.mouths.items i.actors.items (known i.history.events.items) i.history.events.items x.name x.wire c.self.invariant.3 (c.self.invariant.3.places c.in_ok-place.place x is lives) k at in
+    in_range (g.D.CallFs.disk i.disk) (among_all i.crew (place_of i.places)) i.actors.items (known i.history.events.items) i.history.events.items i.present i.next_pid i.bounces there.name c.self.invariant.0 k there.at
 
 -- it was paid, and finds this ready
-abbrev Ready_at : (g : _) (c : After-is_some g) → Held → Type 0
+abbrev Ready_at : (g : _) (c : After-ready_at g) → Held → Type 0
 Ready_at g c y =
     StandsReady (g.D.CallFs.disk c.self.inside.disk) c.self.inside.crew (place_of c.self.inside.places) c.self.inside.actors.items c.self.inside.mouths.items c.self.inside.books.entries.items c.self.inside.history.events.items c.self.inside.present c.self.inside.next_pid c.self.inside.bounces
-    c.in_ok-place.place c.args.actor.now y c.is_some.result c.ready_at.result
+    c.in_ok-place.place c.args.actor.now y c.ready_at.result
 
-ready : (g : _) (c : After-is_some g) →
+ready : (g : _) (c : After-ready_at g) →
     AreKept (g.D.CallFs.disk c.self.inside.disk) c.self.inside.crew (place_of c.self.inside.places) c.self.inside.actors.items c.self.inside.mouths.items c.self.inside.books.entries.items
     c.self.inside.history.events.items c.self.inside.present c.self.inside.next_pid c.self.inside.bounces
     → StandsAt (among_all c.self.inside.crew (place_of c.self.inside.places)) c.self.inside.actors.items (known c.self.inside.history.events.items) c.self.inside.history.events.items c.self.inside.present c.in_ok-place.place c.index_mut-acting.result.now
-    × (c.index_mut-acting.result.now.name ≡ c.args.actor.now) → c.child_at-child.result ≡ child_place c.self.inside.mouths.items c.self.inside.crew (place_of c.self.inside.places)
-    → Ready_at g c c.pay.new.self
-ready g c w at child =
+    × (c.index_mut-acting.result.now.name ≡ c.args.actor.now) → Ready_at g c c.pay.new.self
+ready g c w at =
     let i = c.self.inside in
     let events = i.history.events.items in
     let place = c.in_ok-place.place in
@@ -81,23 +89,22 @@ ready g c w at child =
     let done = c.in_ok-pay.ensures in
     let follows = subst (λ (l : List Kept). (program : Program) (past : List Own) → ((at : ℕ) → x.owed ≡ Some at → Owes x l past at) → StandsFor x program past → Follows z.machine program past)
     c.in_ok-reserve.ensures.same done.follows in
-    let turned = paid_turned (known events) events i.present x z at.0.member at.0.lives follows done.name done.ended done.status done.awaits done.paid done.descriptors in
-    let found : IsFoundAt i.mouths.items (seat_of_place place i.crew) (awaits_of z.machine) c.ready_at.result =
-    subst (λ (l : List Mouths). IsFoundAt l (seat_of_place place i.crew) (awaits_of z.machine) c.ready_at.result) c.deref-3.ensures.value
-    (subst (λ (o : Option ℕ). IsFoundAt c.deref-3.result.now o (awaits_of z.machine) c.ready_at.result) c.seat_at-seat.ensures
-    (subst (λ (t : Bool). IsFoundAt c.deref-3.result.now c.seat_at-seat.result t c.ready_at.result) c.awaits.ensures c.ready_at.ensures)) in
-    paid_stands (g.D.CallFs.disk i.disk) i.crew (place_of i.places) i.actors.items i.mouths.items i.books.entries.items events i.present i.next_pid i.bounces place c.args.actor.now c.is_some.result c.ready_at.result
-    x z c.child_at-child.result w at.0 at.1 turned child c.is_some.ensures found
+    let turned = paid_turned (known events) events i.present x z at.0.member at.0.lives follows done.name done.ended done.status done.awaits done.paid done.descriptors done.stays in
+    let found : IsFoundAt i.mouths.items z.wire (awaits_of z.machine) c.ready_at.result =
+    subst (λ (l : List Mouths). IsFoundAt l z.wire (awaits_of z.machine) c.ready_at.result) c.deref-3.ensures.value
+    (subst (λ (t : Bool). IsFoundAt c.deref-3.result.now z.wire t c.ready_at.result) c.awaits.ensures c.ready_at.ensures) in
+    paid_stands (g.D.CallFs.disk i.disk) i.crew (place_of i.places) i.actors.items i.mouths.items i.books.entries.items events i.present i.next_pid i.bounces place c.args.actor.now c.ready_at.result
+    x z w at.0 at.1 turned found
 
 -- and it looked
 asked : (g : _) (c : In_ok-due g) →
     StandsReady (g.D.CallFs.disk c.self.inside.disk) c.self.inside.crew (place_of c.self.inside.places) c.self.inside.actors.items c.self.inside.mouths.items c.self.inside.books.entries.items c.self.inside.history.events.items c.self.inside.present c.self.inside.next_pid c.self.inside.bounces
-    c.in_ok-place.place c.args.actor.now c.pay.new.self c.is_some.result c.ready_at.result
+    c.in_ok-place.place c.args.actor.now c.pay.new.self c.ready_at.result
     → StandsReady (g.D.CallFs.disk c.self.inside.disk) c.self.inside.crew (place_of c.self.inside.places) c.self.inside.actors.items c.self.inside.mouths.items c.self.inside.books.entries.items c.self.inside.history.events.items c.self.inside.present c.self.inside.next_pid c.self.inside.bounces
-    c.in_ok-place.place c.args.actor.now c.asks.new.self c.is_some.result c.ready_at.result
+    c.in_ok-place.place c.args.actor.now c.asks.new.self c.ready_at.result
 asked g c r =
     let i = c.self.inside in
-    looked_stands (g.D.CallFs.disk i.disk) i.crew (place_of i.places) i.actors.items i.mouths.items i.books.entries.items i.history.events.items i.present i.next_pid i.bounces c.in_ok-place.place c.args.actor.now c.is_some.result c.ready_at.result
+    looked_stands (g.D.CallFs.disk i.disk) i.crew (place_of i.places) i.actors.items i.mouths.items i.books.entries.items i.history.events.items i.present i.next_pid i.bounces c.in_ok-place.place c.args.actor.now c.ready_at.result
     c.pay.new.self c.asks.new.self r c.in_ok-due.ensures.looked
 
 pub living-requires : goal.living-requires
@@ -144,11 +151,10 @@ returns-in_err-reserve-clause-gone g c =
 pub child_at-child-requires : goal.child_at-child-requires
 child_at-child-requires g c =
     let i = c.self.inside in
-    subst (λ (l : List Mouths). (k : ℕ) → child_place l i.crew (place_of i.places) ≡ Some k → k < 2 ^ 64) (sym c.deref-2.ensures.value)
-    (λ k at.
-    let there = child_at i.crew (place_of i.places) i.mouths.items i.actors.items (known i.history.events.items) i.history.events.items k c.self.invariant.3 at in
-    let within = in_range (g.D.CallFs.disk i.disk) (among_all i.crew (place_of i.places)) i.actors.items (known i.history.events.items) i.history.events.items i.present i.next_pid i.bounces there.name c.self.invariant.0 k there.at in
-    omega (arith, within, i.actors.ok.0))
+    let here = (goal.at.child_at-child-requires g c).After-index_mut-acting in
+    let at = acting g here in
+    subst (λ (l : List Mouths). (k : ℕ) → child_place l c.index_mut-acting.result.now.wire i.crew (place_of i.places) ≡ Some k → k < 2 ^ 64) (sym c.deref-2.ensures.value)
+    (λ k found. let low = within g here k at.0.is at.0.lives found in omega (arith, low, i.actors.ok.0))
 
 pub index_mut-acting-requires : goal.index_mut-acting-requires
 index_mut-acting-requires g c =
@@ -173,18 +179,25 @@ returns-in_err-pay-clause-gone g c =
     rw (← c.self.view_is) (not_gone c.from_residual-in_err-pay.result i.history.events.items c.args.actor.now (memory_other c.from_residual-in_err-pay.result (p.1 ∙ ap (λ (why : WorldError). Err why) p.2))
     (no_end (among_all i.crew (place_of i.places)) i.actors.items (known i.history.events.items) i.history.events.items i.present c.args.actor.now c.in_ok-place.place c.self.invariant.0.kept ok.0 lives))
 
+-- its pipes are among those that are kept
+has_pipes : (g : _) (c : After-index_mut-acting g) (k : ℕ) → slice_get c.self.inside.actors.items c.in_ok-place.place ≡ Some c.index_mut-acting.result.now → c.index_mut-acting.result.now.ended ≡ None
+    → c.index_mut-acting.result.now.wire ≡ Some k → k < length c.self.inside.mouths.items
+has_pipes g c k is lives wire =
+    let i = c.self.inside in
+    (pipes_within i.crew (place_of i.places) i.mouths.items i.actors.items (known i.history.events.items) i.history.events.items i.present c.in_ok-place.place c.index_mut-acting.result.now
+    c.self.invariant.0.kept c.self.invariant.3 is lives k wire).1
+
 pub ready_at-requires : goal.ready_at-requires
 ready_at-requires g c =
-    let i = c.self.inside in
-    let at = acting g (goal.at.ready_at-requires g c).After-index_mut-acting in
-    λ k seat. subst (λ (l : List Mouths). k < length l) (sym c.deref-3.ensures.value)
-    (pipes_within i.crew i.mouths.items i.actors.items (known i.history.events.items) i.history.events.items c.in_ok-place.place c.index_mut-acting.result.now c.self.invariant.3 at.0.is at.0.lives k (sym c.seat_at-seat.ensures ∙ seat))
+    let here = (goal.at.ready_at-requires g c).After-index_mut-acting in
+    let at = acting g here in
+    λ k wire. subst (λ (l : List Mouths). k < length l) (sym c.deref-3.ensures.value) (has_pipes g here k at.0.is at.0.lives (sym c.in_ok-pay.ensures.stays.wire ∙ wire))
 
 pub asks-requires-clause-found : goal.asks-requires-clause-found
 asks-requires-clause-found g c =
     let i = c.self.inside in
     let here = (goal.at.asks-requires-clause-found g c).After-index_mut-acting in
-    let r = ready g (goal.at.asks-requires-clause-found g c).After-is_some (keeps g here) (acting g here) (placed g here) in
+    let r = ready g (goal.at.asks-requires-clause-found g c).After-ready_at (keeps g here) (acting g here) in
     may_find (known i.history.events.items) i.history.events.items i.present c.pay.new.self c.ready_at.result r.at.member r.at.lives r.paid r.finds
 
 pub invariant_of-self-in_err-due : goal.invariant_of-self-in_err-due
@@ -194,10 +207,10 @@ invariant_of-self-in_err-due g c =
     let place = c.in_ok-place.place in
     let here = (goal.at.invariant_of-self-in_err-due g c).After-index_mut-acting in
     let at = acting g here in
-    let r = ready g (goal.at.invariant_of-self-in_err-due g c).After-is_some (keeps g here) at (placed g here) in
+    let r = ready g (goal.at.invariant_of-self-in_err-due g c).After-ready_at (keeps g here) at in
     let v = c.asks.new.self in
     let looked = c.in_err-due.ensures.looked in
-    let q = looked_stands (g.D.CallFs.disk i.disk) i.crew (place_of i.places) i.actors.items i.mouths.items i.books.entries.items i.history.events.items i.present i.next_pid i.bounces c.in_ok-place.place c.args.actor.now c.is_some.result c.ready_at.result
+    let q = looked_stands (g.D.CallFs.disk i.disk) i.crew (place_of i.places) i.actors.items i.mouths.items i.books.entries.items i.history.events.items i.present i.next_pid i.bounces c.in_ok-place.place c.args.actor.now c.ready_at.result
     c.pay.new.self c.asks.new.self r looked in
     let same = c.in_ok-reserve.ensures.same in
     let w = subst (λ (l : List Held). AreKept told i.crew (place_of i.places) l i.mouths.items i.books.entries.items i.history.events.items i.present i.next_pid i.bounces) q.here q.world in
@@ -225,10 +238,10 @@ invariant_of-self-in-Some g c =
     let place = c.in_ok-place.place in
     let here = (goal.at.invariant_of-self-in-Some g c).After-index_mut-acting in
     let at = acting g here in
-    let r = ready g (goal.at.invariant_of-self-in-Some g c).After-is_some (keeps g here) at (placed g here) in
+    let r = ready g (goal.at.invariant_of-self-in-Some g c).After-ready_at (keeps g here) at in
     let v = c.asks.new.self in
     let looked = c.in_ok-due.ensures.looked in
-    let q = looked_stands (g.D.CallFs.disk i.disk) i.crew (place_of i.places) i.actors.items i.mouths.items i.books.entries.items i.history.events.items i.present i.next_pid i.bounces c.in_ok-place.place c.args.actor.now c.is_some.result c.ready_at.result
+    let q = looked_stands (g.D.CallFs.disk i.disk) i.crew (place_of i.places) i.actors.items i.mouths.items i.books.entries.items i.history.events.items i.present i.next_pid i.bounces c.in_ok-place.place c.args.actor.now c.ready_at.result
     c.pay.new.self c.asks.new.self r looked in
     let same = c.in_ok-reserve.ensures.same in
     let w = subst (λ (l : List Held). AreKept told i.crew (place_of i.places) l i.mouths.items i.books.entries.items i.history.events.items i.present i.next_pid i.bounces) q.here q.world in
@@ -243,10 +256,10 @@ invariant_of-self-in-Some g c =
 -- what of its child is due
 due_of_child : (g : _) (c : In-Some g) →
     (r : StandsReady (g.D.CallFs.disk c.self.inside.disk) c.self.inside.crew (place_of c.self.inside.places) c.self.inside.actors.items c.self.inside.mouths.items c.self.inside.books.entries.items c.self.inside.history.events.items c.self.inside.present c.self.inside.next_pid c.self.inside.bounces
-    c.in_ok-place.place c.args.actor.now c.pay.new.self c.is_some.result c.ready_at.result)
+    c.in_ok-place.place c.args.actor.now c.pay.new.self c.ready_at.result)
     (q : StandsReady (g.D.CallFs.disk c.self.inside.disk) c.self.inside.crew (place_of c.self.inside.places) c.self.inside.actors.items c.self.inside.mouths.items c.self.inside.books.entries.items c.self.inside.history.events.items c.self.inside.present c.self.inside.next_pid c.self.inside.bounces
-    c.in_ok-place.place c.args.actor.now c.asks.new.self c.is_some.result c.ready_at.result)
-    → IsDueOfChild (record { disk = c.self.inside.disk; events = c.self.inside.history.events.items; present = c.self.inside.present }) c.in-Some.due × (c.asks.new.self.name ≡ codes "sender")
+    c.in_ok-place.place c.args.actor.now c.asks.new.self c.ready_at.result)
+    → IsDueOfChild (record { disk = c.self.inside.disk; events = c.self.inside.history.events.items; present = c.self.inside.present }) c.args.actor.now c.in-Some.due
 due_of_child g c r q =
     let i = c.self.inside in
     let events = i.history.events.items in
@@ -255,47 +268,46 @@ due_of_child g c r q =
     let v = c.asks.new.self in
     let due = c.in-Some.due in
     let next = subst (λ (o : Option NeedData). IfSome o (λ due. (program : Program) (past : List Own) → Follows z.machine program past → next_of program past i.present c.ready_at.result ≡ due)) c.in-Some.is c.in_ok-due.ensures.next in
-    let mine = subst (λ (o : Option NeedData). IfSome o (λ due. is_of_child c.seat_at-seat.result c.is_some.result due ≡ true)) c.in-Some.is c.in_ok-due.ensures.of_child in
-    asks_child i.disk (g.D.CallFs.disk i.disk) i.crew (place_of i.places) q.actors i.mouths.items i.books.entries.items events i.present i.next_pid i.bounces place v c.is_some.result c.ready_at.result due
-    q.world q.at q.finds q.has_is (ap (λ (o : Option ℕ). is_of_child o c.is_some.result due) (sym c.seat_at-seat.ensures) ∙ mine)
-    (next_by (g.D.CallFs.disk i.disk) i.crew (place_of i.places) i.actors.items i.mouths.items i.books.entries.items events i.present i.next_pid i.bounces place c.args.actor.now c.is_some.result c.ready_at.result
-    (λ d. d ≡ due) z v r q c.in_ok-due.ensures.looked.name next)
+    let mine = subst (λ (o : Option NeedData). IfSome o (λ due. is_due_of_child (has_actor c.deref-4.result.now z.wire) due ≡ true)) c.in-Some.is c.in_ok-due.ensures.of_child in
+    let here : is_due_of_child (has_actor i.mouths.items v.wire) due ≡ true =
+    subst (λ (o : Option ℕ). is_due_of_child (has_actor i.mouths.items o) due ≡ true) (sym c.in_ok-due.ensures.looked.stays.wire)
+    (subst (λ (l : List Mouths). is_due_of_child (has_actor l z.wire) due ≡ true) c.deref-4.ensures.value mine) in
+    subst (λ (a : List ℕ). IsDueOfChild (record { disk = i.disk; events = events; present = i.present }) a due) q.name
+    (asks_child i.disk (g.D.CallFs.disk i.disk) i.crew (place_of i.places) q.actors i.mouths.items i.books.entries.items events i.present i.next_pid i.bounces place v c.ready_at.result due
+    q.world q.at q.finds here
+    (next_by (g.D.CallFs.disk i.disk) i.crew (place_of i.places) i.actors.items i.mouths.items i.books.entries.items events i.present i.next_pid i.bounces place c.args.actor.now c.ready_at.result
+    (λ d. d ≡ due) z v r q c.in_ok-due.ensures.looked.name next))
 
 pub serve-requires : goal.serve-requires
 serve-requires g c =
     let i = c.self.inside in
     let here = (goal.at.serve-requires g c).After-index_mut-acting in
-    let r = ready g (goal.at.serve-requires g c).After-is_some (keeps g here) (acting g here) (placed g here) in
+    let r = ready g (goal.at.serve-requires g c).After-ready_at (keeps g here) (acting g here) in
     let q = asked g (goal.at.serve-requires g c).In_ok-due r in
-    subst (λ (l : List Kept). IsDueOfChild (record { disk = i.disk; events = l; present = i.present }) c.in-Some.due) (sym c.in_ok-reserve.ensures.same)
-    (due_of_child g (goal.at.serve-requires g c).In-Some r q).0
+    subst (λ (l : List Kept). IsDueOfChild (record { disk = i.disk; events = l; present = i.present }) c.args.actor.now c.in-Some.due) (sym c.in_ok-reserve.ensures.same)
+    (due_of_child g (goal.at.serve-requires g c).In-Some r q)
 
 -- what the world did for it
 served : (g : _) (c : After-serve g) →
-    IfOk c.serve.result (λ did. Serves g.D.CallFs.disk (record { disk = c.self.inside.disk; events = c.self.inside.history.events.items; present = c.self.inside.present }) c.serve.new.self did)
+    IfOk c.serve.result (λ did. Serves g.D.CallFs.disk c.args.actor.now (record { disk = c.self.inside.disk; events = c.self.inside.history.events.items; present = c.self.inside.present }) c.serve.new.self did)
 served g c =
     let i = c.self.inside in
-    subst (λ (l : List Kept). IfOk c.serve.result (λ did. Serves g.D.CallFs.disk (record { disk = i.disk; events = l; present = i.present }) c.serve.new.self did)) c.in_ok-reserve.ensures.same c.serve.ensures.served
+    subst (λ (l : List Kept). IfOk c.serve.result (λ did. Serves g.D.CallFs.disk c.args.actor.now (record { disk = i.disk; events = l; present = i.present }) c.serve.new.self did)) c.in_ok-reserve.ensures.same c.serve.ensures.served
 
 pub returns-in-Some-clause-event : goal.returns-in-Some-clause-event
 returns-in-Some-clause-event g c =
     let i = c.self.inside in
     let events = i.history.events.items in
     let is = served g (goal.at.returns-in-Some-clause-event g c).After-serve in
-    let here = (goal.at.returns-in-Some-clause-event g c).After-index_mut-acting in
-    let r = ready g (goal.at.returns-in-Some-clause-event g c).After-is_some (keeps g here) (acting g here) (placed g here) in
-    let q = asked g (goal.at.returns-in-Some-clause-event g c).In_ok-due r in
-    let due = due_of_child g (goal.at.returns-in-Some-clause-event g c).In-Some r q in
-    let name : c.args.actor.now ≡ codes "sender" = sym q.name ∙ due.1 in
-    rw (← c.self.view_is) (if_ok c.serve.result (λ did. Serves g.D.CallFs.disk (record { disk = i.disk; events = events; present = i.present }) c.serve.new.self did) (λ did. IsStep c.args.actor.now did.ended (record { disk = i.disk; events = events; present = i.present }) c.serve.new.self)
-    (λ did s. subst (λ (o : Option ℕ). IsStep c.args.actor.now o (record { disk = i.disk; events = events; present = i.present }) c.serve.new.self) (sym s.ended) (subst (λ (a : List ℕ). IsStep a None (record { disk = i.disk; events = events; present = i.present }) c.serve.new.self) (sym name) s.event)) is)
+    rw (← c.self.view_is) (if_ok c.serve.result (λ did. Serves g.D.CallFs.disk c.args.actor.now (record { disk = i.disk; events = events; present = i.present }) c.serve.new.self did) (λ did. IsStep c.args.actor.now did.ended (record { disk = i.disk; events = events; present = i.present }) c.serve.new.self)
+    (λ did s. subst (λ (o : Option ℕ). IsStep c.args.actor.now o (record { disk = i.disk; events = events; present = i.present }) c.serve.new.self) (sym s.ended) s.event) is)
 
 pub returns-in-Some-clause-present : goal.returns-in-Some-clause-present
 returns-in-Some-clause-present g c =
     let i = c.self.inside in
     let events = i.history.events.items in
     let is = served g (goal.at.returns-in-Some-clause-present g c).After-serve in
-    rw (← c.self.view_is) (either_way c.serve.result (c.serve.new.self.present ≡ i.present) (if_ok c.serve.result (λ did. Serves g.D.CallFs.disk (record { disk = i.disk; events = events; present = i.present }) c.serve.new.self did) (λ did. c.serve.new.self.present ≡ i.present) (λ did s. s.present) is)
+    rw (← c.self.view_is) (either_way c.serve.result (c.serve.new.self.present ≡ i.present) (if_ok c.serve.result (λ did. Serves g.D.CallFs.disk c.args.actor.now (record { disk = i.disk; events = events; present = i.present }) c.serve.new.self did) (λ did. c.serve.new.self.present ≡ i.present) (λ did s. s.present) is)
     (if_err c.serve.result (λ error. c.serve.new.self ≡ record { disk = i.disk; events = c.reserve.new.self.events.items; present = i.present }) (λ error. c.serve.new.self.present ≡ i.present) (λ error e. ap (λ w. w.present) e) c.serve.ensures.err))
 
 pub returns-in-Some-clause-at : goal.returns-in-Some-clause-at
@@ -303,21 +315,21 @@ returns-in-Some-clause-at g c =
     let i = c.self.inside in
     let events = i.history.events.items in
     let is = served g (goal.at.returns-in-Some-clause-at g c).After-serve in
-    rw (← c.self.view_is) (if_ok c.serve.result (λ did. Serves g.D.CallFs.disk (record { disk = i.disk; events = events; present = i.present }) c.serve.new.self did) (λ did. did.at ≡ length events) (λ did s. s.at) is)
+    rw (← c.self.view_is) (if_ok c.serve.result (λ did. Serves g.D.CallFs.disk c.args.actor.now (record { disk = i.disk; events = events; present = i.present }) c.serve.new.self did) (λ did. did.at ≡ length events) (λ did s. s.at) is)
 
 pub returns-in-Some-clause-idle : goal.returns-in-Some-clause-idle
 returns-in-Some-clause-idle g c =
     let i = c.self.inside in
     let events = i.history.events.items in
     let is = served g (goal.at.returns-in-Some-clause-idle g c).After-serve in
-    rw (← c.self.view_is) (if_ok c.serve.result (λ did. Serves g.D.CallFs.disk (record { disk = i.disk; events = events; present = i.present }) c.serve.new.self did) (λ did. (event : Kept) → c.serve.new.self.events ≡ events ++ event ∷ [] → did.idle ≡ has_idled (known events) event) (λ did s. s.idle) is)
+    rw (← c.self.view_is) (if_ok c.serve.result (λ did. Serves g.D.CallFs.disk c.args.actor.now (record { disk = i.disk; events = events; present = i.present }) c.serve.new.self did) (λ did. (event : Kept) → c.serve.new.self.events ≡ events ++ event ∷ [] → did.idle ≡ has_idled (known events) event) (λ did s. s.idle) is)
 
 pub returns-in-Some-clause-goes_on : goal.returns-in-Some-clause-goes_on
 returns-in-Some-clause-goes_on g c =
     let i = c.self.inside in
     let events = i.history.events.items in
     let is = served g (goal.at.returns-in-Some-clause-goes_on g c).After-serve in
-    rw (← c.self.view_is) (if_ok c.serve.result (λ did. Serves g.D.CallFs.disk (record { disk = i.disk; events = events; present = i.present }) c.serve.new.self did) (λ did. GoesOn g.D.CallFs.disk (record { disk = i.disk; events = events; present = i.present }) c.serve.new.self) (λ did s. s.goes_on) is)
+    rw (← c.self.view_is) (if_ok c.serve.result (λ did. Serves g.D.CallFs.disk c.args.actor.now (record { disk = i.disk; events = events; present = i.present }) c.serve.new.self did) (λ did. GoesOn g.D.CallFs.disk (record { disk = i.disk; events = events; present = i.present }) c.serve.new.self) (λ did s. s.goes_on) is)
 
 pub returns-in-Some-clause-plan : goal.returns-in-Some-clause-plan
 returns-in-Some-clause-plan g c =
@@ -325,12 +337,11 @@ returns-in-Some-clause-plan g c =
     let events = i.history.events.items in
     let is = served g (goal.at.returns-in-Some-clause-plan g c).After-serve in
     let here = (goal.at.returns-in-Some-clause-plan g c).After-index_mut-acting in
-    let r = ready g (goal.at.returns-in-Some-clause-plan g c).After-is_some (keeps g here) (acting g here) (placed g here) in
+    let r = ready g (goal.at.returns-in-Some-clause-plan g c).After-ready_at (keeps g here) (acting g here) in
     let q = asked g (goal.at.returns-in-Some-clause-plan g c).In_ok-due r in
     let due = due_of_child g (goal.at.returns-in-Some-clause-plan g c).In-Some r q in
-    let name : c.args.actor.now ≡ codes "sender" = sym q.name ∙ due.1 in
-    rw (← c.self.view_is) (if_ok c.serve.result (λ did. Serves g.D.CallFs.disk (record { disk = i.disk; events = events; present = i.present }) c.serve.new.self did) (λ did. GoesByPlan g.D.CallFs.plan g.D.CallFs.disk i.disk c.serve.new.self.disk events c.serve.new.self.events)
-    (λ did s. step_planned g.D.CallFs.plan g.D.CallFs.disk (record { disk = i.disk; events = events; present = i.present }) c.serve.new.self c.in-Some.due due.0 s.event s.disk) is)
+    rw (← c.self.view_is) (if_ok c.serve.result (λ did. Serves g.D.CallFs.disk c.args.actor.now (record { disk = i.disk; events = events; present = i.present }) c.serve.new.self did) (λ did. GoesByPlan g.D.CallFs.plan g.D.CallFs.disk i.disk c.serve.new.self.disk events c.serve.new.self.events)
+    (λ did s. step_planned g.D.CallFs.plan g.D.CallFs.disk c.args.actor.now (record { disk = i.disk; events = events; present = i.present }) c.serve.new.self c.in-Some.due due s.event s.disk) is)
 
 pub returns-in-Some-clause-unknown : goal.returns-in-Some-clause-unknown
 returns-in-Some-clause-unknown g c =
@@ -339,7 +350,7 @@ returns-in-Some-clause-unknown g c =
     let is = served g (goal.at.returns-in-Some-clause-unknown g c).After-serve in
     let started = c.self.invariant.0.kept.started c.args.actor.now ∙ ap is_some c.in_ok-place.ensures.ok.0 in
     rw (← c.self.view_is) (
-      (λ e. absurd (other_error c.serve.result why.Unknown c.serve.ensures.others (λ f. cc) (λ f. cc) e)),
+      (λ e. absurd (other_error c.serve.result c.args.actor.now why.Unknown c.serve.ensures.others (λ f. cc) (λ f. cc) e)),
       (λ f. let both : true ≡ false = sym started ∙ f in absurd (cc)),
     )
 
@@ -350,57 +361,45 @@ returns-in-Some-clause-gone g c =
     let is = served g (goal.at.returns-in-Some-clause-gone g c).After-serve in
     let ok = c.in_ok-place.ensures.ok in
     let lives = subst (λ (l : List Held). IsSomeAnd (slice_get l c.in_ok-place.place) (λ x. x.ended ≡ None)) c.deref.ensures.value ok.1 in
-    rw (← c.self.view_is) (not_gone c.serve.result events c.args.actor.now (λ name at. other_error c.serve.result (why.Gone name at) c.serve.ensures.others (λ f. cc) (λ f. cc))
+    rw (← c.self.view_is) (not_gone c.serve.result events c.args.actor.now (λ name at. other_error c.serve.result c.args.actor.now (why.Gone name at) c.serve.ensures.others (λ f. cc) (λ f. cc))
     (no_end (among_all i.crew (place_of i.places)) i.actors.items (known events) events i.present c.args.actor.now c.in_ok-place.place c.self.invariant.0.kept ok.0 lives))
 
 pub returns-in-Some-clause-waits : goal.returns-in-Some-clause-waits
 returns-in-Some-clause-waits g c =
     let i = c.self.inside in
-    let events = i.history.events.items in
-    let is = served g (goal.at.returns-in-Some-clause-waits g c).After-serve in
-    let here = (goal.at.returns-in-Some-clause-waits g c).After-index_mut-acting in
-    let r = ready g (goal.at.returns-in-Some-clause-waits g c).After-is_some (keeps g here) (acting g here) (placed g here) in
-    let q = asked g (goal.at.returns-in-Some-clause-waits g c).In_ok-due r in
-    let due = due_of_child g (goal.at.returns-in-Some-clause-waits g c).In-Some r q in
-    let name : c.args.actor.now ≡ codes "sender" = sym q.name ∙ due.1 in
     rw (← c.self.view_is) (λ other e.
     let so = c.serve.ensures.waits other e in
-    let waits = subst (λ (l : List Kept). Waits (known l) i.present (codes "sender")) c.in_ok-reserve.ensures.same so.1 in
-    (so.0 ∙ sym name, subst (Waits (known events) i.present) (sym name) waits))
+    (so.0, subst (λ (l : List Kept). Waits (known l) i.present c.args.actor.now) c.in_ok-reserve.ensures.same so.1))
 
 pub returns-in-Some-clause-waiting : goal.returns-in-Some-clause-waiting
 returns-in-Some-clause-waiting g c =
     let i = c.self.inside in
     let events = i.history.events.items in
     let is = served g (goal.at.returns-in-Some-clause-waiting g c).After-serve in
-    let here = (goal.at.returns-in-Some-clause-waiting g c).After-index_mut-acting in
-    let r = ready g (goal.at.returns-in-Some-clause-waiting g c).After-is_some (keeps g here) (acting g here) (placed g here) in
-    let q = asked g (goal.at.returns-in-Some-clause-waiting g c).In_ok-due r in
-    let due = due_of_child g (goal.at.returns-in-Some-clause-waiting g c).In-Some r q in
-    let name : c.args.actor.now ≡ codes "sender" = sym q.name ∙ due.1 in
-    rw (← c.self.view_is) (λ waits. waits_or c.serve.result c.args.actor.now name c.serve.ensures.others
-    (if_ok c.serve.result (λ did. Serves g.D.CallFs.disk (record { disk = i.disk; events = events; present = i.present }) c.serve.new.self did) (λ did. ⊥) (λ did s. step_waits (codes "sender") (record { disk = i.disk; events = events; present = i.present }) c.serve.new.self s.event (subst (Waits (known events) i.present) name waits)) is))
+    rw (← c.self.view_is) (λ waits. waits_or c.serve.result c.args.actor.now c.serve.ensures.others
+    (if_ok c.serve.result (λ did. Serves g.D.CallFs.disk c.args.actor.now (record { disk = i.disk; events = events; present = i.present }) c.serve.new.self did) (λ did. ⊥)
+    (λ did s. step_waits c.args.actor.now (record { disk = i.disk; events = events; present = i.present }) c.serve.new.self s.event waits) is))
 
 pub returns-in-Some-clause-taken : goal.returns-in-Some-clause-taken
 returns-in-Some-clause-taken g c =
     let i = c.self.inside in
     let events = i.history.events.items in
     let is = served g (goal.at.returns-in-Some-clause-taken g c).After-serve in
-    other_error c.serve.result why.Taken c.serve.ensures.others (λ f. cc) (λ f. cc)
+    other_error c.serve.result c.args.actor.now why.Taken c.serve.ensures.others (λ f. cc) (λ f. cc)
 
 pub returns-in-Some-clause-alive : goal.returns-in-Some-clause-alive
 returns-in-Some-clause-alive g c =
     let i = c.self.inside in
     let events = i.history.events.items in
     let is = served g (goal.at.returns-in-Some-clause-alive g c).After-serve in
-    λ other. other_error c.serve.result (why.Alive other) c.serve.ensures.others (λ f. cc) (λ f. cc)
+    λ other. other_error c.serve.result c.args.actor.now (why.Alive other) c.serve.ensures.others (λ f. cc) (λ f. cc)
 
 pub returns-in-Some-clause-past : goal.returns-in-Some-clause-past
 returns-in-Some-clause-past g c =
     let i = c.self.inside in
     let events = i.history.events.items in
     let is = served g (goal.at.returns-in-Some-clause-past g c).After-serve in
-    λ now. other_error c.serve.result (why.Past now) c.serve.ensures.others (λ f. cc) (λ f. cc)
+    λ now. other_error c.serve.result c.args.actor.now (why.Past now) c.serve.ensures.others (λ f. cc) (λ f. cc)
 
 pub returns-in-Some-clause-err : goal.returns-in-Some-clause-err
 returns-in-Some-clause-err g c =
@@ -416,16 +415,19 @@ none_due (Some d) other = absurd (other d refl)
 -- nothing of a child is due to it
 none_asked : (g : _) (c : In_default g) →
     (r : StandsReady (g.D.CallFs.disk c.self.inside.disk) c.self.inside.crew (place_of c.self.inside.places) c.self.inside.actors.items c.self.inside.mouths.items c.self.inside.books.entries.items c.self.inside.history.events.items c.self.inside.present c.self.inside.next_pid c.self.inside.bounces
-    c.in_ok-place.place c.args.actor.now c.pay.new.self c.is_some.result c.ready_at.result)
+    c.in_ok-place.place c.args.actor.now c.pay.new.self c.ready_at.result)
     (q : StandsReady (g.D.CallFs.disk c.self.inside.disk) c.self.inside.crew (place_of c.self.inside.places) c.self.inside.actors.items c.self.inside.mouths.items c.self.inside.books.entries.items c.self.inside.history.events.items c.self.inside.present c.self.inside.next_pid c.self.inside.bounces
-    c.in_ok-place.place c.args.actor.now c.asks.new.self c.is_some.result c.ready_at.result)
-    → is_of_child (seat_of_place c.in_ok-place.place c.self.inside.crew) c.is_some.result (next_of q.at.member.actor.program q.at.member.actor.past c.self.inside.present c.ready_at.result) ≡ false
+    c.in_ok-place.place c.args.actor.now c.asks.new.self c.ready_at.result)
+    → is_due_of_child (has_actor c.self.inside.mouths.items c.asks.new.self.wire) (next_of q.at.member.actor.program q.at.member.actor.past c.self.inside.present c.ready_at.result) ≡ false
 none_asked g c r q =
     let i = c.self.inside in
-    next_by (g.D.CallFs.disk i.disk) i.crew (place_of i.places) i.actors.items i.mouths.items i.books.entries.items i.history.events.items i.present i.next_pid i.bounces c.in_ok-place.place c.args.actor.now c.is_some.result c.ready_at.result
-    (λ due. is_of_child (seat_of_place c.in_ok-place.place i.crew) c.is_some.result due ≡ false) c.pay.new.self c.asks.new.self r q c.in_ok-due.ensures.looked.name
-    (λ program past f. ap (λ (o : Option ℕ). is_of_child o c.is_some.result (next_of program past i.present c.ready_at.result)) (sym c.seat_at-seat.ensures)
-    ∙ c.in_ok-due.ensures.none (none_due c.in_ok-due.field-0 c.in_default.not-Some) program past f)
+    let z = c.pay.new.self in
+    let v = c.asks.new.self in
+    subst (λ (o : Option ℕ). is_due_of_child (has_actor i.mouths.items o) (next_of q.at.member.actor.program q.at.member.actor.past i.present c.ready_at.result) ≡ false) (sym c.in_ok-due.ensures.looked.stays.wire)
+    (subst (λ (l : List Mouths). is_due_of_child (has_actor l z.wire) (next_of q.at.member.actor.program q.at.member.actor.past i.present c.ready_at.result) ≡ false) c.deref-4.ensures.value
+    (next_by (g.D.CallFs.disk i.disk) i.crew (place_of i.places) i.actors.items i.mouths.items i.books.entries.items i.history.events.items i.present i.next_pid i.bounces c.in_ok-place.place c.args.actor.now c.ready_at.result
+    (λ due. is_due_of_child (has_actor c.deref-4.result.now z.wire) due ≡ false) z v r q c.in_ok-due.ensures.looked.name
+    (c.in_ok-due.ensures.none (none_due c.in_ok-due.field-0 c.in_default.not-Some))))
 
 pub act-requires-clause-may : goal.act-requires-clause-may
 act-requires-clause-may g c =
@@ -434,12 +436,11 @@ act-requires-clause-may g c =
     let events = i.history.events.items in
     let place = c.in_ok-place.place in
     let here = (goal.at.act-requires-clause-may g c).After-index_mut-acting in
-    let r = ready g (goal.at.act-requires-clause-may g c).After-is_some (keeps g here) (acting g here) (placed g here) in
+    let r = ready g (goal.at.act-requires-clause-may g c).After-ready_at (keeps g here) (acting g here) in
     let q = asked g (goal.at.act-requires-clause-may g c).In_ok-due r in
     let z = c.pay.new.self in
     let v = c.asks.new.self in
-    subst (λ (o : Option ℕ). MayAct told v.machine o c.is_some.result i.present c.ready_at.result) (sym c.seat_at-seat.ensures)
-    (may_step told i.crew (place_of i.places) q.actors i.mouths.items i.books.entries.items events i.present i.next_pid i.bounces place v c.is_some.result c.ready_at.result q.world q.at q.paid q.finds
+    (may_step told i.crew (place_of i.places) q.actors i.mouths.items i.books.entries.items events i.present i.next_pid i.bounces place v c.ready_at.result q.world q.at q.paid q.finds
     (none_asked g (goal.at.act-requires-clause-may g c).In_default r q))
 
 pub act-requires-clause-paid : goal.act-requires-clause-paid
@@ -449,7 +450,7 @@ act-requires-clause-paid g c =
     let events = i.history.events.items in
     let place = c.in_ok-place.place in
     let here = (goal.at.act-requires-clause-paid g c).After-index_mut-acting in
-    let r = ready g (goal.at.act-requires-clause-paid g c).After-is_some (keeps g here) (acting g here) (placed g here) in
+    let r = ready g (goal.at.act-requires-clause-paid g c).After-ready_at (keeps g here) (acting g here) in
     let q = asked g (goal.at.act-requires-clause-paid g c).In_ok-due r in
     let z = c.pay.new.self in
     let v = c.asks.new.self in
@@ -462,7 +463,7 @@ act-requires-clause-opens g c =
     let events = i.history.events.items in
     let place = c.in_ok-place.place in
     let here = (goal.at.act-requires-clause-opens g c).After-index_mut-acting in
-    let r = ready g (goal.at.act-requires-clause-opens g c).After-is_some (keeps g here) (acting g here) (placed g here) in
+    let r = ready g (goal.at.act-requires-clause-opens g c).After-ready_at (keeps g here) (acting g here) in
     let q = asked g (goal.at.act-requires-clause-opens g c).In_ok-due r in
     let z = c.pay.new.self in
     let v = c.asks.new.self in
@@ -475,25 +476,11 @@ act-requires-clause-seat g c =
     let events = i.history.events.items in
     let place = c.in_ok-place.place in
     let here = (goal.at.act-requires-clause-seat g c).After-index_mut-acting in
-    let r = ready g (goal.at.act-requires-clause-seat g c).After-is_some (keeps g here) (acting g here) (placed g here) in
+    let r = ready g (goal.at.act-requires-clause-seat g c).After-ready_at (keeps g here) (acting g here) in
     let q = asked g (goal.at.act-requires-clause-seat g c).In_ok-due r in
     let z = c.pay.new.self in
     let v = c.asks.new.self in
-    subst (λ (o : Option ℕ). IsSeated o v.name i.mouths.items) (sym c.seat_at-seat.ensures)
-    (is_seated i.crew (place_of i.places) i.mouths.items q.actors (known events) events i.present place v q.world.world.kept q.world.piped q.at.is q.at.lives)
-
-pub act-requires-clause-child : goal.act-requires-clause-child
-act-requires-clause-child g c =
-    let i = c.self.inside in
-    let told = g.D.CallFs.disk i.disk in
-    let events = i.history.events.items in
-    let place = c.in_ok-place.place in
-    let here = (goal.at.act-requires-clause-child g c).After-index_mut-acting in
-    let r = ready g (goal.at.act-requires-clause-child g c).After-is_some (keeps g here) (acting g here) (placed g here) in
-    let q = asked g (goal.at.act-requires-clause-child g c).In_ok-due r in
-    let z = c.pay.new.self in
-    let v = c.asks.new.self in
-    q.has_is
+    is_seated told i.crew (place_of i.places) q.actors i.mouths.items i.books.entries.items events i.present i.next_pid i.bounces place v q.world q.at.is q.at.lives
 
 pub invariant_of-self-in_err-did : goal.invariant_of-self-in_err-did
 invariant_of-self-in_err-did g c =
@@ -502,7 +489,7 @@ invariant_of-self-in_err-did g c =
     let events = i.history.events.items in
     let place = c.in_ok-place.place in
     let here = (goal.at.invariant_of-self-in_err-did g c).After-index_mut-acting in
-    let r = ready g (goal.at.invariant_of-self-in_err-did g c).After-is_some (keeps g here) (acting g here) (placed g here) in
+    let r = ready g (goal.at.invariant_of-self-in_err-did g c).After-ready_at (keeps g here) (acting g here) in
     let q = asked g (goal.at.invariant_of-self-in_err-did g c).In_ok-due r in
     let z = c.pay.new.self in
     let v = c.asks.new.self in
@@ -545,7 +532,7 @@ invariant_of-self-in_default-did g c =
     let events = i.history.events.items in
     let place = c.in_ok-place.place in
     let here = (goal.at.invariant_of-self-in_default-did g c).After-index_mut-acting in
-    let r = ready g (goal.at.invariant_of-self-in_default-did g c).After-is_some (keeps g here) (acting g here) (placed g here) in
+    let r = ready g (goal.at.invariant_of-self-in_default-did g c).After-ready_at (keeps g here) (acting g here) in
     let q = asked g (goal.at.invariant_of-self-in_default-did g c).In_ok-due r in
     let z = c.pay.new.self in
     let v = c.asks.new.self in
@@ -581,7 +568,7 @@ returns-in_default-did-clause-waits g c =
     let events = i.history.events.items in
     let place = c.in_ok-place.place in
     let here = (goal.at.returns-in_default-did-clause-waits g c).After-index_mut-acting in
-    let r = ready g (goal.at.returns-in_default-did-clause-waits g c).After-is_some (keeps g here) (acting g here) (placed g here) in
+    let r = ready g (goal.at.returns-in_default-did-clause-waits g c).After-ready_at (keeps g here) (acting g here) in
     let q = asked g (goal.at.returns-in_default-did-clause-waits g c).In_ok-due r in
     let z = c.pay.new.self in
     let v = c.asks.new.self in
@@ -590,7 +577,7 @@ returns-in_default-did-clause-waits g c =
     let waited = subst (λ (d : Option Did). HasStepped d told (g.D.CallFs.disk c.act.new.disk) i.mouths.items c.act.new.mouths.items i.next_pid v y c.reserve.new.self.events.items c.act.new.history.events.items i.present c.ready_at.result) is c.in_ok-did.ensures.acted in
     let own = none_asked g (goal.at.returns-in_default-did-clause-waits g c).In_default r q in
     let waits = waited_waits told (g.D.CallFs.disk c.act.new.disk) i.crew (place_of i.places) q.actors i.mouths.items c.act.new.mouths.items i.books.entries.items events c.act.new.history.events.items
-    i.present i.next_pid i.bounces place v y c.is_some.result c.ready_at.result q.world q.at q.paid q.finds q.has_is own waited in
+    i.present i.next_pid i.bounces place v y c.ready_at.result q.world q.at q.paid q.finds own waited in
     rw (← c.self.view_is) (λ name e.
     let same : c.copy.result ≡ name = cc in
     (sym same ∙ c.copy.ensures, subst (Waits (known events) i.present) q.name waits))
@@ -598,10 +585,8 @@ returns-in_default-did-clause-waits g c =
 pub note-requires : goal.note-requires
 note-requires g c =
     let i = c.self.inside in
-    let place = c.in_ok-place.place in
-    let within = in_range (g.D.CallFs.disk i.disk) (among_all i.crew (place_of i.places)) i.actors.items (known i.history.events.items) i.history.events.items i.present i.next_pid i.bounces c.args.actor.now c.self.invariant.0 place c.in_ok-place.ensures.ok.0 in
-    let less = length-drop i.crew i.actors.items in
-    λ le. entry_within i.books.entries.items (drop i.crew i.actors.items) i.history.events.items (place - i.crew) c.self.invariant.2 (omega (arith, within, less, le))
+    let here = (goal.at.note-requires g c).After-index_mut-acting in
+    λ k own. entry_within i.crew i.books.entries.items i.actors.items i.history.events.items c.in_ok-place.place k c.index_mut-acting.result.now c.self.invariant.2 (acting g here).0.is own
 
 -- what a step left, of the events that there were before room was made
 acted_of : (g : _) (c : In_ok-did g) (did : Did) → c.in_ok-did.did ≡ Some did
@@ -616,12 +601,13 @@ acted_of g c did is =
 pub leave-requires : goal.leave-requires
 leave-requires g c =
     let i = c.self.inside in
-    λ k at.
     let place = c.in_ok-place.place in
-    let same = placed g (goal.at.leave-requires g c).After-index_mut-acting in
-    let there = child_at i.crew (place_of i.places) i.mouths.items i.actors.items (known i.history.events.items) i.history.events.items k c.self.invariant.3 (sym same ∙ at) in
-    let within = in_range (g.D.CallFs.disk i.disk) (among_all i.crew (place_of i.places)) i.actors.items (known i.history.events.items) i.history.events.items i.present i.next_pid i.bounces there.name c.self.invariant.0 k there.at in
-    subst (λ (l : List Held). k < length l) (sym c.deref_mut.ensures.value) (subst (λ (n : ℕ). k < n) (sym (length-set i.actors.items place c.act.new.self)) within)
+    let here = goal.at.leave-requires g c in
+    let at = acting g here.After-index_mut-acting in
+    let same = placed g here.After-child_at-child in
+    λ k found.
+    let low = within g here.After-index_mut-acting k at.0.is at.0.lives (sym same ∙ found) in
+    subst (λ (l : List Held). k < length l) (sym c.deref_mut.ensures.value) (subst (λ (n : ℕ). k < n) (sym (length-set i.actors.items place c.act.new.self)) low)
 
 pub invariant_of-self-2 : goal.invariant_of-self-2
 invariant_of-self-2 g c =
@@ -630,7 +616,7 @@ invariant_of-self-2 g c =
     let events = i.history.events.items in
     let place = c.in_ok-place.place in
     let here = (goal.at.invariant_of-self-2 g c).After-index_mut-acting in
-    let r = ready g (goal.at.invariant_of-self-2 g c).After-is_some (keeps g here) (acting g here) (placed g here) in
+    let r = ready g (goal.at.invariant_of-self-2 g c).After-ready_at (keeps g here) (acting g here) in
     let q = asked g (goal.at.invariant_of-self-2 g c).In_ok-due r in
     let z = c.pay.new.self in
     let v = c.asks.new.self in
@@ -640,17 +626,19 @@ invariant_of-self-2 g c =
     let own = none_asked g (goal.at.invariant_of-self-2 g c).In_default r q in
     let stands = set i.actors.items place y in
     let stood = c.leave.new.actors in
-    let left : HasLeftIf (is_some did.ended) place c.child_at-child.result stands stood =
-    subst (λ (t : Bool). HasLeftIf t place c.child_at-child.result stands stood) c.is_some-2.ensures
-    (subst (λ (l : List Held). HasLeftIf c.is_some-2.result place c.child_at-child.result l stood) c.deref_mut.ensures.value c.leave.ensures) in
-    let many = left_many_if (is_some did.ended) place c.child_at-child.result stands stood left in
+    let left : HasLeftIf (is_some did.ended) c.child_at-child.result stands stood =
+    subst (λ (t : Bool). HasLeftIf t c.child_at-child.result stands stood) c.is_some.ensures
+    (subst (λ (l : List Held). HasLeftIf c.is_some.result c.child_at-child.result l stood) c.deref_mut.ensures.value c.leave.ensures) in
+    let many = left_many_if (is_some did.ended) c.child_at-child.result stands stood left in
     let items = written_back i.actors.len stands stood many (i.actors.ok.0 ∙ sym (length-set i.actors.items place y)) in
+    let entry : v.entry ≡ c.index_mut-acting.result.now.entry = c.in_ok-due.ensures.looked.stays.entry ∙ c.in_ok-pay.ensures.stays.entry in
     let w = acted_keeps told (g.D.CallFs.disk c.act.new.disk) i.crew (place_of i.places) q.actors i.mouths.items c.act.new.mouths.items i.books.entries.items events c.act.new.history.events.items
-    i.present i.next_pid i.bounces place v y c.is_some.result c.ready_at.result q.world q.at q.paid q.finds q.has_is own
+    i.present i.next_pid i.bounces place v y c.ready_at.result q.world q.at q.paid q.finds own
     did.ended i.next_pid acted c.note.new.books.entries.items c.saturating_add-self-inside.result c.newest-newest.result.now
     c.newest-newest.ensures (c.saturating_add-self-inside.ensures ∙ ap (λ (k : ℕ). min (i.next_pid + k) (2 ^ 32 - 1)) c.started_by.ensures)
-    (λ low. ap entries_of (c.note.ensures.member low)) c.note.ensures.mail c.child_at-child.result stood (placed g here)
-    (subst (λ (l : List Held). HasLeftIf (is_some did.ended) place c.child_at-child.result l stood) (sym (q.same y)) left) in
+    (λ none. ap entries_of (c.note.ensures.none (sym entry ∙ none))) (λ k e own. c.note.ensures.own k e (sym entry ∙ own)) c.child_at-child.result stood
+    (placed g (goal.at.invariant_of-self-2 g c).After-child_at-child ∙ ap (λ (o : Option ℕ). child_place i.mouths.items o i.crew (place_of i.places)) (sym (c.in_ok-due.ensures.looked.stays.wire ∙ c.in_ok-pay.ensures.stays.wire)))
+    (subst (λ (l : List Held). HasLeftIf (is_some did.ended) c.child_at-child.result l stood) (sym (q.same y)) left) in
     let len : c.len.result ≡ length i.actors.items = c.len.ensures ∙ i.actors.ok.0 in
     let grown = length-set i.actors.items place y in
     let bound = living_within stood in (
@@ -669,7 +657,7 @@ returns-clause-event g c =
     let events = i.history.events.items in
     let place = c.in_ok-place.place in
     let here = (goal.at.returns-clause-event g c).After-index_mut-acting in
-    let r = ready g (goal.at.returns-clause-event g c).After-is_some (keeps g here) (acting g here) (placed g here) in
+    let r = ready g (goal.at.returns-clause-event g c).After-ready_at (keeps g here) (acting g here) in
     let q = asked g (goal.at.returns-clause-event g c).In_ok-due r in
     let z = c.pay.new.self in
     let v = c.asks.new.self in
@@ -678,7 +666,7 @@ returns-clause-event g c =
     let acted = acted_of g (goal.at.returns-clause-event g c).In_ok-did did c.in-Some-did.is in
     let own = none_asked g (goal.at.returns-clause-event g c).In_default r q in
     rw (← c.self.view_is) (acted_step told (g.D.CallFs.disk c.act.new.disk) i.crew (place_of i.places) q.actors i.mouths.items c.act.new.mouths.items i.books.entries.items events c.act.new.history.events.items
-    i.present i.next_pid i.bounces place v y c.is_some.result c.ready_at.result q.world q.at q.paid q.finds q.has_is own
+    i.present i.next_pid i.bounces place v y c.ready_at.result q.world q.at q.paid q.finds own
     i.disk c.act.new.disk c.args.actor.now did.ended q.name
     (subst (λ (pid : ℕ). HasActed did.ended told (g.D.CallFs.disk c.act.new.disk) i.mouths.items c.act.new.mouths.items pid v y events c.act.new.history.events.items i.present c.ready_at.result)
     c.self.invariant.0.pid acted))
@@ -690,7 +678,7 @@ returns-clause-idle g c =
     let events = i.history.events.items in
     let place = c.in_ok-place.place in
     let here = (goal.at.returns-clause-idle g c).After-index_mut-acting in
-    let r = ready g (goal.at.returns-clause-idle g c).After-is_some (keeps g here) (acting g here) (placed g here) in
+    let r = ready g (goal.at.returns-clause-idle g c).After-ready_at (keeps g here) (acting g here) in
     let q = asked g (goal.at.returns-clause-idle g c).In_ok-due r in
     let z = c.pay.new.self in
     let v = c.asks.new.self in
@@ -702,7 +690,7 @@ returns-clause-idle g c =
     subst (λ (l : List Kept). HasIdled did.idle v l c.act.new.history.events.items) c.in_ok-reserve.ensures.same
     (subst (λ (d : Option Did). IfSome d (λ d. HasIdled d.idle v c.reserve.new.self.events.items c.act.new.history.events.items)) c.in-Some-did.is c.in_ok-did.ensures.idle) in
     rw (← c.self.view_is) (acted_idle told (g.D.CallFs.disk c.act.new.disk) i.crew (place_of i.places) q.actors i.mouths.items c.act.new.mouths.items i.books.entries.items events c.act.new.history.events.items
-    i.present i.next_pid i.bounces place v y c.is_some.result c.ready_at.result q.world q.at q.paid q.finds q.has_is own did.ended i.next_pid did.idle acted idled)
+    i.present i.next_pid i.bounces place v y c.ready_at.result q.world q.at q.paid q.finds own did.ended i.next_pid did.idle acted idled)
 
 pub returns-clause-goes_on : goal.returns-clause-goes_on
 returns-clause-goes_on g c =
@@ -711,7 +699,7 @@ returns-clause-goes_on g c =
     let events = i.history.events.items in
     let place = c.in_ok-place.place in
     let here = (goal.at.returns-clause-goes_on g c).After-index_mut-acting in
-    let r = ready g (goal.at.returns-clause-goes_on g c).After-is_some (keeps g here) (acting g here) (placed g here) in
+    let r = ready g (goal.at.returns-clause-goes_on g c).After-ready_at (keeps g here) (acting g here) in
     let q = asked g (goal.at.returns-clause-goes_on g c).In_ok-due r in
     let z = c.pay.new.self in
     let v = c.asks.new.self in
@@ -721,7 +709,7 @@ returns-clause-goes_on g c =
     let own = none_asked g (goal.at.returns-clause-goes_on g c).In_default r q in
     rw (← c.self.view_is) (goes_on told (g.D.CallFs.disk c.act.new.disk) events c.act.new.history.events.items i.present i.present
     (acted_leads told (g.D.CallFs.disk c.act.new.disk) i.crew (place_of i.places) q.actors i.mouths.items c.act.new.mouths.items i.books.entries.items events c.act.new.history.events.items
-    i.present i.next_pid i.bounces place v y c.is_some.result c.ready_at.result q.world q.at q.paid q.finds q.has_is own did.ended i.next_pid acted))
+    i.present i.next_pid i.bounces place v y c.ready_at.result q.world q.at q.paid q.finds own did.ended i.next_pid acted))
 
 pub returns-clause-gone : goal.returns-clause-gone
 returns-clause-gone g c =
@@ -738,7 +726,7 @@ returns-clause-waiting g c =
     let events = i.history.events.items in
     let place = c.in_ok-place.place in
     let here = (goal.at.returns-clause-waiting g c).After-index_mut-acting in
-    let r = ready g (goal.at.returns-clause-waiting g c).After-is_some (keeps g here) (acting g here) (placed g here) in
+    let r = ready g (goal.at.returns-clause-waiting g c).After-ready_at (keeps g here) (acting g here) in
     let q = asked g (goal.at.returns-clause-waiting g c).In_ok-due r in
     let z = c.pay.new.self in
     let v = c.asks.new.self in
@@ -747,5 +735,5 @@ returns-clause-waiting g c =
     let acted = acted_of g (goal.at.returns-clause-waiting g c).In_ok-did did c.in-Some-did.is in
     let own = none_asked g (goal.at.returns-clause-waiting g c).In_default r q in
     rw (← c.self.view_is) (λ waits. absurd (acted_waits told (g.D.CallFs.disk c.act.new.disk) i.crew (place_of i.places) q.actors i.mouths.items c.act.new.mouths.items i.books.entries.items events c.act.new.history.events.items
-    i.present i.next_pid i.bounces place v y c.is_some.result c.ready_at.result q.world q.at q.paid q.finds q.has_is own
+    i.present i.next_pid i.bounces place v y c.ready_at.result q.world q.at q.paid q.finds own
     did.ended i.next_pid acted (subst (Waits (known events) i.present) (sym q.name) waits)))

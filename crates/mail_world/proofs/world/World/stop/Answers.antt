@@ -1,26 +1,24 @@
-use Rattle.std.proofs.Common.{◌≡◌, ℕ, ◌<◌, ◌-◌, ◌^◌, List, [], ◌∷◌, ◌++◌, length, reverse, set, arith, Option, Some, None, IsSomeAnd, Ok, refl, sym, ap, ◌∙◌, subst}
+use Rattle.std.proofs.Common.{◌≡◌, ℕ, ◌<◌, ◌-◌, ◌^◌, List, [], ◌∷◌, ◌++◌, length, reverse, set, arith, Some, None, IsSomeAnd, Ok, refl, sym, ap, ◌∙◌, subst}
 use Rattle.std.proofs.lemmas.Result.{err_from_is_err_and}
 use Rattle.std.specs.List.{slice_get}
 use Rattle.mail_world.specs.declared.actor.Actor.{Actor as Held}
 use Rattle.world_events.specs.declared.event.Event.TheVariants as kept
 use Rattle.mail_world.specs.Places.{place_of}
 use Rattle.mail_world.specs.Inside.{among_all, known, living}
-use Rattle.mail_world.specs.Acting.{IsNoLiving, IsSeated}
+use Rattle.mail_world.specs.Acting.{IsNoLiving}
 use Rattle.mail_world.proofs.Histories.{goes_on}
-use Rattle.std.proofs.lemmas.List.{length-set, length-drop}
-use Rattle.std.specs.Prelude.{drop}
-use Rattle.mail_world.proofs.Booked.{entry_within}
+use Rattle.std.proofs.lemmas.List.{length-set}
+use Rattle.mail_world.proofs.Booked.{entry_within, one_booked}
 use Rattle.world_pipes.specs.declared.mouths.Mouths.{Mouths}
 use Rattle.mail_world.specs.Children.{child_place, HasLeft}
 use Rattle.mail_world.specs.History.{finished}
 use Rattle.mail_world.proofs.Leaving.{leaves, child_at}
 use Rattle.mail_world.proofs.Lists.{written_back}
 use Rattle.mail_world.proofs.Living.{living_less, living_some, room_less, left_many, left_living}
-use Rattle.mail_world.proofs.Steps.{left_booked, left_piped}
+use Rattle.mail_world.proofs.Steps.{AreKept, is_seated, left_booked, left_piped}
 use Rattle.mail_world.specs.Books.{entries_of}
 use Rattle.mail_world.specs.History.Life.{Stopped}
 use Rattle.mail_world.proofs.Acts.{stop_finishes}
-use Rattle.mail_world.proofs.Noted.{is_seated, one_booked}
 use Rattle.mail_world.proofs.Piped.{finish_piped}
 use Rattle.world_events.specs.declared.event.Event.{Event as Kept}
 use Rattle.mail_world.specs.Generations.{starts_of}
@@ -29,7 +27,7 @@ use Rattle.mail_world.proofs.Starting.{still_starts}
 use Rattle.mail_world.proofs.Worlds.{StandsAt, stopped_keeps, stopped_leads_on, stands_at, in_range, may_end}
 use Rattle.mail_world.proofs.Refusals.{no_end, not_gone, gone_exactly, ok_other}
 use Rattle.mail_world.proofs.world.World.stop.Goals as goal
-use Rattle.mail_world.proofs.world.World.stop.Goals.{After-index_mut-stopped, After-leave}
+use Rattle.mail_world.proofs.world.World.stop.Goals.{After-index_mut-stopped, After-child_at-child, After-leave}
 
 pub living-requires : goal.living-requires
 living-requires g c =
@@ -75,51 +73,64 @@ stop-requires-clause-room g c =
     let at = standing g (goal.at.stop-requires-clause-room g c).After-index_mut-stopped in
     room_less i.history (living i.actors.items) 1 (living_some i.actors.items c.in_ok-place.place c.index_mut-stopped.result.now at.0.is at.0.lives) c.self.invariant.1
 
+-- what the world keeps
+keeps : (g : _) (c : After-index_mut-stopped g) →
+    AreKept (g.D.CallFs.disk c.self.inside.disk) c.self.inside.crew (place_of c.self.inside.places) c.self.inside.actors.items c.self.inside.mouths.items c.self.inside.books.entries.items
+    c.self.inside.history.events.items c.self.inside.present c.self.inside.next_pid c.self.inside.bounces
+keeps g c = record { world = c.self.invariant.0; booked = c.self.invariant.2; piped = c.self.invariant.3 }
+
 pub stop-requires-clause-seat : goal.stop-requires-clause-seat
 stop-requires-clause-seat g c =
     let i = c.self.inside in
-    let at = standing g (goal.at.stop-requires-clause-seat g c).After-index_mut-stopped in
-    subst (λ (o : Option ℕ). IsSeated o c.index_mut-stopped.result.now.name i.mouths.items) (sym c.seat_at.ensures)
-    (is_seated i.crew (place_of i.places) i.mouths.items i.actors.items (known i.history.events.items) i.history.events.items i.present c.in_ok-place.place c.index_mut-stopped.result.now
-    c.self.invariant.0.kept c.self.invariant.3 at.0.is at.0.lives)
+    let here = (goal.at.stop-requires-clause-seat g c).After-index_mut-stopped in
+    let at = standing g here in
+    is_seated (g.D.CallFs.disk i.disk) i.crew (place_of i.places) i.actors.items i.mouths.items i.books.entries.items i.history.events.items i.present i.next_pid i.bounces c.in_ok-place.place c.index_mut-stopped.result.now
+    (keeps g here) at.0.is at.0.lives
 
 pub note-requires : goal.note-requires
 note-requires g c =
     let i = c.self.inside in
-    let place = c.in_ok-place.place in
-    let within = in_range (g.D.CallFs.disk i.disk) (among_all i.crew (place_of i.places)) i.actors.items (known i.history.events.items) i.history.events.items i.present i.next_pid i.bounces c.args.actor.now c.self.invariant.0 place c.in_ok-place.ensures.ok.0 in
-    let less = length-drop i.crew i.actors.items in
-    λ le. entry_within i.books.entries.items (drop i.crew i.actors.items) i.history.events.items (place - i.crew) c.self.invariant.2 (omega (arith, within, less, le))
+    let at = standing g (goal.at.note-requires g c).After-index_mut-stopped in
+    λ k own. entry_within i.crew i.books.entries.items i.actors.items i.history.events.items c.in_ok-place.place k c.index_mut-stopped.result.now c.self.invariant.2 at.0.is own
 
--- the place of the sender's child, if there is one
-placed : (g : _) (c : After-index_mut-stopped g) → c.child_at-child.result ≡ child_place c.self.inside.mouths.items c.self.inside.crew (place_of c.self.inside.places)
+-- the place of its child, if there is one
+placed : (g : _) (c : After-child_at-child g) → c.child_at-child.result ≡ child_place c.self.inside.mouths.items c.index_mut-stopped.result.now.wire c.self.inside.crew (place_of c.self.inside.places)
 placed g c =
     let i = c.self.inside in
-    subst (λ (l : List Mouths). c.child_at-child.result ≡ child_place l i.crew (place_of i.places)) c.deref-2.ensures.value c.child_at-child.ensures
+    subst (λ (l : List Mouths). c.child_at-child.result ≡ child_place l c.index_mut-stopped.result.now.wire i.crew (place_of i.places)) c.deref-2.ensures.value c.child_at-child.ensures
+
+-- it is within
+within : (g : _) (c : After-index_mut-stopped g) (k : ℕ) → slice_get c.self.inside.actors.items c.in_ok-place.place ≡ Some c.index_mut-stopped.result.now → c.index_mut-stopped.result.now.ended ≡ None
+    → child_place c.self.inside.mouths.items c.index_mut-stopped.result.now.wire c.self.inside.crew (place_of c.self.inside.places) ≡ Some k → k < length c.self.inside.actors.items
+within g c k is lives at =
+    let i = c.self.inside in
+    let x = c.index_mut-stopped.result.now in
+    let there = child_at i.crew (place_of i.places) i.mouths.items i.actors.items (known i.history.events.items) i.history.events.items x.name x.wire c.self.invariant.3 (c.self.invariant.3.places c.in_ok-place.place x is lives) k at in
+    in_range (g.D.CallFs.disk i.disk) (among_all i.crew (place_of i.places)) i.actors.items (known i.history.events.items) i.history.events.items i.present i.next_pid i.bounces there.name c.self.invariant.0 k there.at
 
 pub child_at-child-requires : goal.child_at-child-requires
 child_at-child-requires g c =
     let i = c.self.inside in
-    subst (λ (l : List Mouths). (k : ℕ) → child_place l i.crew (place_of i.places) ≡ Some k → k < 2 ^ 64) (sym c.deref-2.ensures.value)
-    (λ k at.
-    let there = child_at i.crew (place_of i.places) i.mouths.items i.actors.items (known i.history.events.items) i.history.events.items k c.self.invariant.3 at in
-    let within = in_range (g.D.CallFs.disk i.disk) (among_all i.crew (place_of i.places)) i.actors.items (known i.history.events.items) i.history.events.items i.present i.next_pid i.bounces there.name c.self.invariant.0 k there.at in
-    omega (arith, within, i.actors.ok.0))
+    let here = (goal.at.child_at-child-requires g c).After-index_mut-stopped in
+    let at = standing g here in
+    subst (λ (l : List Mouths). (k : ℕ) → child_place l c.index_mut-stopped.result.now.wire i.crew (place_of i.places) ≡ Some k → k < 2 ^ 64) (sym c.deref-2.ensures.value)
+    (λ k found. let low = within g here k at.0.is at.0.lives found in omega (arith, low, i.actors.ok.0))
 
 -- the actors before and after that child is given no input any more
-stood : (g : _) (c : After-leave g) → HasLeft c.in_ok-place.place c.child_at-child.result (set c.self.inside.actors.items c.in_ok-place.place c.stop.new.self) c.leave.new.actors
+stood : (g : _) (c : After-leave g) → HasLeft c.child_at-child.result (set c.self.inside.actors.items c.in_ok-place.place c.stop.new.self) c.leave.new.actors
 stood g c =
-    subst (λ (l : List Held). HasLeft c.in_ok-place.place c.child_at-child.result l c.leave.new.actors) c.deref_mut.ensures.value c.leave.ensures
+    subst (λ (l : List Held). HasLeft c.child_at-child.result l c.leave.new.actors) c.deref_mut.ensures.value c.leave.ensures
 
 pub leave-requires : goal.leave-requires
 leave-requires g c =
     let i = c.self.inside in
-    λ k at.
     let place = c.in_ok-place.place in
-    let same = placed g (goal.at.leave-requires g c).After-index_mut-stopped in
-    let there = child_at i.crew (place_of i.places) i.mouths.items i.actors.items (known i.history.events.items) i.history.events.items k c.self.invariant.3 (sym same ∙ at) in
-    let within = in_range (g.D.CallFs.disk i.disk) (among_all i.crew (place_of i.places)) i.actors.items (known i.history.events.items) i.history.events.items i.present i.next_pid i.bounces there.name c.self.invariant.0 k there.at in
-    subst (λ (l : List Held). k < length l) (sym c.deref_mut.ensures.value) (subst (λ (n : ℕ). k < n) (sym (length-set i.actors.items place c.stop.new.self)) within)
+    let here = goal.at.leave-requires g c in
+    let at = standing g here.After-index_mut-stopped in
+    let same = placed g here.After-child_at-child in
+    λ k found.
+    let low = within g here.After-index_mut-stopped k at.0.is at.0.lives (sym same ∙ found) in
+    subst (λ (l : List Held). k < length l) (sym c.deref_mut.ensures.value) (subst (λ (n : ℕ). k < n) (sym (length-set i.actors.items place c.stop.new.self)) low)
 
 pub invariant_of-self : goal.invariant_of-self
 invariant_of-self g c =
@@ -134,24 +145,24 @@ invariant_of-self g c =
     let left = stood g (goal.at.invariant_of-self g c).After-leave in
     let over = c.stop.ensures.stopped in
     let fewer = living_less i.actors.items place x y (length events) at.0.is at.0.lives over.ended in
-    let still = left_living place c.child_at-child.result stands c.leave.new.actors left in
-    let many = left_many place c.child_at-child.result stands c.leave.new.actors left in
+    let still = left_living c.child_at-child.result stands c.leave.new.actors left in
+    let many = left_many c.child_at-child.result stands c.leave.new.actors left in
     let items = written_back i.actors.len stands c.leave.new.actors many (i.actors.ok.0 ∙ sym (length-set i.actors.items place y)) in
     let m = at.0.member in
     let t = finished (known events) x.name Stopped (Some m.actor) in
-    let leave = leaves i.crew (place_of i.places) i.mouths.items i.actors.items c.leave.new.actors (known events) events i.present x y Stopped m.actor c.self.invariant.0.kept c.self.invariant.3
-    place c.child_at-child.result at.0.is (placed g (goal.at.invariant_of-self g c).After-index_mut-stopped) left in
+    let leave = leaves i.crew (place_of i.places) i.mouths.items i.actors.items c.leave.new.actors (known events) events i.present x y x.wire Stopped m.actor c.self.invariant.0.kept c.self.invariant.3
+    (c.self.invariant.3.places place x at.0.is at.0.lives) place c.child_at-child.result at.0.is (placed g (goal.at.invariant_of-self g c).After-child_at-child) left in
     let room = c.self.invariant.1 in (
       rw (items) (stopped_keeps (g.D.CallFs.disk i.disk) (g.D.CallFs.disk c.stop.new.disk) (among_all i.crew (place_of i.places)) i.actors.items c.leave.new.actors i.mouths.items c.stop.new.mouths.items events later
           i.present i.next_pid i.bounces place x y c.self.invariant.0 at.0 over leave),
       rw (items) (c.stop.ensures.room (living c.leave.new.actors) (omega (arith, fewer, still, room))),
       rw (items) (left_booked i.crew i.actors.items c.leave.new.actors (known events) t later place x y c.note.new.books.entries.items leave
-          (one_booked i.crew (place_of i.places) i.actors.items (known events) events later i.present place
-          x y i.books.entries.items c.note.new.books.entries.items (kept.Stop x.name) c.newest.result.now c.self.invariant.0.kept c.self.invariant.2 at.0.is over.name refl over.event c.newest.ensures
-          (λ low. ap entries_of (c.note.ensures.member low)) c.note.ensures.mail)),
+          (one_booked (among_all i.crew (place_of i.places)) i.crew i.actors.items events later place
+          x y i.books.entries.items c.note.new.books.entries.items (kept.Stop x.name) c.newest.result.now c.self.invariant.0.kept.placed c.self.invariant.2 at.0.is over.name over.entry refl over.event c.newest.ensures
+          (λ none. ap entries_of (c.note.ensures.none none)) c.note.ensures.own)),
       rw (items) (left_piped i.crew c.stop.new.mouths.items i.actors.items c.leave.new.actors (known events) t (known later) later place x y leave
           (finish_piped i.crew (g.D.CallFs.disk i.disk) (g.D.CallFs.disk c.stop.new.disk) i.mouths.items c.stop.new.mouths.items i.actors.items events later i.present place x y
-          (kept.Stop x.name) Stopped None c.self.invariant.3 at.0.is m (stop_finishes x.name) tt (λ other b awaits. tt) over)),
+          (kept.Stop x.name) Stopped None c.self.invariant.3 at.0.is at.0.lives m (stop_finishes x.name) tt (λ parent b other awaits. tt) over)),
       subst (λ (l : List Kept). AreStarts i.starts i.crew (place_of i.places) (starts_of (reverse l))) (sym over.event)
           (still_starts i.starts i.crew (place_of i.places) events (kept.Stop x.name) refl c.self.invariant.4),
     )

@@ -1,7 +1,7 @@
-use Rattle.std.proofs.Common.{◌≡◌, ℕ, ◌+◌, ◌<◌, ◌^◌, List, [], ◌∷◌, ◌++◌, length, set, Option, Some, None, codes, get_or, refl, sym, ap, ◌∙◌, subst, arith}
+use Rattle.std.proofs.Common.{◌≡◌, ℕ, ◌+◌, ◌<◌, ◌^◌, List, [], ◌∷◌, ◌++◌, length, set, Option, Some, None, get_or, refl, sym, ap, ◌∙◌, subst, arith}
 use Rattle.std.specs.Prelude.{IsSome}
 use Rattle.std.specs.List.{slice_get}
-use Rattle.std.proofs.lemmas.Option.{slice_get_read, get_or_from_slice_get}
+use Rattle.std.proofs.lemmas.Option.{slice_get_read, slice_get_within, get_or_from_slice_get}
 use Rattle.call_fs.specs.declared.past.GotData.{GotData}
 use Rattle.call_fs.specs.declared.past.NeedData.TheVariants as needs
 use Rattle.call_fs.specs.declared.past.Own.{Own}
@@ -14,72 +14,123 @@ use Rattle.mail_world.specs.declared.actor.Actor.{Actor as Held}
 use Rattle.mail_world.specs.Acting.{status_of}
 use Rattle.mail_world.specs.Books.{entries_of}
 use Rattle.mail_world.specs.Children.{IsDueOfChild, child_place}
-use Rattle.mail_world.specs.Inside.{known, living}
+use Rattle.mail_world.specs.Inside.{among_all, known, living}
 use Rattle.mail_world.specs.Places.{place_of}
 use Rattle.mail_world.specs.Readiness.{found_in}
 use Rattle.mail_world.specs.World.{Seen}
 use Rattle.mail_world.proofs.Lists.{set_same}
 use Rattle.mail_world.proofs.Living.{living_set, room_less}
-use Rattle.mail_world.proofs.Serving.{alive_lives, first_is, sender_owes, at_setting, may_take, may_at, was_served, taken_at}
+use Rattle.mail_world.proofs.Serving.{alive_lives, same_at, some_slot, parent_owes, at_setting, may_take, may_at, was_served, taken_at}
 use Rattle.mail_world.proofs.Starting.{still_starts}
+use Rattle.mail_world.proofs.Worlds.{in_range}
 use Rattle.mail_world.proofs.Statuses.{IsTaking, taking, status_own, status_waits, status_kind, status_within, status_keeps, status_booked, status_piped, status_serves}
 use Rattle.mail_world.proofs.world.World.take_status.Goals as goal
-use Rattle.mail_world.proofs.world.World.take_status.Goals.{After-setting-at, After-child_at, After-unwrap-child, After-index, In-Some, After-own_at-own, After-index_mut, After-put}
+use Rattle.mail_world.proofs.world.World.take_status.Goals.{After-setting-at, After-unwrap-parent_at, After-index, After-unwrap-wire, After-child_at, After-unwrap-child, After-index-2, In-Some, After-index_mut-parent, After-own_at-own, After-index_mut, After-put}
 
 -- what is due, and whose status it is
 due_here : (g : _) (c : After-setting-at g) →
-    IsTaking c.self.inside.crew (place_of c.self.inside.places) c.self.inside.mouths.items c.self.inside.actors.items c.self.inside.history.events.items c.self.inside.present c.args.due
+    IsTaking c.self.inside.crew (place_of c.self.inside.places) c.self.inside.mouths.items c.self.inside.actors.items c.self.inside.history.events.items c.self.inside.present c.args.actor.now c.args.due
 due_here g c =
     let i = c.self.inside in
-    taking i.disk (g.D.CallFs.disk i.disk) i.crew (place_of i.places) i.actors.items i.mouths.items i.history.events.items i.present i.next_pid i.bounces c.args.due c.self.invariant.0 c.self.invariant.3
-    (subst (λ (w : Seen _). IsDueOfChild w c.args.due) (sym c.self.view_is) c.requires.due) c.requires.take
+    taking i.disk (g.D.CallFs.disk i.disk) i.crew (place_of i.places) i.actors.items i.mouths.items i.history.events.items i.present i.next_pid i.bounces c.args.actor.now c.args.due c.self.invariant.0 c.self.invariant.3
+    (subst (λ (w : Seen _). IsDueOfChild w c.args.actor.now c.args.due) (sym c.self.view_is) c.requires.due) c.requires.take
 
 pub setting-at-requires : goal.setting-at-requires
 setting-at-requires g c =
     let asked = c.requires.due in
     alive_lives _ asked.actor asked.is asked.alive
 
-pub child_at-requires : goal.child_at-requires
-child_at-requires g c =
+pub place_among-requires : goal.place_among-requires
+place_among-requires g c =
     let i = c.self.inside in
-    let k = due_here g (goal.at.child_at-requires g c).After-setting-at in
-    let within = k.within in
-    subst (λ (l : List Mouths). (j : ℕ) → child_place l i.crew (place_of i.places) ≡ Some j → j < 2 ^ 64) (sym c.deref.ensures.value)
-    (λ j at.
-    let both : ◌≡◌ {A = Option ℕ} (Some (i.crew + k.here.at)) (Some j) = sym k.found ∙ at in
-    let same : i.crew + k.here.at ≡ j = cc in
-    omega (arith, within, same, i.actors.ok.0))
+    λ k at.
+    let within = in_range (g.D.CallFs.disk i.disk) (among_all i.crew (place_of i.places)) i.actors.items (known i.history.events.items) i.history.events.items i.present i.next_pid i.bounces c.args.actor.now c.self.invariant.0 k at in
+    omega (arith, within, i.actors.ok.0)
 
--- the child's place
-place_is : (g : _) (c : After-child_at g) (at : ℕ) → child_place c.self.inside.mouths.items c.self.inside.crew (place_of c.self.inside.places) ≡ Some at → c.child_at.result ≡ Some at
-place_is g c at found =
-    let i = c.self.inside in
-    subst (λ (l : List Mouths). c.child_at.result ≡ child_place l i.crew (place_of i.places)) c.deref.ensures.value c.child_at.ensures ∙ found
+pub unwrap-parent_at-requires : goal.unwrap-parent_at-requires
+unwrap-parent_at-requires g c =
+    let k = due_here g (goal.at.unwrap-parent_at-requires g c).After-setting-at in
+    subst IsSome (sym (c.place_among.ensures ∙ k.asks.place)) refl
 
-pub unwrap-child-requires : goal.unwrap-child-requires
-unwrap-child-requires g c =
-    let at = goal.at.unwrap-child-requires g c in
-    let k = due_here g at.After-setting-at in
-    subst IsSome (sym (place_is g at.After-child_at _ k.found)) refl
-
-child_is : (g : _) (c : After-unwrap-child g) (at : ℕ) → c.child_at.result ≡ Some at → c.unwrap-child.result ≡ at
-child_is g c at found =
-    let both : ◌≡◌ {A = Option ℕ} (Some c.unwrap-child.result) (Some at) = sym c.unwrap-child.ensures ∙ found in cc
+-- the place of the parent
+parent_place : (g : _) (c : After-unwrap-parent_at g) (n : ℕ) → among_all c.self.inside.crew (place_of c.self.inside.places) c.args.actor.now ≡ Some n → c.unwrap-parent_at.result ≡ n
+parent_place g c n at = same_at c.place_among.result c.unwrap-parent_at.result n c.unwrap-parent_at.ensures (c.place_among.ensures ∙ at)
 
 pub index-requires : goal.index-requires
 index-requires g c =
     let at = goal.at.index-requires g c in
     let k = due_here g at.After-setting-at in
+    let same = parent_place g at.After-unwrap-parent_at k.asks.at k.asks.place in
+    let within = slice_get_within c.self.inside.actors.items k.asks.at k.asks.here.held k.asks.here.is in
+    omega (arith, within, same, c.self.inside.actors.ok.0)
+
+-- where it has its pipes
+wire_of : (g : _) (c : After-index g) (n : ℕ) (x : Held) → c.unwrap-parent_at.result ≡ n → slice_get c.self.inside.actors.items n ≡ Some x → x.wire ≡ c.index.result.now.wire
+wire_of g c n x same is =
+    let l = c.self.inside.actors.items in
+    let y = c.index.result.now in
+    ap (λ (x : Held). x.wire) (sym (get_or_from_slice_get l n x y is) ∙ ap (λ (j : ℕ). get_or l j y) (sym same) ∙ sym c.index.ensures)
+
+pub unwrap-wire-requires : goal.unwrap-wire-requires
+unwrap-wire-requires g c =
+    let at = goal.at.unwrap-wire-requires g c in
+    let k = due_here g at.After-setting-at in
+    subst IsSome (sym k.wire_is ∙ wire_of g at.After-index k.asks.at k.asks.here.held (parent_place g at.After-unwrap-parent_at k.asks.at k.asks.place) k.asks.here.is) refl
+
+-- the pipes are at that place
+at_wire : (g : _) (c : After-unwrap-wire g) (n w : ℕ) (x : Held) → among_all c.self.inside.crew (place_of c.self.inside.places) c.args.actor.now ≡ Some n → slice_get c.self.inside.actors.items n ≡ Some x → x.wire ≡ Some w
+    → c.unwrap-wire.result ≡ w
+at_wire g c n w x at is wire =
+    let l = c.self.inside.actors.items in
+    let y = c.index.result.now in
+    let same = same_at c.place_among.result c.unwrap-parent_at.result n c.unwrap-parent_at.ensures (c.place_among.ensures ∙ at) in
+    let read : x ≡ y = sym (get_or_from_slice_get l n x y is) ∙ ap (λ (j : ℕ). get_or l j y) (sym same) ∙ sym c.index.ensures in
+    same_at y.wire c.unwrap-wire.result w c.unwrap-wire.ensures (ap (λ (x : Held). x.wire) (sym read) ∙ wire)
+
+pub child_at-requires : goal.child_at-requires
+child_at-requires g c =
+    let i = c.self.inside in
+    let at = goal.at.child_at-requires g c in
+    let k = due_here g at.After-setting-at in
+    let wire = at_wire g at.After-unwrap-wire k.asks.at k.wire k.asks.here.held k.asks.place k.asks.here.is k.wire_is in
     let within = k.within in
-    let same = child_is g at.After-unwrap-child _ (place_is g at.After-child_at _ k.found) in
+    subst (λ (l : List Mouths). (j : ℕ) → child_place l (Some c.unwrap-wire.result) i.crew (place_of i.places) ≡ Some j → j < 2 ^ 64) (sym c.deref.ensures.value)
+    (λ j found.
+    let both : ◌≡◌ {A = Option ℕ} (Some (i.crew + k.here.at)) (Some j) = sym k.found ∙ ap (λ (n : ℕ). child_place i.mouths.items (Some n) i.crew (place_of i.places)) (sym wire) ∙ found in
+    let same : i.crew + k.here.at ≡ j = cc in
+    omega (arith, within, same, i.actors.ok.0))
+
+-- the child's place
+place_is : (g : _) (c : After-child_at g) (w at : ℕ) → c.unwrap-wire.result ≡ w → child_place c.self.inside.mouths.items (Some w) c.self.inside.crew (place_of c.self.inside.places) ≡ Some at → c.child_at.result ≡ Some at
+place_is g c w at wire found =
+    let i = c.self.inside in
+    subst (λ (l : List Mouths). c.child_at.result ≡ child_place l (Some c.unwrap-wire.result) i.crew (place_of i.places)) c.deref.ensures.value c.child_at.ensures
+    ∙ ap (λ (n : ℕ). child_place i.mouths.items (Some n) i.crew (place_of i.places)) wire ∙ found
+
+pub unwrap-child-requires : goal.unwrap-child-requires
+unwrap-child-requires g c =
+    let at = goal.at.unwrap-child-requires g c in
+    let k = due_here g at.After-setting-at in
+    subst IsSome (sym (place_is g at.After-child_at k.wire _ (at_wire g at.After-unwrap-wire k.asks.at k.wire k.asks.here.held k.asks.place k.asks.here.is k.wire_is) k.found)) refl
+
+child_is : (g : _) (c : After-unwrap-child g) (at : ℕ) → c.child_at.result ≡ Some at → c.unwrap-child.result ≡ at
+child_is g c at found =
+    let both : ◌≡◌ {A = Option ℕ} (Some c.unwrap-child.result) (Some at) = sym c.unwrap-child.ensures ∙ found in cc
+
+pub index-requires-2 : goal.index-requires-2
+index-requires-2 g c =
+    let at = goal.at.index-requires-2 g c in
+    let k = due_here g at.After-setting-at in
+    let within = k.within in
+    let same = child_is g at.After-unwrap-child _ (place_is g at.After-child_at k.wire _ (at_wire g at.After-unwrap-wire k.asks.at k.wire k.asks.here.held k.asks.place k.asks.here.is k.wire_is) k.found) in
     omega (arith, within, same, c.self.inside.actors.ok.0)
 
 -- who is read there
-read_is : (g : _) (c : After-index g) (at : ℕ) (x : Held) → c.unwrap-child.result ≡ at → slice_get c.self.inside.actors.items at ≡ Some x → x ≡ c.index.result.now
+read_is : (g : _) (c : After-index-2 g) (at : ℕ) (x : Held) → c.unwrap-child.result ≡ at → slice_get c.self.inside.actors.items at ≡ Some x → x ≡ c.index-2.result.now
 read_is g c at x same is =
     let l = c.self.inside.actors.items in
-    let y = c.index.result.now in
-    sym (get_or_from_slice_get l at x y is) ∙ ap (λ (j : ℕ). get_or l j y) (sym same) ∙ sym c.index.ensures
+    let y = c.index-2.result.now in
+    sym (get_or_from_slice_get l at x y is) ∙ ap (λ (j : ℕ). get_or l j y) (sym same) ∙ sym c.index-2.ensures
 
 none_of : (o : Option GotData) → ((came : GotData) → o ≡ Some came → ⊥) → o ≡ None
 none_of None other = refl
@@ -90,9 +141,18 @@ returns-in_default-clause-waits g c =
     let at = goal.at.returns-in_default-clause-waits g c in
     let i = c.self.inside in
     let k = due_here g at.After-setting-at in
-    let read = read_is g at.After-index _ k.here.held (child_is g at.After-unwrap-child _ (place_is g at.After-child_at _ k.found)) k.here.is in
+    let read = read_is g at.After-index-2 _ k.here.held (child_is g at.After-unwrap-child _ (place_is g at.After-child_at k.wire _ (at_wire g at.After-unwrap-wire k.asks.at k.wire k.asks.here.held k.asks.place k.asks.here.is k.wire_is) k.found)) k.here.is in
     let none : status_of k.here.held.ended k.here.held.status ≡ None = ap (λ (x : Held). status_of x.ended x.status) read ∙ sym c.status_of.ensures ∙ none_of c.status_of.result c.in_default.not-Some in
-    rw (← c.self.view_is) (λ is. (status_waits i.crew (place_of i.places) i.actors.items i.history.events.items i.present k.asks.sender k.child k.asks.is k.asks.alive (k.asks.next ∙ k.due_is) k.runs k.here none, refl))
+    rw (← c.self.view_is) (λ is. (status_waits i.crew (place_of i.places) i.actors.items i.history.events.items i.present c.args.actor.now k.asks.parent k.child k.asks.is k.asks.alive (k.asks.next ∙ k.due_is) k.runs k.here none, refl))
+
+-- the parent is read
+parent_read : (g : _) (c : After-index_mut-parent g) (n : ℕ) (x : Held) → among_all c.self.inside.crew (place_of c.self.inside.places) c.args.actor.now ≡ Some n → slice_get c.self.inside.actors.items n ≡ Some x
+    → (c.unwrap-parent_at.result ≡ n) × (x ≡ c.index_mut-parent.result.now)
+parent_read g c n x at is =
+    let l = c.self.inside.actors.items in
+    let y = c.index_mut-parent.result.now in
+    let same = same_at c.place_among.result c.unwrap-parent_at.result n c.unwrap-parent_at.ensures (c.place_among.ensures ∙ at) in
+    (same, sym (get_or_from_slice_get l n x y is) ∙ ap (λ (j : ℕ). get_or l j y) (sym same) ∙ sym c.index_mut-parent.ensures.value)
 
 pub invariant_of-self : goal.invariant_of-self
 invariant_of-self g c =
@@ -100,54 +160,56 @@ invariant_of-self g c =
     let i = c.self.inside in
     let a = (due_here g at.After-setting-at).asks in
     let l = i.actors.items in
-    let x = c.index_mut-sender.result.now in
-    let read = first_is l (known i.history.events.items) i.history.events.items i.present a.sender a.here x c.index_mut-sender.ensures.value in
-    let still : set l 0 c.pay_sender.new.sender ≡ l = ap (set l 0) (c.in_err-pay_sender.ensures.err ∙ sym read) ∙ set_same l 0 a.here.held a.here.is in
-    let same = c.in_err-pay_sender.ensures.same in (
+    let read = parent_read g at.After-index_mut-parent a.at a.here.held a.place a.here.is in
+    let still : set l c.unwrap-parent_at.result c.pay_with_room.new.actor ≡ l =
+    ap (λ (j : ℕ). set l j c.pay_with_room.new.actor) read.0 ∙ ap (set l a.at) (c.in_err-pay_with_room.ensures.err ∙ sym read.1) ∙ set_same l a.at a.here.held a.here.is in
+    let same = c.in_err-pay_with_room.ensures.same in (
       rw (still, same) c.self.invariant.0,
-      rw (still) (c.in_err-pay_sender.ensures.stays (living l) c.self.invariant.1),
+      rw (still) (c.in_err-pay_with_room.ensures.stays (living l) c.self.invariant.1),
       rw (still, same) c.self.invariant.2,
       rw (still, same) c.self.invariant.3,
       rw (same) c.self.invariant.4,
     )
 
-pub index_mut-sender-requires : goal.index_mut-sender-requires
-index_mut-sender-requires g c =
-    let k = due_here g (goal.at.index_mut-sender-requires g c).After-setting-at in
-    let within = k.within in
-    omega (arith, within, c.self.inside.actors.ok.0)
+pub index_mut-parent-requires : goal.index_mut-parent-requires
+index_mut-parent-requires g c =
+    let at = goal.at.index_mut-parent-requires g c in
+    let k = due_here g at.After-setting-at in
+    let same = parent_place g at.After-unwrap-parent_at k.asks.at k.asks.place in
+    let within = slice_get_within c.self.inside.actors.items k.asks.at k.asks.here.held k.asks.here.is in
+    omega (arith, within, same, c.self.inside.actors.ok.0)
 
-pub pay_sender-requires : goal.pay_sender-requires
-pay_sender-requires g c =
+pub pay_with_room-requires : goal.pay_with_room-requires
+pay_with_room-requires g c =
+    let at = goal.at.pay_with_room-requires g c in
     let i = c.self.inside in
-    let x = c.index_mut-sender.result.now in
-    let a = (due_here g (goal.at.pay_sender-requires g c).After-setting-at).asks in
-    let s = known i.history.events.items in
-    sender_owes i.actors.items s i.history.events.items i.present a.sender a.here x (first_is i.actors.items s i.history.events.items i.present a.sender a.here x c.index_mut-sender.ensures.value)
+    let a = (due_here g at.After-setting-at).asks in
+    let read = parent_read g at.After-index_mut-parent a.at a.here.held a.place a.here.is in
+    parent_owes i.actors.items (known i.history.events.items) i.history.events.items i.present c.args.actor.now a.at a.parent a.here c.index_mut-parent.result.now read.1
 
 -- where it is taken
 now_is : (g : _) (c : After-setting-at g) → c.setting-at.result.now ≡ c.self.inside.present
 now_is g c = c.setting-at.ensures.now ∙ ap (λ (w : Seen _). w.present) (sym c.self.view_is)
 
-ready_is : (g : _) (c : After-setting-at g) → c.setting-at.result.ready ≡ found_in (known c.self.inside.history.events.items) (codes "sender")
-ready_is g c = c.setting-at.ensures.ready ∙ ap (λ (w : Seen _). found_in (known w.events) (codes "sender")) (sym c.self.view_is)
+ready_is : (g : _) (c : After-setting-at g) → c.setting-at.result.ready ≡ found_in (known c.self.inside.history.events.items) c.args.actor.now
+ready_is g c = c.setting-at.ensures.ready ∙ ap (λ (w : Seen _). found_in (known w.events) c.args.actor.now) (sym c.self.view_is)
 
 -- what is taken
-own_is : (g : _) (c : After-own_at-own g) → c.setting-at.result.now ≡ c.self.inside.present → c.setting-at.result.ready ≡ found_in (known c.self.inside.history.events.items) (codes "sender")
-    → c.own_at-own.result ≡ status_own c.self.inside.history.events.items c.self.inside.present c.in-Some.came
+own_is : (g : _) (c : After-own_at-own g) → c.setting-at.result.now ≡ c.self.inside.present → c.setting-at.result.ready ≡ found_in (known c.self.inside.history.events.items) c.args.actor.now
+    → c.own_at-own.result ≡ status_own c.self.inside.history.events.items c.self.inside.present c.args.actor.now c.in-Some.came
 own_is g c at ready =
     let i = c.self.inside in
-    at_setting c.setting-at.result.now i.present c.setting-at.result.ready (found_in (known i.history.events.items) (codes "sender")) (needs.Take (port.Status 0)) (needs.Take (port.Status 0)) c.in-Some.came c.own_at-own.result
+    at_setting c.setting-at.result.now i.present c.setting-at.result.ready (found_in (known i.history.events.items) c.args.actor.now) (needs.Take (port.Status 0)) (needs.Take (port.Status 0)) c.in-Some.came c.own_at-own.result
     c.own_at-own.ensures at ready refl
 
-came_is : (g : _) (c : In-Some g) (x : Held) → x ≡ c.index.result.now → status_of x.ended x.status ≡ Some c.in-Some.came
+came_is : (g : _) (c : In-Some g) (x : Held) → x ≡ c.index-2.result.now → status_of x.ended x.status ≡ Some c.in-Some.came
 came_is g c x read = ap (λ (x : Held). status_of x.ended x.status) read ∙ sym c.status_of.ensures ∙ c.in-Some.is
 
 pub take_in-did-requires-clause-moment : goal.take_in-did-requires-clause-moment
 take_in-did-requires-clause-moment g c = subst IsMoment (sym (now_is g (goal.at.take_in-did-requires-clause-moment g c).After-setting-at)) c.self.invariant.0.moment
 
 pub take_in-did-requires-clause-paid : goal.take_in-did-requires-clause-paid
-take_in-did-requires-clause-paid g c = c.in_ok-pay_sender.ensures.paid.paid
+take_in-did-requires-clause-paid g c = c.in_ok-pay_with_room.ensures.paid.paid
 
 pub take_in-did-requires-clause-may : goal.take_in-did-requires-clause-may
 take_in-did-requires-clause-may g c =
@@ -158,39 +220,43 @@ take_in-did-requires-clause-may g c =
     let k = due_here g at.After-setting-at in
     let a = k.asks in
     let h = k.here.held in
-    let x = c.index_mut-sender.result.now in
-    let own = status_own events i.present c.in-Some.came in
-    let paid = c.in_ok-pay_sender.ensures.paid in
-    let ended = came_is g at.In-Some h (read_is g at.After-index _ h (child_is g at.After-unwrap-child _ (place_is g at.After-child_at _ k.found)) k.here.is) in
-    may_at c.pay_sender.new.sender.machine c.setting-at.result.now i.present c.setting-at.result.ready (found_in s (codes "sender")) c.own_at-own.result own (now_is g at.After-setting-at) (ready_is g at.After-setting-at) (own_is g at.After-own_at-own (now_is g at.After-setting-at) (ready_is g at.After-setting-at))
-    (may_take i.actors.items s events i.present a.sender a.here a.is x c.pay_sender.new.sender (first_is i.actors.items s events i.present a.sender a.here x c.index_mut-sender.ensures.value) paid.follows paid.awaits
-    own a.sends refl refl (a.next ∙ k.due_is) (status_kind h.ended h.status c.in-Some.came ended) (status_within h.ended h.status c.in-Some.came ended))
+    let x = c.index_mut-parent.result.now in
+    let own = status_own events i.present c.args.actor.now c.in-Some.came in
+    let paid = c.in_ok-pay_with_room.ensures.paid in
+    let ended = came_is g at.In-Some h (read_is g at.After-index-2 _ h (child_is g at.After-unwrap-child _ (place_is g at.After-child_at k.wire _ (at_wire g at.After-unwrap-wire k.asks.at k.wire k.asks.here.held k.asks.place k.asks.here.is k.wire_is) k.found)) k.here.is) in
+    may_at c.pay_with_room.new.actor.machine c.setting-at.result.now i.present c.setting-at.result.ready (found_in s c.args.actor.now) c.own_at-own.result own (now_is g at.After-setting-at) (ready_is g at.After-setting-at) (own_is g at.After-own_at-own (now_is g at.After-setting-at) (ready_is g at.After-setting-at))
+    (may_take i.actors.items s events i.present c.args.actor.now a.at a.parent a.here a.is x c.pay_with_room.new.actor (parent_read g at.After-index_mut-parent a.at a.here.held a.place a.here.is).1 paid.follows paid.awaits
+    own refl refl (a.next ∙ k.due_is) (status_kind h.ended h.status c.in-Some.came ended) (status_within h.ended h.status c.in-Some.came ended))
 
 pub index_mut-requires : goal.index_mut-requires
 index_mut-requires g c =
-    let k = due_here g (goal.at.index_mut-requires g c).After-setting-at in
-    let many = k.many in
-    omega (arith, many, c.self.inside.mouths.ok.0)
+    let at = goal.at.index_mut-requires g c in
+    let k = due_here g at.After-setting-at in
+    let low = k.low in
+    let wire = at_wire g at.After-unwrap-wire k.asks.at k.wire k.asks.here.held k.asks.place k.asks.here.is k.wire_is in
+    omega (arith, low, wire, c.self.inside.mouths.ok.0)
 
 -- its pipes and slots
-mouth_is : (g : _) (c : After-index_mut g) → length c.self.inside.mouths.items ≡ 4 → slice_get c.self.inside.mouths.items 0 ≡ Some c.index_mut.result.now
-mouth_is g c many =
+mouth_is : (g : _) (c : After-index_mut g) (w : ℕ) → c.unwrap-wire.result ≡ w → w < length c.self.inside.mouths.items → slice_get c.self.inside.mouths.items w ≡ Some c.index_mut.result.now
+mouth_is g c w wire low =
     let l = c.self.inside.mouths.items in
-    slice_get_read l (length l) 0 c.index_mut.result.now (omega arith) (omega (arith, many)) c.index_mut.ensures.value
+    let y = c.index_mut.result.now in
+    slice_get_read l (length l) w y refl low (c.index_mut.ensures.value ∙ ap (λ (j : ℕ). get_or l j y) wire)
 
 pub free-requires : goal.free-requires
 free-requires g c =
     let at = goal.at.free-requires g c in
     let k = due_here g at.After-setting-at in
-    let slots = c.self.invariant.3.slots 0 c.index_mut.result.now (mouth_is g at.After-index_mut k.many) in
-    omega (arith, slots)
+    let wire = at_wire g at.After-unwrap-wire k.asks.at k.wire k.asks.here.held k.asks.place k.asks.here.is k.wire_is in
+    let slots = c.self.invariant.3.slots k.wire c.index_mut.result.now (mouth_is g at.After-index_mut k.wire wire k.low) in
+    some_slot k.wire (length c.index_mut.result.now.slots.items) slots
 
 -- the event that was put
-put_is : (g : _) (c : After-put g) (own : Own) → c.own_at-own.result ≡ own → c.put.new.self.events.items ≡ c.self.inside.history.events.items ++ kept.Act (codes "sender") own ∷ []
+put_is : (g : _) (c : After-put g) (own : Own) → c.own_at-own.result ≡ own → c.put.new.self.events.items ≡ c.self.inside.history.events.items ++ kept.Act c.args.actor.now own ∷ []
 put_is g c own same =
     let events = c.self.inside.history.events.items in
-    c.put.ensures.event ∙ ap (λ (l : List Kept). l ++ kept.Act c.named.result c.own_at-own.result ∷ []) c.in_ok-pay_sender.ensures.same
-    ∙ ap (λ (a : List ℕ). events ++ kept.Act a c.own_at-own.result ∷ []) c.named.ensures ∙ ap (λ (own : Own). events ++ kept.Act (codes "sender") own ∷ []) same
+    c.put.ensures.event ∙ ap (λ (l : List Kept). l ++ kept.Act c.copy.result c.own_at-own.result ∷ []) c.in_ok-pay_with_room.ensures.same
+    ∙ ap (λ (a : List ℕ). events ++ kept.Act a c.own_at-own.result ∷ []) c.copy.ensures ∙ ap (λ (own : Own). events ++ kept.Act c.args.actor.now own ∷ []) same
 
 pub invariant_of-self-2 : goal.invariant_of-self-2
 invariant_of-self-2 g c =
@@ -203,27 +269,29 @@ invariant_of-self-2 g c =
     let k = due_here g at.After-setting-at in
     let a = k.asks in
     let h = k.here in
-    let x = c.index_mut-sender.result.now in
-    let z = c.pay_sender.new.sender in
-    let y = c.take_in-did.new.sender in
+    let x = c.index_mut-parent.result.now in
+    let z = c.pay_with_room.new.actor in
+    let y = c.take_in-did.new.actor in
+    let read = parent_read g at.After-index_mut-parent a.at a.here.held a.place a.here.is in
+    let wire = at_wire g at.After-unwrap-wire k.asks.at k.wire k.asks.here.held k.asks.place k.asks.here.is k.wire_is in
     let came = c.in-Some.came in
-    let own = status_own events i.present came in
-    let ended = came_is g at.In-Some h.held (read_is g at.After-index _ h.held (child_is g at.After-unwrap-child _ (place_is g at.After-child_at _ k.found)) h.is) in
+    let own = status_own events i.present c.args.actor.now came in
+    let ended = came_is g at.In-Some h.held (read_is g at.After-index-2 _ h.held (child_is g at.After-unwrap-child _ (place_is g at.After-child_at k.wire _ (at_wire g at.After-unwrap-wire k.asks.at k.wire k.asks.here.held k.asks.place k.asks.here.is k.wire_is) k.found)) h.is) in
     let same = own_is g at.After-own_at-own (now_is g at.After-setting-at) (ready_is g at.After-setting-at) in
-    let index = c.len.ensures ∙ ap (λ (l : List Kept). length l) c.in_ok-pay_sender.ensures.same in
-    let paid = c.in_ok-pay_sender.ensures.paid in
-    let got = was_served i.actors.items s events i.present a.sender a.here a.is x z (first_is i.actors.items s events i.present a.sender a.here x c.index_mut-sender.ensures.value) paid.follows paid.awaits
-    y own c.take_in-did.result.idle paid.name paid.descriptors paid.ended paid.status (taken_at z y c.own_at-own.result own _ (length events) c.take_in-did.result.idle same index c.take_in-did.ensures.taken) in
+    let index = c.len.ensures ∙ ap (λ (l : List Kept). length l) c.in_ok-pay_with_room.ensures.same in
+    let paid = c.in_ok-pay_with_room.ensures.paid in
+    let got = was_served i.actors.items s events i.present c.args.actor.now a.at a.parent a.here a.is x z read.1 paid.follows paid.awaits
+    y own c.take_in-did.result.idle paid.name paid.descriptors paid.ended paid.status paid.stays (taken_at z y c.own_at-own.result own _ (length events) c.take_in-did.result.idle same index c.take_in-did.ensures.taken) in
     let event = put_is g at.After-put own same in
     let len : c.len-room.result ≡ length i.actors.items = c.len-room.ensures ∙ i.actors.ok.0 in
-    let bound = living_set i.actors.items 0 y in
-    let first = mouth_is g at.After-index_mut k.many in (
-      rw (event) (status_keeps told i.crew places i.actors.items i.mouths.items i.books.entries.items events i.present i.next_pid i.bounces a.sender c.self.invariant.0 c.self.invariant.3 a.is a.alive a.here k.child k.runs h came ended (a.next ∙ k.due_is) y got.0),
-      c.put.ensures.room (living (set i.actors.items 0 y)) (room_less c.pay_sender.new.history (c.len-room.result + 1) (living (set i.actors.items 0 y) + 1) (omega (arith, len, bound)) c.in_ok-pay_sender.ensures.holds),
-      rw (event) (status_booked told i.crew places i.actors.items i.mouths.items (entries_of i.books) events i.present i.next_pid i.bounces a.sender c.self.invariant.0 c.self.invariant.3 a.is a.alive a.here k.child k.runs h came ended (a.next ∙ k.due_is) y got.0 c.self.invariant.2),
-      rw (event) (status_piped told i.crew places i.actors.items i.mouths.items i.books.entries.items events i.present i.next_pid i.bounces a.sender c.self.invariant.0 c.self.invariant.3 a.is a.alive a.here k.child k.runs h came ended (a.next ∙ k.due_is) y got.0
-          c.index_mut.result.now c.free.new.self first c.free.ensures.pipes c.free.ensures.tenants c.free.ensures.slots),
-      rw (event) (still_starts i.starts i.crew places events (kept.Act (codes "sender") own) refl c.self.invariant.4),
+    let bound = living_set i.actors.items a.at y in
+    let first = mouth_is g at.After-index_mut k.wire wire k.low in (
+      rw (event, read.0) (status_keeps told i.crew places i.actors.items i.mouths.items i.books.entries.items events i.present i.next_pid i.bounces c.args.actor.now a.at a.parent c.self.invariant.0 c.self.invariant.3 a.is a.alive a.here k.child k.runs h came ended (a.next ∙ k.due_is) y got.0),
+      rw (read.0) (c.put.ensures.room (living (set i.actors.items a.at y)) (room_less c.pay_with_room.new.history (c.len-room.result + 1) (living (set i.actors.items a.at y) + 1) (omega (arith, len, bound)) c.in_ok-pay_with_room.ensures.holds)),
+      rw (event, read.0) (status_booked told i.crew places i.actors.items i.mouths.items (entries_of i.books) events i.present i.next_pid i.bounces c.args.actor.now a.at a.parent c.self.invariant.0 c.self.invariant.3 a.is a.alive a.here k.child k.runs h came ended (a.next ∙ k.due_is) y got.0 c.self.invariant.2),
+      rw (event, read.0, wire) (status_piped told i.crew places i.actors.items i.mouths.items i.books.entries.items events i.present i.next_pid i.bounces c.args.actor.now a.at a.parent c.self.invariant.0 c.self.invariant.3 a.is a.alive a.here k.child k.runs h came ended (a.next ∙ k.due_is) y got.0
+          k.wire k.wire_is c.index_mut.result.now c.free.new.self first c.free.ensures.pipes c.free.ensures.tenants c.free.ensures.ended c.free.ensures.slots),
+      rw (event) (still_starts i.starts i.crew places events (kept.Act c.args.actor.now own) refl c.self.invariant.4),
     )
 
 pub returns-clause-served : goal.returns-clause-served
@@ -237,17 +305,19 @@ returns-clause-served g c =
     let k = due_here g at.After-setting-at in
     let a = k.asks in
     let h = k.here in
-    let x = c.index_mut-sender.result.now in
-    let z = c.pay_sender.new.sender in
-    let y = c.take_in-did.new.sender in
+    let x = c.index_mut-parent.result.now in
+    let z = c.pay_with_room.new.actor in
+    let y = c.take_in-did.new.actor in
+    let read = parent_read g at.After-index_mut-parent a.at a.here.held a.place a.here.is in
+    let wire = at_wire g at.After-unwrap-wire k.asks.at k.wire k.asks.here.held k.asks.place k.asks.here.is k.wire_is in
     let came = c.in-Some.came in
-    let own = status_own events i.present came in
-    let ended = came_is g at.In-Some h.held (read_is g at.After-index _ h.held (child_is g at.After-unwrap-child _ (place_is g at.After-child_at _ k.found)) h.is) in
+    let own = status_own events i.present c.args.actor.now came in
+    let ended = came_is g at.In-Some h.held (read_is g at.After-index-2 _ h.held (child_is g at.After-unwrap-child _ (place_is g at.After-child_at k.wire _ (at_wire g at.After-unwrap-wire k.asks.at k.wire k.asks.here.held k.asks.place k.asks.here.is k.wire_is) k.found)) h.is) in
     let same = own_is g at.After-own_at-own (now_is g at.After-setting-at) (ready_is g at.After-setting-at) in
-    let index = c.len.ensures ∙ ap (λ (l : List Kept). length l) c.in_ok-pay_sender.ensures.same in
-    let paid = c.in_ok-pay_sender.ensures.paid in
-    let got = was_served i.actors.items s events i.present a.sender a.here a.is x z (first_is i.actors.items s events i.present a.sender a.here x c.index_mut-sender.ensures.value) paid.follows paid.awaits
-    y own c.take_in-did.result.idle paid.name paid.descriptors paid.ended paid.status (taken_at z y c.own_at-own.result own _ (length events) c.take_in-did.result.idle same index c.take_in-did.ensures.taken) in
+    let index = c.len.ensures ∙ ap (λ (l : List Kept). length l) c.in_ok-pay_with_room.ensures.same in
+    let paid = c.in_ok-pay_with_room.ensures.paid in
+    let got = was_served i.actors.items s events i.present c.args.actor.now a.at a.parent a.here a.is x z read.1 paid.follows paid.awaits
+    y own c.take_in-did.result.idle paid.name paid.descriptors paid.ended paid.status paid.stays (taken_at z y c.own_at-own.result own _ (length events) c.take_in-did.result.idle same index c.take_in-did.ensures.taken) in
     let did = c.take_in-did.ensures.did in
-    rw (← c.self.view_is, put_is g at.After-put own same) (status_serves told i.crew places i.actors.items i.mouths.items i.books.entries.items events i.present i.next_pid i.bounces a.sender c.self.invariant.0 c.self.invariant.3 a.is a.alive a.here k.child k.runs h came ended
+    rw (← c.self.view_is, put_is g at.After-put own same) (status_serves told i.crew places i.actors.items i.mouths.items i.books.entries.items events i.present i.next_pid i.bounces c.args.actor.now a.at a.parent c.self.invariant.0 c.self.invariant.3 a.is a.alive a.here k.child k.runs h came ended
     (a.next ∙ k.due_is) g.D.CallFs.disk i.disk refl c.take_in-did.result (did.0 ∙ index) did.1 got.1)

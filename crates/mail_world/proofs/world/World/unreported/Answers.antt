@@ -1,4 +1,4 @@
-use Rattle.std.proofs.Common.{◌≡◌, ◌<◌, ◌&&◌, List, length, true, false, sym, subst}
+use Rattle.std.proofs.Common.{◌≡◌, ◌<◌, ◌&&◌, List, length, Bool, true, false, sym, ◌∙◌, subst}
 use Rattle.std.specs.Prelude.{take}
 use Rattle.std.specs.List.{slice_get}
 use Rattle.world_pipes.specs.declared.mouths.Mouths.{Mouths}
@@ -16,13 +16,14 @@ first_unreported-requires g c =
     let i = c.self.inside in
     λ lives. subst (λ (l : List Mouths). 3 < length l) (sym c.deref-2.ensures.value)
     (spawner_piped i.crew i.mouths.items i.actors.items (known i.history.events.items) i.history.events.items c.self.invariant.3
-    (subst (λ (l : List Held). lasts (slice_get (take i.crew l) 3) ≡ true) c.deref.ensures.value lives))
+    (subst (λ (l : List Held). lasts (slice_get (take i.crew l) 3) ≡ true) c.deref.ensures.value (sym c.spawner_lives-lives.ensures ∙ lives)))
 
 pub returns : goal.returns
 returns g c =
     let i = c.self.inside in
     let here = subst (λ (l : List Held). IsLowest (λ d. lasts (slice_get (take i.crew l) 3) && is_remote false (tenant_in (slice_get c.deref-2.result.now 3) d)) c.args.from c.first_unreported.result)
-    c.deref.ensures.value c.first_unreported.ensures in
+    c.deref.ensures.value
+    (subst (λ (t : Bool). IsLowest (λ d. t && is_remote false (tenant_in (slice_get c.deref-2.result.now 3) d)) c.args.from c.first_unreported.result) c.spawner_lives-lives.ensures c.first_unreported.ensures) in
     let low = subst (λ (l : List Mouths). IsLowest (λ d. lasts (slice_get (take i.crew i.actors.items) 3) && is_remote false (tenant_in (slice_get l 3) d)) c.args.from c.first_unreported.result)
     c.deref-2.ensures.value here in
     rw (← c.self.view_is) (lowest_told i.crew (place_of i.places) i.mouths.items i.actors.items (known i.history.events.items) i.history.events.items i.present c.args.from c.first_unreported.result

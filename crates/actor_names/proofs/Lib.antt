@@ -1,0 +1,2 @@
+-- names of children
+pub mod Children

@@ -1,0 +1,239 @@
+-- Events of others than the sender and the local spawner, and their ends.
+use Rattle.std.specs.Prelude.{Contains}
+use Rattle.std.proofs.Common.{◌≡◌, ◌≢◌, ℕ, List, ◌∷◌, Bool, true, false, Option, Some, None, refl, sym, ap, ◌∙◌, subst, codes, if◌then◌else◌}
+use Rattle.actor_names.specs.MailNames.{members}
+use Rattle.address_rules.specs.declared.controls.Controls.{Controls}
+use Rattle.call_fs.specs.Maps.{put_at}
+use Rattle.call_fs.proofs.Maps.{put_at_other, put_at_same}
+use Rattle.call_fs.specs.declared.past.GotData.{GotData}
+use Rattle.call_fs.specs.declared.past.NeedData.{NeedData}
+use Rattle.call_fs.specs.declared.past.NeedData.TheVariants as needs
+use Rattle.call_fs.specs.declared.past.Own.{Own}
+use Rattle.call_fs.specs.declared.calls.CallData.{CallData}
+use Rattle.call_fs.specs.declared.calls.CallData.TheVariants as call
+use Rattle.call_fs.specs.declared.program.Port.TheVariants as port
+use Rattle.call_fs.specs.declared.program.Ready.{Ready}
+use Rattle.local_deliver.specs.Table.{place_after as delivery_after}
+use Rattle.post_law.specs.Posts.{Posted}
+use Rattle.post_law.specs.Senders.{IsFirst}
+use Rattle.post_law.proofs.Asks.{losses_keep}
+use Rattle.queue_clean.specs.declared.row.Row.{Row as CleanRow}
+use Rattle.queue_clean.specs.declared.row.Row.TheVariants as clean
+use Rattle.queue_clean.specs.Table.{due_at as clean_due, is_old, pid_path, place_after as clean_after, search_after}
+use Rattle.queue_inject.proofs.Acts.{IsAlone, next_alone}
+use Rattle.remote_spawn.specs.Table.{due_from as remote_due, place_after as remote_after}
+use Rattle.spawner_parts.specs.declared.place.Place.{Place as SpawnPlace}
+use Rattle.spawner_parts.specs.declared.row.Row.{Row as SpawnRow}
+use Rattle.spawner_parts.specs.declared.row.Row.TheVariants as spawn
+use Rattle.spawner_parts.specs.Table.{row_now as spawn_now}
+use Rattle.world_pipes.specs.Pipework.{Pipe, closed, is_writer, pipes_after, programs_after, writer}
+use Rattle.world_pipes.specs.Pipework.Tenant.{Runs}
+use Rattle.world_events.specs.declared.event.Program.{Program}
+use Rattle.world_events.specs.declared.event.Program.TheVariants.{Injector, Cleaner, Sender, LocalSpawner, RemoteSpawner, Delivery}
+use Rattle.mail_world.specs.History.{Actor, Life, State, acted, finished, next_of}
+use Rattle.mail_world.specs.History.Life.{Alive, Over}
+use Rattle.mail_world.proofs.Members.{member_contained}
+use Rattle.world_law.specs.Crew.{IsNamed, is_alive}
+use Rattle.world_law.specs.Inv.{Inv}
+use Rattle.world_law.specs.Posts.{PostsStand, View, desk_in, place_in, post_of, sends_by, sends_in, serves_by, serves_in, view_of}
+use Rattle.world_law.proofs.Deliveries.{IsDelivering, row_delivers}
+use Rattle.world_law.proofs.PostPipes.{IsCalm, asked_left, names_apart, programs_left, told_left}
+use Rattle.world_law.proofs.PostViews.{KeepsDone, halves, posts_left, put_keeps_done, put_seen, task_kept, view_same, was_kept}
+
+-- a program that is neither side
+abbrev pub IsNeither : Program → Type 0
+IsNeither (Sender since) = ⊥
+IsNeither (LocalSpawner since) = ⊥
+IsNeither program = Unit {0}
+
+-- it is seen as nobody
+pub neither_seen : (program : Program) → IsNeither program → (past : List Own) (life : Life) → halves (Some (record { program = program; past = past; life = life })) ≡ halves None
+neither_seen (Injector args) it past life = refl
+neither_seen (Cleaner since) it past life = refl
+neither_seen (RemoteSpawner since) it past life = refl
+neither_seen (Delivery since args) it past life = refl
+neither_seen (Sender since) it past life = absurd it
+neither_seen (LocalSpawner since) it past life = absurd it
+
+-- What it gives
+
+judged_calm : (old : Bool) (unlink : CallData) (name : List ℕ) → IsCalm (if old then needs.File unlink else search_after name)
+judged_calm true unlink name = tt
+judged_calm false unlink name = tt
+
+clean_calm : (row : CleanRow) (name : List ℕ) (now : ℕ) → IsCalm (clean_due row name now)
+clean_calm (clean.JudgePid moment) name now = judged_calm (is_old moment now) (call.Unlink (pid_path name)) name
+clean_calm row name now = tt
+
+remote_calm : (row : SpawnRow) (p : SpawnPlace) → IsCalm (remote_due row p)
+remote_calm spawn.Start p = tt
+remote_calm row p = tt
+
+alone_calm : (due : NeedData) → IsAlone due → IsCalm due
+alone_calm (needs.Give p bytes) alone = absurd alone
+alone_calm due alone = tt
+
+delivering_calm : (due : NeedData) → IsDelivering due → IsCalm due
+delivering_calm (needs.Give port.Lspawn bytes) it = it
+delivering_calm due it = tt
+
+neither_calm : (program : Program) → IsNeither program → (past : List Own) (now : ℕ) (ready : Ready) → IsCalm (next_of program past now ready)
+neither_calm (Injector args) it past now ready = alone_calm (next_of (Injector args) past now ready) (next_alone args past now ready)
+neither_calm (Cleaner since) it past now ready = let p = clean_after past in clean_calm p.row p.name now
+neither_calm (RemoteSpawner since) it past now ready = let p = remote_after past in remote_calm (spawn_now p ready) p
+neither_calm (Delivery since args) it past now ready = let p = delivery_after args past in delivering_calm (next_of (Delivery since args) past now ready) (row_delivers args p.row p)
+neither_calm (Sender since) it past now ready = absurd it
+neither_calm (LocalSpawner since) it past now ready = absurd it
+
+-- no member runs in a slot
+pub tenant_not : (controls : Controls) (s : State) → Inv controls s → (a : List ℕ) (d : ℕ) (b : List ℕ) → s.pipework.programs a d ≡ Some (Runs b) → b ≢ codes "lspawn"
+tenant_not controls s I a d b runs same = (I.tenants a d (Runs b) runs).apart (subst (λ (n : List ℕ). Contains members n) (sym same) (member_contained (codes "lspawn") refl))
+
+-- by its name it is neither side; an injector may have any name, but gives and takes nothing
+pub record IsAside (s : State) (a : List ℕ) (due : NeedData) (came : GotData) (wrote : ℕ) : Type 0 where
+  pub told : (pipes_after s.pipework a due came wrote (codes "sender") port.Lspawn).bytes ≡ (s.pipework.pipes (codes "sender") port.Lspawn).bytes
+  pub asked : (pipes_after s.pipework a due came wrote (codes "lspawn") port.Input).bytes ≡ (s.pipework.pipes (codes "lspawn") port.Input).bytes
+  pub slots : (slot : ℕ) → programs_after s.pipework.programs a due came (codes "lspawn") slot ≡ s.pipework.programs (codes "lspawn") slot
+
+alone_aside : (s : State) (a : List ℕ) (due : NeedData) (came : GotData) (wrote : ℕ) → IsAlone due → IsAside s a due came wrote
+alone_aside s a (needs.File c) came wrote alone = record { told = refl; asked = refl; slots = λ slot. refl }
+alone_aside s a (needs.Ended status) came wrote alone = record { told = refl; asked = refl; slots = λ slot. refl }
+alone_aside s a needs.Wait came wrote alone = record { told = refl; asked = refl; slots = λ slot. refl }
+alone_aside s a due came wrote alone = absurd alone
+
+named_aside : (controls : Controls) (s : State) → Inv controls s → (a : List ℕ) (due : NeedData) (came : GotData) (wrote : ℕ) → IsCalm due → a ≢ codes "lspawn" → a ≢ codes "sender"
+    → IsAside s a due came wrote
+named_aside controls s I a due came wrote calm apart other = record {
+  told = told_left s.pipework a due came wrote apart other;
+  asked = asked_left s.pipework a (tenant_not controls s I a) due came wrote calm apart;
+  slots = λ slot. programs_left s.pipework a due came slot apart;
+}
+
+at_name : (a name : List ℕ) → a ≡ name → name ≢ codes "lspawn" → name ≢ codes "sender" → (a ≢ codes "lspawn") × (a ≢ codes "sender")
+at_name a name is apart other = (λ same. apart (sym is ∙ same), λ same. other (sym is ∙ same))
+
+no_member : (a : List ℕ) → (Contains members a → ⊥) → (a ≢ codes "lspawn") × (a ≢ codes "sender")
+no_member a apart = (
+  λ same. apart (subst (λ (n : List ℕ). Contains members n) (sym same) (member_contained (codes "lspawn") refl)),
+  λ same. apart (subst (λ (n : List ℕ). Contains members n) (sym same) (member_contained (codes "sender") refl)),
+)
+
+neither_aside : (controls : Controls) (s : State) → Inv controls s → (a : List ℕ) (program : Program) → IsNeither program → IsNamed a program → (past : List Own) (read : ℕ) (ready : Ready) (came : GotData) (wrote : ℕ)
+    → IsAside s a (next_of program past read ready) came wrote
+neither_aside controls s I a (Injector args) it named past read ready came wrote =
+    alone_aside s a (next_of (Injector args) past read ready) came wrote (next_alone args past read ready)
+neither_aside controls s I a (Cleaner since) it named past read ready came wrote =
+    let w = at_name a (codes "clean") named (names_apart (codes "clean") (codes "lspawn") refl) (names_apart (codes "clean") (codes "sender") refl) in
+    named_aside controls s I a (next_of (Cleaner since) past read ready) came wrote (neither_calm (Cleaner since) it past read ready) w.0 w.1
+neither_aside controls s I a (RemoteSpawner since) it named past read ready came wrote =
+    let w = at_name a (codes "rspawn") named (names_apart (codes "rspawn") (codes "lspawn") refl) (names_apart (codes "rspawn") (codes "sender") refl) in
+    named_aside controls s I a (next_of (RemoteSpawner since) past read ready) came wrote (neither_calm (RemoteSpawner since) it past read ready) w.0 w.1
+neither_aside controls s I a (Delivery since args) it named past read ready came wrote =
+    let w = no_member a named in
+    named_aside controls s I a (next_of (Delivery since args) past read ready) came wrote (neither_calm (Delivery since args) it past read ready) w.0 w.1
+neither_aside controls s I a (Sender since) it named past read ready came wrote = absurd it
+neither_aside controls s I a (LocalSpawner since) it named past read ready came wrote = absurd it
+
+-- An event of it
+
+pub neither_acts : (controls : Controls) (s : State) → Inv controls s → PostsStand s → (a : List ℕ) (own : Own) (wrote : ℕ) (x : Actor) → s.actors a ≡ Some x → IsNeither x.program
+    → next_of x.program x.past own.read own.ready ≡ own.due → PostsStand (acted s a own wrote (Some x))
+neither_acts controls s I P a own wrote x is it due =
+    let y : Actor = record { program = x.program; past = own ∷ x.past; life = x.life } in
+    let aside : IsAside s a own.due own.came wrote =
+    subst (λ (d : NeedData). IsAside s a d own.came wrote) due (neither_aside controls s I a x.program it (I.crew a x is) x.past own.read own.ready own.came wrote) in
+    let seen : halves (Some y) ≡ halves (s.actors a) = neither_seen x.program it (own ∷ x.past) x.life ∙ sym (neither_seen x.program it x.past x.life) ∙ ap halves (sym is) in
+    posts_left s (acted s a own wrote (Some x)) (record {
+      view = view_same s.actors (put_at s.actors a (Some y)) s.pipework (acted s a own wrote (Some x)).pipework
+          (put_seen halves s.actors a y (codes "sender") seen) (put_seen halves s.actors a y (codes "lspawn") seen) aside.told aside.asked;
+      keeps = put_keeps_done s.actors a x y is refl (λ h. h);
+      slots = aside.slots;
+    }) P
+
+-- An end or a stop
+
+bytes_shut : (t : Bool) (p : Pipe) → (if t then closed p else p).bytes ≡ p.bytes
+bytes_shut true p = refl
+bytes_shut false p = refl
+
+module _ (s : State) (P : PostsStand s) (a : List ℕ) (x : Actor) (is : s.actors a ≡ Some x) (alive : x.life ≡ Alive) (life : Life) (dead : is_alive life ≡ false) where
+  abbrev gone : Actor
+  gone = record { program = x.program; past = x.past; life = life }
+
+  abbrev over : State
+  over = finished s a life (Some x)
+
+  told_shut : (over.pipework.pipes (codes "sender") port.Lspawn).bytes ≡ (s.pipework.pipes (codes "sender") port.Lspawn).bytes
+  told_shut = bytes_shut (is_writer a (writer s.pipework (codes "sender") port.Lspawn)) (s.pipework.pipes (codes "sender") port.Lspawn)
+
+  asked_shut : (over.pipework.pipes (codes "lspawn") port.Input).bytes ≡ (s.pipework.pipes (codes "lspawn") port.Input).bytes
+  asked_shut = bytes_shut (is_writer a (writer s.pipework (codes "lspawn") port.Input)) (s.pipework.pipes (codes "lspawn") port.Input)
+
+  -- it had not ended with 0
+  keeps_over : KeepsDone s.actors over.actors
+  keeps_over = put_keeps_done s.actors a x gone is refl (λ h. let w : Alive ≡ Over 0 = sym alive ∙ h in absurd (cc))
+
+  -- with another view
+  seen_over : (v : View) → view_of over.actors over.pipework ≡ v → Posted (post_of v P.tasks P.last P.done) → IsFirst v.desk.row v.desk → PostsStand over
+  seen_over v same posted first = record {
+    tasks = P.tasks;
+    last = P.last;
+    done = P.done;
+    posted = subst (λ (u : View). Posted (post_of u P.tasks P.last P.done)) (sym same) posted;
+    first = subst (λ (u : View). IsFirst u.desk.row u.desk) (sym same) first;
+    run = λ slot k there. task_kept s over keeps_over slot k refl (P.run slot k there);
+    was = λ d among. was_kept s over keeps_over d (P.was d among);
+  }
+
+  neither_over : IsNeither x.program → PostsStand over
+  neither_over it =
+      let seen : halves (Some gone) ≡ halves (s.actors a) = neither_seen x.program it x.past life ∙ sym (neither_seen x.program it x.past x.life) ∙ ap halves (sym is) in
+      posts_left s over (record {
+        view = view_same s.actors over.actors s.pipework over.pipework
+            (put_seen halves s.actors a gone (codes "sender") seen) (put_seen halves s.actors a gone (codes "lspawn") seen) told_shut asked_shut;
+        keeps = keeps_over;
+        slots = λ slot. refl;
+      }) P
+
+  -- the sender is lost
+  sender_over : (began : ℕ) → x.program ≡ Sender began → a ≡ codes "sender" → PostsStand over
+  sender_over began runs name =
+      let here : over.actors (codes "sender") ≡ Some gone = ap over.actors (sym name) ∙ put_at_same s.actors a (Some gone) in
+      let there : over.actors (codes "lspawn") ≡ s.actors (codes "lspawn") = put_at_other s.actors a (Some gone) (codes "lspawn") (λ same. apart (same ∙ name)) in
+      let desk_is : desk_in (over.actors (codes "sender")) ≡ desk_in (s.actors (codes "sender")) = put_seen desk_in s.actors a gone (codes "sender") (ap desk_in (sym is)) in
+      let sends_is : sends_in (over.actors (codes "sender")) ≡ false = ap sends_in here ∙ ap (λ (p : Program). sends_by p life) runs ∙ dead in
+      let lost : View = record (view_of s.actors s.pipework) { sends = false } in
+      seen_over lost
+      (λ i. record { desk = desk_is i; sends = sends_is i; place = place_in (there i); serves = serves_in (there i); told = told_shut i; asked = asked_shut i })
+      (losses_keep.lost (post_of (view_of s.actors s.pipework) P.tasks P.last P.done) P.posted) P.first
+    where
+      apart : codes "lspawn" ≢ codes "sender"
+      apart = names_apart (codes "lspawn") (codes "sender") refl
+
+  -- or the local spawner is
+  spawner_over : (began : ℕ) → x.program ≡ LocalSpawner began → a ≡ codes "lspawn" → PostsStand over
+  spawner_over began runs name =
+      let here : over.actors (codes "lspawn") ≡ Some gone = ap over.actors (sym name) ∙ put_at_same s.actors a (Some gone) in
+      let there : over.actors (codes "sender") ≡ s.actors (codes "sender") = put_at_other s.actors a (Some gone) (codes "sender") (λ same. apart (same ∙ name)) in
+      let place_is : place_in (over.actors (codes "lspawn")) ≡ place_in (s.actors (codes "lspawn")) = put_seen place_in s.actors a gone (codes "lspawn") (ap place_in (sym is)) in
+      let serves_is : serves_in (over.actors (codes "lspawn")) ≡ false = ap serves_in here ∙ ap (λ (p : Program). serves_by p life) runs ∙ dead in
+      let stopped : View = record (view_of s.actors s.pipework) { serves = false } in
+      seen_over stopped
+      (λ i. record { desk = desk_in (there i); sends = sends_in (there i); place = place_is i; serves = serves_is i; told = told_shut i; asked = asked_shut i })
+      (losses_keep.stopped (post_of (view_of s.actors s.pipework) P.tasks P.last P.done) P.posted) P.first
+    where
+      apart : codes "sender" ≢ codes "lspawn"
+      apart = names_apart (codes "sender") (codes "lspawn") refl
+
+  over_by : (program : Program) → x.program ≡ program → IsNamed a program → PostsStand over
+  over_by (Sender began) runs name = sender_over began runs name
+  over_by (LocalSpawner began) runs name = spawner_over began runs name
+  over_by (Injector args) runs name = neither_over (subst IsNeither (sym runs) tt)
+  over_by (Cleaner began) runs name = neither_over (subst IsNeither (sym runs) tt)
+  over_by (RemoteSpawner began) runs name = neither_over (subst IsNeither (sym runs) tt)
+  over_by (Delivery began args) runs name = neither_over (subst IsNeither (sym runs) tt)
+
+pub ends_leave : (controls : Controls) (s : State) → Inv controls s → PostsStand s → (a : List ℕ) (x : Actor) → s.actors a ≡ Some x → x.life ≡ Alive → (life : Life) → is_alive life ≡ false
+    → PostsStand (finished s a life (s.actors a))
+ends_leave controls s I P a x is alive life dead =
+    subst (λ (o : Option Actor). PostsStand (finished s a life o)) (sym is) (over_by s P a x is alive life dead x.program refl (I.crew a x is))

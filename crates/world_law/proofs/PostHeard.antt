@@ -1,0 +1,173 @@
+-- What the sender hears of the local spawner: each report is of an attempt in flight, and a K report of one that was carried out.
+use Rattle.std.proofs.Common.{◌≡◌, ◌≢◌, ◌⊎◌, inl, inr, ⊎_elim, ℕ, List, [], ◌∷◌, ◌++◌, true, Option, Some, None, refl, sym, ap, ◌∙◌, subst, codes}
+use Rattle.address_rules.specs.declared.controls.Controls.{Controls}
+use Rattle.call_fs.specs.declared.past.GotData.{GotData}
+use Rattle.call_fs.specs.declared.past.GotData.TheVariants as got
+use Rattle.call_fs.specs.declared.past.NeedData.{NeedData}
+use Rattle.call_fs.specs.declared.past.NeedData.TheVariants as needs
+use Rattle.call_fs.specs.declared.past.Own.{Own}
+use Rattle.call_fs.specs.declared.program.Port.TheVariants as port
+use Rattle.call_fs.specs.declared.program.Ready.{Ready}
+use Rattle.post_law.specs.Laws.{AreHeard, IsHeard, WasDelivered}
+use Rattle.post_law.specs.Posts.{Done, Post, freed}
+use Rattle.post_law.specs.Senders.{IsFirst, IsQuiet, heard_at, is_on}
+use Rattle.post_law.proofs.Asks.{greets_keep}
+use Rattle.post_law.proofs.Aways.{IsAway, control_away, row_away, start_away}
+use Rattle.post_law.proofs.Desks.{desks_tell}
+use Rattle.post_law.proofs.Hears.{hears_keep}
+use Rattle.send_core.specs.declared.desk.Desk.{Desk}
+use Rattle.send_core.specs.declared.row.Row.{Row}
+use Rattle.send_core.specs.declared.row.Row.TheVariants as at
+use Rattle.send_core.specs.Desk.{link, told, with_reader}
+use Rattle.send_core.specs.Table.{arrive, desk_after, due_at, row_now}
+use Rattle.send_jobs.specs.declared.attempts.Attempt.{Attempt}
+use Rattle.send_jobs.specs.declared.channels.Channel.TheVariants.{Local, Remote}
+use Rattle.send_jobs.specs.Sending.{lane}
+use Rattle.send_jobs.specs.Slots.{attempt_in}
+use Rattle.send_steps.specs.declared.rows.StartRow.{StartRow}
+use Rattle.send_steps.specs.declared.rows.StartRow.TheVariants as start
+use Rattle.spawn_protocol.specs.declared.report.Report.{Report}
+use Rattle.spawn_protocol.specs.Report.{Reader, read_on}
+use Rattle.sender_law.proofs.Awaits.{Begins, point_begins}
+use Rattle.world_pipes.specs.Pipework.{Yields}
+use Rattle.world_events.specs.declared.event.Program.{Program}
+use Rattle.world_events.specs.declared.event.Program.TheVariants.{Sender}
+use Rattle.mail_world.specs.History.{Actor, ComesOf, Life, State, after, next_of}
+use Rattle.mail_world.specs.History.Life.{Alive}
+use Rattle.world_law.specs.Crew.{IsNamed}
+use Rattle.world_law.specs.Headline.{EndsWell}
+use Rattle.world_law.specs.Inv.{Inv}
+use Rattle.world_law.specs.Posts.{HearsWell, IsDeliveredTo, IsReportOf, KReportsAreCarried, PostsStand, WasDone}
+use Rattle.world_law.proofs.Histories.{always}
+use Rattle.world_law.proofs.PostKept.{posts_always}
+use Rattle.world_law.proofs.PostSends.{sender_first, sender_post, sender_posted}
+use Rattle.world_law.proofs.Safe.{inv_is_safe}
+use Rattle.world_law.proofs.SendersPut.{sender}
+use Rattle.world_law.proofs.Tenants.{some_actor}
+
+-- At which rows it takes from the local spawner
+
+start_takes : (row : StartRow) (d : Desk) → due_at (at.Start row) d ≡ needs.Take port.Lspawn → at.Start row ≡ at.Start start.GreetLocal
+start_takes start.GreetLocal d due = refl
+start_takes (start.Control f reading) d due = absurd (subst IsAway due (control_away f reading d))
+start_takes (start.GreetRemote limit) d due = absurd (cc)
+start_takes row d due = absurd (subst IsAway due (start_away row d refl))
+
+takes_at : (row : Row) (d : Desk) → due_at row d ≡ needs.Take port.Lspawn → (row ≡ at.TakeLink Local) ⊎ (row ≡ at.Start start.GreetLocal)
+takes_at (at.TakeLink Local) d due = inl refl
+takes_at (at.TakeLink Remote) d due = absurd (cc)
+takes_at (at.Start row) d due = inr (start_takes row d due)
+takes_at (at.Turn p) d due = absurd (cc)
+takes_at (at.Request Local) d due = absurd (cc)
+takes_at (at.Request Remote) d due = absurd (cc)
+takes_at (at.Ended status) d due = absurd (cc)
+takes_at row d due = absurd (subst IsAway due (row_away row d tt))
+
+-- at a link it holds of a report what came before
+link_heard : (row : Row) (d : Desk) (read : ℕ) (ready : Ready) (reader : Reader) → arrive row d read ready ≡ at.TakeLink Local → heard_at row Local reader ≡ Some reader
+link_heard (at.Start row) d read ready reader is = absurd (cc)
+link_heard row d read ready reader is = refl
+
+link_on : (row : Row) (d : Desk) (read : ℕ) (ready : Ready) → arrive row d read ready ≡ at.TakeLink Local → is_on row ≡ true
+link_on (at.Ended status) d read ready is = absurd (cc)
+link_on row d read ready is = refl
+
+-- and the first byte it takes in its start
+greet_row : (row : Row) (d : Desk) (read : ℕ) (ready : Ready) → arrive row d read ready ≡ at.Start start.GreetLocal → row ≡ at.Start start.GreetLocal
+greet_row (at.Start row) d read ready is = is
+greet_row (at.Turn p) d read ready is = let none : ⊥ = subst Begins is (point_begins d read ready p) in absurd none
+greet_row row d read ready is = absurd (cc)
+
+-- What was done
+
+module _ (controls : Controls) (s : State) (I : Inv controls s) (P : PostsStand s) where
+  pub was_delivered : (x : Done) (address : List ℕ) → WasDone s x → x.task.recipient ≡ address → IsDeliveredTo s address
+  was_delivered x address was recipient =
+      let it : EndsWell s.books x.task.name was.is_for.delivery.program was.is_for.delivery.past =
+      (inv_is_safe controls s I).ends x.task.name was.is_for.delivery was.is_for.is was.over in
+      record {
+        name = x.task.name;
+        delivery = was.is_for.delivery;
+        is = was.is_for.is;
+        over = was.over;
+        start = was.is_for.start;
+        args = was.is_for.args;
+        program = was.is_for.program;
+        recipient = sym recipient ∙ was.is_for.recipient;
+        carried = subst (λ (z : Program). EndsWell s.books x.task.name z was.is_for.delivery.past) was.is_for.program it;
+      }
+
+  is_delivered : (slot : ℕ) (t : Attempt) → WasDelivered P.done slot t.address → IsDeliveredTo s t.address
+  is_delivered slot t h = was_delivered h.it t.address (P.was h.it h.among) h.recipient_is
+
+  report_of : (r : Report) (o : Option Attempt) → IsHeard Local P.done r o → IsReportOf s r o
+  report_of r None h = h
+  report_of r (Some t) h = λ success. is_delivered r.slot t (h success)
+
+  -- one report after the other
+  hears_well : (rs : List Report) (slots : List (Option Attempt)) (d : Desk) → (lane Local d.slots).slots ≡ slots → AreHeard Local P.done rs slots → HearsWell s rs d
+  hears_well [] slots d same h = tt
+  hears_well (r ∷ rs) slots d same h = (
+    report_of r (attempt_in (lane Local d.slots).slots r.slot) (subst (λ (o : List (Option Attempt)). IsHeard Local P.done r (attempt_in o r.slot)) (sym same) h.0),
+    hears_well rs (freed r slots) (told Local r d) (desks_tell.one Local r d ∙ ap (freed r) same) h.1,
+  )
+
+  module _ (own : Own) (began : ℕ) (past : List Own) (is : s.actors (codes "sender") ≡ Some (sender began past)) where
+    abbrev d : Desk
+    d = desk_after None past
+
+    abbrev reader : Reader
+    reader = (link Local d).reader
+
+    abbrev post : Post
+    post = sender_post s P began past is
+
+    abbrev Hears : List ℕ → Type 0
+    Hears bytes = let it = read_on reader bytes in HearsWell s it.0 (with_reader Local it.1 d)
+
+    module _ (bytes rest : List ℕ) (some : bytes ≢ []) (lies : (s.pipework.pipes (codes "sender") port.Lspawn).bytes ≡ bytes ++ rest) where
+      -- reports
+      pub link_hears : row_now d own.read own.ready ≡ at.TakeLink Local → AreHeard Local P.done (read_on reader bytes).0 (lane Local d.slots).slots
+      link_hears row =
+          (hears_keep reader bytes rest post (sender_posted s P began past is) (link_on d.row d own.read own.ready row) (link_heard d.row d own.read own.ready reader row) lies).each
+
+      of_link : row_now d own.read own.ready ≡ at.TakeLink Local → Hears bytes
+      of_link row = let it = read_on reader bytes in hears_well it.0 (lane Local d.slots).slots (with_reader Local it.1 d) refl (link_hears row)
+
+      -- or the first byte, which ends none
+      of_greeting : row_now d own.read own.ready ≡ at.Start start.GreetLocal → Hears bytes
+      of_greeting row =
+          let at_row : d.row ≡ at.Start start.GreetLocal = greet_row d.row d own.read own.ready row in
+          let quiet : IsQuiet d = subst (λ (z : Row). IsFirst z d) at_row (sender_first s P began past is) refl in
+          let byte = (greets_keep bytes rest post (sender_posted s P began past is) (ap is_on at_row) (ap (λ (z : Row). heard_at z Local reader) at_row) lies some).byte in
+          let none : (read_on reader bytes).0 ≡ [] = λ i. (read_on (quiet.unread Local i) (byte i)).0 in
+          subst (λ (rs : List Report). HearsWell s rs (with_reader Local (read_on reader bytes).1 d)) (sym none) tt
+
+      of_taking : due_at (row_now d own.read own.ready) d ≡ needs.Take port.Lspawn → Hears bytes
+      of_taking due = ⊎_elim of_link of_greeting (takes_at (row_now d own.read own.ready) d due)
+
+    taken_well : (wrote : ℕ) → due_at (row_now d own.read own.ready) d ≡ own.due → ComesOf s (codes "sender") own.due own.came wrote → own.due ≡ needs.Take port.Lspawn
+        → (bytes : List ℕ) → own.came ≡ got.Took bytes → Hears bytes
+    taken_well wrote due comes taking bytes came =
+        let yields : Yields (s.pipework.pipes (codes "sender") port.Lspawn) (got.Took bytes) =
+        subst (λ (c : GotData). ComesOf s (codes "sender") (needs.Take port.Lspawn) c wrote) came (subst (λ (n : NeedData). ComesOf s (codes "sender") n own.came wrote) taking comes) in
+        of_taking bytes yields.1.0 yields.0 yields.1.1 (due ∙ taking)
+
+  by_program : (a : List ℕ) (own : Own) (wrote : ℕ) (program : Program) (past : List Own) (life : Life) (began : ℕ) → program ≡ Sender began → life ≡ Alive → IsNamed a program
+      → s.actors a ≡ Some (record { program = program; past = past; life = life }) → next_of program past own.read own.ready ≡ own.due → ComesOf s a own.due own.came wrote
+      → own.due ≡ needs.Take port.Lspawn → (bytes : List ℕ) → own.came ≡ got.Took bytes
+      → let desk = desk_after None past in let it = read_on (link Local desk).reader bytes in HearsWell s it.0 (with_reader Local it.1 desk)
+  by_program a own wrote (Sender since) past Alive began e alive named is due comes taking bytes came =
+      taken_well own since past (subst (λ (b : List ℕ). s.actors b ≡ Some (sender since past)) named is) wrote due (subst (λ (b : List ℕ). ComesOf s b own.due own.came wrote) named comes) taking bytes came
+  by_program a own wrote (Sender since) past life began e alive named is due comes taking bytes came = absurd (cc)
+  by_program a own wrote other past life began e alive named is due comes taking bytes came = absurd (cc)
+
+pub k_reports_are_carried : KReportsAreCarried
+k_reports_are_carried controls d a own wrote before has legal x is began program taking bytes came =
+    let s = after d before in
+    let I = always controls d before has legal.0 in
+    let P = posts_always controls d before has legal.0 in
+    let may = legal.1 in
+    let same : may.actor ≡ x = some_actor may.actor x (sym may.reads.is ∙ is) in
+    by_program controls s I P a own wrote x.program x.past x.life began program (ap (λ (y : Actor). y.life) (sym same) ∙ may.reads.alive) (I.crew a x is) is
+    (subst (λ (y : Actor). next_of y.program y.past own.read own.ready ≡ own.due) same may.due) may.came taking bytes came

@@ -1,0 +1,5 @@
+use Rattle.world_law.proofs.Delivered.{delivered_are_carried}
+use Rattle.world_law.proofs.laws.delivered_are_carried.Goals as goal
+
+pub returns : goal.returns
+returns c = delivered_are_carried

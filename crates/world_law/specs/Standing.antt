@@ -1,0 +1,130 @@
+-- What else holds in each state of a legal history: of the numbers that a sender has in hand, of the channel files, and of injectors at work.
+use Rattle.std.specs.Prelude.{◌≡◌, ◌⊎◌, ℕ, List, ◌∷◌, true, Option, Some, None, Contains, codes}
+use Rattle.address_rules.specs.declared.controls.Controls.{Controls}
+use Rattle.call_fs.specs.Disk.{Disk, IsSynced}
+use Rattle.call_fs.specs.declared.calls.CallData.{CallData}
+use Rattle.call_fs.specs.declared.calls.CallData.TheVariants.{Link}
+use Rattle.call_fs.specs.declared.past.NeedData.TheVariants as needs
+use Rattle.call_fs.specs.declared.past.Own.{Own}
+use Rattle.channel_law.specs.Files.{IsOpen}
+use Rattle.envelope_records.specs.declared.channel.Record.{Record}
+use Rattle.queue_inject.specs.declared.injection.Arguments.{Arguments}
+use Rattle.queue_inject.specs.declared.row.Row.{Row}
+use Rattle.queue_inject.specs.declared.row.Row.TheVariants as at
+use Rattle.queue_inject.specs.Table.{row_after}
+use Rattle.queue_inject.specs.Texts.{intd_text, message_text}
+use Rattle.queue_law.specs.Accounts.{AreOfRecipients}
+use Rattle.queue_law.specs.Books.{Injection}
+use Rattle.queue_law.specs.Injectors.{InTime}
+use Rattle.queue_law.specs.Numbers.Role.{AsOld}
+use Rattle.queue_law.specs.Routes.{lane_part}
+use Rattle.queue_paths.specs.Names.{path}
+use Rattle.queue_paths.specs.Names.Name.{Of}
+use Rattle.queue_paths.specs.Names.Part.{Intd, Mess, Todo}
+use Rattle.queue_states.specs.declared.state.State.TheVariants.{S5}
+use Rattle.queue_states.specs.States.{state_of}
+use Rattle.send_core.specs.declared.desk.Desk.{Desk}
+use Rattle.send_core.specs.Desk.{due_on}
+use Rattle.send_core.specs.Table.{desk_after}
+use Rattle.send_jobs.specs.declared.attempts.Attempt.{Attempt}
+use Rattle.send_jobs.specs.declared.channels.Channel.{Channel}
+use Rattle.send_jobs.specs.Sending.{lane}
+use Rattle.send_jobs.specs.Slots.{attempt_in}
+use Rattle.send_steps.specs.Files.{records_of}
+use Rattle.sender_law.specs.Control.{AreControls}
+use Rattle.sender_law.specs.Views.{files_of}
+use Rattle.world_events.specs.declared.event.Program.TheVariants.{Injector, Sender}
+use Rattle.mail_world.specs.History.{Actor, Event, Legal, State, after}
+use Rattle.mail_world.specs.History.Event.{Act}
+use Rattle.mail_world.specs.History.Life.{Alive}
+use Rattle.mail_world.specs.Untouched.{queue}
+
+-- The sender
+
+-- an attempt is at a record that reads `T`, of a message in S5
+pub record IsAtRecord (s : State) (ch : Channel) (t : Attempt) : Type 0 where
+  pub reads : IsOpen (files_of (queue s (λ n. AsOld)) ch) t
+  pub stays : state_of s.disk t.n ≡ S5
+
+-- So is each attempt that a sender has in flight or still to give, and no two slots have attempts at one record. Each message that is due on a
+-- channel is in S5.
+pub record HandsStand (s : State) (d : Desk) : Type 0 where
+  pub flies : (ch : Channel) (slot : ℕ) (t : Attempt) → attempt_in (lane ch d.slots).slots slot ≡ Some t → IsAtRecord s ch t
+  pub to_come : (ch : Channel) (t : Attempt) → Contains (lane ch d.slots).left t → IsAtRecord s ch t
+  pub apart : (ch : Channel) (i j : ℕ) (t u : Attempt) → attempt_in (lane ch d.slots).slots i ≡ Some t → attempt_in (lane ch d.slots).slots j ≡ Some u → t.n ≡ u.n → t.place ≡ u.place → i ≡ j
+  pub due : (ch : Channel) (e : ℕ × ℕ) → Contains (due_on ch d.book.messages) e → state_of s.disk e.1 ≡ S5
+
+-- What a living sender has in hand stands.
+abbrev pub HandsAlwaysStand : Type 0
+HandsAlwaysStand = (controls : Controls) (d : Disk) (before : List Event) → AreControls controls d → Legal d before → (a : List ℕ) (x : Actor) → (after d before).actors a ≡ Some x
+    → x.life ≡ Alive → (start : ℕ) → x.program ≡ Sender start → HandsStand (after d before) (desk_after None x.past)
+
+-- Channel files
+
+-- After todo is gone the records of each channel file, whatever the file is read as, are those of the recipients of its message that go to that
+-- channel, with their routed addresses; and one that reads `D` was reported delivered, or its note is synced.
+abbrev pub RecordsAreRouted : Type 0
+RecordsAreRouted = (controls : Controls) (d : Disk) (before : List Event) → AreControls controls d → Legal d before → (n : ℕ) → (after d before).disk.names (path (Of Todo n)) ≡ None
+    → (ch : Channel) (file : ℕ) → (after d before).disk.names (path (Of (lane_part ch) n)) ≡ Some file
+    → (records : List Record) → records_of ((after d before).disk.files file).bytes ≡ Some records
+    → (i : Injection) × ((after d before).books.living n ≡ Some i) × (i.accepted ≡ true) × AreOfRecipients controls i ch records
+
+-- Injectors
+
+-- the number of the injection at which an injector is, once its message file is there
+abbrev pub number_at : Row → Option ℕ
+number_at (at.UnlinkPid seq n fd) = Some n
+number_at (at.AppendMess n fd done) = Some n
+number_at (at.SyncMess n fd) = Some n
+number_at (at.CreateIntd n) = Some n
+number_at (at.AppendTodo n fd done) = Some n
+number_at (at.SyncTodo n fd) = Some n
+number_at (at.LinkTodo n) = Some n
+number_at (at.CleanIntd n status) = Some n
+number_at (at.CleanMess n status) = Some n
+number_at row = None
+
+-- an injector that is at that number, and may call still
+pub record IsInjecting (s : State) (a : List ℕ) (n : ℕ) : Type 0 where
+  pub actor : Actor
+  pub is : s.actors a ≡ Some actor
+  pub alive : actor.life ≡ Alive
+  pub args : Arguments
+  pub program : actor.program ≡ Injector args
+  pub number : number_at (row_after args actor.past) ≡ Some n
+  pub soon : InTime s.now args
+
+-- No two injectors are at one number.
+abbrev pub InjectionsAreApart : Type 0
+InjectionsAreApart = (controls : Controls) (d : Disk) (before : List Event) → AreControls controls d → Legal d before → (n : ℕ) (a b : List ℕ)
+    → IsInjecting (after d before) a n → IsInjecting (after d before) b n → a ≡ b
+
+-- An injector makes a call within a day and the longest stall of its start.
+abbrev pub InjectionsAreInTime : Type 0
+InjectionsAreInTime = (d : Disk) (a : List ℕ) (own : Own) (wrote : ℕ) (before : List Event) → Legal d (Act a own wrote ∷ before) → (x : Actor) → (after d before).actors a ≡ Some x
+    → (args : Arguments) → x.program ≡ Injector args → (call : CallData) → own.due ≡ needs.File call → InTime (after d before).now args
+
+-- both files of an injection hold its texts, and all of them is on the disk
+pub record AreWhole (d : Disk) (args : Arguments) (n : ℕ) : Type 0 where
+  pub mess : ℕ
+  pub mess_there : d.names (path (Of Mess n)) ≡ Some mess
+  pub message : IsSynced (d.files mess) (message_text args).bytes
+  pub intd : ℕ
+  pub intd_there : d.names (path (Of Intd n)) ≡ Some intd
+  pub text : IsSynced (d.files intd) (intd_text args).bytes
+
+-- So they are before an injector makes the link to todo.
+abbrev pub LinksAreOfWholeFiles : Type 0
+LinksAreOfWholeFiles = (controls : Controls) (d : Disk) (a : List ℕ) (own : Own) (wrote : ℕ) (before : List Event) → AreControls controls d → Legal d (Act a own wrote ∷ before)
+    → (x : Actor) → (after d before).actors a ≡ Some x → (args : Arguments) → x.program ≡ Injector args
+    → (n : ℕ) → own.due ≡ needs.File (Link (path (Of Intd n)) (path (Of Todo n))) → AreWhole (after d before).disk args n
+
+-- it is in flight, or still to be given
+abbrev pub IsOut : Desk → Channel → Attempt → Type 0
+IsOut d ch t = ((slot : ℕ) × (attempt_in (lane ch d.slots).slots slot ≡ Some t)) ⊎ Contains (lane ch d.slots).left t
+
+-- The attempts that a sender had in flight or still to give are of numbers in S5 also once it has ended or was stopped, until a new generation
+-- starts: so long a spawner may be at work on them.
+abbrev pub FlightsStand : Type 0
+FlightsStand = (controls : Controls) (d : Disk) (before : List Event) → AreControls controls d → Legal d before → (x : Actor) → (after d before).actors (codes "sender") ≡ Some x
+    → (start : ℕ) → x.program ≡ Sender start → (ch : Channel) (t : Attempt) → IsOut (desk_after None x.past) ch t → state_of (after d before).disk t.n ≡ S5
