@@ -155,7 +155,7 @@ module _ (c : Channel) (p : Place) (reader : Reader) (r : Request) (x : Post) (F
   idle : g ≡ true → (times r.slot (owed_at p.row p) ≤ 0) × (runs r.slot p.running ≤ 0)
   idle on = none_both (times r.slot (owed_at p.row p)) (runs r.slot p.running) (subst (λ (b : Bool). busy b p.row p r.slot ≤ 0) on none.1.0)
 
-  module _ (a : Attempt) (is_for : r.recipient ≡ a.address) where
+  module _ (a : Attempt) (is_for : IsAskedFor (Some r) a) where
     here : attempt_in (set x.slots r.slot (Some a)) r.slot ≡ Some a
     here = get_or-set_same x.slots r.slot (Some a) None least.0
 
@@ -166,7 +166,7 @@ module _ (c : Channel) (p : Place) (reader : Reader) (r : Request) (x : Post) (F
     flies_here slot b e is =
         let both : Some a ≡ Some b = sym here ∙ ap (attempt_in (set x.slots r.slot (Some a))) (sym e) ∙ is in
         let same : a ≡ b = cc in
-        subst (λ (o : Option Request). IsAskedFor o b) (sym (ap (put x.last r.slot (Some r)) e ∙ put_same x.last r.slot (Some r))) (is_for ∙ ap (λ (z : Attempt). z.address) same)
+        subst (λ (o : Option Request). IsAskedFor o b) (sym (ap (put x.last r.slot (Some r)) e ∙ put_same x.last r.slot (Some r))) (subst (IsAskedFor (Some r)) same is_for)
 
     flies_there : (slot : ℕ) (b : Attempt) → slot ≢ r.slot → attempt_in (set x.slots r.slot (Some a)) slot ≡ Some b → IsAskedFor (put x.last r.slot (Some r) slot) b
     flies_there slot b apart is =
@@ -220,11 +220,11 @@ lives_so reader x lives heard = λ i. record x { lives = lives i; heard = heard 
 
 pub asks_keep : AsksKeep
 asks_keep = record {
-  whole = λ reader a r x P lives heard low plain is_for.
+  whole = λ reader a r x P lives heard low plain is_for of.
       let same = lives_so reader x lives heard in
       record {
         fares = subst (λ (y : Post). Fares (channel_of x.spawner) (work_of x.spawner) (asks_for a r y)) (sym same)
-            (given_whole (channel_of x.spawner) (work_of x.spawner) reader r x (subst (Fares (channel_of x.spawner) (work_of x.spawner)) same P.fares) low plain a is_for);
+            (given_whole (channel_of x.spawner) (work_of x.spawner) reader r x (subst (Fares (channel_of x.spawner) (work_of x.spawner)) same P.fares) low plain a (is_for, of));
         starts = P.starts;
       };
   part = λ reader r wrote x P lives heard low plain.

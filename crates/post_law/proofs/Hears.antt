@@ -41,7 +41,7 @@ success_is letter is = success_by letter (letter == 75 || letter == 68) is
 
 delivered : (done : List Done) (slot : ℕ) (o : Option Request) (a : Attempt) → WasDoneFor done slot o → IsAskedFor o a → WasDelivered done slot a.address
 delivered done slot None a h k = absurd h
-delivered done slot (Some r) a h k = record { it = h.it; among = h.among; slot_is = h.slot_is; recipient_is = h.recipient ∙ k }
+delivered done slot (Some r) a h k = record { it = h.it; among = h.among; slot_is = h.slot_is; recipient_is = h.recipient ∙ k.0 }
 
 module _ (done : List Done) (last : ℕ → Option Request) where
   true_of : (c : Channel) (r : Report) (a : Attempt) → Tells c done last r → IsAskedFor (last r.slot) a → IsTrueOf c done r a

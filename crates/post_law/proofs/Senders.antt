@@ -329,7 +329,7 @@ module _ (c : Channel) (d : Desk) (x : Post) (P : Posted (with_desk c d x)) (on 
         let sent : Desk = request_sent c before in
         let e : Desk = ready (busy sent) in
         let a : Attempt = numbered (next_delivery d.slots) A.attempt in
-        let W = asks_keep.whole (link c d).reader a r (with_desk c d x) P on holds A.free (requests_are_plain.plain A.slot A.attempt.n A.sender A.attempt.address A.sender_plain A.address_plain) refl in
+        let W = asks_keep.whole (link c d).reader a r (with_desk c d x) P on holds A.free (requests_are_plain.plain A.slot A.attempt.n A.sender A.attempt.address A.sender_plain A.address_plain) refl refl in
         let row : e.row ≡ at.Turn (point.Pass c false) = sent_row c (is_some (next (lane c before.slots))) before in
         let so : IsLate e.row = subst IsLate (sym row) tt in
         let lives : is_on d.row ≡ is_on e.row = on ∙ sym (ap is_on row) in

@@ -45,7 +45,7 @@ SlotsKeep = (slots : List (Option Attempt)) (x : Post) → Posted x → ((slot :
 -- A request is given, for the lowest free slot and for the attempt's recipient, whole or in part.
 pub record AsksKeep : Type 0 where
   pub whole : (reader : Reader) (a : Attempt) (r : Request) (x : Post) → Posted x → x.lives ≡ true → x.heard ≡ Some reader → lowest x.slots ≡ Some r.slot
-      → HasPlainFields r → r.recipient ≡ a.address → Posted (asks_for a r x)
+      → HasPlainFields r → r.recipient ≡ a.address → r.mess ≡ split_text a.n → Posted (asks_for a r x)
   pub part : (reader : Reader) (r : Request) (wrote : ℕ) (x : Post) → Posted x → x.lives ≡ true → x.heard ≡ Some reader → lowest x.slots ≡ Some r.slot
       → HasPlainFields r → Posted (asks_in_part r wrote x)
 

@@ -12,6 +12,7 @@ use Rattle.call_fs.specs.declared.program.Port.TheVariants as port
 use Rattle.call_fs.specs.declared.program.Ready.{Ready}
 use Rattle.call_fs.specs.Disk.{Among}
 use Rattle.call_fs.specs.Maps.{put}
+use Rattle.queue_paths.specs.Names.{split_text}
 use Rattle.send_jobs.specs.declared.attempts.Attempt.{Attempt}
 use Rattle.send_jobs.specs.declared.channels.Channel.{Channel}
 use Rattle.send_jobs.specs.declared.channels.Channel.TheVariants as channel
@@ -229,10 +230,10 @@ IsToldSo None on at.Greet told = told ≡ []
 IsToldSo None on row told = (told ≡ []) ⊎ (told ≡ greeting)
 IsToldSo (Some reader) on row told = on ≡ true → (row ≢ at.Greet) × ((read_on reader told).1 ≡ AtBegin)
 
--- the request that was given last is that of an attempt
+-- the request that was given last is that of an attempt: for its recipient, and of its message
 abbrev pub IsAskedFor : Option Request → Attempt → Type 0
 IsAskedFor None a = ⊥
-IsAskedFor (Some r) a = r.recipient ≡ a.address
+IsAskedFor (Some r) a = (r.recipient ≡ a.address) × (r.mess ≡ split_text a.n)
 
 -- What holds between a sender and the spawner of a channel that stands at this place.
 pub record Fares (c : Channel) (p : Place) (x : Post) : Type 0 where

@@ -104,3 +104,7 @@ pub mod Delivered
 pub mod Standing
 -- what a sender had in flight
 pub mod Flights
+-- what the local spawner holds
+pub mod Holding
+-- the names in `pid` that the cleaner takes away
+pub mod PidNames

@@ -144,7 +144,7 @@ offered_by pipe came y = tt
 
 -- An event
 
-abbrev spawner : ℕ → List Own → Actor
+abbrev pub spawner : ℕ → List Own → Actor
 spawner began past = record { program = LocalSpawner began; past = past; life = Alive }
 
 module _ (controls : Controls) (s : State) (I : Inv controls s) (P : PostsStand s) (own : Own) (wrote began : ℕ) (past : List Own) (is : s.actors (codes "lspawn") ≡ Some (spawner began past))

@@ -158,7 +158,7 @@ module _ (controls : Controls) (s : State) (I : Inv controls s) (a : List ℕ) (
     due = λ ch e w. serves_state e.1 ch (All-contains (λ (x : ℕ × ℕ). Serves (about q x.1) ch) (due_on ch d.book.messages) e (F.stands.knows.due ch) w);
   }
 
-hands_by : (controls : Controls) (s : State) (I : Inv controls s) (a : List ℕ) (program : Program) (past : List Own) (life : Life) → life ≡ Alive → (start : ℕ) → program ≡ Sender start
+pub hands_by : (controls : Controls) (s : State) (I : Inv controls s) (a : List ℕ) (program : Program) (past : List Own) (life : Life) → life ≡ Alive → (start : ℕ) → program ≡ Sender start
     → FaresBy controls s.now (queue s I.role) a program past life → HandsStand s (desk_after None past)
 hands_by controls s I a (Sender since) past Alive alive start is F = hands controls s I a (desk_after None past) F
 hands_by controls s I a (Sender since) past life alive start is F = absurd (cc)

@@ -1,13 +1,16 @@
 -- What else holds in each state of a legal history: of the numbers that a sender has in hand, of the channel files, and of injectors at work.
-use Rattle.std.specs.Prelude.{◌≡◌, ◌⊎◌, ℕ, List, ◌∷◌, true, Option, Some, None, Contains, codes}
+use Rattle.std.specs.Prelude.{◌≡◌, ◌⊎◌, ℕ, ◌+◌, ◌<◌, List, ◌∷◌, ◌++◌, flat_map, Bool, true, false, Option, Some, None, Contains, codes}
 use Rattle.address_rules.specs.declared.controls.Controls.{Controls}
-use Rattle.call_fs.specs.Disk.{Disk, IsSynced}
+use Rattle.call_fs.specs.Disk.{Among, Disk, IsSynced}
 use Rattle.call_fs.specs.declared.calls.CallData.{CallData}
-use Rattle.call_fs.specs.declared.calls.CallData.TheVariants.{Link}
+use Rattle.call_fs.specs.declared.calls.CallData.TheVariants.{Link, Unlink}
 use Rattle.call_fs.specs.declared.past.NeedData.TheVariants as needs
 use Rattle.call_fs.specs.declared.past.Own.{Own}
+use Rattle.call_fs.specs.declared.program.Port.TheVariants as port
 use Rattle.channel_law.specs.Files.{IsOpen}
 use Rattle.envelope_records.specs.declared.channel.Record.{Record}
+use Rattle.local_spawn.specs.Table.{place_after as local_after}
+use Rattle.post_law.specs.Senders.{is_on}
 use Rattle.queue_inject.specs.declared.injection.Arguments.{Arguments}
 use Rattle.queue_inject.specs.declared.row.Row.{Row}
 use Rattle.queue_inject.specs.declared.row.Row.TheVariants as at
@@ -16,10 +19,12 @@ use Rattle.queue_inject.specs.Texts.{intd_text, message_text}
 use Rattle.queue_law.specs.Accounts.{AreOfRecipients}
 use Rattle.queue_law.specs.Books.{Injection}
 use Rattle.queue_law.specs.Injectors.{InTime}
+use Rattle.queue_law.specs.Numbers.{Role}
 use Rattle.queue_law.specs.Numbers.Role.{AsOld}
+use Rattle.queue_law.specs.Rests.{IsOldName}
 use Rattle.queue_law.specs.Routes.{lane_part}
-use Rattle.queue_paths.specs.Names.{path}
-use Rattle.queue_paths.specs.Names.Name.{Of}
+use Rattle.queue_paths.specs.Names.{path, split_text}
+use Rattle.queue_paths.specs.Names.Name.{Of, Pid}
 use Rattle.queue_paths.specs.Names.Part.{Intd, Mess, Todo}
 use Rattle.queue_states.specs.declared.state.State.TheVariants.{S5}
 use Rattle.queue_states.specs.States.{state_of}
@@ -28,12 +33,20 @@ use Rattle.send_core.specs.Desk.{due_on}
 use Rattle.send_core.specs.Table.{desk_after}
 use Rattle.send_jobs.specs.declared.attempts.Attempt.{Attempt}
 use Rattle.send_jobs.specs.declared.channels.Channel.{Channel}
+use Rattle.send_jobs.specs.declared.channels.Channel.TheVariants as channel
 use Rattle.send_jobs.specs.Sending.{lane}
 use Rattle.send_jobs.specs.Slots.{attempt_in}
 use Rattle.send_steps.specs.Files.{records_of}
 use Rattle.sender_law.specs.Control.{AreControls}
+use Rattle.spawn_protocol.specs.declared.inbox.Intake.TheVariants as intake
+use Rattle.spawn_protocol.specs.declared.request.Request.{Request}
+use Rattle.spawn_protocol.specs.Request.{request_text}
+use Rattle.spawner_parts.specs.declared.place.Place.{Place}
+use Rattle.spawner_parts.specs.declared.row.Row.{Row as SpawnRow}
+use Rattle.spawner_parts.specs.declared.row.Row.TheVariants as spawn
+use Rattle.spawner_parts.specs.Asked.{runs_in}
 use Rattle.sender_law.specs.Views.{files_of}
-use Rattle.world_events.specs.declared.event.Program.TheVariants.{Injector, Sender}
+use Rattle.world_events.specs.declared.event.Program.TheVariants.{Cleaner, Injector, LocalSpawner, Sender}
 use Rattle.mail_world.specs.History.{Actor, Event, Legal, State, after}
 use Rattle.mail_world.specs.History.Event.{Act}
 use Rattle.mail_world.specs.History.Life.{Alive}
@@ -128,3 +141,53 @@ IsOut d ch t = ((slot : ℕ) × (attempt_in (lane ch d.slots).slots slot ≡ Som
 abbrev pub FlightsStand : Type 0
 FlightsStand = (controls : Controls) (d : Disk) (before : List Event) → AreControls controls d → Legal d before → (x : Actor) → (after d before).actors (codes "sender") ≡ Some x
     → (start : ℕ) → x.program ≡ Sender start → (ch : Channel) (t : Attempt) → IsOut (desk_after None x.past) ch t → state_of (after d before).disk t.n ≡ S5
+
+-- The local spawner
+
+-- a request is of the attempt in flight in its slot, for its recipient and of its message, which is in S5
+pub record IsOfFlight (s : State) (d : Desk) (slot : ℕ) (r : Request) : Type 0 where
+  pub attempt : Attempt
+  pub flies : attempt_in (lane channel.Local d.slots).slots slot ≡ Some attempt
+  pub recipient : r.recipient ≡ attempt.address
+  pub mess : r.mess ≡ split_text attempt.n
+  pub stays : state_of s.disk attempt.n ≡ S5
+
+-- it reads the message of a request, or is to start its delivery
+abbrev pub is_at_work : SpawnRow → Bool
+is_at_work spawn.OpenMess = true
+is_at_work (spawn.ReadMess fd) = true
+is_at_work (spawn.CloseMess fd whole) = true
+is_at_work spawn.Start = true
+is_at_work row = false
+
+-- So is each request that the local spawner hasn't read or taken up, the one at work, and what runs in each slot.
+pub record HoldsFlights (s : State) (d : Desk) (p : Place) (given : List ℕ) : Type 0 where
+  pub waits : List Request
+  pub text : p.inbox.intake ≡ intake.Open → p.inbox.ahead ++ given ≡ flat_map request_text waits
+  pub unread : (r : Request) → Among r waits → IsOfFlight s d r.slot r
+  pub work : is_at_work p.row ≡ true → IsOfFlight s d p.request.slot p.request
+  pub runs : (slot : ℕ) → runs_in p.running slot ≡ true → (r : Request) × IsOfFlight s d slot r
+
+-- it hasn't ended
+abbrev pub goes_on : SpawnRow → Bool
+goes_on (spawn.Ended status) = false
+goes_on row = true
+
+-- So it is while both the sender and the local spawner live, and neither has ended or lost a link.
+abbrev pub RequestsAreOfFlights : Type 0
+RequestsAreOfFlights = (controls : Controls) (d : Disk) (before : List Event) → AreControls controls d → Legal d before
+    → (x : Actor) → (after d before).actors (codes "sender") ≡ Some x → x.life ≡ Alive → (start : ℕ) → x.program ≡ Sender start → is_on (desk_after None x.past).row ≡ true
+    → (y : Actor) → (after d before).actors (codes "lspawn") ≡ Some y → y.life ≡ Alive → (begun : ℕ) → y.program ≡ LocalSpawner begun → goes_on (local_after y.past).work.row ≡ true
+    → HoldsFlights (after d before) (desk_after None x.past) (local_after y.past).work ((after d before).pipework.pipes (codes "lspawn") port.Input).bytes
+
+-- The cleaner
+
+-- more than 36 hours have gone since the start that this name in `pid` tells, or its file was there at the beginning
+abbrev pub IsOutOfTime : State → (pid start seq : ℕ) → Type 0
+IsOutOfTime s pid start seq = (start + 129600 < s.now) ⊎ ((role : ℕ → Role) × IsOldName (queue s role) (Pid pid start seq))
+
+-- Only then a cleaner takes such a name away.
+abbrev pub PidsAreOld : Type 0
+PidsAreOld = (controls : Controls) (d : Disk) (a : List ℕ) (own : Own) (wrote : ℕ) (before : List Event) → AreControls controls d → Legal d (Act a own wrote ∷ before)
+    → (x : Actor) → (after d before).actors a ≡ Some x → (since : ℕ) → x.program ≡ Cleaner since
+    → (pid start seq : ℕ) → own.due ≡ needs.File (Unlink (path (Pid pid start seq))) → IsOutOfTime (after d before) pid start seq

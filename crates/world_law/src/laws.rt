@@ -5,7 +5,7 @@ ghost use Rattle.world_law.specs.Headline.{AttemptsAreSound, Headline, SafeWitho
 ghost use Rattle.world_law.specs.Leaves.{EventsLeave};
 ghost use Rattle.world_law.specs.Laws.{Always, ChildrenKeep, CleanersKeep, DeliveriesKeep, EndsKeep, GenerationsKeep, HaltsKeep, InjectorsKeep, InvBegins, InvIsSafe, LocalsKeep, MomentsKeep, RemotesKeep, ReportsKeep, SendersKeep, StartsKeep, StopsKeep};
 ghost use Rattle.world_law.specs.Posts.{DeliveredAreCarried, KReportsAreCarried};
-ghost use Rattle.world_law.specs.Standing.{FlightsStand, HandsAlwaysStand, InjectionsAreApart, InjectionsAreInTime, LinksAreOfWholeFiles, RecordsAreRouted};
+ghost use Rattle.world_law.specs.Standing.{FlightsStand, HandsAlwaysStand, InjectionsAreApart, InjectionsAreInTime, LinksAreOfWholeFiles, PidsAreOld, RecordsAreRouted, RequestsAreOfFlights};
 ghost use Rattle.world_law.specs.UnderWay.{CommandsRest};
 
 /// What holds of the whole system holds at the start.
@@ -186,4 +186,16 @@ pub fn links_are_of_whole_files()
 /// What a sender had in flight or still to give is of numbers in S5 also once it has ended or was stopped, until a new generation starts.
 pub fn flights_stand()
     ensures { FlightsStand }
+{}
+
+/// While the sender and the local spawner live, each request that this one hasn't read or taken up, the one at work, and what runs in each
+/// slot is of the attempt in flight in its slot: for its recipient, and of its message, which is in S5.
+pub fn requests_are_of_flights()
+    ensures { RequestsAreOfFlights }
+{}
+
+/// A cleaner takes a name in `pid` away only once more than 36 hours have gone since the start that it tells, or if its file was there at
+/// the beginning.
+pub fn pids_are_old()
+    ensures { PidsAreOld }
 {}
