@@ -23,7 +23,7 @@ use Rattle.crew_pipes.specs.Commands.{command_exits}
 use Rattle.crew_pipes.specs.Wired.{seat, pipe_in, tenant_in, kept_at, IsOwnPort, AreWired, IsSlotOf, HasWires, slots_at}
 use Rattle.crew_pipes.specs.Exchanges.{Brings, BringsNone, Keep, AreAsBefore, Exchanges, IsStuck, HasExchanged, HasPiped, HasTaken, HasTakenBy, HasSlotFor, HasStarted, HasFreed, HasFreedBy, HasGivenTo, IsSameAt, GivesNoActor, SuitsPlace, is_in, slot_leads, leads}
 use Rattle.crew_pipes.proofs.Keeps.{all_stay, others_stay, keep_set, keep_same, before_same}
-use Rattle.crew_pipes.proofs.Lists.{some_within, set_same}
+use Rattle.crew_pipes.proofs.Lists.{some_within}
 use Rattle.crew_pipes.proofs.Members.{whether, other_than, other_text}
 use Rattle.crew_pipes.proofs.Seats.{by_seat}
 use Rattle.crew_pipes.proofs.Wires.{wired_same, wired_pipe, wired_program, wired_both}
@@ -225,23 +225,11 @@ module _ (mouths : List Mouths) (a : List ℕ) (slot : Option (ℕ × ℕ)) (i :
   }
 
   -- of a delivery or a forward, which no world starts yet
-  not_started : (asked : ChildData) (pid most : ℕ) (came : GotData) → ((w : Pipework) → Brings w pid most a (needs.Start asked) got.Failed) → ((w : Pipework) → pipework_after w a (needs.Start asked) got.Failed 0 ≡ w)
-      → (n ≡ m) × (came ≡ got.Failed) → Exchanges (Some i) slot mouths (set mouths i n) pid most a (needs.Start asked) came
-  not_started asked pid most came brings still none =
-      subst (λ (came : GotData). Exchanges (Some i) slot mouths (set mouths i n) pid most a (needs.Start asked) came) (sym none.1)
-      (subst (λ (l : List Mouths). Exchanges (Some i) slot mouths l pid most a (needs.Start asked) got.Failed) (sym (ap (set mouths i) none.0 ∙ set_same mouths i m is)) (record {
-        keep = keep_same mouths mouths refl;
-        kind = tt;
-        within = tt;
-        brings = λ wires w has. brings w;
-        wired = λ wires w has. subst (AreWired wires mouths) (sym (still w)) has.wired;
-      }))
-
   pub started_by : (asked : ChildData) (pid most : ℕ) (came : GotData) → SuitsPlace i (needs.Start asked) → HasStarted m n pid asked came
       → Exchanges (Some i) slot mouths (set mouths i n) pid most a (needs.Start asked) came
   started_by (child.Bounce room) pid most came starts none = absurd starts
-  started_by (child.Forward uid room) pid most came starts none = not_started (child.Forward uid room) pid most came (λ w. refl) (λ w. refl) none
-  started_by (child.Local d words uid) pid most came starts none = not_started (child.Local d words uid) pid most came (λ w. refl) (λ w. refl) none
+  started_by (child.Forward uid room) pid most came starts none = absurd starts
+  started_by (child.Local d words uid) pid most came starts none = absurd starts
   started_by (child.Remote d domain sender recipient) pid most came starts begun =
       subst (λ (came : GotData). Exchanges (Some i) slot mouths (set mouths i n) pid most a (needs.Start (child.Remote d domain sender recipient)) came) (sym begun.1)
       (start_exchanges d domain sender recipient pid most begun.0.pipes begun.0.tenants begun.0.ended begun.0.slots)
@@ -456,6 +444,6 @@ given_after m k n p bytes made gave = record {
 -- a member has 256 slots
 pub slot_for : (i : ℕ) (m : Mouths) (asked : ChildData) → SuitsPlace i (needs.Start asked) → length m.slots.items ≡ slots_at i → HasSlotFor m asked
 slot_for i m (child.Remote d domain sender recipient) low slots = slots ∙ ap (λ (t : Bool). if t then 256 else 1) (lt-ltb i 4 low)
-slot_for i m (child.Bounce room) low slots = tt
-slot_for i m (child.Forward uid room) low slots = tt
-slot_for i m (child.Local d words uid) low slots = tt
+slot_for i m (child.Bounce room) low slots = absurd low
+slot_for i m (child.Forward uid room) low slots = absurd low
+slot_for i m (child.Local d words uid) low slots = absurd low

@@ -14,3 +14,7 @@ pub mod Feeds
 pub mod Shuts
 -- with what commands exit
 pub mod Exits
+-- a delivery starts, with pipes of its own
+pub mod Grows
+-- a generation starts, with new pipes
+pub mod Renews

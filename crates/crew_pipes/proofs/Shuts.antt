@@ -10,7 +10,7 @@ use Rattle.call_fs.specs.declared.program.Port.{Port}
 use Rattle.call_fs.specs.declared.program.Port.TheVariants as port
 use Rattle.world_pipes.specs.declared.mouths.Mouths.{Mouths}
 use Rattle.world_pipes.specs.Mouths.{pipe_of, tenant_of, ended_of}
-use Rattle.world_pipes.specs.Pipework.{Pipe, Pipework, Slot, Tenant, closed, is_port, is_member, is_writer, is_by, writer, runner, without_writer}
+use Rattle.world_pipes.specs.Pipework.{Pipe, Pipework, Slot, Tenant, closed, is_port, is_member, is_writer, is_by, writer, actor_of, without_writer}
 use Rattle.world_pipes.specs.Pipework.Tenant.{Runs, Remote}
 use Rattle.crew_pipes.specs.Wired.{seat, pipe_in, tenant_in, kept_at, slot_in, IsOwnPort, AreWired, IsSlotOf, HasWires, AreOver}
 use Rattle.crew_pipes.specs.Exchanges.{is_in, gives_at, HasShut, AreShut, HasOver, SlotIsShut, OwnIsShut, HaveShut, IsGoneToo, ShutsAfter}
@@ -31,7 +31,7 @@ HasTests a i =
 tests : (a : List ℕ) (i : ℕ) → seat a ≡ Some i → HasTests a i
 tests a i at = by_seat HasTests (refl, refl, refl, refl) (refl, refl, refl, refl) (refl, refl, refl, refl) (refl, refl, refl, refl) a i at
 
-runner_other : (a : List ℕ) (o : Option Tenant) → ((c : List ℕ) → o ≡ Some (Runs c) → a ≢ c) → is_writer a (runner o) ≡ false
+runner_other : (a : List ℕ) (o : Option Tenant) → ((c : List ℕ) → o ≡ Some (Runs c) → a ≢ c) → is_writer a (actor_of o) ≡ false
 runner_other a None apart = refl
 runner_other a (Some (Runs c)) apart = other_text a c (apart c refl)
 runner_other a (Some (Remote reported)) apart = refl
@@ -68,7 +68,7 @@ module _ (wires : List ℕ → Option ℕ) (mouths : List Mouths) (w : Pipework)
   member_writes a i at b j of apart (port.Status d) = refl
 
   -- who is no member gives what its slot's program does
-  other_writes : (a : List ℕ) → is_member a ≡ false → (b : List ℕ) (j : ℕ) → wires b ≡ Some j → (t : ℕ → Bool) → ((d : ℕ) → is_writer a (runner (w.programs b d)) ≡ t d)
+  other_writes : (a : List ℕ) → is_member a ≡ false → (b : List ℕ) (j : ℕ) → wires b ≡ Some j → (t : ℕ → Bool) → ((d : ℕ) → is_writer a (actor_of (w.programs b d)) ≡ t d)
       → (q : Port) → is_writer a (writer w b q) ≡ by_slot t q
   other_writes a other b j of t slots port.Input =
       fed_by b j of a ∙ both (nat_lt j 4) (other_text a (codes "sender") (other_than a (codes "sender") other refl)) (other_text a (codes "lspawn") (other_than a (codes "lspawn") other refl))
@@ -258,10 +258,10 @@ module _ (mouths : List Mouths) (a : List ℕ) (wire : Option ℕ) (s : ℕ × �
     runs_it wires w has = is_it a (w.programs has.slot_is.0 s.1) (in_slot wires w has ∙ inside)
 
     -- what it gives is taken there
-    writes : (wires : List ℕ → Option ℕ) (w : Pipework) (has : HasWires wires mouths w a wire (Some s)) (b : List ℕ) (d : ℕ) → is_writer a (runner (w.programs b d)) ≡ (bytes_eq b has.slot_is.0 && (d == s.1))
+    writes : (wires : List ℕ → Option ℕ) (w : Pipework) (has : HasWires wires mouths w a wire (Some s)) (b : List ℕ) (d : ℕ) → is_writer a (actor_of (w.programs b d)) ≡ (bytes_eq b has.slot_is.0 && (d == s.1))
     writes wires w has b d = ⊎_elim
         (λ f. ⊎_elim
-        (λ g. ap (λ (o : Option Tenant). is_writer a (runner o)) (ap (λ (b : List ℕ). w.programs b d) f.0 ∙ ap (w.programs has.slot_is.0) g.1 ∙ runs_it wires w has) ∙ same_text a
+        (λ g. ap (λ (o : Option Tenant). is_writer a (actor_of o)) (ap (λ (b : List ℕ). w.programs b d) f.0 ∙ ap (w.programs has.slot_is.0) g.1 ∙ runs_it wires w has) ∙ same_text a
         ∙ sym (ap (λ (t : Bool). t && (d == s.1)) f.1 ∙ g.0))
         (λ g. runner_other a (w.programs b d) (λ c runs same. g.1 (its_slot wires w has b d c runs same).1) ∙ sym (ap (λ (t : Bool). t && (d == s.1)) f.1 ∙ g.0))
         (eqb_tells d s.1))

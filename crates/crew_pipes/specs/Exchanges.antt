@@ -23,11 +23,11 @@ abbrev pub GivesNoActor : List Mouths → ℕ → NeedData → Type 0
 GivesNoActor mouths at (needs.Give (port.Program d) bytes) = (c : List ℕ) → tenant_in (slice_get mouths at) d ≡ Some (Runs c) → ⊥
 GivesNoActor mouths at due = Unit {0}
 
--- the actor at this place may do this there: it takes by a port of its own, starts no bounce, and a remote program only as a member
+-- the actor at this place may do this there: it takes by a port of its own; a member alone starts a remote program; and none starts an actor
 abbrev pub SuitsPlace : ℕ → NeedData → Type 0
 SuitsPlace at (needs.Take port) = IsOwnPort at port
-SuitsPlace at (needs.Start (child.Bounce room)) = ⊥
 SuitsPlace at (needs.Start (child.Remote slot domain sender recipient)) = at < 4
+SuitsPlace at (needs.Start asked) = ⊥
 SuitsPlace at due = Unit {0}
 
 -- no file call and no end
@@ -37,14 +37,12 @@ IsNoAct (needs.Ended status) = ⊥
 IsNoAct other = Unit {0}
 
 -- What comes by pipes and slots of what is due to an actor, which takes at most so many bytes at once, if the next process has
--- this number. No delivery and no forward is started yet.
+-- this number.
 abbrev pub Brings : Pipework → ℕ → ℕ → List ℕ → NeedData → GotData → Type 0
 Brings w pid most a (needs.Take (port.Status d)) came = (w.programs a d ≡ Some (Remote true)) × (came ≡ got.Ended 0)
 Brings w pid most a (needs.Take port) came = offered most (w.pipes a port) ≡ Some came
 Brings w pid most a (needs.Give port bytes) came = came ≡ got.Gave
-Brings w pid most a (needs.Start (child.Bounce room)) came = ⊥
 Brings w pid most a (needs.Start (child.Remote slot domain sender recipient)) came = came ≡ got.Started pid
-Brings w pid most a (needs.Start asked) came = came ≡ got.Failed
 Brings w pid most a (needs.Command bytes) came = came ≡ got.Ended (command_exits bytes)
 Brings w pid most a other came = ⊥
 
@@ -97,15 +95,14 @@ pub record HasBegun (old new : Mouths) (slot : ℕ) : Type 0 where
   pub ended : (d : ℕ) → ended_of new d ≡ (if d == slot then false else ended_of old d)
   pub slots : length new.slots.items ≡ length old.slots.items
 
--- there are as many slots as there are numbers of one, if a remote program is to start
+-- a remote program is to start, and there are as many slots as there are numbers of one
 abbrev pub HasSlotFor : Mouths → ChildData → Type 0
 HasSlotFor m (child.Remote slot domain sender recipient) = length m.slots.items ≡ 256
-HasSlotFor m asked = Unit {0}
+HasSlotFor m asked = ⊥
 
--- or another one, which no world starts yet
 abbrev pub HasStarted : Mouths → Mouths → ℕ → ChildData → GotData → Type 0
 HasStarted old new pid (child.Remote slot domain sender recipient) came = HasBegun old new slot × (came ≡ got.Started pid)
-HasStarted old new pid asked came = (new ≡ old) × (came ≡ got.Failed)
+HasStarted old new pid asked came = ⊥
 
 -- by any port
 abbrev pub HasTakenBy : Mouths → Mouths → Port → ℕ → Option GotData → Type 0

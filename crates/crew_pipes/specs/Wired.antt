@@ -8,7 +8,7 @@ use Rattle.world_pipes.specs.Mouths.{pipe_of, tenant_of, ended_of}
 use Rattle.world_pipes.specs.Pipework.{Pipe, Pipework, Slot, Tenant, fresh, is_member}
 use Rattle.world_pipes.specs.Pipework.Tenant.{Runs}
 
--- the seat of a member, by its name: the sender's is the first
+-- The seat of a member, by its name: 0 is the sender's, 1 the cleaner's, 2 the local spawner's and 3 the remote spawner's.
 abbrev pub seat : List ℕ → Option ℕ
 seat a = if bytes_eq a (codes "sender") then Some 0
     else (if bytes_eq a (codes "clean") then Some 1

@@ -5,20 +5,16 @@ ghost use Rattle.world_pipes.specs.Pipework.{is_port};
 ghost use Rattle.crew_pipes.specs.Wired.{HaveSlots};
 ghost use Rattle.crew_pipes.specs.Exchanges.{IsNoAct, AreAsBefore, HasExchanged, HasFreedBy, HasTaken, HasTakenBy, HasSlotFor, HasStarted, HasGivenTo, IsSameAt, HaveShut, OwnIsShut, AreShut, HasShut, GivesNoActor, SuitsPlace, is_in, slot_leads, leads, gives_at};
 
-use crate::command_exits;
+use crate::{MEMBERS, command_exits};
 use call_fs::{ChildData, GotData, NeedData, Port};
 use mail_bytes::Memory;
 use std::alloc::Global;
 use world_pipes::{Mouths, Taken};
 
-/// How many members a generation has.
-const MEMBERS: usize = 4;
-
-/// Carries out what is due to the actor of this name, which has its pipes at this place, and perhaps a slot, and is no call, if it can be
-/// done: a taking takes all that is there, at most so many bytes; a giving is given whole; a remote program starts with this process
-/// number; and a command exits. The start of a delivery or of a forward fails as yet. The conditions: the members and this actor have
-/// pipes, this is due and is no call, nothing is given to an actor in a slot, no bounce is started, and a member alone takes by a link or
-/// starts a remote program.
+/// Carries out what is due to an actor, if it can be done: a taking takes all that is there, at most so many bytes; a giving is given
+/// whole; a remote program starts with this process number; and a command exits. The actor has this name, its pipes at this place, and
+/// perhaps a slot. The conditions: the members and this actor have pipes; what is due is no call and no end; nothing is given to an actor
+/// in a slot, and no actor is started; and a member alone takes by a link or starts a remote program.
 pub fn exchange(
     alloc: Global,
     mouths: &mut Vec<Mouths>,
@@ -50,7 +46,7 @@ pub fn exchange(
     }
 }
 
-/// Starts a remote program with this process number; no other program starts here. The condition: there are 256 slots for it.
+/// Starts a remote program with this process number. The condition: such a one is to start, and there are 256 slots for it.
 fn start(mouths: &mut Mouths, asked: &ChildData, pid: u32) -> GotData
     requires { HasSlotFor mouths.old asked.now }
     ensures { HasStarted mouths.old mouths.new pid asked.now result }
@@ -60,8 +56,8 @@ fn start(mouths: &mut Mouths, asked: &ChildData, pid: u32) -> GotData
             mouths.start(*slot);
             GotData::Started { pid }
         }
-        ChildData::Bounce { .. } | ChildData::Forward { .. } => GotData::Failed,
-        ChildData::Local { .. } => GotData::Failed,
+        ChildData::Bounce { .. } | ChildData::Forward { .. } => unreachable!(),
+        ChildData::Local { .. } => unreachable!(),
     }
 }
 
@@ -132,7 +128,7 @@ fn give(
     Ok(())
 }
 
-/// Where what the actor of this name gives to a port is taken.
+/// Where what the actor of this name gives to a port is taken: the place, by the seat if it is a member, and the port there.
 fn leads(
     mouths: &[Mouths],
     at: usize,

@@ -14,5 +14,7 @@ mod seating;
 
 pub use commands::command_exits;
 pub use feeding::{exchange, shut_after};
-pub use reports::{first_unreported, is_unreported};
-pub use seating::{is_of_child, pipes, ready_at, seat};
+pub use reports::{SPAWNER, first_unreported, is_unreported};
+pub use seating::{
+    MEMBERS, add_pipes, due_slot, is_of_child, pipes_for, pipes_of, ready_at, renew, seat,
+};

@@ -7,7 +7,7 @@ ghost use Rattle.crew_pipes.specs.Wired.{tenant_in};
 use world_pipes::Mouths;
 
 /// The seat of the remote spawner.
-const SPAWNER: usize = 3;
+pub const SPAWNER: usize = 3;
 
 /// Whether the remote spawner lives, and a program runs in this slot of which no report came. The condition: if it lives, it has pipes.
 pub fn is_unreported(lives: bool, mouths: &[Mouths], slot: u8) -> bool

@@ -4,3 +4,5 @@ pub mod Texts
 pub mod Links
 -- the events of a cleaner
 pub mod Cleans
+-- the names of `pid` that it takes away
+pub mod OldNames

@@ -4,3 +4,5 @@ pub mod Errands
 pub mod Laws
 -- an errand as it goes
 pub mod Worked
+-- which names of `pid` it takes away
+pub mod OldNames

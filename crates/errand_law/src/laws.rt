@@ -1,5 +1,6 @@
 // Laws of a cleaner's errands. Each is the contract of a function that does nothing.
 ghost use Rattle.errand_law.specs.Laws.{AnswersAreOfErrands, AsksKeep, CleansKeep, IsAlone, LossesKeep, NextWaits, StartsWithNone};
+ghost use Rattle.errand_law.specs.OldNames.{OldNamesGo};
 ghost use Rattle.errand_law.specs.Worked.{WorkedErrand};
 
 /// A generation begins without an errand.
@@ -42,4 +43,10 @@ pub fn next_waits()
 /// `todo/7`, from the command to its answer.
 pub fn a_worked_errand()
     ensures { WorkedErrand }
+{}
+
+/// A cleaner takes a name in `pid` away only directly after a look at its file, which told that it was written last more than 36 hours
+/// before.
+pub fn old_names_go()
+    ensures { OldNamesGo }
 {}

@@ -7,5 +7,5 @@ mod laws;
 
 pub use laws::{
     a_worked_errand, answers_are_of_errands, asks_keep, cleans_keep, is_alone, losses_keep,
-    next_waits, starts_with_none,
+    next_waits, old_names_go, starts_with_none,
 };

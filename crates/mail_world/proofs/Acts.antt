@@ -23,7 +23,7 @@ use Rattle.mail_world.specs.History.{State, Actor, Life, next_of, start_of, acte
 use Rattle.mail_world.specs.History.Event.{Start}
 use Rattle.mail_world.specs.History.Life.{Alive, Over, Stopped}
 use Rattle.mail_world.specs.World.{span_of, ends, starts, starts_in}
-use Rattle.mail_world.specs.ByKind.{Follows, awaits_of}
+use Rattle.mail_world.specs.ByKind.{IsMail, Follows, awaits_of}
 use Rattle.mail_world.specs.Wired.{seat}
 use Rattle.mail_world.specs.Readiness.{is_awaiting}
 use Rattle.world_events.specs.Inputs.{own_in}
@@ -141,7 +141,7 @@ start_alone s a program = record {
 pub own_member : (s t : State) (events : List Kept) (p : ℕ) (x y : Held) (own : Own) (k : Kept) (m : IsMember s events p x)
     → own_in k ≡ Some own → starts x.name k ≡ false → ends x.name k ≡ false
     → t.actors x.name ≡ Some (record { program = m.actor.program; past = own ∷ m.actor.past; life = m.actor.life })
-    → x.ended ≡ None → y.name ≡ x.name → y.ended ≡ x.ended → y.status ≡ x.status → awaits_of y.machine ≡ is_awaiting t x.name → own.read ≡ p
+    → x.ended ≡ None → y.name ≡ x.name → y.ended ≡ x.ended → y.status ≡ x.status → (IsMail m.actor.program → awaits_of y.machine ≡ is_awaiting t x.name) → own.read ≡ p
     → next_of m.actor.program m.actor.past own.read own.ready ≡ own.due → MayCome own.due own.came
     → StandsFor y m.actor.program (own ∷ m.actor.past) → ((at : ℕ) → y.owed ≡ Some at → IsOwed y own (length events) at)
     → IsMember t (events ++ k ∷ []) p y
@@ -169,7 +169,7 @@ own_member s t events p x y own k m mine no_start no_end now alive name ended st
       in_order = omega (arith, read);
       life = m.life ∙ life_same x.ended y.ended x.status y.status ended status;
       unended = λ e. status ∙ m.unended alive;
-      awaits = λ e. awaits ∙ sym (ap (is_awaiting t) name);
+      awaits = λ e mail. awaits mail ∙ sym (ap (is_awaiting t) name);
       spans = ap (λ (a : List ℕ). span_of a (reverse (events ++ k ∷ []))) name ∙ span_stays events k x.name no_start no_end ∙ m.spans ∙ ap span_by (sym ended);
       closed = λ at e. let both : ◌≡◌ {A = Option ℕ} None (Some at) = sym (ended ∙ alive) ∙ e in absurd (cc);
     }
@@ -190,7 +190,7 @@ finish_member s events p x y k life status m f alive name ended status_is none =
       in_order = m.in_order;
       life = f.lives (length events) ∙ life_same (Some (length events)) y.ended status y.status ended status_is;
       unended = λ e. let both : ◌≡◌ {A = Option ℕ} None (Some (length events)) = sym e ∙ ended in absurd (cc);
-      awaits = λ e. let both : ◌≡◌ {A = Option ℕ} None (Some (length events)) = sym e ∙ ended in absurd (cc);
+      awaits = λ e mail. let both : ◌≡◌ {A = Option ℕ} None (Some (length events)) = sym e ∙ ended in absurd (cc);
       closed = λ at e. none;
       spans = ap (λ (a : List ℕ). span_of a (reverse (events ++ k ∷ []))) name ∙ span_push events k x.name
           ∙ span_ends x.name k (length events) (span_of x.name (reverse events)) (m.spans ∙ ap span_by alive) f.mine ∙ ap span_by (sym ended);
@@ -214,7 +214,7 @@ start_member s events p y a program runs stranger name ended status paid follows
       in_order = omega arith;
       life = sym (ap (λ (o : Option ℕ). life_by o y.status) ended);
       unended = λ e. status;
-      awaits = λ e. awaits ∙ sym (ap (is_awaiting t) name);
+      awaits = λ e mail. awaits ∙ sym (ap (is_awaiting t) name);
       spans = ap (λ (a : List ℕ). span_of a (reverse (events ++ k ∷ []))) name ∙ span_push events k a
           ∙ span_begins a k (length events) (span_of a (reverse events)) stranger.unborn (same_text a) ∙ ap span_by (sym ended);
     }
@@ -233,7 +233,7 @@ look_member s events p x y m alive name ended status awaits paid follows = recor
   in_order = m.in_order;
   life = m.life ∙ life_same x.ended y.ended x.status y.status ended status;
   unended = λ e. status ∙ m.unended (sym ended ∙ e);
-  awaits = λ e. awaits ∙ m.awaits alive ∙ sym (ap (is_awaiting s) name);
+  awaits = λ e mail. awaits ∙ m.awaits alive mail ∙ sym (ap (is_awaiting s) name);
   spans = ap (λ (a : List ℕ). span_of a (reverse events)) name ∙ m.spans ∙ ap span_by (sym ended);
   closed = λ at e. let both : ◌≡◌ {A = Option ℕ} None (Some at) = sym (ended ∙ alive) ∙ e in absurd (cc);
 }

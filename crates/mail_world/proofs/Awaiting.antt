@@ -27,7 +27,7 @@ use Rattle.world_events.specs.declared.event.Program.{Program}
 use Rattle.world_events.specs.declared.event.Program.TheVariants.{Injector}
 use Rattle.mail_world.specs.declared.actor.Actor.{Actor as Held}
 use Rattle.mail_world.specs.declared.any_machine.AnyMachine.{AnyMachine}
-use Rattle.mail_world.specs.declared.any_machine.AnyMachine.TheVariants.{Mail, Clean, Send, Local, Remote as RemoteSpawns}
+use Rattle.mail_world.specs.declared.any_machine.AnyMachine.TheVariants.{Mail, Clean, Send, Local, Deliver, Remote as RemoteSpawns}
 use Rattle.mail_world.specs.ByKind.{IsMail, Follows, Mails, CanFind, awaits_of, need_of}
 use Rattle.mail_world.specs.History.{Actor, Life, State, acted, finished, happens, next_of, report_text}
 use Rattle.mail_world.specs.History.Event.{Report}
@@ -141,23 +141,24 @@ runs_still w a due came b d apart = refl
 abbrev pub HaveNoSlots : Pipework → Type 0
 HaveNoSlots w = (a : List ℕ) → is_member a ≡ true → w.slots a ≡ None
 
--- so after an event of an actor, which passes nothing if it is no member, each awaits what it awaited
+-- so after an event of an actor each other one awaits what it awaited, and so does that one, if it passes nothing
 pub own_awaits : (s : State) (a : List ℕ) (x : Actor) (own : Own) → HaveNoSlots s.pipework → GivesToNone s.pipework a own.due
-    → (is_member a ≡ false → pipework_after s.pipework a own.due own.came 0 ≡ s.pipework) → (b : List ℕ) → is_awaiting (acted s a own 0 (Some x)) b ≡ is_awaiting s b
-own_awaits s a x own members none alone b = ⊎_elim
+    → (b : List ℕ) → (b ≡ a → pipework_after s.pipework a own.due own.came 0 ≡ s.pipework) → is_awaiting (acted s a own 0 (Some x)) b ≡ is_awaiting s b
+own_awaits s a x own members none b alone = ⊎_elim
     (λ member. no_slot (acted s a own 0 (Some x)) b (members b member) ∙ sym (no_slot s b (members b member)))
     (λ named. awaits_same s (acted s a own 0 (Some x)) b refl (⊎_elim
-    (λ f. ap (λ (w : Pipework). w.pipes b port.Input) (alone (sym (ap is_member f.0) ∙ named)))
+    (λ f. ap (λ (w : Pipework). w.pipes b port.Input) (alone f.0))
     (λ f. input_still s.pipework a b own.due own.came named f.0 none)
     (text_cases b a)))
     (whether (is_member b))
 
 -- An end or a stop
 
--- a child in the first slot of that parent
+-- a child in a slot of that parent
 pub record IsChildOf (s : State) (parent b : List ℕ) : Type 0 where
   pub named : is_member b ≡ false
-  pub slot : s.pipework.slots b ≡ Some (record { parent = parent; number = 0 })
+  pub number : ℕ
+  pub slot : s.pipework.slots b ≡ Some (record { parent = parent; number = number })
 
 closed_ready : (pipe : Pipe) → is_ready (closed pipe) ≡ true
 closed_ready pipe = or-true (not (length pipe.bytes == 0))
@@ -228,6 +229,7 @@ it_waits (Clean m) program past f awaits = absurd cc
 it_waits (Send m) program past f awaits = absurd cc
 it_waits (Local m) program past f awaits = absurd cc
 it_waits (RemoteSpawns m) program past f awaits = absurd cc
+it_waits (Deliver m) program past f awaits = absurd cc
 
 -- who is no mail awaits nothing
 pub none_awaits : (m : AnyMachine) (program : Program) (past : List Own) → Follows m program past → (IsMail program → ⊥) → awaits_of m ≡ false
@@ -257,13 +259,14 @@ due_waits s a m program past now follows awaits is =
     ∙ ap (λ (t : Bool). in_time t (is_late w.args now) (call_of w.args (at.Create 1))) (no_input s a w.args is) ∙ first_waits (is_late w.args now) w.args
 
 -- and it may be told what it finds
-mail_can : (s : State) (a : List ℕ) (m : FedInjector) (program : Program) (past : List Own) → Mails m program past → is_awaited m.input ≡ is_awaiting s a → CanFind (Mail m) (found_by s a program)
-mail_can s a m (Injector args) past f same = λ awaits. no_input s a args (sym same ∙ awaits)
+mail_can : (s : State) (a : List ℕ) (m : FedInjector) (program : Program) (past : List Own) → Mails m program past → (IsMail program → is_awaited m.input ≡ is_awaiting s a) → CanFind (Mail m) (found_by s a program)
+mail_can s a m (Injector args) past f same = λ awaits. no_input s a args (sym (same tt) ∙ awaits)
 mail_can s a m other past f same = absurd f
 
-pub can_find : (s : State) (a : List ℕ) (m : AnyMachine) (program : Program) (past : List Own) → Follows m program past → awaits_of m ≡ is_awaiting s a → CanFind m (found_by s a program)
+pub can_find : (s : State) (a : List ℕ) (m : AnyMachine) (program : Program) (past : List Own) → Follows m program past → (IsMail program → awaits_of m ≡ is_awaiting s a) → CanFind m (found_by s a program)
 can_find s a (Mail m) program past f same = mail_can s a m program past f same
 can_find s a (Clean m) program past f same = tt
 can_find s a (Send m) program past f same = tt
 can_find s a (Local m) program past f same = tt
 can_find s a (RemoteSpawns m) program past f same = tt
+can_find s a (Deliver m) program past f same = tt

@@ -9,40 +9,39 @@ use Rattle.world_events.specs.declared.event.Program.{Program}
 use Rattle.world_events.specs.declared.event.Program.TheVariants.{Injector, Cleaner, Sender, LocalSpawner, RemoteSpawner}
 use Rattle.call_fs.specs.declared.program.Port.TheVariants as port
 use Rattle.world_pipes.specs.declared.mouths.Mouths.{Mouths}
-use Rattle.world_pipes.specs.Mouths.{tenant_of}
 use Rattle.mail_world.specs.declared.actor.Actor.{Actor as Held}
-use Rattle.mail_world.specs.Pipework.{Tenant, is_member}
-use Rattle.mail_world.specs.Pipework.Tenant.{Runs}
-use Rattle.mail_world.specs.Readiness.{is_awaiting}
+use Rattle.mail_world.specs.Pipework.{is_member}
+use Rattle.mail_world.specs.Readiness.{is_awaiting, is_gone}
 use Rattle.mail_world.specs.History.{Actor, State, MayRun, newborn, start_of, happens}
 use Rattle.mail_world.specs.History.Event.{Generation}
 use Rattle.mail_world.specs.History.Life.{Alive}
-use Rattle.mail_world.specs.World.{Span, span_of, span_after, starts, was_started, starts_in}
+use Rattle.mail_world.specs.World.{Counts, Span, span_of, span_after, starts, was_started, starts_in}
 use Rattle.mail_world.specs.World.Span.{Unborn, Lasting, OverAt}
 use Rattle.mail_world.specs.ByKind.{IsMail, Follows}
-use Rattle.std.specs.Prelude.{All}
-use Rattle.call_fs.specs.declared.program.Port.{Port}
 use Rattle.world_pipes.specs.Pipework.{fresh}
-use Rattle.mail_world.specs.Wired.{seat, pipe_in, tenant_in, kept_at, IsSlotOf}
-use Rattle.mail_world.specs.Crew.{IsNew, AreNew, IsFresh, AreFresh}
+use Rattle.mail_world.specs.Wired.{seat, IsSlotOf}
+use Rattle.mail_world.specs.Crew.{IsNew, AreNew, AreRenewed}
 use Rattle.mail_world.specs.Generations.{IsNoneAlive}
 use Rattle.call_fs.specs.Past.{held}
 use Rattle.std.proofs.Math.Bool.{or-false, or-true}
 use Rattle.std.proofs.lemmas.Bool.{lt-ltb, le-ltb, ltb-true}
-use Rattle.std.proofs.lemmas.List.Elements.{All-nil, All-cons, All-head, All-tail}
-use Rattle.std.proofs.lemmas.Option.{slice_get_within}
-use Rattle.mail_world.specs.Inside.{known, RunsAt, unowed, span_by, life_by, is_by, has, AreApart, Owns, place_by, among_all, HasBorneLast, IsMember, IsStranger, HasOpen, IsOpenTo, IsWorld, ArePiped}
-use Rattle.mail_world.proofs.Awaiting.{awaits_same, no_slot, none_awaits}
+use Rattle.std.proofs.lemmas.List.Elements.{All-nil, All-cons}
+use Rattle.mail_world.specs.Inside.{known, RunsAt, unowed, span_by, life_by, is_by, has, AreApart, Owns, place_by, among_all, HasBorneLast, IsAwaited, RunsBy, IsMember, IsStranger, HasOpen, IsOpenTo, IsWorld, ArePiped}
+use Rattle.mail_world.proofs.Awaiting.{awaits_same, no_slot}
+use Rattle.mail_world.proofs.Borne.{feed_push}
 use Rattle.mail_world.proofs.Crew.{started_push, owes_still, member_over}
 use Rattle.mail_world.proofs.Histories.{LeadsOn, generation_told, led_still}
-use Rattle.mail_world.proofs.Bounces.{bounce_begun}
+use Rattle.mail_world.proofs.Bounces.{bounce_begun, delivery_begun, forward_begun}
 use Rattle.mail_world.proofs.Known.{known_push}
+use Rattle.mail_world.proofs.Leaving.{child_named}
 use Rattle.mail_world.proofs.Lists.{get_drop, some_at}
+use Rattle.crew_pipes.proofs.Renews.{wired_renews, slots_renew, children_renew, over_renew, renewed_ran}
 use Rattle.mail_world.proofs.Members.{whether, member_cases, four_other, four_sender, four_clean, four_lspawn, four_rspawn}
 use Rattle.mail_world.proofs.Seats.{HasSeat, seat_some, seat_none, no_seat, by_seat}
 use Rattle.mail_world.proofs.Spans.{span_push, span_stays}
 use Rattle.mail_world.proofs.Piped.{whole_push}
-use Rattle.mail_world.proofs.Worlds.{on_told, one_pid, pid_push, still_count}
+use Rattle.mail_world.proofs.Numbered.{still_count, numbered_begun}
+use Rattle.mail_world.proofs.Worlds.{on_told, one_pid, pid_push}
 
 -- the members before, if there were any, live no more
 abbrev pub NoneLives : ℕ → List Held → Type 0
@@ -98,7 +97,7 @@ new_member t events p x name program new at runs other start member slot over =
       in_order = omega (arith, start);
       life = sym (ap (λ (o : Option ℕ). life_by o x.status) new.ended);
       unended = λ e. new.status;
-      awaits = λ e. none_awaits x.machine (program p) [] (new.follows p) other ∙ sym (ap (is_awaiting t) new.name_is ∙ no_slot t name slot);
+      awaits = λ e mail. absurd (other mail);
       spans = ap (λ (a : List ℕ). span_of a (reverse (events ++ k ∷ []))) new.name_is ∙ span_push events k name
           ∙ again name k (length events) (span_of name (reverse events)) member over ∙ ap span_by (sym new.ended);
       closed = λ at e. new.descriptors;
@@ -117,7 +116,7 @@ same_member s t events p x other same awaits m = record {
   in_order = m.in_order;
   life = m.life;
   unended = m.unended;
-  awaits = λ lives. m.awaits lives ∙ sym awaits;
+  awaits = λ lives mail. m.awaits lives mail ∙ sym awaits;
   spans = span_stays events (kept.Generation p) x.name other refl ∙ m.spans;
   closed = m.closed;
 }
@@ -136,7 +135,7 @@ record WasOver (s : State) (events : List Kept) (actors : List Held) (a : List �
   dead : (x : Actor) → s.actors a ≡ Some x → (x.life ≢ Alive) × (MayRun x.program → ⊥)
   holds : (d : Disk) → IsOpenTo d actors s → (fd : ℕ) → is_by a (s.holder fd) ≡ false
 
-was_over : (told : Option Disk) (places : List ℕ → Option ℕ) (crew : ℕ) (actors : List Held) (events : List Kept) (p n b : ℕ)
+was_over : (told : Option Disk) (places : List ℕ → Option ℕ) (crew : ℕ) (actors : List Held) (events : List Kept) (p n : ℕ) (b : Counts)
     → IsWorld told (among_all crew places) actors (known events) events p n b → NoneLives crew actors → (crew ≡ 0) ⊎ (crew ≡ 4)
     → (a : List ℕ) → is_member a ≡ true → WasOver (known events) events actors a
 was_over told places crew actors events p n b w none few a member = by_few few where
@@ -179,7 +178,7 @@ was_over told places crew actors events p n b w none few a member = by_few few w
       let low : at.at < crew = omega (arith, four_crew, at.low) in
       over (here ∙ ap (λ (t : Bool). if t then Some at.at else None) (below at.at crew low)) low
 
-pub none_alive : (told : Option Disk) (places : List ℕ → Option ℕ) (crew : ℕ) (actors : List Held) (events : List Kept) (p n b : ℕ)
+pub none_alive : (told : Option Disk) (places : List ℕ → Option ℕ) (crew : ℕ) (actors : List Held) (events : List Kept) (p n : ℕ) (b : Counts)
     → IsWorld told (among_all crew places) actors (known events) events p n b → NoneLives crew actors → (crew ≡ 0) ⊎ (crew ≡ 4) → IsNoneAlive events
 none_alive told places crew actors events p n b w none few =
     let over = was_over told places crew actors events p n b w none few in
@@ -190,7 +189,7 @@ none_alive told places crew actors events p n b w none few =
     (All-cons P (codes "rspawn") [] (over (codes "rspawn") refl).span (All-nil P))))
 
 -- so a generation may start
-pub begun_leads_on : (told : Option Disk) (places : List ℕ → Option ℕ) (crew : ℕ) (actors : List Held) (events : List Kept) (p n b : ℕ)
+pub begun_leads_on : (told : Option Disk) (places : List ℕ → Option ℕ) (crew : ℕ) (actors : List Held) (events : List Kept) (p n : ℕ) (b : Counts)
     → IsWorld told (among_all crew places) actors (known events) events p n b → NoneLives crew actors → (crew ≡ 0) ⊎ (crew ≡ 4)
     → LeadsOn told told events (events ++ kept.Generation p ∷ []) p p
 begun_leads_on told places crew actors events p n b w none few =
@@ -235,7 +234,7 @@ new_opens d t x name program p new at none = record {
       subst (λ (y : Actor). Owns d t.holder x.name (held y.past)) same (λ fd mode is. absurd (cc));
 }
 
-pub begun_keeps : (told : Option Disk) (places : List ℕ → Option ℕ) (crew : ℕ) (actors four : List Held) (events : List Kept) (p n q b : ℕ)
+pub begun_keeps : (told : Option Disk) (places : List ℕ → Option ℕ) (crew : ℕ) (actors four : List Held) (events : List Kept) (p n q : ℕ) (b : Counts)
     → IsWorld told (among_all crew places) actors (known events) events p n b → NoneLives crew actors → (crew ≡ 0) ⊎ (crew ≡ 4) → ((a : List ℕ) → is_member a ≡ true → (known events).pipework.slots a ≡ None)
     → AreNew four → q ≡ min (n + 4) (2 ^ 32 - 1)
     → IsWorld told (among_all 4 places) (four ++ drop crew actors) (known (events ++ kept.Generation p ∷ [])) (events ++ kept.Generation p ∷ []) p q b
@@ -247,6 +246,8 @@ begun_keeps told places crew actors four events p n q b w none few slots new nex
       pid = one_pid n q (sum_by starts_in events) 4 w.pid next ∙ sym (pid_push events k);
       count = w.count ∙ sym (still_count events k refl);
       unborn = λ m more. bounce_begun crew places m (w.unborn m more);
+      undelivered = λ m more. let old = w.undelivered m more in (delivery_begun crew places m old.0, forward_begun crew places m old.1);
+      numbered = numbered_begun s p w.numbered;
       kept = record {
         placed = each_of (λ i (x : Held). among_all 4 places x.name ≡ Some i) new.sender new.clean new.lspawn new.rspawn mails
             (ap (among_all 4 places) new.sender_is.name_is) (ap (among_all 4 places) new.clean_is.name_is) (ap (among_all 4 places) new.lspawn_is.name_is) (ap (among_all 4 places) new.rspawn_is.name_is)
@@ -348,67 +349,62 @@ begun_keeps told places crew actors four events p n q b w none few slots new nex
     }
 
 -- the members of the generation before are over
-pub members_over : (told : Option Disk) (places : List ℕ → Option ℕ) (crew : ℕ) (actors : List Held) (events : List Kept) (p n b : ℕ)
+pub members_over : (told : Option Disk) (places : List ℕ → Option ℕ) (crew : ℕ) (actors : List Held) (events : List Kept) (p n : ℕ) (b : Counts)
     → IsWorld told (among_all crew places) actors (known events) events p n b → NoneLives crew actors → (crew ≡ 0) ⊎ (crew ≡ 4)
     → (a : List ℕ) (x : Actor) → is_member a ≡ true → (known events).actors a ≡ Some x → x.life ≢ Alive
 members_over told places crew actors events p n b w none few a x member is = ((was_over told places crew actors events p n b w none few a member).dead x is).0
 
--- the new pipes are those of the model
-pub begun_piped : (crew : ℕ) (mouths fresh_ones : List Mouths) (actors four : List Held) (events : List Kept) (p : ℕ)
-    → ArePiped crew mouths actors (known events) events → ((a : List ℕ) (x : Actor) → is_member a ≡ true → (known events).actors a ≡ Some x → x.life ≢ Alive) → AreNew four → AreFresh fresh_ones
-    → ArePiped 4 fresh_ones (four ++ drop crew actors) (known (events ++ kept.Generation p ∷ [])) (events ++ kept.Generation p ∷ [])
-begun_piped crew mouths fresh_ones actors four events p piped over new is_fresh =
-    subst (λ (t : State). ArePiped 4 fresh_ones (four ++ drop crew actors) t (events ++ kept.Generation p ∷ [])) (sym (known_push events (kept.Generation p) tt)) (record {
+-- a member that has just begun, with its pipes
+record HasBegunAt (wires : List ℕ → Option ℕ) (a : List ℕ) (x : Actor) : Type 0 where
+  runs : RunsBy (wires a) x.program
+  past : x.past ≡ []
+
+-- the new pipes are those of the model, and whoever is no member keeps its own
+pub begun_piped : (crew : ℕ) (mouths renewed : List Mouths) (actors four : List Held) (events : List Kept) (p : ℕ)
+    → ArePiped crew mouths actors (known events) events → ((a : List ℕ) (x : Actor) → is_member a ≡ true → (known events).actors a ≡ Some x → x.life ≢ Alive) → AreNew four → AreRenewed mouths renewed
+    → ArePiped 4 renewed (four ++ drop crew actors) (known (events ++ kept.Generation p ∷ [])) (events ++ kept.Generation p ∷ [])
+begun_piped crew mouths renewed actors four events p piped over new renews =
+    subst (λ (t : State). ArePiped 4 renewed (four ++ drop crew actors) t (events ++ kept.Generation p ∷ [])) (sym (known_push events (kept.Generation p) tt)) (record {
       wires = piped.wires;
-      wired = record {
-        pipes = λ a i q of own. ap (λ (t : Bool). if t then fresh else s.pipework.pipes a q) (has_pipes a i of) ∙ sym (fresh_pipe (slice_get fresh_ones i) q (fresh_at (Some i)));
-        programs = λ a d. ⊎_elim
-            (λ member. ap (λ (t : Bool). if t then None else s.pipework.programs a d) member ∙ sym (fresh_tenant (kept_at (piped.wires a) fresh_ones) d (fresh_at (piped.wires a))))
-            (λ other. ap (λ (t : Bool). if t then None else s.pipework.programs a d) other ∙ no_programs a d other
-            ∙ sym (ap (λ (o : Option ℕ). tenant_in (kept_at o fresh_ones) d) (piped.alone a other)))
-            (whether (is_member a));
-        seats = piped.wired.seats;
-        members = piped.wired.members;
-        others = λ a i of other. let was = piped.wired.others a i of other in record { high = was.high; number = was.number; slot = was.slot };
-        within = λ a i of other. let both : ◌≡◌ {A = Option ℕ} None (Some i) = sym (piped.alone a other) ∙ of in absurd (cc);
-        apart = piped.wired.apart;
-        owned = λ i low. owner i (subst (λ (n : ℕ). i < n) is_fresh.many low);
-        children = λ a d c runs. absurd (nobody_runs a d c runs);
-      };
-      slots = λ i m at.
-          let low = slice_get_within fresh_ones i m at in
-          let many = is_fresh.many in
-          (all_at fresh_ones i m is_fresh.each at).slots ∙ sym (ap (λ (t : Bool). if t then 256 else 1) (lt-ltb i 4 (omega (arith, low, many))));
-      children = λ i m d c at is. absurd (nobody_in i m d c at is);
-      over = λ i m d c at is. absurd (nobody_in i m d c at is);
-      places = λ j z at lives. each_stands (λ (z : Held). piped.wires z.name ≡ z.wire)
-          (λ x name program is. ap piped.wires is.0.name_is ∙ piped.wired.seats name is.1 ∙ sym is.0.wire) piped.places j z at lives;
-      stands = λ j z at lives. each_stands (λ (z : Held). IsSlotOf piped.wires (s.pipework.slots z.name) z.slot)
-          (λ x name program is. subst (IsSlotOf piped.wires (s.pipework.slots x.name)) (sym is.0.slot) (ap s.pipework.slots is.0.name_is ∙ piped.wired.members name is.1)) piped.stands j z at lives;
-      alone = piped.alone;
-      born = λ a d c runs. absurd (nobody_runs a d c runs);
-      whole = whole_push events (kept.Generation p) piped.whole tt;
-      fresh = λ a unknown other. ap (λ (t : Bool). if t then fresh else s.pipework.pipes a port.Input) other
-          ∙ piped.fresh a (sym (four_other s.actors (Sender p) (Cleaner p) (LocalSpawner p) (RemoteSpawner p) a other) ∙ unknown) other;
-      fed = λ a x is alive borne. ⊎_elim
-          (λ member. absurd (subst HasBorneLast (no_past a x member is) borne))
-          (λ other.
-          let was = piped.fed a x (sym (four_other s.actors (Sender p) (Cleaner p) (LocalSpawner p) (RemoteSpawner p) a other) ∙ is) alive borne in
-          absurd (no_tenant a 0 was.child other was.runs))
+      wired = wired_renews piped.wires mouths renewed s.pipework piped.wired renews;
+      slots = slots_renew piped.wires mouths renewed s.pipework piped.wired renews piped.slots;
+      children = children_renew piped.wires mouths renewed s.pipework piped.wired renews piped.children;
+      over = over_renew piped.wires mouths renewed s.pipework piped.wired renews (λ c. is_gone (s.actors c)) (λ c. is_gone (t.actors c)) (λ c other. ap is_gone (still c other)) piped.children piped.over;
+      places = each_then (λ (z : Held). z.ended ≡ None → piped.wires z.name ≡ z.wire) (λ x name program is lives. placed x name program is) piped.places;
+      stands = each_then (λ (z : Held). z.ended ≡ None → IsSlotOf piped.wires (s.pipework.slots z.name) z.slot)
+          (λ x name program is lives. subst (IsSlotOf piped.wires (s.pipework.slots x.name)) (sym is.0.slot) (ap s.pipework.slots is.0.name_is ∙ piped.wired.members name is.1)) piped.stands;
+      others = each_then (λ (z : Held). is_member z.name ≡ false → piped.wires z.name ≡ z.wire) (λ x name program is other. placed x name program is) piped.others;
+      runs = λ a x is alive. ⊎_elim
+          (λ member. (begun a x member is).runs)
+          (λ other. piped.runs a x (sym (still a other) ∙ is) alive)
           (whether (is_member a));
-      awaited = λ c is. ⊎_elim
-          (λ member. let both : false ≡ true = sym (no_slot t c (piped.wired.members c member)) ∙ is in absurd (cc))
-          (λ other.
-          let was = piped.awaited c (sym (begun_awaiting s p c other) ∙ is) in
-          ⊎_elim
-          (λ member. absurd (over was.parent was.actor member was.is was.alive))
-          (λ named. absurd (no_tenant was.parent 0 c named was.runs))
-          (whether (is_member was.parent)))
+      born = λ a d c runs.
+          let ran = renewed_ran piped.wires mouths renewed s.pipework piped.wired renews a d c runs in
+          let was = piped.born a d c ran.1 in
+          record {
+            child = was.child;
+            is = still c (child_named crew mouths actors s events piped a c ran.1) ∙ was.is;
+            runs = was.runs;
+            bears = λ x there. was.bears x (sym (still a ran.0) ∙ there);
+          };
+      whole = whole_push events (kept.Generation p) piped.whole tt;
+      fresh = λ a unknown other.
+          let was = piped.fresh a (sym (still a other) ∙ unknown) other in
+          record { place = was.place; slot = was.slot; pipes = λ q own. ap (λ (t : Bool). if t then fresh else s.pipework.pipes a q) other ∙ was.pipes q own };
+      fed = λ a x is alive borne. ⊎_elim
+          (λ member. absurd (subst HasBorneLast (begun a x member is).past borne))
+          (λ other. feed_push s t events (kept.Generation p) a tt (λ c runs awaiting. tt) (ap (λ (t : Bool). if t then None else s.pipework.programs a 0) other)
+          (λ c runs awaiting. begun_awaiting s p c (child_named crew mouths actors s events piped a c runs) ∙ awaiting)
+          (piped.fed a x (sym (still a other) ∙ is) alive borne))
+          (whether (is_member a));
+      awaited = λ c x there mail awaiting. ⊎_elim
+          (λ member. let both : false ≡ true = sym (no_slot t c (piped.wired.members c member)) ∙ awaiting in absurd (cc))
+          (λ other. awaited_on c (piped.awaited c x (sym (still c other) ∙ there) mail (sym (begun_awaiting s p c other) ∙ awaiting)))
           (whether (is_member c));
-      count = let many = is_fresh.many in inr (omega (arith, many), refl);
+      count = inr (renews.four, refl);
       few = inr refl;
       many = subst (λ (l : List Held). 4 ≤ length (l ++ drop crew actors)) (sym new.are) (omega arith);
-      seated = λ j z low at lives. let many = is_fresh.many in omega (arith, many);
+      seated = λ j z low at lives. renews.four;
     })
   where
     s : State
@@ -417,74 +413,53 @@ begun_piped crew mouths fresh_ones actors four events p piped over new is_fresh 
     t : State
     t = happens s (Generation (Sender p) (Cleaner p) (LocalSpawner p) (RemoteSpawner p))
 
-    all_at : (xs : List Mouths) (i : ℕ) (m : Mouths) → All IsFresh xs → slice_get xs i ≡ Some m → IsFresh m
-    all_at [] i m all at = absurd cc
-    all_at (x ∷ xs) zero m all at = let same : x ≡ m = cc in subst IsFresh same (All-head IsFresh x xs all)
-    all_at (x ∷ xs) (suc i) m all at = all_at xs i m (All-tail IsFresh x xs all) at
+    still : (a : List ℕ) → is_member a ≡ false → t.actors a ≡ s.actors a
+    still a other = four_other s.actors (Sender p) (Cleaner p) (LocalSpawner p) (RemoteSpawner p) a other
 
-    fresh_at : (o : Option ℕ) (m : Mouths) → kept_at o fresh_ones ≡ Some m → IsFresh m
-    fresh_at None m at = absurd (cc)
-    fresh_at (Some i) m at = all_at fresh_ones i m is_fresh.each at
+    -- a new member has its pipes at its seat
+    placed : (x : Held) (name : List ℕ) (program : ℕ → Program) → IsNew x name program × (is_member name ≡ true) → piped.wires x.name ≡ x.wire
+    placed x name program is = ap piped.wires is.0.name_is ∙ piped.wired.seats name is.1 ∙ sym is.0.wire
 
-    fresh_pipe : (o : Option Mouths) (q : Port) → ((m : Mouths) → o ≡ Some m → IsFresh m) → pipe_in o q ≡ fresh
-    fresh_pipe None q each = refl
-    fresh_pipe (Some m) q each = (each m refl).pipes q
-
-    fresh_tenant : (o : Option Mouths) (d : ℕ) → ((m : Mouths) → o ≡ Some m → IsFresh m) → tenant_in o d ≡ None
-    fresh_tenant None d each = refl
-    fresh_tenant (Some m) d each = (each m refl).tenants d
-
-    nobody_in : (i : ℕ) (m : Mouths) (d : ℕ) (c : List ℕ) → slice_get fresh_ones i ≡ Some m → tenant_of m d ≡ Some (Runs c) → ⊥
-    nobody_in i m d c at is = let both : ◌≡◌ {A = Option Tenant} None (Some (Runs c)) = sym ((all_at fresh_ones i m is_fresh.each at).tenants d) ∙ is in cc
-
-    -- who has pipes is a member
-    has_pipes : (a : List ℕ) (i : ℕ) → piped.wires a ≡ Some i → is_member a ≡ true
-    has_pipes a i of = ⊎_elim
-        (λ member. member)
-        (λ other. let both : ◌≡◌ {A = Option ℕ} None (Some i) = sym (piped.alone a other) ∙ of in absurd (cc))
-        (whether (is_member a))
-
-    no_programs : (a : List ℕ) (d : ℕ) → is_member a ≡ false → s.pipework.programs a d ≡ None
-    no_programs a d other = piped.wired.programs a d ∙ ap (λ (o : Option ℕ). tenant_in (kept_at o mouths) d) (piped.alone a other)
-
-    no_tenant : (a : List ℕ) (d : ℕ) (c : List ℕ) → is_member a ≡ false → s.pipework.programs a d ≡ Some (Runs c) → ⊥
-    no_tenant a d c other runs = let both : ◌≡◌ {A = Option Tenant} None (Some (Runs c)) = sym (no_programs a d other) ∙ runs in cc
-
-    nobody_runs : (a : List ℕ) (d : ℕ) (c : List ℕ) → t.pipework.programs a d ≡ Some (Runs c) → ⊥
-    nobody_runs a d c runs = ⊎_elim
-        (λ member.
-        let both : ◌≡◌ {A = Option Tenant} None (Some (Runs c)) = sym (ap (λ (t : Bool). if t then None else s.pipework.programs a d) member) ∙ runs in cc)
-        (λ other. no_tenant a d c other (sym (ap (λ (t : Bool). if t then None else s.pipework.programs a d) other) ∙ runs))
-        (whether (is_member a))
-
-    owner : (i : ℕ) → i < 4 → (a : List ℕ) × (piped.wires a ≡ Some i)
-    owner zero low = (codes "sender", piped.wired.seats (codes "sender") refl)
-    owner (suc zero) low = (codes "clean", piped.wired.seats (codes "clean") refl)
-    owner (suc (suc zero)) low = (codes "lspawn", piped.wired.seats (codes "lspawn") refl)
-    owner (suc (suc (suc zero))) low = (codes "rspawn", piped.wired.seats (codes "rspawn") refl)
-    owner (suc (suc (suc (suc i)))) low = absurd (omega (arith, low))
-
-    -- a member has done nothing
-    no_past : (a : List ℕ) (x : Actor) → is_member a ≡ true → t.actors a ≡ Some x → x.past ≡ []
-    no_past a x member is = ⊎_elim
-        (λ f. newly (Sender p) (sym (ap t.actors f ∙ four_sender s.actors (Sender p) (Cleaner p) (LocalSpawner p) (RemoteSpawner p)) ∙ is))
+    -- it runs the program of its seat, and has done nothing
+    begun : (a : List ℕ) (x : Actor) → is_member a ≡ true → t.actors a ≡ Some x → HasBegunAt piped.wires a x
+    begun a x member is = ⊎_elim
+        (λ f. newly (codes "sender") (Sender p) refl tt f (sym (ap t.actors f ∙ four_sender s.actors (Sender p) (Cleaner p) (LocalSpawner p) (RemoteSpawner p)) ∙ is))
         (λ f. ⊎_elim
-        (λ g. newly (Cleaner p) (sym (ap t.actors g ∙ four_clean s.actors (Sender p) (Cleaner p) (LocalSpawner p) (RemoteSpawner p)) ∙ is))
+        (λ g. newly (codes "clean") (Cleaner p) refl tt g (sym (ap t.actors g ∙ four_clean s.actors (Sender p) (Cleaner p) (LocalSpawner p) (RemoteSpawner p)) ∙ is))
         (λ g. ⊎_elim
-        (λ h. newly (LocalSpawner p) (sym (ap t.actors h ∙ four_lspawn s.actors (Sender p) (Cleaner p) (LocalSpawner p) (RemoteSpawner p)) ∙ is))
-        (λ h. newly (RemoteSpawner p) (sym (ap t.actors h ∙ four_rspawn s.actors (Sender p) (Cleaner p) (LocalSpawner p) (RemoteSpawner p)) ∙ is))
+        (λ h. newly (codes "lspawn") (LocalSpawner p) refl tt h (sym (ap t.actors h ∙ four_lspawn s.actors (Sender p) (Cleaner p) (LocalSpawner p) (RemoteSpawner p)) ∙ is))
+        (λ h. newly (codes "rspawn") (RemoteSpawner p) refl tt h (sym (ap t.actors h ∙ four_rspawn s.actors (Sender p) (Cleaner p) (LocalSpawner p) (RemoteSpawner p)) ∙ is))
         g) f)
         (member_cases a member)
       where
-        newly : (program : Program) → ◌≡◌ {A = Option Actor} (Some (newborn program)) (Some x) → x.past ≡ []
-        newly program both = let same : newborn program ≡ x = cc in ap (λ (x : Actor). x.past) (sym same)
+        newly : (name : List ℕ) (program : Program) → is_member name ≡ true → RunsBy (seat name) program → a ≡ name → ◌≡◌ {A = Option Actor} (Some (newborn program)) (Some x) → HasBegunAt piped.wires a x
+        newly name program seated runs named both =
+            let same : newborn program ≡ x = cc in
+            subst (HasBegunAt piped.wires a) same (record {
+              runs = subst (λ (o : Option ℕ). RunsBy o program) (sym (ap piped.wires named ∙ piped.wired.seats name seated)) runs;
+              past = refl;
+            })
 
-    -- what holds of the new members and of those that lived holds of all
-    each_stands : (P : Held → Type 0) → ((x : Held) (name : List ℕ) (program : ℕ → Program) → IsNew x name program × (is_member name ≡ true) → P x)
-        → ((i : ℕ) (x : Held) → slice_get actors i ≡ Some x → x.ended ≡ None → P x) → (j : ℕ) (z : Held) → slice_get (four ++ drop crew actors) j ≡ Some z → z.ended ≡ None → P z
-    each_stands P newly old j z at lives =
-        each_of (λ i (x : Held). x.ended ≡ None → P x) new.sender new.clean new.lspawn new.rspawn (drop crew actors)
-        (λ e. newly new.sender (codes "sender") Sender (new.sender_is, refl)) (λ e. newly new.clean (codes "clean") Cleaner (new.clean_is, refl))
-        (λ e. newly new.lspawn (codes "lspawn") LocalSpawner (new.lspawn_is, refl)) (λ e. newly new.rspawn (codes "rspawn") RemoteSpawner (new.rspawn_is, refl))
-        (λ i x is e. old (crew + i) x (sym (get_drop crew actors i) ∙ is) e)
-        j z (subst (λ (l : List Held). slice_get (l ++ drop crew actors) j ≡ Some z) new.are at) lives
+    -- who awaits its input was started by an actor that lives, so by no member
+    awaited_on : (c : List ℕ) → IsAwaited s c → IsAwaited t c
+    awaited_on c was = ⊎_elim
+        (λ member. absurd (over was.parent was.actor member was.is was.alive))
+        (λ other. record {
+          parent = was.parent;
+          runs = ap (λ (t : Bool). if t then None else s.pipework.programs was.parent 0) other ∙ was.runs;
+          actor = was.actor;
+          is = still was.parent other ∙ was.is;
+          alive = was.alive;
+          borne = was.borne;
+        })
+        (whether (is_member was.parent))
+
+    -- what holds of the new members and of those that were there holds of all
+    each_then : (P : Held → Type 0) → ((x : Held) (name : List ℕ) (program : ℕ → Program) → IsNew x name program × (is_member name ≡ true) → P x)
+        → ((i : ℕ) (x : Held) → slice_get actors i ≡ Some x → P x) → (j : ℕ) (z : Held) → slice_get (four ++ drop crew actors) j ≡ Some z → P z
+    each_then P newly old j z at =
+        each_of (λ i (x : Held). P x) new.sender new.clean new.lspawn new.rspawn (drop crew actors)
+        (newly new.sender (codes "sender") Sender (new.sender_is, refl)) (newly new.clean (codes "clean") Cleaner (new.clean_is, refl))
+        (newly new.lspawn (codes "lspawn") LocalSpawner (new.lspawn_is, refl)) (newly new.rspawn (codes "rspawn") RemoteSpawner (new.rspawn_is, refl))
+        (λ i x is. old (crew + i) x (sym (get_drop crew actors i) ∙ is))
+        j z (subst (λ (l : List Held). slice_get (l ++ drop crew actors) j ≡ Some z) new.are at)

@@ -23,8 +23,9 @@ use Rattle.mail_world.specs.Acting.{AreCutOff}
 use Rattle.mail_world.specs.Crew.{AreNew}
 use Rattle.world_events.specs.Books.{fed_entry}
 use Rattle.world_events.specs.Inputs.{with_texts, start_with, with_inputs}
-use Rattle.mail_world.specs.Books.{new_entry, entered_by, acted_on, left_as, cut_off, noted, books_of, AreBooked}
-use Rattle.mail_world.specs.ByKind.{IsMail}
+use Rattle.mail_world.specs.Books.{new_entry, entry_by, entered_by, acted_on, left_as, cut_off, noted, books_of, AreBooked}
+use Rattle.world_events.specs.Children.{entry_after}
+use Rattle.mail_world.specs.ByKind.{IsMail, injection_of}
 use Rattle.mail_world.specs.Inside.{HasJustStarted}
 use Rattle.mail_world.proofs.Known.{IsPlain, inputs_push, inputs_fed, start_in}
 use Rattle.mail_world.proofs.Tests.{other_text}
@@ -369,6 +370,24 @@ pub child_booked : (crew : ℕ) (actors : List Held) (events : List Kept) (y : H
     → AreBooked crew (entries ++ new_entry c args ∷ []) (actors ++ y ∷ []) (events ++ kept.Child parent own c (Injector args) ∷ [])
 child_booked crew actors events y parent own c args entries within booked name entry =
     born_booked crew actors events y c args entries (kept.Child parent own c (Injector args)) tt refl (λ e. refl) within booked name entry
+
+-- one started that is no injector
+pub unentered_booked : (crew : ℕ) (actors : List Held) (events : List Kept) (y : Held) (parent : List ℕ) (own : Own) (c : List ℕ) (program : Program) (entries : List Entry)
+    → injection_of program ≡ None → AreBooked crew entries actors events → y.entry ≡ entry_after (length entries) program
+    → AreBooked crew (entries ++ entry_by c (injection_of program)) (actors ++ y ∷ []) (events ++ kept.Child parent own c program ∷ [])
+unentered_booked crew actors events y parent own c (Injector args) entries none booked entry = absurd (cc)
+unentered_booked crew actors events y parent own c program entries none booked entry =
+    let k = kept.Child parent own c program in
+    let still = still_booked crew actors events entries k tt (ap (entry_by c) none) (λ e. refl) booked in
+    subst (λ (l : List Entry). AreBooked crew (entries ++ l) (actors ++ y ∷ []) (events ++ k ∷ [])) (sym (ap (entry_by c) none))
+    (subst (λ (l : List Entry). AreBooked crew l (actors ++ y ∷ []) (events ++ k ∷ [])) (sym (append-nil entries)) (record {
+      are = still.are;
+      here = λ i m x is has. ⊎_elim
+          (λ (f : (i ≡ length actors) × (y ≡ x)). let both : ◌≡◌ {A = Option ℕ} None (Some m) = sym entry ∙ ap (λ (x : Held). x.entry) f.1 ∙ has in absurd (cc))
+          (λ f. still.here i m x f has)
+          (get_push actors y i x is);
+      owned = λ m e at. let it = still.owned m e at in (it.0, it.1, get_still actors y (crew + it.0) it.1 it.2, it.3, it.4);
+    }))
 
 -- A child was given its input
 

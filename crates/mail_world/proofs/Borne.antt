@@ -1,5 +1,5 @@
 -- A child in the first slot of its parent, which awaits its input.
-use Rattle.std.proofs.Common.{◌≡◌, ◌≢◌, ℕ, List, [], ◌∷◌, ◌++◌, Bool, true, false, ◌&&◌, not, Option, Some, None, IsSome, is_some, refl, sym, ap, ◌∙◌, subst, ⊎_elim, bytes_eq}
+use Rattle.std.proofs.Common.{◌≡◌, ◌≢◌, ℕ, List, [], ◌∷◌, ◌++◌, Bool, true, false, Option, Some, None, IsSome, refl, sym, ap, ◌∙◌, subst, ⊎_elim, bytes_eq}
 use Rattle.std.specs.Prelude.{All, if◌then◌else◌}
 use Rattle.std.proofs.lemmas.List.{reverse-append}
 use Rattle.std.proofs.lemmas.List.Elements.{All-cons, All-head, All-tail}
@@ -9,12 +9,13 @@ use Rattle.world_events.specs.declared.event.Event.TheVariants as kept
 use Rattle.world_events.specs.declared.event.Program.{Program}
 use Rattle.world_events.specs.Inputs.{start_with, with_inputs, with_texts}
 use Rattle.world_pipes.specs.declared.mouths.Mouths.{Mouths}
-use Rattle.mail_world.specs.Pipework.{Pipe, Slot, is_ready, is_member}
+use Rattle.mail_world.specs.Pipework.{is_member}
 use Rattle.mail_world.specs.Pipework.Tenant.{Runs}
 use Rattle.mail_world.specs.declared.actor.Actor.{Actor as Held}
 use Rattle.mail_world.specs.History.{Actor, State}
 use Rattle.mail_world.specs.Readiness.{is_awaiting}
-use Rattle.mail_world.specs.Inside.{IsApart, HasJustStarted, MayFeed, ArePiped}
+use Rattle.mail_world.specs.Inside.{IsApart, HasJustStarted, MayFeed, IsBorne, ArePiped}
+use Rattle.mail_world.proofs.Awaiting.{no_slot}
 use Rattle.mail_world.proofs.Known.{IsPlain, inputs_push}
 use Rattle.mail_world.proofs.Members.{whether}
 use Rattle.queue_law.proofs.Tests.{other_text}
@@ -102,32 +103,23 @@ just_fed events a own b message envelope parent c other far beside just =
 
 -- what its parent gives it next it may give it then too
 pub feed_push : (s t : State) (events : List Kept) (k : Kept) (parent : List ℕ) → IsPlain k → ((c : List ℕ) → s.pipework.programs parent 0 ≡ Some (Runs c) → is_awaiting s c ≡ true → IsApart parent c k)
-    → t.pipework.programs parent 0 ≡ s.pipework.programs parent 0 → ((c : List ℕ) → is_awaiting s c ≡ true → is_awaiting t c ≡ true)
+    → t.pipework.programs parent 0 ≡ s.pipework.programs parent 0 → ((c : List ℕ) → s.pipework.programs parent 0 ≡ Some (Runs c) → is_awaiting s c ≡ true → is_awaiting t c ≡ true)
     → MayFeed s events parent → MayFeed t (events ++ k ∷ []) parent
 feed_push s t events k parent plain apart same awaits may = record {
   child = may.child;
   runs = same ∙ may.runs;
-  awaiting = awaits may.child may.awaiting;
+  awaiting = awaits may.child may.runs may.awaiting;
   just = just_push events k parent may.child plain (apart may.child may.runs may.awaiting) may.just;
 }
+
+-- who runs in a slot is known
+pub borne_known : (wires : List ℕ → Option ℕ) (s : State) (a : List ℕ) (d : ℕ) (c : List ℕ) → IsBorne wires s a d c → IsSome (s.actors c)
+borne_known wires s a d c borne = subst (λ (o : Option Actor). IsSome o) (sym borne.is) refl
 
 -- who is unknown awaits nothing
 pub stranger_awaits : (crew : ℕ) (mouths : List Mouths) (actors : List Held) (s : State) (events : List Kept) (a : List ℕ) → ArePiped crew mouths actors s events → s.actors a ≡ None
     → is_awaiting s a ≡ false
 stranger_awaits crew mouths actors s events a piped unknown = ⊎_elim
-    (λ awaits.
-    let it = piped.awaited a awaits in
-    let both : IsSome {T = Actor} None = subst (λ (o : Option Actor). IsSome o) unknown (piped.born it.parent 0 a it.runs).known in absurd (cc))
-    (λ none. none)
-    (whether (is_awaiting s a))
-
--- and is nobody's child
-pub stranger_slot : (crew : ℕ) (mouths : List Mouths) (actors : List Held) (s : State) (events : List Kept) (a : List ℕ) → ArePiped crew mouths actors s events → s.actors a ≡ None
-    → is_member a ≡ false → s.pipework.slots a ≡ None
-stranger_slot crew mouths actors s events a piped unknown named =
-    by_slot (s.pipework.slots a)
-    (sym (ap (λ (pipe : Pipe). is_some (s.pipework.slots a) && not (is_ready pipe)) (piped.fresh a unknown named)) ∙ stranger_awaits crew mouths actors s events a piped unknown)
-  where
-    by_slot : (o : Option Slot) → (is_some o && true) ≡ false → o ≡ None
-    by_slot None is = refl
-    by_slot (Some slot) is = absurd cc
+    (λ member. no_slot s a (piped.wired.members a member))
+    (λ named. no_slot s a (piped.fresh a unknown named).slot)
+    (whether (is_member a))

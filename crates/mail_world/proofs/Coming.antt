@@ -1,5 +1,5 @@
 -- What came of what was due is of its kind.
-use Rattle.std.proofs.Common.{◌≡◌, ⊎_elim, ℕ, List, true, false, Option, Some, None, sym, subst}
+use Rattle.std.proofs.Common.{⊎_elim, ℕ, List, true, false, Option, Some, None, sym, subst}
 use Rattle.call_fs.specs.declared.calls.CallData.{CallData}
 use Rattle.call_fs.specs.declared.past.ChildData.{ChildData}
 use Rattle.call_fs.specs.declared.past.ChildData.TheVariants as child

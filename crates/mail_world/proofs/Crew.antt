@@ -16,7 +16,7 @@ use Rattle.mail_world.specs.World.{span_after, span_of, ends, starts, was_starte
 use Rattle.call_fs.specs.declared.past.Own.{Own}
 use Rattle.world_events.specs.declared.event.Program.{Program}
 use Rattle.mail_world.specs.Wired.{seat}
-use Rattle.mail_world.specs.ByKind.{Follows, awaits_of, present_of, found_of, looked_of, need_of, takes_of}
+use Rattle.mail_world.specs.ByKind.{IsMail, Follows, awaits_of, present_of, found_of, looked_of, need_of, takes_of}
 use Rattle.call_fs.specs.Program.{IsWithin}
 use Rattle.mail_world.specs.Readiness.{is_awaiting}
 use Rattle.mail_world.specs.Inside.{RunsAt, unowed, Owes, span_by, life_by, IsMember, IsStranger, AreActors, is_by}
@@ -80,8 +80,8 @@ owes_still x events k past at o = record {
 }
 
 -- another actor
-pub other_member : (s t : State) (events : List Kept) (k : Kept) (p : ℕ) (a : List ℕ) (x : Held) → ActsAlone a s t k → x.name ≢ a → IsMember s events p x
-    → (x.ended ≡ None → awaits_of x.machine ≡ is_awaiting t x.name) → IsMember t (events ++ k ∷ []) p x
+pub other_member : (s t : State) (events : List Kept) (k : Kept) (p : ℕ) (a : List ℕ) (x : Held) → ActsAlone a s t k → x.name ≢ a → (m : IsMember s events p x)
+    → (x.ended ≡ None → IsMail m.actor.program → awaits_of x.machine ≡ is_awaiting t x.name) → IsMember t (events ++ k ∷ []) p x
 other_member s t events k p a x acts apart m awaits = record {
   actor = m.actor;
   is = acts.actors x.name apart ∙ m.is;
@@ -131,7 +131,7 @@ cut_member s t events k p a z w acts apart m cut none = record {
   in_order = m.in_order;
   life = m.life ∙ life_same z.ended w.ended z.status w.status cut.ended cut.status;
   unended = λ e. cut.status ∙ m.unended (sym cut.ended ∙ e);
-  awaits = λ e. cut.awaits ∙ sym (ap (is_awaiting t) cut.name ∙ none);
+  awaits = λ e mail. cut.awaits ∙ sym (ap (is_awaiting t) cut.name ∙ none);
   spans = ap (λ (a : List ℕ). span_of a (reverse (events ++ k ∷ []))) cut.name
       ∙ span_stays events k z.name (acts.no_start z.name apart) (acts.no_end z.name apart) ∙ m.spans ∙ ap span_by (sym cut.ended);
   closed = λ at e. cut.descriptors ∙ m.closed at (sym cut.ended ∙ e);
@@ -156,14 +156,14 @@ apart_none places a b i at other same =
 -- one actor acts
 pub crew_acts : (places : List ℕ → Option ℕ) (actors : List Held) (s t : State) (events : List Kept) (k : Kept) (p i : ℕ) (x y : Held)
     → AreActors places actors s events p → slice_get actors i ≡ Some x → y.name ≡ x.name → ActsAlone x.name s t k → ((a : List ℕ) → starts a k ≡ false)
-    → ((b : List ℕ) → b ≢ x.name → is_awaiting t b ≡ is_awaiting s b) → IsMember t (events ++ k ∷ []) p y → AreActors places (set actors i y) t (events ++ k ∷ []) p
+    → ((b : List ℕ) (a : Actor) → s.actors b ≡ Some a → IsMail a.program → b ≢ x.name → is_awaiting t b ≡ is_awaiting s b) → IsMember t (events ++ k ∷ []) p y → AreActors places (set actors i y) t (events ++ k ∷ []) p
 crew_acts places actors s t events k p i x y crew is same acts no_start awaits new =
     let place = crew.placed i x is in record {
       placed = each_set (λ j (z : Held). places z.name ≡ Some j) actors i y (ap places same ∙ place) (λ j z apart h. crew.placed j z h);
       members = each_set (λ j (z : Held). IsMember t (events ++ k ∷ []) p z) actors i y new (λ j z apart h.
           let other = apart_by places x.name z.name i j place (crew.placed j z h) apart in
           let m = crew.members j z h in
-          other_member s t events k p x.name z acts other m (λ lives. m.awaits lives ∙ sym (awaits z.name other)));
+          other_member s t events k p x.name z acts other m (λ lives mail. m.awaits lives mail ∙ sym (awaits z.name m.actor m.is mail other)));
       named = λ a j at. some_set (λ (z : Held). z.name ≡ a) actors i x y j is (λ e. same ∙ e) (crew.named a j at);
       strangers = λ a none. other_stranger s t events k x.name a acts (apart_none places x.name a i place none) (crew.strangers a none);
       started = λ a. started_push events k a ∙ ap (λ b. was_started events a || b) (no_start a) ∙ or-false (was_started events a) ∙ crew.started a;
@@ -173,7 +173,7 @@ crew_acts places actors s t events k p i x y crew is same acts no_start awaits n
 pub crew_leaves : (places : List ℕ → Option ℕ) (actors : List Held) (s t : State) (events : List Kept) (k : Kept) (p i c : ℕ) (x y z w : Held)
     → AreActors places actors s events p → slice_get actors i ≡ Some x → slice_get actors c ≡ Some z → c ≢ i → y.name ≡ x.name → w.name ≡ z.name
     → ActsAlone x.name s t k → ((a : List ℕ) → starts a k ≡ false)
-    → ((j : ℕ) (v : Held) → j ≢ c → slice_get actors j ≡ Some v → v.name ≢ x.name → v.ended ≡ None → awaits_of v.machine ≡ is_awaiting t v.name)
+    → ((j : ℕ) (v : Held) (m : IsMember s events p v) → slice_get actors j ≡ Some v → j ≢ c → v.name ≢ x.name → v.ended ≡ None → IsMail m.actor.program → awaits_of v.machine ≡ is_awaiting t v.name)
     → IsMember t (events ++ k ∷ []) p y → IsMember t (events ++ k ∷ []) p w → AreActors places (set (set actors i y) c w) t (events ++ k ∷ []) p
 crew_leaves places actors s t events k p i c x y z w crew is there other same kept acts no_start awaits new cut =
     let place = crew.placed i x is in
@@ -185,7 +185,8 @@ crew_leaves places actors s t events k p i c x y z w crew is there other same ke
       members = each_set (λ j (v : Held). IsMember t (events ++ k ∷ []) p v) mid c w cut (λ j v beside h. ⊎_elim
           (λ f. subst (λ (v : Held). IsMember t (events ++ k ∷ []) p v) f.1 new)
           (λ f. let far = apart_by places x.name v.name i j place (crew.placed j v f.1) f.0 in
-          other_member s t events k p x.name v acts far (crew.members j v f.1) (awaits j v beside f.1 far))
+          let m = crew.members j v f.1 in
+          other_member s t events k p x.name v acts far m (awaits j v m f.1 beside far))
           (get_set actors i y j v h));
       named = λ a j at. some_set (λ (v : Held). v.name ≡ a) mid c z w j mid_is (λ e. kept ∙ e) (some_set (λ (v : Held). v.name ≡ a) actors i x y j is (λ e. same ∙ e) (crew.named a j at));
       strangers = λ a none. other_stranger s t events k x.name a acts (apart_none places x.name a i place none) (crew.strangers a none);
@@ -219,7 +220,7 @@ crew_waits places actors s t events k p q later crew same holder no_end no_start
     in_order = omega arith;
     life = m.life;
     unended = m.unended;
-    awaits = λ lives. m.awaits lives ∙ sym (awaits x.name);
+    awaits = λ lives mail. m.awaits lives mail ∙ sym (awaits x.name);
     spans = span_stays events k x.name (no_start x.name) (no_end x.name) ∙ m.spans;
     closed = m.closed;
   };
@@ -275,7 +276,7 @@ halt_member s t events how p x y halted cut m = record {
   in_order = m.in_order;
   life = ap cut_off m.life ∙ cut_life (length events) x.ended x.status m.unended ∙ life_same (ended_by (length events) x.ended) y.ended x.status y.status cut.ended cut.status;
   unended = λ e. absurd (none_alive (length events) x.ended (sym cut.ended ∙ e));
-  awaits = λ e. absurd (none_alive (length events) x.ended (sym cut.ended ∙ e));
+  awaits = λ e mail. absurd (none_alive (length events) x.ended (sym cut.ended ∙ e));
   spans = ap (λ (a : List ℕ). span_of a (reverse (events ++ kept.Halt how ∷ []))) cut.name ∙ span_push events (kept.Halt how) x.name
       ∙ ap (span_after x.name (kept.Halt how) (length events)) m.spans ∙ span_cut x.name how (length events) x.ended ∙ ap span_by (sym cut.ended);
   closed = λ at e. cut.descriptors;
@@ -318,7 +319,7 @@ crew_starts places actors s t events k p a y next crew new put name starts_a awa
       placed = each_push (λ j (z : Held). next z.name ≡ Some j) actors y (ap next name ∙ here) (λ j z h. there z.name (old j z h) ∙ crew.placed j z h);
       members = each_push (λ j (z : Held). IsMember t (events ++ k ∷ []) p z) actors y member (λ j z h.
           let m = crew.members j z h in
-          other_member s t events k p a z acts (old j z h) m (λ lives. m.awaits lives ∙ sym (awaits z.name (old j z h))));
+          other_member s t events k p a z acts (old j z h) m (λ lives mail. m.awaits lives mail ∙ sym (awaits z.name (old j z h))));
       named = λ b j at. ⊎_elim
           (λ f. let same : ◌≡◌ {A = Option ℕ} (Some j) (Some (length actors)) = sym at ∙ ap next f.0 ∙ here in
           let last : j ≡ length actors = cc in

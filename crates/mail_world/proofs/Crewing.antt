@@ -8,10 +8,11 @@ use Rattle.std.proofs.lemmas.List.{length-append}
 use Rattle.std.proofs.lemmas.List.Folds.{list_any-append}
 use Rattle.std.proofs.lemmas.Option.{slice_get_within}
 use Rattle.actor_names.specs.MailNames.{members}
-use Rattle.mail_world.specs.declared.starts.Starts.{Starts}
+use Rattle.world_events.specs.declared.starts.Starts.{Starts}
 use Rattle.mail_world.specs.Pipework.{is_member}
 use Rattle.mail_world.specs.Wired.{seat}
-use Rattle.mail_world.specs.Starts.{place_by_entry, AreStarts}
+use Rattle.world_events.specs.Starts.{place_by_entry}
+use Rattle.mail_world.specs.Starts.{AreStarts}
 use Rattle.mail_world.specs.Inside.{among_all}
 use Rattle.mail_world.proofs.Begun.{after_seat, place_of_mail, same_some, four_places}
 use Rattle.mail_world.proofs.Members.{whether}

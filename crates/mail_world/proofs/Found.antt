@@ -8,7 +8,7 @@ use Rattle.call_fs.specs.declared.program.Port.TheVariants as port
 use Rattle.call_fs.specs.declared.program.Ready.{Ready}
 use Rattle.call_fs.specs.declared.program.TheConstants.{INPUT_READY}
 use Rattle.world_events.specs.declared.event.Program.{Program}
-use Rattle.world_events.specs.declared.event.Program.TheVariants.{Injector, Cleaner, Sender, LocalSpawner, RemoteSpawner}
+use Rattle.world_events.specs.declared.event.Program.TheVariants.{Injector, Cleaner, Sender, LocalSpawner, RemoteSpawner, Delivery}
 use Rattle.world_pipes.specs.declared.mouths.Mouths.{Mouths}
 use Rattle.world_pipes.specs.declared.mouths.Slot.{Slot}
 use Rattle.world_pipes.specs.declared.mouths.Tenant.{Tenant as Held}
@@ -19,7 +19,7 @@ use Rattle.world_pipes.specs.Pipework.Tenant.{Runs, Remote}
 use Rattle.mail_world.specs.History.{State}
 use Rattle.mail_world.specs.Readiness.{is_gone, has_ended, lowest_ended, input_alone, input_or_child, is_awaiting, found_by}
 use Rattle.mail_world.specs.Wired.{IsOwnPort, AreWired, AreOver, slots_at, HaveSlots}
-use Rattle.mail_world.specs.Inside.{RunsAt}
+use Rattle.mail_world.specs.Inside.{RunsBy}
 use Rattle.mail_world.specs.ByKind.{IsMail}
 use Rattle.mail_world.specs.Crew.{FindsBy, IsFoundAt, input_of}
 use Rattle.mail_world.proofs.Feeds.{own_pipe, own_tenant}
@@ -136,11 +136,11 @@ three_links p q r a b c hp hq hr =
     ∙ ap (λ (r : Pipe). is_ready a ∷ is_ready b ∷ is_ready r ∷ false ∷ []) hr
 
 pub found_is : (s : State) (wires : List ℕ → Option ℕ) (mouths : List Mouths) (a : List ℕ) (at : Option ℕ) (program : Program) (awaits : Bool) (ready : Ready) → AreWired wires mouths s.pipework → HaveSlots mouths
-    → AreOver (λ c. is_gone (s.actors c)) mouths → wires a ≡ at → RunsAt at program → awaits ≡ is_awaiting s a → IsFoundAt mouths at awaits ready → ready ≡ found_by s a program
-found_is s wires mouths a None program awaits ready wired slots over at runs same found = by_program program runs where
-  by_program : (program : Program) → IsMail program → ready ≡ found_by s a program
-  by_program (Injector args) mail = found ∙ ap (λ (t : Bool). if t then input_alone false else INPUT_READY) same
-  by_program other mail = absurd mail
+    → AreOver (λ c. is_gone (s.actors c)) mouths → wires a ≡ at → RunsBy at program → (IsMail program → awaits ≡ is_awaiting s a) → IsFoundAt mouths at awaits ready → ready ≡ found_by s a program
+found_is s wires mouths a None program awaits ready wired slots over at runs same found = by_program program runs (same runs) where
+  by_program : (program : Program) → IsMail program → awaits ≡ is_awaiting s a → ready ≡ found_by s a program
+  by_program (Injector args) mail same = found ∙ ap (λ (t : Bool). if t then input_alone false else INPUT_READY) same
+  by_program other mail same = absurd mail
 found_is s wires mouths a (Some i) program awaits ready wired slots over at runs same found = by_member (some_at (λ m. FindsBy i m ready) (slice_get mouths i) found) where
   by_member : (m : Mouths) × (slice_get mouths i ≡ Some m) × FindsBy i m ready → ready ≡ found_by s a program
   by_member found = by_seat i program runs at found.1 found.2 where
@@ -162,7 +162,7 @@ found_is s wires mouths a (Some i) program awaits ready wired slots over at runs
         ∙ ap (λ (child : Option ℕ). record { links = is_ready (s.pipework.pipes a port.Input) ∷ false ∷ false ∷ false ∷ []; child = child })
         (sym (lowest_found s wires mouths a (suc (suc j)) m finds.0 wired slots over at is finds.1))
 
-    by_seat : (i : ℕ) (program : Program) → RunsAt (Some i) program → wires a ≡ Some i → slice_get mouths i ≡ Some m → FindsBy i m ready → ready ≡ found_by s a program
+    by_seat : (i : ℕ) (program : Program) → RunsBy (Some i) program → wires a ≡ Some i → slice_get mouths i ≡ Some m → FindsBy i m ready → ready ≡ found_by s a program
     by_seat zero (Sender start) runs at is finds =
         finds ∙ ap (λ (l : List Bool). record { links = l; child = None })
         (three_links (pipe_of m port.Clean) (pipe_of m port.Lspawn) (pipe_of m port.Rspawn) (s.pipework.pipes a port.Clean) (s.pipework.pipes a port.Lspawn) (s.pipework.pipes a port.Rspawn)
@@ -172,5 +172,7 @@ found_is s wires mouths a (Some i) program awaits ready wired slots over at runs
     by_seat (suc zero) other runs at is finds = absurd runs
     by_seat (suc (suc zero)) (LocalSpawner start) runs at is finds = or_child 0 at is finds
     by_seat (suc (suc zero)) other runs at is finds = absurd runs
-    by_seat (suc (suc (suc j))) (RemoteSpawner start) runs at is finds = or_child (suc j) at is finds
-    by_seat (suc (suc (suc j))) other runs at is finds = absurd runs
+    by_seat (suc (suc (suc zero))) (RemoteSpawner start) runs at is finds = or_child 1 at is finds
+    by_seat (suc (suc (suc zero))) other runs at is finds = absurd runs
+    by_seat (suc (suc (suc (suc j)))) (Delivery start args) runs at is finds = or_child (suc (suc j)) at is finds
+    by_seat (suc (suc (suc (suc j)))) other runs at is finds = absurd runs

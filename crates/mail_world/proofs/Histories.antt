@@ -24,10 +24,10 @@ use Rattle.world_events.specs.Inputs.{with_texts, start_with, with_inputs}
 use Rattle.call_fs.specs.declared.past.Own.{Own}
 use Rattle.world_events.specs.declared.event.Event.{Event as Kept}
 use Rattle.world_events.specs.declared.event.Event.TheVariants as kept
-use Rattle.mail_world.specs.History.{Event, call_act, netstring, start_of, Actor, Life, State, next_of, acted, MayRun, MayFind, MayReport, Allowed, MayRead, ComesOf, IsFed, IsInputOf, IsProgramOf, happens, called, finished, shut_by, after, latest, Opening, EachAllowed, Legal}
+use Rattle.mail_world.specs.History.{Event, call_act, own_call, netstring, start_of, Actor, Life, State, next_of, acted, MayRun, MayFind, MayReport, Allowed, MayRead, ComesOf, IsFed, IsInputOf, IsProgramOf, happens, called, finished, shut_by, after, latest, Opening, EachAllowed, Legal}
 use Rattle.mail_world.specs.History.Event.{Start, Act, Child, Generation, Report, End, Stop, Moment, Halt}
 use Rattle.mail_world.specs.History.Life.{Alive}
-use Rattle.mail_world.specs.World.{kept_call, Tells, begun_with, IsBefore, IsByName, AreByName, Leads, IsHistory}
+use Rattle.mail_world.specs.World.{Tells, begun_with, IsBefore, IsByName, AreByName, Leads, IsHistory}
 use Rattle.mail_world.specs.Pipework.{Pipework, Tenant, is_member}
 use Rattle.mail_world.specs.Pipework.Tenant.{Runs}
 use Rattle.mail_world.specs.Wired.{AreWholeGivings}
@@ -91,6 +91,10 @@ may_read s t a p x same now acts = record {
   no_later = omega arith;
   no_stall = omega arith;
 }
+
+-- an actor's file call, as it is kept
+abbrev pub kept_call : List ℕ → ℕ → Ready → CallData → Told → Kept
+kept_call a read ready call told = kept.Act a (own_call read ready call told)
 
 call_goes_on : (o d d' : Disk) (events : List Kept) (p : ℕ) (h : List Event) (a : List ℕ) (x : Actor) (ready : Ready) (call : CallData) (got : Told)
     → Leads o d events p h → AreWholeGivings (reverse events) → IsActing (known events) a p x → FindsIn events a x ready → next_of x.program x.past p ready ≡ needs.File call

@@ -11,16 +11,18 @@ use Rattle.mail_world.specs.declared.actor.Actor.{Actor as Held}
 use Rattle.mail_world.specs.Children.{place_by_name, child_place, IsCut, HasLeft, HasLeftIf}
 use Rattle.mail_world.specs.History.{Actor, Life, State, finished}
 use Rattle.mail_world.specs.Readiness.{is_awaiting}
-use Rattle.mail_world.specs.Wired.{seat, tenant_in, kept_at, AreWired}
-use Rattle.mail_world.specs.Inside.{place_by, among_all, RunsAt, AreActors, ArePiped}
+use Rattle.mail_world.specs.Wired.{tenant_in, kept_at, AreWired}
+use Rattle.mail_world.specs.Inside.{place_by, among_all, AreActors, ArePiped}
+use Rattle.world_events.specs.declared.event.Program.{Program}
+use Rattle.world_events.specs.declared.event.Program.TheVariants.{Sender, LocalSpawner, Delivery}
+use Rattle.mail_world.specs.ByKind.{BearsIn, IsMail}
 use Rattle.mail_world.proofs.Awaiting.{IsChildOf, finish_none, finish_other, finish_parent}
 use Rattle.mail_world.proofs.Crew.{apart_by}
-use Rattle.mail_world.proofs.Feeders.{no_mail_feeds}
 use Rattle.mail_world.proofs.Lists.{get_set, some_at}
 use Rattle.mail_world.proofs.Members.{whether}
 use Rattle.mail_world.proofs.Seats.{seat_none}
 
--- with the one that is over another one is cut, which awaits nothing then; each other one awaits what it awaited
+-- with the one that is over another one is cut, which awaits nothing then; each other injector awaits what it awaited
 pub record IsCutWith (actors stood : List Held) (s t : State) (i : ℕ) (x y : Held) : Type 0 where
   pub place : ℕ
   pub old : Held
@@ -32,33 +34,43 @@ pub record IsCutWith (actors stood : List Held) (s t : State) (i : ℕ) (x y : H
   pub is : stood ≡ set (set actors i y) place new
   pub cut : IsCut old new
   pub none : is_awaiting t old.name ≡ false
-  pub rest : (b : List ℕ) → b ≢ old.name → is_awaiting t b ≡ is_awaiting s b
+  pub rest : (b : List ℕ) (u : Actor) → s.actors b ≡ Some u → IsMail u.program → b ≢ old.name → is_awaiting t b ≡ is_awaiting s b
 
--- or only that one changes, and each other one awaits what it awaited
+-- or only that one changes, and each injector awaits what it awaited
 abbrev pub Leaves : List Held → List Held → State → State → ℕ → Held → Held → Type 0
-Leaves actors stood s t i x y = ((stood ≡ set actors i y) × ((b : List ℕ) → is_awaiting t b ≡ is_awaiting s b)) ⊎ IsCutWith actors stood s t i x y
+Leaves actors stood s t i x y =
+    ((stood ≡ set actors i y) × ((b : List ℕ) (u : Actor) → s.actors b ≡ Some u → IsMail u.program → is_awaiting t b ≡ is_awaiting s b)) ⊎ IsCutWith actors stood s t i x y
 
--- The child in the first slot of an actor
+-- The child in a slot of an actor
 
 -- it is no member
-pub child_named : (crew : ℕ) (mouths : List Mouths) (actors : List Held) (s : State) (events : List Kept) → ArePiped crew mouths actors s events → (a b : List ℕ)
-    → s.pipework.programs a 0 ≡ Some (Runs b) → is_member b ≡ false
-child_named crew mouths actors s events piped a b runs = ⊎_elim
-    (λ member. let both : ◌≡◌ {A = Option Slot} None (Some (record { parent = a; number = 0 })) = sym (piped.wired.members b member) ∙ piped.wired.children a 0 b runs in absurd (cc))
+pub child_named : (crew : ℕ) (mouths : List Mouths) (actors : List Held) (s : State) (events : List Kept) → ArePiped crew mouths actors s events → (a b : List ℕ) {d : ℕ}
+    → s.pipework.programs a d ≡ Some (Runs b) → is_member b ≡ false
+child_named crew mouths actors s events piped a b {d} runs = ⊎_elim
+    (λ member. let both : ◌≡◌ {A = Option Slot} None (Some (record { parent = a; number = d })) = sym (piped.wired.members b member) ∙ piped.wired.children a d b runs in absurd (cc))
     (λ named. named)
     (whether (is_member b))
 
-pub child_of : (crew : ℕ) (mouths : List Mouths) (actors : List Held) (s : State) (events : List Kept) → ArePiped crew mouths actors s events → (a b : List ℕ)
-    → s.pipework.programs a 0 ≡ Some (Runs b) → IsChildOf s a b
-child_of crew mouths actors s events piped a b runs = record { named = child_named crew mouths actors s events piped a b runs; slot = piped.wired.children a 0 b runs }
+pub child_of : (crew : ℕ) (mouths : List Mouths) (actors : List Held) (s : State) (events : List Kept) → ArePiped crew mouths actors s events → (a b : List ℕ) {d : ℕ}
+    → s.pipework.programs a d ≡ Some (Runs b) → IsChildOf s a b
+child_of crew mouths actors s events piped a b {d} runs = record { named = child_named crew mouths actors s events piped a b runs; number = d; slot = piped.wired.children a d b runs }
 
--- who feeds a child is no mail, as the child is
+-- no program runs in a slot of its own kind
+no_own_kind : (program : Program) (d : ℕ) → BearsIn program d program → ⊥
+no_own_kind (Sender start) d bears = bears.1
+no_own_kind (Delivery start args) d bears = bears.1
+no_own_kind (LocalSpawner start) d bears = bears
+no_own_kind program d bears = absurd bears
+
+-- so nobody runs in a slot of its own
 pub child_apart : (crew : ℕ) (places : List ℕ → Option ℕ) (mouths : List Mouths) (actors : List Held) (s : State) (events : List Kept) (p i : ℕ) (x : Held) → AreActors places actors s events p
-    → ArePiped crew mouths actors s events → slice_get actors i ≡ Some x → (b : List ℕ) → s.pipework.programs x.name 0 ≡ Some (Runs b) → b ≢ x.name
-child_apart crew places mouths actors s events p i x kept piped is b runs = λ same.
+    → ArePiped crew mouths actors s events → slice_get actors i ≡ Some x → (b : List ℕ) {d : ℕ} → s.pipework.programs x.name d ≡ Some (Runs b) → b ≢ x.name
+child_apart crew places mouths actors s events p i x kept piped is b {d} runs = λ same.
     let m = kept.members i x is in
-    let none : seat x.name ≡ None = ap seat (sym same) ∙ seat_none b (child_named crew mouths actors s events piped x.name b runs) in
-    no_mail_feeds m.actor.program ((piped.born x.name 0 b runs).feeds m.actor m.is) (subst (λ (o : Option ℕ). RunsAt o m.actor.program) none m.runs)
+    let born = piped.born x.name d b runs in
+    let both : ◌≡◌ {A = Option Actor} (Some born.child) (Some m.actor) = sym born.is ∙ ap s.actors same ∙ m.is in
+    let one : born.child ≡ m.actor = cc in
+    no_own_kind m.actor.program d (subst (λ (a : Actor). BearsIn m.actor.program d a.program) one (born.bears m.actor m.is))
 
 -- who is known has a place
 pub has_place : (places : List ℕ → Option ℕ) (actors : List Held) (s : State) (events : List Kept) (p : ℕ) (b : List ℕ) → AreActors places actors s events p → IsSome (s.actors b) → (j : ℕ) × (places b ≡ Some j)
@@ -71,18 +83,18 @@ so_placed : (crew : ℕ) (b : List ℕ) (o : Option ℕ) → place_by_name crew 
 so_placed crew b None = refl
 so_placed crew b (Some i) = refl
 
-pub in_slot : (wires : List ℕ → Option ℕ) (mouths : List Mouths) (s : State) (a b : List ℕ) (wire : Option ℕ) → AreWired wires mouths s.pipework → wires a ≡ wire → s.pipework.programs a 0 ≡ Some (Runs b)
-    → tenant_in (kept_at wire mouths) 0 ≡ Some (Runs b)
-in_slot wires mouths s a b wire wired at runs = ap (λ (o : Option ℕ). tenant_in (kept_at o mouths) 0) (sym at) ∙ sym (wired.programs a 0) ∙ runs
+pub in_slot : (wires : List ℕ → Option ℕ) (mouths : List Mouths) (s : State) (a b : List ℕ) (wire : Option ℕ) {d : ℕ} → AreWired wires mouths s.pipework → wires a ≡ wire → s.pipework.programs a d ≡ Some (Runs b)
+    → tenant_in (kept_at wire mouths) d ≡ Some (Runs b)
+in_slot wires mouths s a b wire {d} wired at runs = ap (λ (o : Option ℕ). tenant_in (kept_at o mouths) d) (sym at) ∙ sym (wired.programs a d) ∙ runs
 
 by_tenant : (crew : ℕ) (places : List ℕ → Option ℕ) (mouths : List Mouths) (wire : Option ℕ) (b : List ℕ) → is_member b ≡ false → tenant_in (kept_at wire mouths) 0 ≡ Some (Runs b)
-    → child_place mouths wire crew places ≡ among_all crew places b
+    → child_place mouths wire 0 crew places ≡ among_all crew places b
 by_tenant crew places mouths wire b named is =
     ap (λ (o : Option Tenant). place_by_name crew places (actor_of o)) is ∙ so_placed crew b (places b) ∙ sym (ap (λ (o : Option ℕ). place_by crew o (places b)) (seat_none b named))
 
 module _ (crew : ℕ) (places : List ℕ → Option ℕ) (mouths : List Mouths) (actors : List Held) (s : State) (events : List Kept) (a : List ℕ) (wire : Option ℕ)
     (piped : ArePiped crew mouths actors s events) (of : piped.wires a ≡ wire) where
-  pub child_is : (b : List ℕ) → s.pipework.programs a 0 ≡ Some (Runs b) → child_place mouths wire crew places ≡ among_all crew places b
+  pub child_is : (b : List ℕ) → s.pipework.programs a 0 ≡ Some (Runs b) → child_place mouths wire 0 crew places ≡ among_all crew places b
   child_is b runs =
       by_tenant crew places mouths wire b (child_named crew mouths actors s events piped a b runs) (in_slot piped.wires mouths s a b wire piped.wired of runs)
 
@@ -92,7 +104,7 @@ module _ (crew : ℕ) (places : List ℕ → Option ℕ) (mouths : List Mouths) 
     pub runs : s.pipework.programs a 0 ≡ Some (Runs name)
     pub at : among_all crew places name ≡ Some c
 
-  pub child_at : (c : ℕ) → child_place mouths wire crew places ≡ Some c → IsChildAt c
+  pub child_at : (c : ℕ) → child_place mouths wire 0 crew places ≡ Some c → IsChildAt c
   child_at c at = by_slot (tenant_in (kept_at wire mouths) 0) refl where
     by_slot : (o : Option Tenant) → tenant_in (kept_at wire mouths) 0 ≡ o → IsChildAt c
     by_slot None is = let both : ◌≡◌ {A = Option ℕ} None (Some c) = sym (ap (λ (o : Option Tenant). place_by_name crew places (actor_of o)) is) ∙ at in absurd (cc)
@@ -108,19 +120,19 @@ module _ (crew : ℕ) (places : List ℕ → Option ℕ) (mouths : List Mouths) 
   abbrev t : State
   t = finished s x.name life (Some z)
 
-  -- each one that isn't in its slot awaits what it awaited
-  still : (b : List ℕ) → (s.pipework.programs x.name 0 ≡ Some (Runs b) → ⊥) → is_awaiting t b ≡ is_awaiting s b
-  still b beyond = ⊎_elim
+  -- each injector that isn't in its slot awaits what it awaited
+  still : (b : List ℕ) (u : Actor) → s.actors b ≡ Some u → IsMail u.program → (s.pipework.programs x.name 0 ≡ Some (Runs b) → ⊥) → is_awaiting t b ≡ is_awaiting s b
+  still b u there mail beyond = ⊎_elim
       (λ awaits.
-      let it = piped.awaited b awaits in
+      let it = piped.awaited b u there mail awaits in
       finish_other s z life x.name b it.parent (child_of crew mouths actors s events piped it.parent b it.runs)
       (λ same. beyond (ap (λ (a : List ℕ). s.pipework.programs a 0) same ∙ it.runs)))
       (λ none. finish_none s z life x.name b none ∙ sym none)
       (whether (is_awaiting s b))
 
-  alone : child_place mouths wire crew places ≡ None → (b : List ℕ) → is_awaiting t b ≡ is_awaiting s b
-  alone none b = still b (λ runs.
-      let j = has_place (among_all crew places) actors s events p b kept (piped.born x.name 0 b runs).known in
+  alone : child_place mouths wire 0 crew places ≡ None → (b : List ℕ) (u : Actor) → s.actors b ≡ Some u → IsMail u.program → is_awaiting t b ≡ is_awaiting s b
+  alone none b u there mail = still b u there mail (λ runs.
+      let j = has_place (among_all crew places) actors s events p b kept (subst (λ (o : Option Actor). IsSome o) (sym there) refl) in
       let both : ◌≡◌ {A = Option ℕ} None (Some j.0) = sym none ∙ child_is crew places mouths actors s events x.name wire piped of b runs ∙ j.1 in cc)
 
   cut_with : (i c : ℕ) → slice_get actors i ≡ Some x → IsChildAt crew places mouths actors s events x.name wire piped of c → (v w : Held) → slice_get (set actors i y) c ≡ Some v
@@ -141,7 +153,7 @@ module _ (crew : ℕ) (places : List ℕ → Option ℕ) (mouths : List Mouths) 
         is = left;
         cut = cut;
         none = ap (is_awaiting t) name ∙ finish_parent s z life x.name child.name (child_of crew mouths actors s events piped x.name child.name child.runs);
-        rest = λ b beyond. still b (λ runs.
+        rest = λ b u known mail beyond. still b u known mail (λ runs.
             let both : ◌≡◌ {A = Option Tenant} (Some (Runs b)) (Some (Runs child.name)) = sym runs ∙ child.runs in
             let same : b ≡ child.name = cc in beyond (same ∙ sym name));
       }
@@ -154,7 +166,7 @@ module _ (crew : ℕ) (places : List ℕ → Option ℕ) (mouths : List Mouths) 
           let held : one.0 ≡ two.0 = cc in
           sym one.2 ∙ ap (λ (h : Held). h.name) held ∙ two.2
 
-  pub leaves : (i : ℕ) (child : Option ℕ) → slice_get actors i ≡ Some x → child ≡ child_place mouths wire crew places → HasLeft child (set actors i y) stood → Leaves actors stood s t i x y
+  pub leaves : (i : ℕ) (child : Option ℕ) → slice_get actors i ≡ Some x → child ≡ child_place mouths wire 0 crew places → HasLeft child (set actors i y) stood → Leaves actors stood s t i x y
   leaves i None is at left = inl (left, alone (sym at))
   leaves i (Some c) is at left = inr (cut_with i c is (child_at crew places mouths actors s events x.name wire piped of c (sym at)) left.0 left.1 left.2 left.3 left.4)
 

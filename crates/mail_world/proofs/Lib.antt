@@ -20,6 +20,8 @@ pub use Rattle.crew_pipes.proofs.Wires
 pub use Rattle.crew_pipes.proofs.Keeps
 pub use Rattle.crew_pipes.proofs.Feeds
 pub use Rattle.crew_pipes.proofs.Shuts
+-- who was never started has no pipes
+pub mod Unwired
 pub mod Piped
 -- the child in the first slot of its parent
 pub mod Borne
@@ -58,6 +60,13 @@ pub mod Machines
 pub mod Spans
 -- lists by their places
 pub use Rattle.crew_pipes.proofs.Lists
+-- of which kind those are that start injectors, and who was never started
+pub mod Fed
+pub mod Births
+-- what is due suits the place of its pipes
+pub mod Suiting
+-- how many children were started, and the numbers of local deliveries
+pub mod Numbered
 -- the actors that a world keeps
 pub mod Crew
 -- one actor calls, ends or starts
@@ -107,5 +116,7 @@ pub mod Statuses
 pub mod Feeding
 -- an actor starts the injector of a bounce
 pub mod Bearing
+-- the local spawner gives a delivery its input
+pub mod Filling
 -- the names of the injectors of bounces
 pub mod Bounces

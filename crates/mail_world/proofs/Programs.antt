@@ -27,7 +27,7 @@ use Rattle.remote_spawn.proofs.Holds.{uses as spawns_held}
 use Rattle.world_events.specs.declared.event.Program.{Program}
 use Rattle.world_events.specs.declared.event.Program.TheVariants.{Injector, Cleaner, Sender, LocalSpawner, RemoteSpawner, Delivery}
 use Rattle.mail_world.specs.declared.any_machine.AnyMachine.{AnyMachine}
-use Rattle.mail_world.specs.declared.any_machine.AnyMachine.TheVariants.{Mail, Clean, Send, Local, Remote}
+use Rattle.mail_world.specs.declared.any_machine.AnyMachine.TheVariants.{Mail, Clean, Send, Local, Remote, Deliver}
 use Rattle.mail_world.specs.Pipework.{Slot, Pipework, is_ready}
 use Rattle.mail_world.specs.History.{Life, State, InputIsFound, FindsInputAlone, MayFind, MayRun, next_of, latest, own_call, booked_by, held_by, cut_off}
 use Rattle.mail_world.specs.History.Life.{Alive, Over}
@@ -36,9 +36,10 @@ use Rattle.mail_world.specs.Readiness.{input_alone, is_awaiting, found_by}
 use Rattle.mail_world.specs.World.{most_of}
 use Rattle.call_fs.specs.declared.file_system.TheConstants.{PIECE}
 use Rattle.fed_injector.specs.declared.fed.FedInjector.{FedInjector}
-use Rattle.mail_world.specs.ByKind.{IsMail, takes_of, Leaves, Follows, Mails, Cleans, Sends, SpawnsLocals, Spawns}
+use Rattle.mail_world.specs.ByKind.{IsMail, takes_of, Leaves, Follows, Mails, Cleans, Sends, SpawnsLocals, Spawns, Delivers}
 use Rattle.queue_clean.specs.Machine.{Machine as Cleaning}
 use Rattle.send_core.specs.Stands.{Machine as Sending}
+use Rattle.local_deliver.specs.declared.machine.Local.{Local as Deliverer}
 use Rattle.local_spawn.specs.declared.machine.LocalSpawn.{LocalSpawn}
 use Rattle.remote_spawn.specs.declared.machine.RemoteSpawn.{RemoteSpawn}
 use Rattle.call_fs.specs.declared.program.TheConstants.{INPUT_READY}
@@ -121,12 +122,17 @@ remote_takes : (m : RemoteSpawn) (program : Program) (past : List Own) → Spawn
 remote_takes m (RemoteSpawner start) past f = refl
 remote_takes m other past f = absurd f
 
+delivery_takes : (m : Deliverer) (program : Program) (past : List Own) → Delivers m program past → 18446744073709551615 ≡ most_of program
+delivery_takes m (Delivery start args) past f = refl
+delivery_takes m other past f = absurd f
+
 pub machine_takes : (m : AnyMachine) (program : Program) (past : List Own) → Follows m program past → IsMail program ⊎ (takes_of m ≡ most_of program)
 machine_takes (Mail injector) program past f = inl (mail_takes injector program past f)
 machine_takes (Clean cleaner) program past f = inr (clean_takes cleaner program past f)
 machine_takes (Send sender) program past f = inr (send_takes sender program past f)
 machine_takes (Local spawner) program past f = inr (local_takes spawner program past f)
 machine_takes (Remote spawner) program past f = inr (remote_takes spawner program past f)
+machine_takes (Deliver delivery) program past f = inr (delivery_takes delivery program past f)
 
 -- one that a history may start starts no program
 pub program_starts_none : (program : Program) (past : List Own) (now : ℕ) (ready : Ready) (asked : ChildData) → MayRun program → next_of program past now ready ≡ needs.Start asked → ⊥

@@ -12,7 +12,7 @@ use Rattle.world_events.specs.declared.event.Event.TheVariants as kept
 use Rattle.world_pipes.specs.declared.mouths.Mouths.{Mouths}
 use Rattle.world_pipes.specs.declared.mouths.Slot.{Slot}
 use Rattle.world_pipes.specs.Mouths.{runs_in, tenant_of, is_remote, IsLowest}
-use Rattle.world_pipes.specs.Pipework.{Pipe, Tenant, closed, given}
+use Rattle.world_pipes.specs.Pipework.{Pipe, Tenant, closed, given, mouth}
 use Rattle.world_pipes.specs.Pipework.Tenant.{Runs, Remote}
 use Rattle.mail_world.specs.declared.actor.Actor.{Actor as Held}
 use Rattle.mail_world.specs.declared.error.WorldError.{WorldError}
@@ -26,6 +26,7 @@ use Rattle.call_fs.specs.Past.{held}
 use Rattle.mail_world.specs.Acting.{AreAsBefore}
 use Rattle.mail_world.specs.Crew.{lasts, HasReport}
 use Rattle.mail_world.specs.Generations.{lives_in, is_unreported, lowest_unreported}
+use Rattle.mail_world.specs.World.{Counts}
 use Rattle.mail_world.specs.Inside.{known, among_all, life_by, is_by, Owns, IsMember, AreActors, IsOpenTo, IsWorld, ArePiped}
 use Rattle.mail_world.proofs.Awaiting.{report_awaits}
 use Rattle.mail_world.proofs.Borne.{feed_push}
@@ -36,10 +37,13 @@ use Rattle.mail_world.proofs.Histories.{LeadsOn, led_still}
 use Rattle.mail_world.proofs.Keeps.{others_stay, slots_set, children_set, over_set}
 use Rattle.mail_world.proofs.Known.{known_push}
 use Rattle.mail_world.proofs.Lists.{some_at}
+use Rattle.mail_world.proofs.Members.{other_than}
 use Rattle.mail_world.proofs.Piped.{whole_push}
 use Rattle.queue_law.proofs.Tests.{text_cases}
+use Rattle.mail_world.proofs.Unwired.{put_away}
 use Rattle.mail_world.proofs.Wires.{wired_both, put_runs}
-use Rattle.mail_world.proofs.Worlds.{on_told, still_pid, pid_push, still_count}
+use Rattle.mail_world.proofs.Numbered.{still_count, numbered_still}
+use Rattle.mail_world.proofs.Worlds.{on_told, still_pid, pid_push}
 
 -- Whether the remote spawner lives
 
@@ -211,7 +215,7 @@ report_opens d actors s t holder same o = record {
   };
 }
 
-pub report_keeps : (told : Option Disk) (places : List ℕ → Option ℕ) (actors : List Held) (events : List Kept) (p n b slot letter : ℕ) (text : List ℕ)
+pub report_keeps : (told : Option Disk) (places : List ℕ → Option ℕ) (actors : List Held) (events : List Kept) (p n : ℕ) (b : Counts) (slot letter : ℕ) (text : List ℕ)
     → IsWorld told places actors (known events) events p n b → LeadsOn told told events (events ++ kept.Report slot letter text ∷ []) p p
     → IsWorld told places actors (known (events ++ kept.Report slot letter text ∷ [])) (events ++ kept.Report slot letter text ∷ []) p n b
 report_keeps told places actors events p n b slot letter text w leads =
@@ -224,15 +228,12 @@ report_keeps told places actors events p n b slot letter text w leads =
       pid = w.pid ∙ sym (pid_push events k ∙ still_pid events k refl);
       count = w.count ∙ sym (still_count events k refl);
       unborn = w.unborn;
+      undelivered = w.undelivered;
+      numbered = numbered_still s t refl w.numbered;
       kept = crew_waits places actors s t events k p p (omega arith) w.kept refl refl (λ a. refl) (λ a. refl) (report_awaits s slot letter text);
       opens = on_told told (λ d. IsOpenTo d actors s) (λ d. IsOpenTo d actors t) (λ d o. report_opens d actors s t refl refl o) w.opens;
       led = led_still told events (events ++ k ∷ []) p p leads w.led;
     })
-
--- a program's output is no input
-no_input : (t : Bool) (pipe other : Pipe) → (if t && false then other else pipe) ≡ pipe
-no_input true pipe other = refl
-no_input false pipe other = refl
 
 pub report_piped : (crew : ℕ) (mouths : List Mouths) (actors : List Held) (events : List Kept) (m n : Mouths) (slot letter : ℕ) (text : List ℕ)
     → ArePiped crew mouths actors (known events) events → slice_get mouths 3 ≡ Some m → HasReport m n slot (report_text letter text)
@@ -251,17 +252,26 @@ report_piped crew mouths actors events m n slot letter text piped is now =
       over = over_set (λ c. is_gone (s.actors c)) mouths 3 m n is stay piped.over;
       places = piped.places;
       stands = piped.stands;
-      alone = piped.alone;
+      others = piped.others;
+      runs = piped.runs;
       born = λ a d c runs.
           let was = piped.born a d c (put_runs (bytes_eq a (codes "rspawn") && (d == slot)) (s.pipework.programs a d) (Some (Remote true)) c (λ e. cc) runs) in
-          record { known = was.known; first = was.first; feeds = was.feeds };
+          record { child = was.child; is = was.is; runs = was.runs; bears = was.bears };
       whole = whole_push events k piped.whole tt;
-      fresh = λ a unknown other. no_input (bytes_eq a (codes "rspawn")) (s.pipework.pipes a port.Input) _ ∙ piped.fresh a unknown other;
+      fresh = λ a unknown named.
+          let was = piped.fresh a unknown named in
+          record {
+            place = was.place;
+            slot = was.slot;
+            pipes = λ q own.
+                put_away s.pipework.pipes (mouth (codes "rspawn") (port.Program slot)) (λ pipe. closed (given (report_text letter text) pipe)) a q (other_than a (codes "rspawn") named refl)
+                ∙ was.pipes q own;
+          };
       fed = λ a x there alive borne.
           let may = piped.fed a x there alive borne in
-          feed_push s t events k a tt (λ c runs awaiting. tt) (still_runs a may.child may.runs) (λ c awaits. report_awaits s slot letter text c ∙ awaits) may;
-      awaited = λ c awaits.
-          let was = piped.awaited c (sym (report_awaits s slot letter text c) ∙ awaits) in
+          feed_push s t events k a tt (λ c runs awaiting. tt) (still_runs a may.child may.runs) (λ c runs awaits. report_awaits s slot letter text c ∙ awaits) may;
+      awaited = λ c x there mail awaits.
+          let was = piped.awaited c x there mail (sym (report_awaits s slot letter text c) ∙ awaits) in
           record { parent = was.parent; runs = still_runs was.parent c was.runs ∙ was.runs; actor = was.actor; is = was.is; alive = was.alive; borne = was.borne };
       count = subst (λ (n : ℕ). (n ≡ 0) ⊎ ((4 ≤ n) × (crew ≡ 4))) (sym (length-set mouths 3 n)) piped.count;
       few = piped.few;
@@ -293,7 +303,8 @@ same_piped crew mouths later actors s events piped same = record {
   over = same.keep.over (λ c. is_gone (s.actors c)) piped.over;
   places = piped.places;
   stands = piped.stands;
-  alone = piped.alone;
+  others = piped.others;
+  runs = piped.runs;
   born = piped.born;
   whole = piped.whole;
   fresh = piped.fresh;

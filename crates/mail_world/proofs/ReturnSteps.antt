@@ -760,9 +760,16 @@ gives_texts began past now ready slot bytes run e =
     let texts : AreTexts d.bounce.input = subst (λ (r : ReturnRow). HasTexts r d.bounce.input) gives.is (keeps past (subst IsReturn (sym w.row) tt)) in
     record { borne = borne began past w.n gives.pid run w.row gives.is; first = gives.first; texts = subst AreTexts gives.text texts }
 
+-- what it asks for to be started is the injector of a bounce
+pub sender_asks : (began : ℕ) (past : List Own) (now : ℕ) (ready : Ready) (asked : ChildData) → next_of (Sender began) past now ready ≡ needs.Start asked → (room : ℕ) × (asked ≡ child.Bounce room)
+sender_asks began past now ready asked e =
+    let d : Desk = desk_after None past in
+    let w = at_return began past now ready (needs.Start asked) e tt in
+    (d.bounce.room, (start_row d.bounce.row d.bounce asked w.is).1)
+
 -- Once it has started one
 
-birth_is : (due : NeedData) (got : GotData) → IsBirth due got → (asked : ChildData) × (pid : ℕ) × (due ≡ needs.Start asked) × (got ≡ came.Started pid)
+pub birth_is : (due : NeedData) (got : GotData) → IsBirth due got → (asked : ChildData) × (pid : ℕ) × (due ≡ needs.Start asked) × (got ≡ came.Started pid)
 birth_is (needs.Start (child.Bounce room)) (came.Started pid) w = (child.Bounce room, pid, refl, refl)
 birth_is (needs.Start (child.Forward uid room)) (came.Started pid) w = (child.Forward uid room, pid, refl, refl)
 birth_is due got w = absurd w

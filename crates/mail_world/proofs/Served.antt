@@ -3,7 +3,6 @@ use Rattle.std.proofs.Common.{◌≡◌, ◌≢◌, ◌⊎◌, inl, inr, ℕ, Li
 use Rattle.std.specs.Prelude.{IfErr, IfOk, is_some}
 use Rattle.call_fs.specs.Disk.{Disk}
 use Rattle.call_fs.specs.Plan.{Plan}
-use Rattle.call_fs.specs.declared.past.ChildData.TheVariants as child
 use Rattle.call_fs.specs.declared.past.GotData.{GotData}
 use Rattle.call_fs.specs.declared.past.GotData.TheVariants.{Started, Gave}
 use Rattle.call_fs.specs.declared.past.NeedData.{NeedData}
@@ -12,6 +11,7 @@ use Rattle.call_fs.specs.declared.past.Own.{Own}
 use Rattle.call_fs.specs.declared.program.Port.TheVariants as port
 use Rattle.world_events.specs.declared.event.Event.{Event as Kept}
 use Rattle.world_events.specs.declared.event.Event.TheVariants as kept
+use Rattle.world_events.specs.declared.event.Program.TheVariants.{Injector}
 use Rattle.world_events.specs.declared.event.Program.{Program}
 use Rattle.world_pipes.specs.Pipework.{Tenant}
 use Rattle.world_pipes.specs.Pipework.Tenant.{Runs, Remote}
@@ -22,11 +22,11 @@ use Rattle.mail_world.specs.declared.world.Did.{Did}
 use Rattle.mail_world.specs.Acting.{is_due_of_child}
 use Rattle.mail_world.specs.Children.{IsDueOfChild}
 use Rattle.mail_world.specs.Generations.{CanNot, Waits}
-use Rattle.mail_world.specs.History.{Actor, Life, State, IsStatusOf, TenantEnds, next_of}
+use Rattle.mail_world.specs.History.{Actor, Life, State, IsStatusOf, TenantEnds, next_of, program_of}
 use Rattle.mail_world.specs.History.Life.{Alive, Over, Stopped}
 use Rattle.mail_world.specs.Known.{known}
 use Rattle.mail_world.specs.Readiness.{has_ended, is_gone, is_over, found_in}
-use Rattle.mail_world.specs.World.{Seen, IsPlannedOwn, IsPlannedEvent, GoesByPlan, ComesWhole, IsKeptBy, IsKeptGiving, IsStep, most_of, next_pid, bounces_in}
+use Rattle.mail_world.specs.World.{Counts, Seen, IsPlannedOwn, IsPlannedEvent, GoesByPlan, ComesWhole, IsKeptStart, IsKeptTo, IsKeptGiving, IsKeptBy, IsStep, most_of, next_pid, counts_in, child_of}
 use Rattle.mail_world.proofs.Lasts.{same_last}
 use Rattle.mail_world.proofs.Steps.{none_ready}
 
@@ -79,17 +79,28 @@ own_planned has (needs.Command bytes) came plan after disk later of_child same =
 own_planned has needs.Wait came plan after disk later of_child same = absurd cc
 own_planned has (needs.Ended status) came plan after disk later of_child same = absurd cc
 
-kept_giving : (o : Option Tenant) (a : List ℕ) (own : Own) (bytes : List ℕ) (k : Kept) (P : Kept → Type 0) → IsKeptGiving o a own bytes k → P (kept.Act a own)
+kept_to : (o : Option Program) (c a : List ℕ) (own : Own) (bytes : List ℕ) (k : Kept) (P : Kept → Type 0) → IsKeptTo o c a own bytes k → P (kept.Act a own)
     → ((c message envelope : List ℕ) → P (kept.Feed a own c message envelope)) → P k
-kept_giving None a own bytes k P is act feed = subst P (sym is) act
-kept_giving (Some (Remote reported)) a own bytes k P is act feed = subst P (sym is) act
-kept_giving (Some (Runs c)) a own bytes k P is act feed = subst P (sym is.3) (feed c is.0 is.1)
+kept_to None c a own bytes k P is act feed = subst P (sym is) act
+kept_to (Some (Injector args)) c a own bytes k P is act feed = subst P (sym is.3) (feed c is.0 is.1)
+kept_to (Some other) c a own bytes k P is act feed = subst P (sym is) act
 
-kept_by : (s : State) (bounces : ℕ) (a : List ℕ) (own : Own) (due : NeedData) (came : GotData) (k : Kept) (P : Kept → Type 0) → IsKeptBy s bounces a own due came k → P (kept.Act a own)
+kept_giving : (s : State) (o : Option Tenant) (a : List ℕ) (own : Own) (bytes : List ℕ) (k : Kept) (P : Kept → Type 0) → IsKeptGiving s o a own bytes k → P (kept.Act a own)
+    → ((c message envelope : List ℕ) → P (kept.Feed a own c message envelope)) → P k
+kept_giving s None a own bytes k P is act feed = subst P (sym is) act
+kept_giving s (Some (Remote reported)) a own bytes k P is act feed = subst P (sym is) act
+kept_giving s (Some (Runs c)) a own bytes k P is act feed = kept_to (program_of (s.actors c)) c a own bytes k P is act feed
+
+kept_start : (o : Option (List ℕ × Program)) (a : List ℕ) (own : Own) (k : Kept) (P : Kept → Type 0) → IsKeptStart o a own k → P (kept.Act a own)
+    → ((c : List ℕ) (program : Program) → P (kept.Child a own c program)) → P k
+kept_start None a own k P is act born = subst P (sym is) act
+kept_start (Some child) a own k P is act born = subst P (sym is) (born child.0 child.1)
+
+kept_by : (s : State) (before : Counts) (a : List ℕ) (own : Own) (due : NeedData) (came : GotData) (k : Kept) (P : Kept → Type 0) → IsKeptBy s before a own due came k → P (kept.Act a own)
     → ((c : List ℕ) (program : Program) → P (kept.Child a own c program)) → ((c message envelope : List ℕ) → P (kept.Feed a own c message envelope)) → P k
-kept_by s bounces a own (needs.Start (child.Bounce room)) (Started pid) k P is act born feed = subst P (sym is) (born _ _)
-kept_by s bounces a own (needs.Give (port.Program d) bytes) Gave k P is act born feed = kept_giving (s.pipework.programs a d) a own bytes k P is act feed
-kept_by s bounces a own due came k P is act born feed = subst P (sym is) act
+kept_by s before a own (needs.Start asked) (Started pid) k P is act born feed = kept_start (child_of before a asked pid own.read) a own k P is act born
+kept_by s before a own (needs.Give (port.Program d) bytes) Gave k P is act born feed = kept_giving s (s.pipework.programs a d) a own bytes k P is act feed
+kept_by s before a own due came k P is act born feed = subst P (sym is) act
 
 pub step_planned : {D : Type 0} (plan : D → Option Plan) (tells : D → Option Disk) (a : List ℕ) (old new : Seen D) (due : NeedData) → IsDueOfChild old a due → IsStep a None old new → new.disk ≡ old.disk
     → GoesByPlan plan tells old.disk new.disk old.events new.events
@@ -103,7 +114,7 @@ step_planned plan tells a old new due asked step same e event =
     let has : ℕ → Bool = λ d. is_some (actor_of ((known old.events).pipework.programs a d)) in
     let kept_plan : plan new.disk ≡ plan old.disk = ap plan same in
     subst (λ (e : Kept). IsPlannedEvent e (plan old.disk) (plan new.disk) (tells old.disk) (tells new.disk)) is
-    (kept_by (known old.events) (bounces_in old.events) a own own.due own.came step.1 (λ e. IsPlannedEvent e (plan old.disk) (plan new.disk) (tells old.disk) (tells new.disk)) step.3
+    (kept_by (known old.events) (counts_in old.events) a own own.due own.came step.1 (λ e. IsPlannedEvent e (plan old.disk) (plan new.disk) (tells old.disk) (tells new.disk)) step.3
     (own_planned has own.due own.came (plan old.disk) (plan new.disk) (tells old.disk) (tells new.disk) (ap (is_due_of_child has) due_is ∙ asked.of_child) kept_plan)
     (λ c program. kept_plan) (λ c message envelope. kept_plan))
 

@@ -1,6 +1,6 @@
 -- What a world keeps of its actors, as it does for one of them what concerns a child: an event of its parent that another actor, the
 -- child, may take part in.
-use Rattle.std.proofs.Common.{◌≡◌, ◌≢◌, ◌⊎◌, ℕ, zero, suc, ◌+◌, ◌≤◌, ◌<◌, List, [], ◌∷◌, ◌++◌, length, set, Bool, true, false, ◌||◌, Option, Some, None, if◌then◌else◌, IsSomeAnd, is_some, refl, sym, ap, ◌∙◌, subst, ⊎_elim, arith, bytes_eq, get_or, reverse}
+use Rattle.std.proofs.Common.{◌≡◌, ◌≢◌, ◌⊎◌, inl, inr, ℕ, zero, suc, ◌+◌, ◌≤◌, ◌<◌, List, [], ◌∷◌, ◌++◌, length, set, Bool, true, false, ◌||◌, Option, Some, None, if◌then◌else◌, IsSomeAnd, is_some, refl, sym, ap, ◌∙◌, subst, ⊎_elim, arith, bytes_eq, get_or, reverse}
 use Rattle.std.proofs.Math.Bool.{or-false, or-true}
 use Rattle.std.proofs.lemmas.List.{reverse-append}
 use Rattle.std.proofs.lemmas.Bool.{ltb-true}
@@ -25,32 +25,34 @@ use Rattle.call_fs.specs.declared.program.Port.{Port}
 use Rattle.call_fs.specs.declared.program.Port.TheVariants as port
 use Rattle.world_events.specs.declared.event.Event.{Event as Kept}
 use Rattle.world_events.specs.declared.event.Program.{Program}
+use Rattle.world_events.specs.declared.event.Program.TheVariants.{Injector}
 use Rattle.world_events.specs.Inputs.{own_in}
 use Rattle.mail_world.specs.declared.actor.Actor.{Actor as Held}
 use Rattle.mail_world.specs.Acting.{is_due_of_child, IsOwed, StaysAt}
 use Rattle.mail_world.specs.declared.any_machine.AnyMachine.{AnyMachine}
-use Rattle.mail_world.specs.ByKind.{IsFeeder, IsMail, Follows, CanFind, present_of, found_of, looked_of, need_of, takes_of, awaits_of, with_own, own_of}
+use Rattle.mail_world.specs.ByKind.{BearsIn, IsMail, Follows, CanFind, present_of, found_of, looked_of, need_of, takes_of, awaits_of, with_own, own_of}
 use Rattle.mail_world.specs.declared.world.Did.{Did}
 use Rattle.mail_world.specs.Children.{IsDueOfChild, IsStart, IsGive, IsTake, MayTakeIn, HasTakenIn, Serves, place_by_name, child_place}
 use Rattle.mail_world.specs.Crew.{IsFoundAt}
 use Rattle.mail_world.specs.Generations.{idled_in, idled_by, has_idled, lives_in}
 use Rattle.mail_world.specs.History.{Actor, Life, State, latest, newborn, next_of, start_of, MayFind}
 use Rattle.mail_world.specs.History.Life.{Alive, Over, Stopped}
-use Rattle.mail_world.specs.Inside.{known, HasBorneLast, IsAwaited, Owes, RunsAt, unowed, StandsFor, span_by, life_by, IsMember, IsStranger, AreActors, has, is_by, AreApart, Owns, HasOpen, IsOpenTo, IsWorld, ArePiped, place_by, among_all}
+use Rattle.mail_world.specs.Inside.{known, HasBorneLast, IsAwaited, Owes, RunsAt, RunsBy, unowed, StandsFor, span_by, life_by, IsMember, IsStranger, AreActors, has, is_by, AreApart, Owns, HasOpen, IsOpenTo, IsWorld, ArePiped, place_by, among_all}
 use Rattle.mail_world.specs.Readiness.{is_awaiting, found_at, found_by, found_in}
 use Rattle.mail_world.specs.Pipework.{Slot, Tenant, is_member}
 use Rattle.mail_world.specs.Pipework.Tenant.{Runs}
 use Rattle.mail_world.specs.Wired.{seat, slots_at, AreWired, IsSlotOf, IsWholeGiving, AreWholeGivings}
 use Rattle.world_pipes.specs.declared.mouths.Mouths.{Mouths}
 use Rattle.world_pipes.specs.Mouths.{actor_of}
-use Rattle.mail_world.specs.World.{next_pid, bounces_in, IsOwnOf, IsKeptBy, span_of, ends, starts, was_started}
-use Rattle.mail_world.proofs.Crew.{life_same, over_is, owes_still, started_push, apart_by}
-use Rattle.mail_world.proofs.Awaiting.{can_find, none_awaits}
+use Rattle.mail_world.specs.World.{Counts, next_pid, counts_in, IsOwnOf, IsKeptBy, span_of, ends, starts, was_started}
+use Rattle.mail_world.proofs.Crew.{life_same, over_is, member_alive, owes_still, started_push, apart_by}
+use Rattle.mail_world.proofs.Awaiting.{can_find}
 use Rattle.mail_world.proofs.Found.{found_is}
 use Rattle.mail_world.proofs.Histories.{IsActing, FindsIn, LeadsOn, goes_on}
 use Rattle.mail_world.proofs.Lasts.{same_last}
-use Rattle.mail_world.proofs.Feeders.{feeder_next, feeder_seat, no_mail_feeds}
+use Rattle.mail_world.proofs.Feeders.{birth_feeds, feeder_next}
 use Rattle.mail_world.proofs.Leaving.{child_apart, child_named, has_place, in_slot}
+use Rattle.mail_world.proofs.Borne.{borne_known}
 use Rattle.mail_world.proofs.Members.{whether}
 use Rattle.mail_world.proofs.Programs.{found_finds}
 use Rattle.mail_world.proofs.Seats.{seat_low, seat_none}
@@ -93,7 +95,7 @@ pub deed_member : (s t : State) (events : List Kept) (k : Kept) (p : ℕ) (x y :
     → x.ended ≡ None → own_in k ≡ Some own → starts x.name k ≡ false → ends x.name k ≡ false → t.actors x.name ≡ Some (with_deed m.actor own)
     → y.name ≡ x.name → y.ended ≡ x.ended → y.status ≡ x.status → own.read ≡ p
     → next_of m.actor.program m.actor.past own.read own.ready ≡ own.due → MayCome own.due own.came
-    → StandsFor y m.actor.program (own ∷ m.actor.past) → ((at : ℕ) → y.owed ≡ Some at → IsOwed y own (length events) at) → awaits_of y.machine ≡ is_awaiting t y.name
+    → StandsFor y m.actor.program (own ∷ m.actor.past) → ((at : ℕ) → y.owed ≡ Some at → IsOwed y own (length events) at) → (IsMail m.actor.program → awaits_of y.machine ≡ is_awaiting t y.name)
     → IsMember t (events ++ k ∷ []) p y
 deed_member s t events k p x y own m alive own_is no_start no_end acts name ended status read due may follows owes awaits = record {
   actor = with_deed m.actor own;
@@ -118,7 +120,7 @@ deed_member s t events k p x y own m alive own_is no_start no_end acts name ende
   in_order = omega (arith, read);
   life = m.life ∙ life_same x.ended y.ended x.status y.status ended status;
   unended = λ e. status ∙ m.unended (sym ended ∙ e);
-  awaits = λ e. awaits;
+  awaits = λ e mail. awaits mail;
   spans = ap (λ (a : List ℕ). span_of a (reverse (events ++ k ∷ []))) name ∙ span_stays events k x.name no_start no_end ∙ m.spans ∙ ap span_by (sym ended);
   closed = λ at e. let both : ◌≡◌ {A = Option ℕ} None (Some at) = sym (ended ∙ alive) ∙ e in absurd (cc);
 }
@@ -140,7 +142,7 @@ pub record LeavesBeside (a c : List ℕ) (s t : State) (k : Kept) : Type 0 where
   pub no_end : (b : List ℕ) → ends b k ≡ false
 
 module _ (s t : State) (events : List Kept) (k : Kept) (p : ℕ) (a c : List ℕ) (leaves : LeavesBeside a c s t k) where
-  pub beside_member : (x : Held) → x.name ≢ a → x.name ≢ c → IsMember s events p x → (x.ended ≡ None → awaits_of x.machine ≡ is_awaiting t x.name) → IsMember t (events ++ k ∷ []) p x
+  pub beside_member : (x : Held) → x.name ≢ a → x.name ≢ c → (m : IsMember s events p x) → (x.ended ≡ None → IsMail m.actor.program → awaits_of x.machine ≡ is_awaiting t x.name) → IsMember t (events ++ k ∷ []) p x
   beside_member x far other m awaits = record {
     actor = m.actor;
     is = leaves.actors x.name far other ∙ m.is;
@@ -187,7 +189,7 @@ module _ (s t : State) (events : List Kept) (k : Kept) (p : ℕ) (a c : List ℕ
             let one : v.name ≢ a = subst (λ (b : List ℕ). v.name ≢ b) mine (apart_by places x.name v.name h j here (crew.placed j v f.1) f.0) in
             let two : v.name ≢ c = subst (λ (b : List ℕ). v.name ≢ b) its (apart_by places z.name v.name i j place (crew.placed j v f.1) other) in
             let m = crew.members j v f.1 in
-            beside_member v one two m (λ lives. awaits v one two lives (m.awaits lives)))
+            beside_member v one two m (λ lives mail. awaits v one two lives (m.awaits lives mail)))
             (get_set actors h y j v found));
         named = λ b j at. some_set (λ (v : Held). v.name ≡ b) mid i z w j mid_is (λ e. kept ∙ e) (some_set (λ (v : Held). v.name ≡ b) actors h x y j is (λ e. same ∙ e) (crew.named b j at));
         strangers = λ b none. beside_stranger b (subst (λ (d : List ℕ). b ≢ d) mine (apart_none places x.name b h here none))
@@ -220,7 +222,7 @@ module _ (s t : State) (events : List Kept) (k : Kept) (p : ℕ) (a c : List ℕ
             let one : v.name ≢ a = subst (λ (b : List ℕ). v.name ≢ b) mine (apart_by places x.name v.name h j here (crew.placed j v at) other) in
             let two : v.name ≢ c = apart_new j v (crew.placed j v at) in
             let m = crew.members j v at in
-            beside_member v one two m (λ lives. awaits v one two lives (m.awaits lives))));
+            beside_member v one two m (λ lives mail. awaits v one two lives (m.awaits lives mail))));
         named = λ b j at. ⊎_elim
             (λ f.
             let same_at : ◌≡◌ {A = Option ℕ} (Some j) (Some (length mid)) = sym at ∙ ap next f.0 ∙ born in
@@ -241,7 +243,7 @@ module _ (s t : State) (events : List Kept) (k : Kept) (p : ℕ) (a c : List ℕ
 -- a child that has just started
 pub newborn_member : (s t : State) (events : List Kept) (k : Kept) (p : ℕ) (z : Held) (c : List ℕ) (program : Program) → RunsAt (seat c) program
     → IsStranger s events c → starts c k ≡ true → t.actors c ≡ Some (newborn program) → z.name ≡ c → z.ended ≡ None → z.owed ≡ None → z.status ≡ None → Follows z.machine program []
-    → start_of program ≡ p → awaits_of z.machine ≡ is_awaiting t c → IsMember t (events ++ k ∷ []) p z
+    → start_of program ≡ p → (IsMail program → awaits_of z.machine ≡ is_awaiting t c) → IsMember t (events ++ k ∷ []) p z
 newborn_member s t events k p z c program runs stranger start acts name ended paid status follows now awaits = record {
   actor = newborn program;
   is = ap t.actors name ∙ acts;
@@ -252,7 +254,7 @@ newborn_member s t events k p z c program runs stranger start acts name ended pa
   in_order = omega arith;
   life = sym (ap (λ (o : Option ℕ). life_by o z.status) ended);
   unended = λ e. status;
-  awaits = λ e. awaits ∙ ap (is_awaiting t) (sym name);
+  awaits = λ e mail. awaits mail ∙ ap (is_awaiting t) (sym name);
   spans = ap (λ (a : List ℕ). span_of a (reverse (events ++ k ∷ []))) name ∙ span_push events k c
       ∙ span_begins c k (length events) (span_of c (reverse events)) stranger.unborn start ∙ ap span_by (sym ended);
   closed = λ at e. let both : ◌≡◌ {A = Option ℕ} None (Some at) = sym ended ∙ e in absurd (cc);
@@ -358,17 +360,15 @@ pub record HasServed (x y : Held) (own : Own) (index : ℕ) (parent : Actor) : T
 pub served_member : (actors : List Held) (s t : State) (events : List Kept) (k : Kept) (p : ℕ) (a : List ℕ) (i : ℕ) (parent : Actor) (here : HasParent actors s events p a i parent) (y : Held) (own : Own)
     → HasServed here.held y own (length events) parent → own_in k ≡ Some own → starts a k ≡ false → ends a k ≡ false
     → t.actors a ≡ Some (with_deed parent own) → own.read ≡ p → next_of parent.program parent.past own.read own.ready ≡ own.due → MayCome own.due own.came
-    → is_awaiting s a ≡ false → is_awaiting t a ≡ false → IsMember t (events ++ k ∷ []) p y
-served_member actors s t events k p a i parent here y own served own_is no_start no_end acts read due may before after =
+    → (IsMail parent.program → ⊥) → IsMember t (events ++ k ∷ []) p y
+served_member actors s t events k p a i parent here y own served own_is no_start no_end acts read due may no_mail =
     let x = here.held in
     let m = here.member in
     let stands : StandsFor y m.actor.program (own ∷ m.actor.past) = subst (λ (a : Actor). StandsFor y a.program (own ∷ a.past)) (sym here.same) served.stands in
     let due_is : next_of m.actor.program m.actor.past own.read own.ready ≡ own.due = ap (λ (a : Actor). next_of a.program a.past own.read own.ready) here.same ∙ due in
     let acted : t.actors x.name ≡ Some (with_deed m.actor own) = ap t.actors here.name ∙ acts ∙ ap (λ (a : Actor). Some (with_deed a own)) (sym here.same) in
-    let awaits : awaits_of y.machine ≡ is_awaiting t y.name =
-    served.awaits ∙ m.awaits here.lives ∙ ap (is_awaiting s) here.name ∙ before ∙ sym (ap (is_awaiting t) (served.name ∙ here.name) ∙ after) in
     deed_member s t events k p x y own m here.lives own_is (ap (λ (a : List ℕ). starts a k) here.name ∙ no_start) (ap (λ (a : List ℕ). ends a k) here.name ∙ no_end) acted
-    served.name served.ended served.status read due_is may stands served.owes awaits
+    served.name served.ended served.status read due_is may stands served.owes (λ mail. absurd (no_mail (subst (λ (a : Actor). IsMail a.program) here.same mail)))
 
 -- The child
 
@@ -383,8 +383,8 @@ pub record HasChild (crew : ℕ) (places : List ℕ → Option ℕ) (actors : Li
   pub named : is_member c ≡ false
 
 pub has_child : (crew : ℕ) (places : List ℕ → Option ℕ) (mouths : List Mouths) (actors : List Held) (s : State) (events : List Kept) (p : ℕ) (a c : List ℕ)
-    → AreActors (among_all crew places) actors s events p → ArePiped crew mouths actors s events → s.pipework.programs a 0 ≡ Some (Runs c) → HasChild crew places actors s events p c
-has_child crew places mouths actors s events p a c w piped runs = by_place (places c) refl where
+    {d : ℕ} → AreActors (among_all crew places) actors s events p → ArePiped crew mouths actors s events → s.pipework.programs a d ≡ Some (Runs c) → HasChild crew places actors s events p c
+has_child crew places mouths actors s events p a c {d} w piped runs = by_place (places c) refl where
   named : is_member c ≡ false
   named = child_named crew mouths actors s events piped a c runs
 
@@ -396,17 +396,17 @@ has_child crew places mouths actors s events p a c w piped runs = by_place (plac
   unknown (Some x) none there = absurd (cc)
 
   by_place : (o : Option ℕ) → places c ≡ o → HasChild crew places actors s events p c
-  by_place None is = absurd (unknown (s.actors c) (w.strangers c (among None is)).unknown (piped.born a 0 c runs).known)
+  by_place None is = absurd (unknown (s.actors c) (w.strangers c (among None is)).unknown (borne_known piped.wires s a d c (piped.born a d c runs)))
   by_place (Some i) is =
       let z = some_at (λ (z : Held). z.name ≡ c) (slice_get actors (crew + i)) (w.named c (crew + i) (among (Some i) is)) in
       record { at = i; place = is; held = z.0; is = z.1; name = z.2; member = w.members (crew + i) z.0 z.1; named = named }
 
 -- it stands elsewhere than its parent, which is no mail
-pub child_beside : (crew : ℕ) (places : List ℕ → Option ℕ) (mouths : List Mouths) (actors : List Held) (s : State) (events : List Kept) (p : ℕ) (a c : List ℕ) (i : ℕ) (parent : Actor)
-    → AreActors (among_all crew places) actors s events p → ArePiped crew mouths actors s events → (here : HasParent actors s events p a i parent) → s.pipework.programs a 0 ≡ Some (Runs c)
+pub child_beside : (crew : ℕ) (places : List ℕ → Option ℕ) (mouths : List Mouths) (actors : List Held) (s : State) (events : List Kept) (p : ℕ) (a c : List ℕ) (i : ℕ) (parent : Actor) {d : ℕ}
+    → AreActors (among_all crew places) actors s events p → ArePiped crew mouths actors s events → (here : HasParent actors s events p a i parent) → s.pipework.programs a d ≡ Some (Runs c)
     → (h : HasChild crew places actors s events p c) → (a ≢ c) × (crew + h.at ≢ i)
-child_beside crew places mouths actors s events p a c i parent w piped here runs h =
-    let far = child_apart crew (among_all crew places) mouths actors s events p i here.held w piped here.is c (ap (λ (b : List ℕ). s.pipework.programs b 0) here.name ∙ runs) in (
+child_beside crew places mouths actors s events p a c i parent {d} w piped here runs h =
+    let far = child_apart crew (among_all crew places) mouths actors s events p i here.held w piped here.is c (ap (λ (b : List ℕ). s.pipework.programs b d) here.name ∙ runs) in (
       λ same. far (sym same ∙ sym here.name),
       λ same.
           let both : ◌≡◌ {A = Option Held} (Some h.held) (Some here.held) = sym h.is ∙ ap (slice_get actors) same ∙ here.is in
@@ -421,9 +421,9 @@ child_read crew places actors s events p c h i y x beside read =
     sym (get_or_from_slice_get (set actors i y) (crew + h.at) h.held x (get_beside actors i y (crew + h.at) h.held beside h.is)) ∙ sym read
 
 -- so that place is found
-pub child_found : (crew : ℕ) (places : List ℕ → Option ℕ) (mouths : List Mouths) (actors : List Held) (s : State) (events : List Kept) (p : ℕ) (a c : List ℕ) (wire : Option ℕ) (wires : List ℕ → Option ℕ)
-    → AreWired wires mouths s.pipework → wires a ≡ wire → s.pipework.programs a 0 ≡ Some (Runs c) → (h : HasChild crew places actors s events p c) → child_place mouths wire crew places ≡ Some (crew + h.at)
-child_found crew places mouths actors s events p a c wire wires wired of runs h =
+pub child_found : (crew : ℕ) (places : List ℕ → Option ℕ) (mouths : List Mouths) (actors : List Held) (s : State) (events : List Kept) (p : ℕ) (a c : List ℕ) (wire : Option ℕ) (wires : List ℕ → Option ℕ) (d : ℕ)
+    → AreWired wires mouths s.pipework → wires a ≡ wire → s.pipework.programs a d ≡ Some (Runs c) → (h : HasChild crew places actors s events p c) → child_place mouths wire d crew places ≡ Some (crew + h.at)
+child_found crew places mouths actors s events p a c wire wires d wired of runs h =
     ap (λ (o : Option Tenant). place_by_name crew places (actor_of o)) (in_slot wires mouths s a c wire wired of runs) ∙ ap (λ (o : Option ℕ). found o) h.place
   where
     found : Option ℕ → Option ℕ
@@ -445,20 +445,12 @@ module _ (crew : ℕ) (mouths : List Mouths) (actors : List Held) (events : List
   parent_finds = λ t pipes. subst (MayFind t a parent.program parent.past) (sym (ap (found_at (known events) a) is))
       (found_finds (known events) t a parent.program parent.past pipes)
 
-  -- who feeds awaits nothing
-  pub parent_awaits : IsFeeder parent.program → is_awaiting (known events) a ≡ false
-  parent_awaits feeds =
-      let m = here.member in
-      let no_mail : IsMail m.actor.program → ⊥ = λ mail. no_mail_feeds parent.program feeds (subst (λ (a : Actor). IsMail a.program) here.same mail) in
-      ap (is_awaiting (known events)) (sym here.name) ∙ sym (m.awaits here.lives)
-      ∙ none_awaits here.held.machine m.actor.program (unowed here.held.owed m.actor.past) (m.follows here.lives) no_mail
-
   -- who does something else than to give its child its input has not just started it
   pub not_borne : ArePiped crew mouths actors (known events) events → (now : ℕ) (ready : Ready) (due : NeedData) → next_of parent.program parent.past now ready ≡ due
       → ((bytes : List ℕ) → due ≡ needs.Give (port.Program 0) bytes → ⊥) → HasBorneLast parent.past → ⊥
   not_borne piped now ready due next other borne =
       let may = piped.fed a parent is alive borne in
-      let gives = feeder_next parent.program parent.past ((piped.born a 0 may.child may.runs).feeds parent is) parent_runs borne in
+      let gives = feeder_next parent.program parent.past (birth_feeds parent.program parent.past parent_runs borne) parent_runs borne in
       other gives.0 (sym next ∙ gives.1 now ready)
 
   -- nor does anybody await anything of it
@@ -469,29 +461,6 @@ module _ (crew : ℕ) (mouths : List Mouths) (actors : List Held) (events : List
       let one : it.actor ≡ parent = cc in
       not_borne piped now ready due next other (subst (λ (a : Actor). HasBorneLast a.past) one it.borne)
 
--- who has none has no seat
-pub wireless : (crew : ℕ) (mouths : List Mouths) (actors : List Held) (s : State) (events : List Kept) → ArePiped crew mouths actors s events → (i : ℕ) (x : Held) → slice_get actors i ≡ Some x
-    → x.ended ≡ None → x.wire ≡ None → seat x.name ≡ None
-wireless crew mouths actors s events piped i x is lives none = ⊎_elim
-    (λ member. sym (piped.wired.seats x.name member) ∙ piped.places i x is lives ∙ none)
-    (λ named. seat_none x.name named)
-    (whether (is_member x.name))
-
--- as yet each has them at its seat
-pub at_seat : (crew : ℕ) (mouths : List Mouths) (actors : List Held) (s : State) (events : List Kept) → ArePiped crew mouths actors s events → (i : ℕ) (x : Held) → slice_get actors i ≡ Some x
-    → x.ended ≡ None → seat x.name ≡ x.wire
-at_seat crew mouths actors s events piped i x is lives = ⊎_elim
-    (λ member. sym (piped.wired.seats x.name member) ∙ piped.places i x is lives)
-    (λ named. seat_none x.name named ∙ sym (piped.alone x.name named) ∙ piped.places i x is lives)
-    (whether (is_member x.name))
-
--- who feeds has them at the first one
-pub feeder_wire : (crew : ℕ) (mouths : List Mouths) (actors : List Held) (events : List Kept) (p : ℕ) (a : List ℕ) (i : ℕ) (parent : Actor) (here : HasParent actors (known events) events p a i parent)
-    → ArePiped crew mouths actors (known events) events → IsFeeder parent.program → here.held.wire ≡ Some 0
-feeder_wire crew mouths actors events p a i parent here piped feeds =
-    sym (at_seat crew mouths actors (known events) events piped i here.held here.is here.lives)
-    ∙ feeder_seat (seat here.held.name) here.member.actor.program (subst (λ (a : Actor). IsFeeder a.program) (sym here.same) feeds) here.member.runs
-
 -- who stands at a seat has that place
 pub seat_place : (crew : ℕ) (places : List ℕ → Option ℕ) (a : List ℕ) (j i : ℕ) → seat a ≡ Some j → among_all crew places a ≡ Some i → (j ≡ i) × (j < crew)
 seat_place crew places a j i seated at = by_crew (nat_lt j crew) refl (sym (ap (λ (o : Option ℕ). place_by crew o (places a)) seated) ∙ at) where
@@ -499,32 +468,31 @@ seat_place crew places a j i seated at = by_crew (nat_lt j crew) refl (sym (ap (
   by_crew true low here = (cc, ltb-true j crew low)
   by_crew false low here = absurd (cc)
 
--- who feeds is a member as yet
-pub feeder_low : (crew : ℕ) (places : List ℕ → Option ℕ) (mouths : List Mouths) (actors : List Held) (events : List Kept) (p : ℕ) (a : List ℕ) (i : ℕ) (parent : Actor)
-    → AreActors (among_all crew places) actors (known events) events p → ArePiped crew mouths actors (known events) events → (here : HasParent actors (known events) events p a i parent) → IsFeeder parent.program → i < crew
-feeder_low crew places mouths actors events p a i parent w piped here feeds =
-    let seated : seat here.held.name ≡ Some 0 = at_seat crew mouths actors (known events) events piped i here.held here.is here.lives ∙ feeder_wire crew mouths actors events p a i parent here piped feeds in
-    let at = seat_place crew places here.held.name 0 i seated (w.placed i here.held here.is) in
-    let same = at.0 in
-    let low = at.1 in
-    omega (arith, same, low)
-
 -- it has them among those that are kept
 pub pipes_within : (crew : ℕ) (places : List ℕ → Option ℕ) (mouths : List Mouths) (actors : List Held) (s : State) (events : List Kept) (p i : ℕ) (x : Held)
     → AreActors (among_all crew places) actors s events p → ArePiped crew mouths actors s events → slice_get actors i ≡ Some x → x.ended ≡ None → (j : ℕ) → x.wire ≡ Some j
-    → (4 ≤ length mouths) × (j < length mouths) × (j < 4)
-pipes_within crew places mouths actors s events p i x w piped is lives j at =
-    let seated : seat x.name ≡ Some j = at_seat crew mouths actors s events piped i x is lives ∙ at in
-    let low = seat_low x.name j seated in
-    let place = seat_place crew places x.name j i seated (w.placed i x is) in
-    let same = place.0 in
-    let less = place.1 in
-    let four = piped.seated i x (omega (arith, less, same)) is lives in
-    (four, omega (arith, four, low), low)
+    → (4 ≤ length mouths) × (j < length mouths)
+pipes_within crew places mouths actors s events p i x w piped is lives j at = by_name (whether (is_member x.name)) where
+  of : piped.wires x.name ≡ Some j
+  of = piped.places i x is lives ∙ at
+
+  by_name : (is_member x.name ≡ true) ⊎ (is_member x.name ≡ false) → (4 ≤ length mouths) × (j < length mouths)
+  by_name (inl member) =
+      let seated : seat x.name ≡ Some j = sym (piped.wired.seats x.name member) ∙ of in
+      let low = seat_low x.name j seated in
+      let place = seat_place crew places x.name j i seated (w.placed i x is) in
+      let same = place.0 in
+      let less = place.1 in
+      let four = piped.seated i x (omega (arith, less, same)) is lives in
+      (four, omega (arith, four, low))
+  by_name (inr other) =
+      let within = piped.wired.within x.name j of other in
+      let high = (piped.wired.others x.name j of other).high in
+      (omega (arith, within, high), within)
 
 -- a slot, kept by the same place
-pub slot_at : (i j : ℕ) (o : Option (ℕ × ℕ)) → o ≡ Some (i, 0) → i ≡ j → o ≡ Some (j, 0)
-slot_at i j o is same = subst (λ (n : ℕ). o ≡ Some (n, 0)) same is
+pub slot_at : (i j d e : ℕ) (o : Option (ℕ × ℕ)) → o ≡ Some (i, d) → i ≡ j → d ≡ e → o ≡ Some (j, e)
+slot_at i j d e o is same number = subst (λ (d : ℕ). o ≡ Some (j, d)) number (subst (λ (n : ℕ). o ≡ Some (n, d)) same is)
 
 -- there is a first slot everywhere
 pub some_slot : (i n : ℕ) → n ≡ slots_at i → 0 < n
@@ -538,7 +506,7 @@ pub finds_by : (crew : ℕ) (mouths : List Mouths) (actors : List Held) (s : Sta
     → slice_get actors i ≡ Some x → x.ended ≡ None → ArePiped crew mouths actors s events → IsFoundAt mouths x.wire (awaits_of x.machine) ready → ready ≡ found_by s x.name m.actor.program
 finds_by crew mouths actors s events p i x ready m is lives piped found =
     found_is s piped.wires mouths x.name x.wire m.actor.program (awaits_of x.machine) ready piped.wired piped.slots piped.over (piped.places i x is lives)
-    (subst (λ (o : Option ℕ). RunsAt o m.actor.program) (at_seat crew mouths actors s events piped i x is lives) m.runs) (m.awaits lives) found
+    (subst (λ (o : Option ℕ). RunsBy o m.actor.program) (piped.places i x is lives) (piped.runs x.name m.actor m.is (member_alive s events p x m lives))) (m.awaits lives) found
 
 -- the members that live are among those that did
 pub seated_still : (crew n i : ℕ) (actors : List Held) (x y : Held) → slice_get actors i ≡ Some x → y.ended ≡ x.ended
@@ -567,6 +535,14 @@ stands_still wires slots actors i x y is name ended stays stands j z at lives = 
     (subst (IsSlotOf wires (slots y.name)) (sym stays.slot) (subst (λ (o : Option Slot). IsSlotOf wires o x.slot) (sym (ap slots name))
     (stands i x is (sym ended ∙ subst (λ (z : Held). z.ended ≡ None) (sym f.1) lives)))))
     (λ f. stands j z f.1 lives)
+    (get_set actors i y j z at)
+
+-- what holds of each other actor than the members holds of each then
+pub others_still : (P : Held → Type 0) (actors : List Held) (i : ℕ) (x y : Held) → slice_get actors i ≡ Some x → y.name ≡ x.name → (P x → P y)
+    → ((j : ℕ) (z : Held) → slice_get actors j ≡ Some z → is_member z.name ≡ false → P z) → (j : ℕ) (z : Held) → slice_get (set actors i y) j ≡ Some z → is_member z.name ≡ false → P z
+others_still P actors i x y is name on all j z at other = ⊎_elim
+    (λ (f : (j ≡ i) × (y ≡ z)). subst P f.1 (on (all i x is (ap is_member (sym name) ∙ ap (λ (z : Held). is_member z.name) f.1 ∙ other))))
+    (λ (f : (j ≢ i) × (slice_get actors j ≡ Some z)). all j z f.1 other)
     (get_set actors i y j z at)
 
 pub whole_more : (events : List Kept) (k : Kept) → AreWholeGivings (reverse events) → IsWholeGiving k → AreWholeGivings (reverse (events ++ k ∷ []))
@@ -601,8 +577,8 @@ parent_ready crew mouths actors events p a i parent ready piped here found =
 
 pub start_due : (has : ℕ → Bool) (asked : ChildData) → is_due_of_child has (needs.Start asked) ≡ true → IsStart (needs.Start asked)
 start_due has (child.Bounce room) is = tt
-start_due has (child.Forward uid room) is = absurd (cc)
-start_due has (child.Local slot words uid) is = absurd (cc)
+start_due has (child.Forward uid room) is = tt
+start_due has (child.Local slot words uid) is = tt
 start_due has (child.Remote slot domain sender recipient) is = absurd (cc)
 
 pub give_due : (has : ℕ → Bool) (to : Port) (bytes : List ℕ) → is_due_of_child has (needs.Give to bytes) ≡ true → IsGive (needs.Give to bytes)
@@ -634,33 +610,33 @@ take_due has (needs.Command bytes) is no_start no_give = absurd (cc)
 take_due has needs.Wait is no_start no_give = absurd (cc)
 take_due has (needs.Ended status) is no_start no_give = absurd (cc)
 
--- so it is the first slot's, in which a child runs
-pub record IsOfSlot (s : State) (a : List ℕ) : Type 0 where
+-- so it is a slot's, in which a child runs
+pub record IsOfSlot (s : State) (a : List ℕ) (d : ℕ) : Type 0 where
   pub child : List ℕ
-  pub runs : s.pipework.programs a 0 ≡ Some (Runs child)
+  pub runs : s.pipework.programs a d ≡ Some (Runs child)
 
 abbrev pub has_in : State → List ℕ → ℕ → Bool
 has_in s a d = is_some (actor_of (s.pipework.programs a d))
 
-pub of_slot : (crew : ℕ) (mouths : List Mouths) (actors : List Held) (s : State) (events : List Kept) (a : List ℕ) (d : ℕ) → ArePiped crew mouths actors s events → has_in s a d ≡ true
-    → (d ≡ 0) × IsOfSlot s a
-of_slot crew mouths actors s events a d piped has = by_tenant (s.pipework.programs a d) refl has where
-  by_tenant : (o : Option Tenant) → s.pipework.programs a d ≡ o → is_some (actor_of o) ≡ true → (d ≡ 0) × IsOfSlot s a
-  by_tenant (Some (Runs c)) is has = let first = (piped.born a d c is).first in (first, record { child = c; runs = ap (s.pipework.programs a) (sym first) ∙ is })
+pub of_slot : (s : State) (a : List ℕ) (d : ℕ) → has_in s a d ≡ true → IsOfSlot s a d
+of_slot s a d has = by_tenant (s.pipework.programs a d) refl has where
+  by_tenant : (o : Option Tenant) → s.pipework.programs a d ≡ o → is_some (actor_of o) ≡ true → IsOfSlot s a d
+  by_tenant (Some (Runs c)) is has = record { child = c; runs = is }
   by_tenant (Some (Tenant.Remote reported)) is has = absurd (cc)
   by_tenant None is has = absurd (cc)
 
-pub take_is : (crew : ℕ) (mouths : List Mouths) (actors : List Held) (s : State) (events : List Kept) (a : List ℕ) (due : NeedData) → ArePiped crew mouths actors s events → IsTake due
-    → is_due_of_child (has_in s a) due ≡ true → (due ≡ needs.Take (port.Status 0)) × IsOfSlot s a
-take_is crew mouths actors s events a (needs.Take (port.Status d)) piped takes is =
-    let w = of_slot crew mouths actors s events a d piped is in (ap (λ (d : ℕ). needs.Take (port.Status d)) w.0, w.1)
-take_is crew mouths actors s events a other piped takes is = absurd takes
+pub take_is : (s : State) (a : List ℕ) (due : NeedData) → IsTake due → is_due_of_child (has_in s a) due ≡ true → (d : ℕ) × (due ≡ needs.Take (port.Status d)) × IsOfSlot s a d
+take_is s a (needs.Take (port.Status d)) takes is = (d, refl, of_slot s a d is)
+take_is s a other takes is = absurd takes
 
-pub give_is : (crew : ℕ) (mouths : List Mouths) (actors : List Held) (s : State) (events : List Kept) (a : List ℕ) (due : NeedData) → ArePiped crew mouths actors s events → IsGive due
-    → is_due_of_child (has_in s a) due ≡ true → (bytes : List ℕ) × (due ≡ needs.Give (port.Program 0) bytes) × IsOfSlot s a
-give_is crew mouths actors s events a (needs.Give (port.Program d) bytes) piped gives is =
-    let w = of_slot crew mouths actors s events a d piped is in (bytes, ap (λ (d : ℕ). needs.Give (port.Program d) bytes) w.0, w.1)
-give_is crew mouths actors s events a other piped gives is = absurd gives
+pub give_is : (s : State) (a : List ℕ) (due : NeedData) → IsGive due → is_due_of_child (has_in s a) due ≡ true → (d : ℕ) × (bytes : List ℕ) × (due ≡ needs.Give (port.Program d) bytes) × IsOfSlot s a d
+give_is s a (needs.Give (port.Program d) bytes) gives is = (d, bytes, refl, of_slot s a d is)
+give_is s a other gives is = absurd gives
+
+-- who bears children is no injector
+pub bears_no_mail : (program : Program) (d : ℕ) (child : Program) → BearsIn program d child → IsMail program → ⊥
+bears_no_mail (Injector args) d child bears mail = bears
+bears_no_mail other d child bears mail = mail
 
 -- What the parent is handed
 
@@ -674,7 +650,7 @@ pub record IsAsking (crew : ℕ) (places : List ℕ → Option ℕ) (actors : Li
   pub here : HasParent actors (known events) events p a at parent
   pub next : next_of parent.program parent.past p (found_in (known events) a) ≡ due
 
-pub asking : {D : Type 0} (d : D) (told : Option Disk) (crew : ℕ) (places : List ℕ → Option ℕ) (actors : List Held) (events : List Kept) (p n b : ℕ) (a : List ℕ) (due : NeedData)
+pub asking : {D : Type 0} (d : D) (told : Option Disk) (crew : ℕ) (places : List ℕ → Option ℕ) (actors : List Held) (events : List Kept) (p n : ℕ) (b : Counts) (a : List ℕ) (due : NeedData)
     → IsWorld told (among_all crew places) actors (known events) events p n b → IsDueOfChild (record { disk = d; events = events; present = p }) a due → IsAsking crew places actors events p a due
 asking d told crew places actors events p n b a due w asked =
     let at = parent_at (among_all crew places) actors (known events) events p a asked.actor w.kept asked.is in
@@ -721,7 +697,8 @@ module _ (actors : List Held) (s : State) (events : List Kept) (p : ℕ) (a : Li
     past = parent.past;
     follows = paid;
     found = subst (CanFind z.machine) (sym (ap (found_at s a) is))
-        (can_find s a z.machine parent.program parent.past paid (awaits ∙ ap (λ (x : Held). awaits_of x.machine) (sym read) ∙ here.member.awaits here.lives ∙ ap (is_awaiting s) here.name));
+        (can_find s a z.machine parent.program parent.past paid
+        (λ mail. awaits ∙ ap (λ (x : Held). awaits_of x.machine) (sym read) ∙ here.member.awaits here.lives (subst (λ (a : Actor). IsMail a.program) (sym here.same) mail) ∙ ap (is_awaiting s) here.name));
     read = at;
     ready_is = ready;
     due = due;
@@ -761,7 +738,7 @@ taken_at x y own same index many idle is at taken = subst (λ (n : ℕ). HasTake
 
 -- so it served its parent
 pub serves : {D : Type 0} (tells : D → Option Disk) (d : D) (events : List Kept) (p : ℕ) (a : List ℕ) (own : Own) (k : Kept) (did : Did) → IsOwnOf (known events) (next_pid events) p a own
-    → IsKeptBy (known events) (bounces_in events) a own own.due own.came k → LeadsOn (tells d) (tells d) events (events ++ k ∷ []) p p
+    → IsKeptBy (known events) (counts_in events) a own own.due own.came k → LeadsOn (tells d) (tells d) events (events ++ k ∷ []) p p
     → did.at ≡ length events → did.ended ≡ None → did.idle ≡ idled_by ((known events).actors a) own → has_idled (known events) k ≡ idled_by ((known events).actors a) own
     → Serves tells a (record { disk = d; events = events; present = p }) (record { disk = d; events = events ++ k ∷ []; present = p }) did
 serves tells d events p a own k did of kept leads at ended idle same = record {

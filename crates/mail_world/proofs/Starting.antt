@@ -17,9 +17,10 @@ use Rattle.world_pipes.specs.declared.mouths.Mouths.{Mouths}
 use Rattle.mail_world.specs.declared.actor.Actor.{Actor as Held}
 use Rattle.mail_world.specs.Acting.{HasActed}
 use Rattle.queue_law.proofs.Tests.{other_text}
-use Rattle.mail_world.specs.declared.starts.Starts.{Starts}
+use Rattle.world_events.specs.declared.starts.Starts.{Starts}
 use Rattle.mail_world.specs.Generations.{starts_of, started_in}
-use Rattle.mail_world.specs.Starts.{IsSameOrder, place_by_entry, AreStarts}
+use Rattle.world_events.specs.Starts.{IsSameOrder, place_by_entry}
+use Rattle.mail_world.specs.Starts.{AreStarts}
 use Rattle.mail_world.specs.Inside.{among_all}
 use Rattle.mail_world.proofs.Lists.{get_push, drop_push}
 

@@ -26,16 +26,16 @@ use Rattle.mail_world.specs.declared.actor.Actor.{Actor as Held}
 use Rattle.mail_world.specs.declared.error.WorldError.{WorldError}
 use Rattle.mail_world.specs.declared.error.WorldError.TheVariants as why
 use Rattle.mail_world.specs.Books.{noted, AreBooked}
-use Rattle.mail_world.specs.ByKind.{Follows, CanFind, takes_of, awaits_of}
+use Rattle.mail_world.specs.ByKind.{IsMail, Follows, CanFind, takes_of, awaits_of}
 use Rattle.world_pipes.specs.Mouths.{actor_of}
 use Rattle.world_pipes.specs.Pipework.{Pipework, Tenant}
 use Rattle.world_pipes.specs.Pipework.Tenant.{Runs}
 use Rattle.mail_world.specs.History.{Actor, State, finished, next_of}
 use Rattle.mail_world.specs.History.Life.{Over}
-use Rattle.mail_world.specs.World.{starts_in, next_pid, most_of, IsStep}
+use Rattle.mail_world.specs.World.{Counts, starts_in, next_pid, most_of, IsStep}
 use Rattle.mail_world.specs.Wired.{tenant_in, kept_at, AreWired, HasWires}
 use Rattle.mail_world.specs.Children.{IsDueOfChild, child_place, HasLeftIf}
-use Rattle.mail_world.specs.Inside.{known, among_all, StandsFor, Owes, IsMember, AreActors, IsWorld, ArePiped, HasBorneLast}
+use Rattle.mail_world.specs.Inside.{known, among_all, RunsBy, StandsFor, Owes, IsMember, AreActors, IsWorld, ArePiped, HasBorneLast}
 use Rattle.mail_world.specs.Crew.{IsFoundAt}
 use Rattle.mail_world.specs.Generations.{CanNot, Waits, idled_of, has_idled, idled_by}
 use Rattle.mail_world.specs.Readiness.{has_ended, found_by, found_at, found_in, is_awaiting}
@@ -46,8 +46,8 @@ use Rattle.mail_world.proofs.Crew.{member_alive, member_over}
 use Rattle.mail_world.proofs.Leaving.{Leaves, leaves, in_slot}
 use Rattle.mail_world.proofs.Members.{whether}
 use Rattle.mail_world.proofs.Passes.{gives_to_none}
-use Rattle.mail_world.proofs.Feeders.{feeder_next}
-use Rattle.mail_world.proofs.Serving.{at_seat, finds_by, pipes_within}
+use Rattle.mail_world.proofs.Feeders.{birth_feeds, feeder_next}
+use Rattle.mail_world.proofs.Serving.{finds_by, pipes_within}
 use Rattle.mail_world.proofs.Booked.{look_booked, newest_is, one_booked}
 use Rattle.crew_pipes.proofs.Keeps.{before_same}
 use Rattle.mail_world.proofs.Found.{ended_remote}
@@ -60,7 +60,7 @@ use Rattle.mail_world.proofs.Wires.{same_place}
 use Rattle.mail_world.proofs.Worlds.{StandsAt, GoesWith, stands_whole, may_act, look_keeps, paid_follows, done_goes, done_keeps, done_step, ended_keeps, ended_leads_on, ended_step, acts_not}
 
 -- All that a world keeps but the room in its history.
-pub record AreKept (told : Option Disk) (crew : ℕ) (places : List ℕ → Option ℕ) (actors : List Held) (mouths : List Mouths) (entries : List Entry) (events : List Kept) (p n b : ℕ) : Type 0 where
+pub record AreKept (told : Option Disk) (crew : ℕ) (places : List ℕ → Option ℕ) (actors : List Held) (mouths : List Mouths) (entries : List Entry) (events : List Kept) (p n : ℕ) (b : Counts) : Type 0 where
   pub world : IsWorld told (among_all crew places) actors (known events) events p n b
   pub booked : AreBooked crew entries actors events
   pub piped : ArePiped crew mouths actors (known events) events
@@ -76,7 +76,7 @@ pub record HasTurned (x y : Held) (program : Program) (past : List Own) : Type 0
   pub stays : StaysAt x y
   pub follows : Follows y.machine program past
 
-pub turned_keeps : (told : Option Disk) (crew : ℕ) (places : List ℕ → Option ℕ) (actors : List Held) (mouths wired : List Mouths) (entries : List Entry) (events : List Kept) (p n b i : ℕ) (x y : Held)
+pub turned_keeps : (told : Option Disk) (crew : ℕ) (places : List ℕ → Option ℕ) (actors : List Held) (mouths wired : List Mouths) (entries : List Entry) (events : List Kept) (p n : ℕ) (b : Counts) (i : ℕ) (x y : Held)
     → AreKept told crew places actors mouths entries events p n b → (at : StandsAt (among_all crew places) actors (known events) events p i x)
     → HasTurned x y at.member.actor.program at.member.actor.past → AreAsBefore mouths wired
     → AreKept told crew places (set actors i y) wired entries events p n b
@@ -87,7 +87,7 @@ turned_keeps told crew places actors mouths wired entries events p n b i x y w a
 }
 
 -- and stands at its place
-pub turned_stands : (told : Option Disk) (crew : ℕ) (places : List ℕ → Option ℕ) (actors : List Held) (mouths : List Mouths) (entries : List Entry) (events : List Kept) (p n b i : ℕ) (x y : Held)
+pub turned_stands : (told : Option Disk) (crew : ℕ) (places : List ℕ → Option ℕ) (actors : List Held) (mouths : List Mouths) (entries : List Entry) (events : List Kept) (p n : ℕ) (b : Counts) (i : ℕ) (x y : Held)
     → AreKept told crew places (set actors i y) mouths entries events p n b → StandsAt (among_all crew places) actors (known events) events p i x → y.ended ≡ x.ended
     → StandsAt (among_all crew places) (set actors i y) (known events) events p i y
 turned_stands told crew places actors mouths entries events p n b i x y w at ended =
@@ -135,17 +135,17 @@ may_find s events p x ready m lives paid finds =
     subst (CanFind x.machine) (sym finds) (can_find s x.name x.machine m.actor.program m.actor.past (stands_whole s events p x m lives paid) (m.awaits lives))
 
 -- it may act
-pub may_step : (told : Option Disk) (crew : ℕ) (places : List ℕ → Option ℕ) (actors : List Held) (mouths : List Mouths) (entries : List Entry) (events : List Kept) (p n b i : ℕ) (x : Held) (ready : Ready)
+pub may_step : (told : Option Disk) (crew : ℕ) (places : List ℕ → Option ℕ) (actors : List Held) (mouths : List Mouths) (entries : List Entry) (events : List Kept) (p n : ℕ) (b : Counts) (i : ℕ) (x : Held) (ready : Ready)
     → AreKept told crew places actors mouths entries events p n b → (at : StandsAt (among_all crew places) actors (known events) events p i x) → x.owed ≡ None
     → ready ≡ found_by (known events) x.name at.member.actor.program
     → is_due_of_child (has_actor mouths x.wire) (next_of at.member.actor.program at.member.actor.past p ready) ≡ false → MayAct told x.machine x.wire mouths p ready
 may_step told crew places actors mouths entries events p n b i x ready w at paid finds own =
     may_act told (among_all crew places) actors (known events) events p n b i x mouths ready w.world at paid finds
-    (at_seat crew mouths actors (known events) events w.piped i x at.is at.lives)
-    (λ j wire. (pipes_within crew places mouths actors (known events) events p i x w.world.kept w.piped at.is at.lives j wire).2) own
+    (subst (λ (o : Option ℕ). RunsBy o at.member.actor.program) (w.piped.places i x at.is at.lives)
+    (w.piped.runs x.name at.member.actor at.member.is (member_alive (known events) events p x at.member at.lives))) own
 
 -- it has its pipes among these
-pub is_seated : (told : Option Disk) (crew : ℕ) (places : List ℕ → Option ℕ) (actors : List Held) (mouths : List Mouths) (entries : List Entry) (events : List Kept) (p n b i : ℕ) (x : Held)
+pub is_seated : (told : Option Disk) (crew : ℕ) (places : List ℕ → Option ℕ) (actors : List Held) (mouths : List Mouths) (entries : List Entry) (events : List Kept) (p n : ℕ) (b : Counts) (i : ℕ) (x : Held)
     → AreKept told crew places actors mouths entries events p n b → slice_get actors i ≡ Some x → x.ended ≡ None → IsSeated x.wire mouths
 is_seated told crew places actors mouths entries events p n b i x w is lives = record {
   slots = w.piped.slots;
@@ -232,10 +232,10 @@ passes_some w pid a x program past p ready due got follows is none brings = ⊎_
 
 -- who awaits does nothing
 waits_on : (s : State) (events : List Kept) (p : ℕ) (x : Held) (ready : Ready) (m : IsMember s events p x) → x.ended ≡ None → x.owed ≡ None → ready ≡ found_by s x.name m.actor.program
-    → is_awaiting s x.name ≡ true → next_of m.actor.program m.actor.past p ready ≡ needs.Wait
-waits_on s events p x ready m lives paid finds awaits =
+    → IsMail m.actor.program → is_awaiting s x.name ≡ true → next_of m.actor.program m.actor.past p ready ≡ needs.Wait
+waits_on s events p x ready m lives paid finds mail awaits =
     ap (next_of m.actor.program m.actor.past p) finds
-    ∙ due_waits s x.name x.machine m.actor.program m.actor.past p (stands_whole s events p x m lives paid) (m.awaits lives ∙ awaits) awaits
+    ∙ due_waits s x.name x.machine m.actor.program m.actor.past p (stands_whole s events p x m lives paid) (m.awaits lives mail ∙ awaits) awaits
 
 wait_brings : (w : Pipework) (pid most : ℕ) (a : List ℕ) (due : NeedData) (got : GotData) → due ≡ needs.Wait → Brings w pid most a due got → ⊥
 wait_brings w pid most a due got is brings = subst (λ (due : NeedData). Brings w pid most a due got) is brings
@@ -250,7 +250,7 @@ never_borne : (crew : ℕ) (mouths : List Mouths) (actors : List Held) (events :
 never_borne crew mouths actors events p i x ready m piped is lives mine borne =
     let s = known events in
     let may = piped.fed x.name m.actor m.is (member_alive s events p x m lives) borne in
-    let gives = feeder_next m.actor.program m.actor.past ((piped.born x.name 0 may.child may.runs).feeds m.actor m.is) m.run borne in
+    let gives = feeder_next m.actor.program m.actor.past (birth_feeds m.actor.program m.actor.past m.run borne) m.run borne in
     let there : has_actor mouths x.wire 0 ≡ true =
     ap (λ (o : Option Tenant). is_some (actor_of o)) (in_slot piped.wires mouths s x.name may.child x.wire piped.wired (piped.places i x is lives) may.runs) in
     let both : true ≡ false = sym there ∙ sym (ap (is_due_of_child (has_actor mouths x.wire)) (gives.1 p ready)) ∙ mine in cc
@@ -272,7 +272,7 @@ left_piped crew mouths actors stood s t u events i x y leaves piped = ⊎_elim
     (look_piped crew mouths mouths (set actors i y) u events cut.place cut.old cut.new piped cut.mid cut.cut.name cut.cut.ended cut.cut.stays (as_they_were mouths)))
     leaves
 
-module _ (old new : Option Disk) (crew : ℕ) (places : List ℕ → Option ℕ) (actors : List Held) (mouths piped : List Mouths) (entries : List Entry) (events later : List Kept) (p n b i : ℕ) (x y : Held) (ready : Ready)
+module _ (old new : Option Disk) (crew : ℕ) (places : List ℕ → Option ℕ) (actors : List Held) (mouths piped : List Mouths) (entries : List Entry) (events later : List Kept) (p n : ℕ) (b : Counts) (i : ℕ) (x y : Held) (ready : Ready)
     (w : AreKept old crew places actors mouths entries events p n b) (at : StandsAt (among_all crew places) actors (known events) events p i x) (paid : x.owed ≡ None)
     (finds : ready ≡ found_by (known events) x.name at.member.actor.program)
     (mine : is_due_of_child (has_actor mouths x.wire) (next_of at.member.actor.program at.member.actor.past p ready) ≡ false) where
@@ -295,10 +295,10 @@ module _ (old new : Option Disk) (crew : ℕ) (places : List ℕ → Option ℕ)
       done_goes old new (among_all crew places) actors mouths piped pid events later p n b i x y ready w.world (plumbed crew mouths actors (known events) events w.piped) w.piped.wires wired at paid done (to_none pid done)
       (λ none brings. passes_some (known events).pipework pid x.name x m.actor.program m.actor.past p ready done.own.due done.own.came follows (due_is pid done) none brings) finds
 
-  never_awaits : (pid : ℕ) (done : HasDone old new mouths piped pid x y events later p ready) → is_awaiting (known events) x.name ≡ false
-  never_awaits pid done = ⊎_elim
+  never_awaits : (pid : ℕ) (done : HasDone old new mouths piped pid x y events later p ready) → IsMail at.member.actor.program → is_awaiting (known events) x.name ≡ false
+  never_awaits pid done mail = ⊎_elim
       (λ awaits.
-      let is : done.own.due ≡ needs.Wait = sym (due_is pid done) ∙ waits_on (known events) events p x ready at.member at.lives paid finds awaits in
+      let is : done.own.due ≡ needs.Wait = sym (due_is pid done) ∙ waits_on (known events) events p x ready at.member at.lives paid finds mail awaits in
       absurd (⊎_elim
       (λ call. wait_calls done.own.due done.own.came is call.0)
       (λ pass. wait_brings (known events).pipework pid (takes_of x.machine) x.name done.own.due done.own.came is (pass.1.brings w.piped.wires (known events).pipework wired))
@@ -311,12 +311,14 @@ module _ (old new : Option Disk) (crew : ℕ) (places : List ℕ → Option ℕ)
   unborn borne = never_borne crew mouths actors events p i x ready at.member w.piped at.is at.lives mine borne
 
   -- it ended, so it awaited nothing
-  ended_apart : (status : ℕ) → HasEnded status old new mouths piped x y events later p ready → (parent c : List ℕ) → x.name ≢ parent → is_awaiting (known events) c ≡ true
-      → (x.name ≢ parent) × (x.name ≢ c)
-  ended_apart status over parent c other awaits = (
+  ended_apart : (status : ℕ) → HasEnded status old new mouths piped x y events later p ready → (parent c : List ℕ) (z : Actor) → (known events).actors c ≡ Some z → IsMail z.program
+      → x.name ≢ parent → is_awaiting (known events) c ≡ true → (x.name ≢ parent) × (x.name ≢ c)
+  ended_apart status over parent c z there mail other awaits = (
     other,
     λ same.
-        let is = waits_on (known events) events p x ready at.member at.lives paid finds (ap (is_awaiting (known events)) same ∙ awaits) in
+        let both : ◌≡◌ {A = Option Actor} (Some z) (Some at.member.actor) = sym there ∙ ap (known events).actors (sym same) ∙ at.member.is in
+        let one : z ≡ at.member.actor = cc in
+        let is = waits_on (known events) events p x ready at.member at.lives paid finds (subst (λ (a : Actor). IsMail a.program) one mail) (ap (is_awaiting (known events)) same ∙ awaits) in
         let due = over.due at.member.actor.program at.member.actor.past (stands_whole (known events) events p x at.member at.lives paid) in
         let both : needs.Wait ≡ needs.Ended status = sym is ∙ due in cc,
   )
@@ -328,7 +330,7 @@ module _ (old new : Option Disk) (crew : ℕ) (places : List ℕ → Option ℕ)
   pub acted_keeps : (ended : Option ℕ) (pid : ℕ) → HasActed ended old new mouths piped pid x y events later p ready → (now : List Entry) (q : ℕ) (r : Kept)
       → r ≡ get_or later (length later - 1) r → q ≡ min (n + starts_in r) (2 ^ 32 - 1) → (x.entry ≡ None → now ≡ entries)
       → ((m : ℕ) (e : Entry) → x.entry ≡ Some m → slice_get entries m ≡ Some e → now ≡ set entries m (noted r e))
-      → (child : Option ℕ) (stood : List Held) → child ≡ child_place mouths x.wire crew places → HasLeftIf (is_some ended) child (set actors i y) stood
+      → (child : Option ℕ) (stood : List Held) → child ≡ child_place mouths x.wire 0 crew places → HasLeftIf (is_some ended) child (set actors i y) stood
       → AreKept new crew places stood piped now later p q b
   acted_keeps None pid done now q r newest next none own child stood child_is stays =
       let k : Kept = kept.Act x.name done.own in
@@ -337,7 +339,7 @@ module _ (old new : Option Disk) (crew : ℕ) (places : List ℕ → Option ℕ)
         world = done_keeps old new (among_all crew places) actors mouths piped pid events later p n q b i x y ready w.world at paid done (goes_with pid done)
             (next ∙ ap (λ (k : Kept). min (n + starts_in k) (2 ^ 32 - 1)) same);
         booked = one_booked (among_all crew places) crew actors events later i x y entries now k r w.world.kept.placed w.booked at.is done.name done.stays.entry refl done.event newest none own;
-        piped = done_piped crew old new mouths piped pid actors events later p i x y ready w.piped at.is at.lives at.member done
+        piped = done_piped crew (among_all crew places) old new mouths piped pid actors events later p i x y ready w.world.kept w.piped at.is at.lives at.member done
             (to_none pid done) (goes_with pid done).awaits (never_awaits pid done) unborn;
       })
   acted_keeps (Some status) pid over now q r newest next none own child stood child_is left =
@@ -350,16 +352,16 @@ module _ (old new : Option Disk) (crew : ℕ) (places : List ℕ → Option ℕ)
         world = subst (λ (q : ℕ). IsWorld new (among_all crew places) stood (known later) later p q b) (sym still)
             (ended_keeps status old new (among_all crew places) actors stood mouths piped events later p n b i x y ready w.world at paid finds w.piped.whole over leave);
         booked = left_booked crew actors stood (known events) t later i x y now leave
-            (one_booked (among_all crew places) crew actors events later i x y entries now k r w.world.kept.placed w.booked at.is over.over.name over.over.entry refl over.over.event newest none own);
+            (one_booked (among_all crew places) crew actors events later i x y entries now k r w.world.kept.placed w.booked at.is over.over.name over.over.stays.entry refl over.over.event newest none own);
         piped = left_piped crew piped actors stood (known events) t (known later) later i x y leave
-            (finish_piped crew old new mouths piped actors events later p i x y k (Over status) (Some status) w.piped at.is at.lives at.member (end_finishes x.name p ready status) tt (ended_apart status over) over.over);
+            (finish_piped crew (among_all crew places) old new mouths piped actors events later p i x y k (Over status) (Some status) w.world.kept w.piped at.is at.lives at.member (end_finishes x.name p ready status) tt (ended_apart status over) over.over);
       }
 
   pub acted_step : {D : Type 0} (d e : D) (a : List ℕ) (ended : Option ℕ) → x.name ≡ a → HasActed ended old new mouths piped (next_pid events) x y events later p ready
       → IsStep a ended (record { disk = d; events = events; present = p }) (record { disk = e; events = later; present = p })
   acted_step d e a None name done =
       done_step d e old new mouths piped events later p a x y (has_actor mouths x.wire) ready name at.member at.lives paid finds w.piped.wires wired mine done (to_none (next_pid events) done)
-  acted_step d e a (Some status) name over = ended_step d e status old new mouths piped events later p a x y ready name at.member finds over
+  acted_step d e a (Some status) name over = ended_step d e status old new mouths piped events later p a x y ready name at.member at.lives paid finds over
 
   -- it didn't wait
   pub acted_waits : (ended : Option ℕ) (pid : ℕ) → HasActed ended old new mouths piped pid x y events later p ready → Waits (known events) p x.name → ⊥
@@ -420,7 +422,7 @@ module _ (old new : Option Disk) (crew : ℕ) (places : List ℕ → Option ℕ)
           subst (λ (k : Kept). idled_of at.member.actor.program at.member.actor.past k ≡ has_idled (known events) k) same refl
 
 -- An actor that was paid, and perhaps has looked, stands at its place in a world, and finds this ready.
-pub record StandsReady (told : Option Disk) (crew : ℕ) (places : List ℕ → Option ℕ) (items : List Held) (mouths : List Mouths) (entries : List Entry) (events : List Kept) (p n b place : ℕ) (a : List ℕ) (y : Held) (ready : Ready) : Type 0 where
+pub record StandsReady (told : Option Disk) (crew : ℕ) (places : List ℕ → Option ℕ) (items : List Held) (mouths : List Mouths) (entries : List Entry) (events : List Kept) (p n : ℕ) (b : Counts) (place : ℕ) (a : List ℕ) (y : Held) (ready : Ready) : Type 0 where
   pub actors : List Held
   pub same : (v : Held) → set actors place v ≡ set items place v
   pub here : actors ≡ set items place y
@@ -430,7 +432,7 @@ pub record StandsReady (told : Option Disk) (crew : ℕ) (places : List ℕ → 
   pub finds : ready ≡ found_by (known events) y.name at.member.actor.program
   pub name : y.name ≡ a
 
-module _ (told : Option Disk) (crew : ℕ) (places : List ℕ → Option ℕ) (items : List Held) (mouths : List Mouths) (entries : List Entry) (events : List Kept) (p n b place : ℕ) (a : List ℕ) (ready : Ready) where
+module _ (told : Option Disk) (crew : ℕ) (places : List ℕ → Option ℕ) (items : List Held) (mouths : List Mouths) (entries : List Entry) (events : List Kept) (p n : ℕ) (b : Counts) (place : ℕ) (a : List ℕ) (ready : Ready) where
   pub paid_stands : (x z : Held) → AreKept told crew places items mouths entries events p n b → (at : StandsAt (among_all crew places) items (known events) events p place x) → x.name ≡ a
       → HasTurned x z at.member.actor.program at.member.actor.past → IsFoundAt mouths z.wire (awaits_of z.machine) ready → StandsReady told crew places items mouths entries events p n b place a z ready
   paid_stands x z w at name turned found =
@@ -512,7 +514,7 @@ due_same has other same (needs.Command bytes) = refl
 due_same has other same needs.Wait = refl
 due_same has other same (needs.Ended status) = refl
 
-pub asks_child : {D : Type 0} (d : D) (told : Option Disk) (crew : ℕ) (places : List ℕ → Option ℕ) (actors : List Held) (mouths : List Mouths) (entries : List Entry) (events : List Kept) (p n b i : ℕ) (x : Held) (ready : Ready) (due : NeedData)
+pub asks_child : {D : Type 0} (d : D) (told : Option Disk) (crew : ℕ) (places : List ℕ → Option ℕ) (actors : List Held) (mouths : List Mouths) (entries : List Entry) (events : List Kept) (p n : ℕ) (b : Counts) (i : ℕ) (x : Held) (ready : Ready) (due : NeedData)
     → AreKept told crew places actors mouths entries events p n b → (at : StandsAt (among_all crew places) actors (known events) events p i x)
     → ready ≡ found_by (known events) x.name at.member.actor.program → is_due_of_child (has_actor mouths x.wire) due ≡ true
     → next_of at.member.actor.program at.member.actor.past p ready ≡ due → IsDueOfChild (record { disk = d; events = events; present = p }) x.name due

@@ -7,11 +7,12 @@ use Rattle.std.proofs.lemmas.List.{length-drop}
 use Rattle.std.proofs.lemmas.Option.{slice_get_within}
 use Rattle.world_events.specs.declared.event.Event.{Event as Kept}
 use Rattle.mail_world.specs.declared.actor.Actor.{Actor as Held}
-use Rattle.mail_world.specs.declared.starts.Starts.{Starts}
+use Rattle.world_events.specs.declared.starts.Starts.{Starts}
 use Rattle.mail_world.specs.History.{State}
 use Rattle.mail_world.specs.World.{span_of}
 use Rattle.mail_world.specs.Generations.{starts_of, is_lasting, is_next, next_among, next_living}
-use Rattle.mail_world.specs.Starts.{place_by_entry, if_lives, living_in, start_at, IsNextStart, AreStarts}
+use Rattle.world_events.specs.Starts.{place_by_entry}
+use Rattle.mail_world.specs.Starts.{if_lives, living_in, start_at, IsNextStart, AreStarts}
 use Rattle.mail_world.specs.Inside.{span_by, among_all, AreActors}
 use Rattle.mail_world.proofs.Lists.{some_at, some_within}
 

@@ -1,6 +1,5 @@
 -- A world keeps what it keeps, as one actor makes a call, ends, is stopped, or starts, and as a moment comes.
 use Rattle.std.proofs.Common.{◌≡◌, inl, inr, ⊎_elim, ℕ, ◌+◌, ◌-◌, ◌^◌, ◌≤◌, ◌<◌, min, List, [], ◌∷◌, ◌++◌, length, set, Bool, true, false, Option, Some, None, IsSomeAnd, is_some, reverse, refl, sym, ap, ◌∙◌, subst, arith, get_or}
-use Rattle.std.specs.Prelude.{if◌then◌else◌}
 use Rattle.std.proofs.lemmas.Option.{slice_get_within, get_or_from_slice_get}
 use Rattle.std.proofs.lemmas.List.Sums.{sum_by-append}
 use Rattle.std.specs.List.{slice_get, sum_by}
@@ -30,28 +29,31 @@ use Rattle.mail_world.specs.declared.actor.Actor.{Actor as Held}
 use Rattle.world_events.specs.declared.event.Event.{Event as Kept}
 use Rattle.world_events.specs.declared.event.Event.TheVariants as kept
 use Rattle.world_events.specs.declared.event.Program.{Program}
-use Rattle.mail_world.specs.History.{Life, State, MayFind, TenantEnds, own_call, next_of, start_of, acted, called, finished, happens, held_by, shut_by}
+use Rattle.world_events.specs.declared.event.Program.TheVariants.{Injector}
+use Rattle.mail_world.specs.History.{Actor, Life, State, IsDelivery, MayFind, TenantEnds, own_call, next_of, start_of, acted, called, finished, happens, held_by, shut_by}
 use Rattle.mail_world.specs.History.Event.{Start, Moment, Halt}
 use Rattle.mail_world.specs.History.Life.{Over, Stopped}
 use Rattle.call_fs.specs.declared.program.Ready.{Ready}
-use Rattle.mail_world.specs.World.{starts, kept_call, IsKeptBy, IsKeptGiving, next_pid, bounces_in, is_child, starts_in, most_of, ComesWhole, IsStep, span_after, span_of, was_started, EndsAt}
+use Rattle.mail_world.specs.World.{Counts, starts, IsKeptBy, IsKeptGiving, next_pid, counts_in, counted, starts_in, most_of, ComesWhole, IsStep, span_after, span_of, was_started, EndsAt}
 use Rattle.mail_world.specs.World.Span.{OverAt}
 use Rattle.mail_world.specs.Pipework.{is_member}
-use Rattle.mail_world.specs.ByKind.{IsMail, Follows, CanFind, takes_of, awaits_of}
-use Rattle.mail_world.specs.Inside.{known, RunsAt, unowed, StandsFor, Owes, span_by, IsMember, AreActors, IsOpenTo, IsLed, IsWorld}
-use Rattle.mail_world.specs.Wired.{seat, HasWires, AreWholeGivings}
+use Rattle.mail_world.specs.ByKind.{IsAlone, IsMail, Follows, CanFind, takes_of, awaits_of}
+use Rattle.mail_world.specs.Inside.{known, RunsAt, RunsBy, unowed, StandsFor, Owes, span_by, IsMember, AreActors, IsOpenTo, IsLed, IsWorld}
+use Rattle.mail_world.specs.Wired.{HasWires, AreWholeGivings}
 use Rattle.world_pipes.specs.declared.mouths.Mouths.{Mouths}
 use Rattle.mail_world.specs.Pipework.{Tenant}
 use Rattle.mail_world.specs.Readiness.{found_by, found_at, found_in, is_awaiting}
 use Rattle.world_pipes.specs.Pipework.{Pipework, pipework_after}
 use Rattle.mail_world.specs.Pipework.Tenant.{Runs, Remote}
-use Rattle.mail_world.specs.Acting.{is_due_of_child, has_actor, SuitsPlace, IsAct, IsNoAct, IsCall, MayAct, MayMake, AreOpen, AreCutOff, Brings, HasPassed, HasDone, HasEnded, MakesOf, IsFinished, opened_by, open_after, shut}
+use Rattle.mail_world.specs.Acting.{is_due_of_child, has_actor, IsAct, IsNoAct, IsCall, MayAct, MayMake, AreOpen, AreCutOff, Brings, HasPassed, HasDone, HasEnded, MakesOf, IsFinished, opened_by, open_after, shut}
 use Rattle.mail_world.proofs.Known.{known_push}
-use Rattle.actor_names.specs.ChildNames.{bounce_name}
+use Rattle.actor_names.specs.ChildNames.{bounce_name, delivery_name, forward_of}
 use Rattle.actor_names.specs.MailNames.{IsMailName}
-use Rattle.mail_world.proofs.Bounces.{mail_no_bounce}
+use Rattle.mail_world.proofs.Bounces.{mail_no_bounce, mail_no_delivery, mail_no_forward}
+use Rattle.mail_world.proofs.Suiting.{place_suits}
+use Rattle.mail_world.proofs.Numbered.{is_child, still_count, before_none, numbered_still, numbered_put, numbered_start, numbered_halt}
 use Rattle.mail_world.proofs.Spans.{span_push}
-use Rattle.mail_world.proofs.Histories.{IsActing, FindsIn, ComesIn, LeadsOn, pass_told, call_told, end_told, stop_told, moment_told, start_told, halt_told, led_on, led_still}
+use Rattle.mail_world.proofs.Histories.{kept_call, IsActing, FindsIn, ComesIn, LeadsOn, pass_told, call_told, end_told, stop_told, moment_told, start_told, halt_told, led_on, led_still}
 use Rattle.call_fs.proofs.Maps.{put_at_same, put_at_other}
 use Rattle.mail_world.proofs.Opens.{Opens, opens_by, owns_backs}
 use Rattle.mail_world.proofs.Programs.{program_uses, program_acts, found_finds, machine_takes}
@@ -86,13 +88,6 @@ pid_push events k = ap (λ (n : ℕ). min (77 + n) (2 ^ 32 - 1)) (sum_by-append 
 
 pub still_pid : (events : List Kept) (k : Kept) → starts_in k ≡ 0 → min (77 + (sum_by starts_in events + starts_in k)) (2 ^ 32 - 1) ≡ next_pid events
 still_pid events k none = ap (λ (n : ℕ). min (77 + (sum_by starts_in events + n)) (2 ^ 32 - 1)) none ∙ omega arith
-
--- how many bounces were injected, with one event more
-pub count_push : (events : List Kept) (k : Kept) → bounces_in (events ++ k ∷ []) ≡ bounces_in events + bounces_in (k ∷ [])
-count_push events k = sum_by-append (λ (k : Kept). if is_child k then 1 else 0) events (k ∷ [])
-
-pub still_count : (events : List Kept) (k : Kept) → is_child k ≡ false → bounces_in (events ++ k ∷ []) ≡ bounces_in events
-still_count events k none = let one = count_push events k in let no : bounces_in (k ∷ []) ≡ 0 = ap (λ (t : Bool). 0 + (if t then 1 else 0)) none in omega (arith, one, no)
 
 -- a disk that tells the same, or not
 pub same_told : (old new : Option Disk) → Meets old new (λ d e. e ≡ d) → new ≡ old
@@ -138,35 +133,11 @@ may_make d h (needs.Ended status) backs uses = tt
 pub stands_whole : (s : State) (events : List Kept) (p : ℕ) (x : Held) (m : IsMember s events p x) → x.ended ≡ None → x.owed ≡ None → Follows x.machine m.actor.program m.actor.past
 stands_whole s events p x m lives paid = subst (λ (o : Option ℕ). Follows x.machine m.actor.program (unowed o m.actor.past)) paid (m.follows lives)
 
--- to a mail a call or its end is due, or it waits
-mail_due : (at : Option ℕ) (program : Program) (past : List Own) (p : ℕ) (ready : Ready) → RunsAt at program → at ≡ None → IsAct (next_of program past p ready)
-mail_due at program past p ready runs none = program_acts program (subst (λ (o : Option ℕ). RunsAt o program) none runs) past p ready
-
--- nothing of a child is due, and only a member starts a remote program
-suits_place : (has : ℕ → Bool) (i : ℕ) (due : NeedData) → is_due_of_child has due ≡ false → i < 4 → SuitsPlace i due
-suits_place has i (needs.Start (child.Bounce room)) own low = absurd cc
-suits_place has i (needs.Start (child.Forward uid room)) own low = tt
-suits_place has i (needs.Start (child.Local slot words uid)) own low = tt
-suits_place has i (needs.Start (child.Remote slot domain sender recipient)) own low = low
-suits_place has i (needs.File c) own low = tt
-suits_place has i (needs.Take port.Input) own low = tt
-suits_place has i (needs.Take port.Output) own low = tt
-suits_place has i (needs.Take port.Clean) own low = low
-suits_place has i (needs.Take port.Lspawn) own low = low
-suits_place has i (needs.Take port.Rspawn) own low = low
-suits_place has i (needs.Take port.Todo) own low = tt
-suits_place has i (needs.Take (port.Program d)) own low = tt
-suits_place has i (needs.Take (port.Status d)) own low = tt
-suits_place has i (needs.Give port bytes) own low = tt
-suits_place has i (needs.Command bytes) own low = tt
-suits_place has i needs.Wait own low = tt
-suits_place has i (needs.Ended status) own low = tt
-
-pub may_act : (told : Option Disk) (places : List ℕ → Option ℕ) (actors : List Held) (s : State) (events : List Kept) (p n b i : ℕ) (x : Held) (mouths : List Mouths) (ready : Ready)
+pub may_act : (told : Option Disk) (places : List ℕ → Option ℕ) (actors : List Held) (s : State) (events : List Kept) (p n : ℕ) (b : Counts) (i : ℕ) (x : Held) (mouths : List Mouths) (ready : Ready)
     → IsWorld told places actors s events p n b → (at : StandsAt places actors s events p i x) → x.owed ≡ None → ready ≡ found_by s x.name at.member.actor.program
-    → seat x.name ≡ x.wire → ((j : ℕ) → x.wire ≡ Some j → j < 4)
+    → RunsBy x.wire at.member.actor.program
     → is_due_of_child (has_actor mouths x.wire) (next_of at.member.actor.program at.member.actor.past p ready) ≡ false → MayAct told x.machine x.wire mouths p ready
-may_act told places actors s events p n b i x mouths ready w at paid finds seated low own =
+may_act told places actors s events p n b i x mouths ready w at paid finds runs own =
     let m = at.member in
     let past = m.actor.past in
     let due = next_of m.actor.program past p ready in
@@ -180,13 +151,13 @@ may_act told places actors s events p n b i x mouths ready w at paid finds seate
         may = on_told told (λ d. IsOpenTo d actors s) (λ d. MayMake d due)
             (λ d o. may_make d (held past) due (owns_backs d s.holder x.name (held past) ((o.each i x at.is).owns m.actor m.is (member_alive s events p x m at.lives))) (due_uses s events p x ready m)) w.opens;
       };
-      acts = λ none. mail_due (seat x.name) m.actor.program past p ready m.runs (seated ∙ none);
+      acts = λ none. program_acts m.actor.program (subst (λ (o : Option ℕ). RunsBy o m.actor.program) none runs) past p ready;
       own = own;
-      suits = λ j at_it. suits_place (has_actor mouths x.wire) j due own (low j at_it);
+      suits = λ j at_it. place_suits (has_actor mouths x.wire) j m.actor.program past p ready own (subst (λ (o : Option ℕ). RunsBy o m.actor.program) at_it runs);
     }
 
 -- an actor's machine looked, and it owes nothing
-pub look_keeps : (told : Option Disk) (places : List ℕ → Option ℕ) (actors : List Held) (s : State) (events : List Kept) (p n b i : ℕ) (x y : Held)
+pub look_keeps : (told : Option Disk) (places : List ℕ → Option ℕ) (actors : List Held) (s : State) (events : List Kept) (p n : ℕ) (b : Counts) (i : ℕ) (x y : Held)
     → IsWorld told places actors s events p n b → (at : StandsAt places actors s events p i x)
     → y.name ≡ x.name → y.ended ≡ x.ended → y.status ≡ x.status → awaits_of y.machine ≡ awaits_of x.machine → y.owed ≡ None → y.descriptors.items ≡ x.descriptors.items
     → Follows y.machine at.member.actor.program at.member.actor.past
@@ -197,6 +168,8 @@ look_keeps told places actors s events p n b i x y w at name ended status awaits
   pid = w.pid;
   count = w.count;
   unborn = w.unborn;
+  undelivered = w.undelivered;
+  numbered = w.numbered;
   kept = crew_looks places actors s events p i x y w.kept at.is name (look_member s events p x y at.member at.lives name ended status awaits paid follows);
   opens = on_told told (λ d. IsOpenTo d actors s) (λ d. IsOpenTo d (set actors i y) s) (λ d o. look_opens actors s i x y d at.is name list o) w.opens;
   led = w.led;
@@ -268,9 +241,9 @@ pub record GoesWith (old new : Option Disk) (places : List ℕ → Option ℕ) (
   pub may : MayCome own.due own.came
   pub opens : OnTold new (λ d. IsOpenTo d (set actors i y) (acted (known events) x.name own 0 (Some m.actor)))
   pub led : OnTold new (λ d. IsLed d (events ++ kept.Act x.name own ∷ []) p)
-  pub awaits : (c : List ℕ) → is_awaiting (acted (known events) x.name own 0 (Some m.actor)) c ≡ is_awaiting (known events) c
+  pub awaits : (c : List ℕ) (z : Actor) → (known events).actors c ≡ Some z → IsMail z.program → is_awaiting (acted (known events) x.name own 0 (Some m.actor)) c ≡ is_awaiting (known events) c
 
-call_goes : (old new : Option Disk) (places : List ℕ → Option ℕ) (actors : List Held) (events : List Kept) (p n b i : ℕ) (x y : Held) (ready : Ready) (c : CallData) (got : Told)
+call_goes : (old new : Option Disk) (places : List ℕ → Option ℕ) (actors : List Held) (events : List Kept) (p n : ℕ) (b : Counts) (i : ℕ) (x y : Held) (ready : Ready) (c : CallData) (got : Told)
     → IsWorld old places actors (known events) events p n b → IsPlumbed (known events) events → (at : StandsAt places actors (known events) events p i x)
     → ready ≡ found_by (known events) x.name at.member.actor.program
     → y.name ≡ x.name → y.descriptors.items ≡ open_after x.descriptors.items c got.answer
@@ -289,7 +262,7 @@ call_goes old new places actors events p n b i x y ready c got w plumbed at find
       opens = on_both old new (λ d. IsOpenTo d actors s) (λ d. IsOpenTo d (set actors i y) t) (λ d e. Apply d p c got.answer e × IsReadBy d c got)
           (λ d e applied o. call_open d e places actors s events p i x y ready at c got w.kept name list due applied.0 o) made w.opens;
       led = led_on old new (λ d e. Apply d p c got.answer e × IsReadBy d c got) events (events ++ k ∷ []) p p made leads w.led;
-      awaits = λ c. refl;
+      awaits = λ c z there mail. refl;
     }
 
 -- what a mail does passes nothing
@@ -311,7 +284,7 @@ kind_may (needs.Command bytes) came none kind = kind
 kind_may needs.Wait came none kind = kind
 kind_may (needs.Ended status) came none kind = absurd none
 
-pass_goes : (told : Option Disk) (places : List ℕ → Option ℕ) (actors : List Held) (events : List Kept) (p n b i : ℕ) (x y : Held) (own : Own) (pid most : ℕ)
+pass_goes : (told : Option Disk) (places : List ℕ → Option ℕ) (actors : List Held) (events : List Kept) (p n : ℕ) (b : Counts) (i : ℕ) (x y : Held) (own : Own) (pid most : ℕ)
     → IsWorld told places actors (known events) events p n b → IsPlumbed (known events) events → (at : StandsAt places actors (known events) events p i x)
     → own.ready ≡ found_by (known events) x.name at.member.actor.program → own.read ≡ p → y.name ≡ x.name → y.descriptors.items ≡ opened_by x.descriptors.items own.due own.came
     → next_of at.member.actor.program at.member.actor.past own.read own.ready ≡ own.due → IsNoAct own.due → GivesToNone (known events).pipework x.name own.due
@@ -322,8 +295,10 @@ pass_goes told places actors events p n b i x y own pid most w plumbed at finds 
     let m = at.member in
     let comes : ComesIn events x.name own = λ t pipes same. comes_of t s.pipework pid most x.name own.due own.came pipes none many brings in
     let leads = pass_told told events p x.name m.actor own plumbed.whole (acting s p x events m at.lives) (finds_in events p x own.ready m finds) read due pass comes in
-    let alone : is_member x.name ≡ false → pipework_after s.pipework x.name own.due own.came 0 ≡ s.pipework = λ named.
-    absurd (acts_not s.pipework pid most x.name own.due own.came (subst IsAct due (mail_due (seat x.name) m.actor.program m.actor.past own.read own.ready m.runs (seat_none x.name named))) pass brings) in
+    let alone : (c : List ℕ) (z : Actor) → s.actors c ≡ Some z → IsMail z.program → c ≡ x.name → pipework_after s.pipework x.name own.due own.came 0 ≡ s.pipework = λ c z there mail same.
+    let both : ◌≡◌ {A = Option Actor} (Some z) (Some m.actor) = sym there ∙ ap s.actors same ∙ m.is in
+    let one : z ≡ m.actor = cc in
+    absurd (acts_not s.pipework pid most x.name own.due own.came (subst IsAct due (program_acts m.actor.program (subst (λ (a : Actor). IsMail a.program) one mail) m.actor.past own.read own.ready)) pass brings) in
     let passes = passing own.due own.came pass in
     record {
       leads = leads;
@@ -331,17 +306,17 @@ pass_goes told places actors events p n b i x y own pid most w plumbed at finds 
       opens = on_told told (λ d. IsOpenTo d actors s) (λ d. IsOpenTo d (set actors i y) (acted s x.name own 0 (Some m.actor)))
           (λ d o. pass_opens places actors s events p i x y m d own w.kept at.is (member_alive s events p x m at.lives) name (list ∙ passes.opened x.descriptors.items) passes o) w.opens;
       led = led_still told events (events ++ kept.Act x.name own ∷ []) p p leads w.led;
-      awaits = own_awaits s x.name m.actor own plumbed.members none alone;
+      awaits = λ c z there mail. own_awaits s x.name m.actor own plumbed.members none c (alone c z there mail);
     }
 
 -- what an actor has open can be closed
-pub may_end : (told : Option Disk) (places : List ℕ → Option ℕ) (actors : List Held) (s : State) (events : List Kept) (p n b i : ℕ) (x : Held)
+pub may_end : (told : Option Disk) (places : List ℕ → Option ℕ) (actors : List Held) (s : State) (events : List Kept) (p n : ℕ) (b : Counts) (i : ℕ) (x : Held)
     → IsWorld told places actors s events p n b → StandsAt places actors s events p i x → OnTold told (λ d. AreOpen d x.descriptors.items)
 may_end told places actors s events p n b i x w at =
     on_told told (λ d. IsOpenTo d actors s) (λ d. AreOpen d x.descriptors.items) (λ d o. may_close d actors s i x at.is o) w.opens
 
 -- to close its list is to close what it holds
-shut_is : (old new : Option Disk) (places : List ℕ → Option ℕ) (actors : List Held) (s : State) (events : List Kept) (p n b i : ℕ) (x : Held)
+shut_is : (old new : Option Disk) (places : List ℕ → Option ℕ) (actors : List Held) (s : State) (events : List Kept) (p n : ℕ) (b : Counts) (i : ℕ) (x : Held)
     → IsWorld old places actors s events p n b → StandsAt places actors s events p i x
     → Meets old new (λ d e. e ≡ shut x.descriptors.items d) → Meets old new (λ d e. e ≡ shut_by x.name s.holder d)
 shut_is old new places actors s events p n b i x w at met =
@@ -349,7 +324,7 @@ shut_is old new places actors s events p n b i x w at met =
     (λ d e o is. is ∙ shut_listed d x.name s.holder x.descriptors.items (o.each i x at.is).lists) w.opens met
 
 -- what led here goes on with an actor's end
-end_leads_on : (old new : Option Disk) (places : List ℕ → Option ℕ) (actors : List Held) (events : List Kept) (p n b i : ℕ) (x : Held) (ready : Ready) (status : ℕ)
+end_leads_on : (old new : Option Disk) (places : List ℕ → Option ℕ) (actors : List Held) (events : List Kept) (p n : ℕ) (b : Counts) (i : ℕ) (x : Held) (ready : Ready) (status : ℕ)
     → IsWorld old places actors (known events) events p n b → (at : StandsAt places actors (known events) events p i x) → ready ≡ found_by (known events) x.name at.member.actor.program
     → AreWholeGivings (reverse events) → next_of at.member.actor.program at.member.actor.past p ready ≡ needs.Ended status
     → Meets old new (λ d e. e ≡ shut x.descriptors.items d)
@@ -359,7 +334,7 @@ end_leads_on old new places actors events p n b i x ready status w at finds whol
     (shut_is old new places actors (known events) events p n b i x w at made)
 
 -- and with its stop
-stop_leads_on : (old new : Option Disk) (places : List ℕ → Option ℕ) (actors : List Held) (events : List Kept) (p n b i : ℕ) (x : Held)
+stop_leads_on : (old new : Option Disk) (places : List ℕ → Option ℕ) (actors : List Held) (events : List Kept) (p n : ℕ) (b : Counts) (i : ℕ) (x : Held)
     → IsWorld old places actors (known events) events p n b → StandsAt places actors (known events) events p i x
     → Meets old new (λ d e. e ≡ shut x.descriptors.items d)
     → LeadsOn old new events (events ++ kept.Stop x.name ∷ []) p p
@@ -373,12 +348,12 @@ left_kept : (places : List ℕ → Option ℕ) (actors stood : List Held) (s t :
     → IsMember t (events ++ k ∷ []) p y → Leaves actors stood s t i x y → AreActors places stood t (events ++ k ∷ []) p
 left_kept places actors stood s t events k p i x y kept is name alone none member (inl same) =
     subst (λ (l : List Held). AreActors places l t (events ++ k ∷ []) p) (sym same.0)
-    (crew_acts places actors s t events k p i x y kept is name alone none (λ b other. same.1 b) member)
+    (crew_acts places actors s t events k p i x y kept is name alone none (λ b a there mail other. same.1 b a there mail) member)
 left_kept places actors stood s t events k p i x y kept is name alone none member (inr cut) =
     subst (λ (l : List Held). AreActors places l t (events ++ k ∷ []) p) (sym cut.is)
     (crew_leaves places actors s t events k p i cut.place x y cut.old cut.new kept is cut.there cut.other name cut.cut.name alone none
-    (λ j v beside here other lives. (kept.members j v here).awaits lives
-    ∙ sym (cut.rest v.name (apart_by places cut.old.name v.name cut.place j (kept.placed cut.place cut.old cut.there) (kept.placed j v here) beside)))
+    (λ j v m here beside other lives mail. m.awaits lives mail
+    ∙ sym (cut.rest v.name m.actor m.is mail (apart_by places cut.old.name v.name cut.place j (kept.placed cut.place cut.old cut.there) (kept.placed j v here) beside)))
     member (cut_member s t events k p x.name cut.old cut.new alone cut.apart (kept.members cut.place cut.old cut.there) cut.cut cut.none))
 
 left_opens : (told : Option Disk) (actors stood : List Held) (s t : State) (i : ℕ) (x y : Held) → Leaves actors stood s t i x y
@@ -390,7 +365,7 @@ left_opens told actors stood s t i x y (inr cut) opens =
     (λ d o. look_opens (set actors i y) t cut.place cut.old cut.new d cut.mid cut.cut.name cut.cut.descriptors o) opens)
 
 -- an actor ended or was stopped, and its child is given no input any more
-pub finish_keeps : (old new : Option Disk) (places : List ℕ → Option ℕ) (actors stood : List Held) (pipes piped : List Mouths) (events later : List Kept) (p n b i : ℕ) (x y : Held) (k : Kept) (life : Life) (status : Option ℕ)
+pub finish_keeps : (old new : Option Disk) (places : List ℕ → Option ℕ) (actors stood : List Held) (pipes piped : List Mouths) (events later : List Kept) (p n : ℕ) (b : Counts) (i : ℕ) (x y : Held) (k : Kept) (life : Life) (status : Option ℕ)
     → IsWorld old places actors (known events) events p n b → (at : StandsAt places actors (known events) events p i x)
     → Finishes x.name k life status → IsFinished k status old new pipes piped x y events later → LeadsOn old new events (events ++ k ∷ []) p p
     → Leaves actors stood (known events) (finished (known events) x.name life (Some at.member.actor)) i x y → is_child k ≡ false
@@ -414,13 +389,15 @@ finish_keeps old new places actors stood pipes piped events later p n b i x y k 
       pid = w.pid ∙ sym (pid_push events k ∙ still_pid events k none_starts);
       count = w.count ∙ sym (still_count events k none_born);
       unborn = w.unborn;
+      undelivered = w.undelivered;
+      numbered = numbered_put s t x.name m.actor (record { program = m.actor.program; past = m.actor.past; life = life }) m.is refl refl (λ none. none) w.numbered;
       kept = left_kept places actors stood s t events k p i x y w.kept at.is name alone f.nobody_starts member leaves;
       opens = left_opens new actors stood s t i x y leaves opens;
       led = led_on old new (λ d e. e ≡ shut x.descriptors.items d) events (events ++ k ∷ []) p p over.closed on w.led;
     }))
 
 -- a step of an actor
-pub done_goes : (old new : Option Disk) (places : List ℕ → Option ℕ) (actors : List Held) (pipes piped : List Mouths) (pid : ℕ) (events later : List Kept) (p n b i : ℕ) (x y : Held) (ready : Ready)
+pub done_goes : (old new : Option Disk) (places : List ℕ → Option ℕ) (actors : List Held) (pipes piped : List Mouths) (pid : ℕ) (events later : List Kept) (p n : ℕ) (b : Counts) (i : ℕ) (x y : Held) (ready : Ready)
     → IsWorld old places actors (known events) events p n b → IsPlumbed (known events) events → (by : List ℕ → Option ℕ) → HasWires by pipes (known events).pipework x.name x.wire x.slot
     → (at : StandsAt places actors (known events) events p i x) → x.owed ≡ None
     → (done : HasDone old new pipes piped pid x y events later p ready) → GivesToNone (known events).pipework x.name done.own.due
@@ -449,7 +426,7 @@ done_goes old new places actors pipes piped pid events later p n b i x y ready w
       (pass_goes old places actors events p n b i x y done.own pid (takes_of x.machine) w plumbed at (done.found ∙ finds) done.read done.name done.descriptors
       (ap (λ (read : ℕ). next_of m.actor.program m.actor.past read done.own.ready) done.read ∙ ap (next_of m.actor.program m.actor.past p) done.found ∙ due) pass.0 none (many pass.0 brings) brings)
 
-pub done_keeps : (old new : Option Disk) (places : List ℕ → Option ℕ) (actors : List Held) (pipes piped : List Mouths) (pid : ℕ) (events later : List Kept) (p n q b i : ℕ) (x y : Held) (ready : Ready)
+pub done_keeps : (old new : Option Disk) (places : List ℕ → Option ℕ) (actors : List Held) (pipes piped : List Mouths) (pid : ℕ) (events later : List Kept) (p n q : ℕ) (b : Counts) (i : ℕ) (x y : Held) (ready : Ready)
     → IsWorld old places actors (known events) events p n b → (at : StandsAt places actors (known events) events p i x) → x.owed ≡ None
     → (done : HasDone old new pipes piped pid x y events later p ready) → GoesWith old new places actors events p i x y at.member done.own
     → q ≡ min (n + starts_in (kept.Act x.name done.own)) (2 ^ 32 - 1)
@@ -473,14 +450,16 @@ done_keeps old new places actors pipes piped pid events later p n q b i x y read
       pid = one_pid n q (sum_by starts_in events) (starts_in k) was next ∙ sym pushed;
       count = w.count ∙ sym (still_count events k refl);
       unborn = w.unborn;
-      kept = crew_acts places actors s t events k p i x y w.kept at.is done.name (own_alone s x.name m.actor own) (λ a. refl) (λ b other. goes.awaits b)
+      undelivered = w.undelivered;
+      numbered = numbered_put s t x.name m.actor (record { program = m.actor.program; past = own ∷ m.actor.past; life = m.actor.life }) m.is refl refl (before_none own m.actor.past) w.numbered;
+      kept = crew_acts places actors s t events k p i x y w.kept at.is done.name (own_alone s x.name m.actor own) (λ a. refl) (λ b a there mail other. goes.awaits b a there mail)
           (own_member s t events p x y own k m refl refl refl (put_at_same s.actors x.name _) at.lives done.name done.ended done.status
-          (done.awaits ∙ m.awaits at.lives ∙ sym (goes.awaits x.name)) done.read due goes.may (done.follows m.actor.program m.actor.past follows) done.owes);
+          (λ mail. done.awaits ∙ m.awaits at.lives mail ∙ sym (goes.awaits x.name m.actor m.is mail)) done.read due goes.may (done.follows m.actor.program m.actor.past follows) done.owes);
       opens = goes.opens;
       led = goes.led;
     }))
 
-pub ended_keeps : (status : ℕ) (old new : Option Disk) (places : List ℕ → Option ℕ) (actors stood : List Held) (pipes piped : List Mouths) (events later : List Kept) (p n b i : ℕ) (x y : Held) (ready : Ready)
+pub ended_keeps : (status : ℕ) (old new : Option Disk) (places : List ℕ → Option ℕ) (actors stood : List Held) (pipes piped : List Mouths) (events later : List Kept) (p n : ℕ) (b : Counts) (i : ℕ) (x y : Held) (ready : Ready)
     → IsWorld old places actors (known events) events p n b → (at : StandsAt places actors (known events) events p i x) → x.owed ≡ None
     → ready ≡ found_by (known events) x.name at.member.actor.program → AreWholeGivings (reverse events) → HasEnded status old new pipes piped x y events later p ready
     → Leaves actors stood (known events) (finished (known events) x.name (Over status) (Some at.member.actor)) i x y
@@ -490,7 +469,7 @@ ended_keeps status old new places actors stood pipes piped events later p n b i 
     (end_leads_on old new places actors events p n b i x ready status w at finds whole
     (ended.due at.member.actor.program at.member.actor.past (stands_whole (known events) events p x at.member at.lives paid)) ended.over.closed) leaves refl
 
-pub ended_leads_on : (status : ℕ) (old new : Option Disk) (places : List ℕ → Option ℕ) (actors : List Held) (pipes piped : List Mouths) (events later : List Kept) (p n b i : ℕ) (x y : Held) (ready : Ready)
+pub ended_leads_on : (status : ℕ) (old new : Option Disk) (places : List ℕ → Option ℕ) (actors : List Held) (pipes piped : List Mouths) (events later : List Kept) (p n : ℕ) (b : Counts) (i : ℕ) (x y : Held) (ready : Ready)
     → IsWorld old places actors (known events) events p n b → (at : StandsAt places actors (known events) events p i x) → x.owed ≡ None
     → ready ≡ found_by (known events) x.name at.member.actor.program → AreWholeGivings (reverse events) → HasEnded status old new pipes piped x y events later p ready
     → LeadsOn old new events later p p
@@ -500,7 +479,7 @@ ended_leads_on status old new places actors pipes piped events later p n b i x y
     (ended.due at.member.actor.program at.member.actor.past (stands_whole (known events) events p x at.member at.lives paid)) ended.over.closed)
 
 -- an actor was stopped
-pub stopped_keeps : (old new : Option Disk) (places : List ℕ → Option ℕ) (actors stood : List Held) (pipes piped : List Mouths) (events later : List Kept) (p n b i : ℕ) (x y : Held)
+pub stopped_keeps : (old new : Option Disk) (places : List ℕ → Option ℕ) (actors stood : List Held) (pipes piped : List Mouths) (events later : List Kept) (p n : ℕ) (b : Counts) (i : ℕ) (x y : Held)
     → IsWorld old places actors (known events) events p n b → (at : StandsAt places actors (known events) events p i x) → IsFinished (kept.Stop x.name) None old new pipes piped x y events later
     → Leaves actors stood (known events) (finished (known events) x.name Stopped (Some at.member.actor)) i x y
     → IsWorld new places stood (known later) later p n b
@@ -508,14 +487,14 @@ stopped_keeps old new places actors stood pipes piped events later p n b i x y w
     finish_keeps old new places actors stood pipes piped events later p n b i x y (kept.Stop x.name) Stopped None w at (stop_finishes x.name) over
     (stop_leads_on old new places actors events p n b i x w at over.closed) leaves refl
 
-pub stopped_leads_on : (old new : Option Disk) (places : List ℕ → Option ℕ) (actors : List Held) (pipes piped : List Mouths) (events later : List Kept) (p n b i : ℕ) (x y : Held)
+pub stopped_leads_on : (old new : Option Disk) (places : List ℕ → Option ℕ) (actors : List Held) (pipes piped : List Mouths) (events later : List Kept) (p n : ℕ) (b : Counts) (i : ℕ) (x y : Held)
     → IsWorld old places actors (known events) events p n b → StandsAt places actors (known events) events p i x → IsFinished (kept.Stop x.name) None old new pipes piped x y events later
     → LeadsOn old new events later p p
 stopped_leads_on old new places actors pipes piped events later p n b i x y w at over =
     subst (λ (l : List Kept). LeadsOn old new events l p p) (sym over.event) (stop_leads_on old new places actors events p n b i x w at over.closed)
 
 -- a moment came
-pub moment_keeps : (told : Option Disk) (places : List ℕ → Option ℕ) (actors : List Held) (events : List Kept) (p m n b : ℕ) → IsMoment m → p ≤ m
+pub moment_keeps : (told : Option Disk) (places : List ℕ → Option ℕ) (actors : List Held) (events : List Kept) (p m n : ℕ) (b : Counts) → IsMoment m → p ≤ m
     → IsWorld told places actors (known events) events p n b
     → IsWorld told places actors (known (events ++ kept.Moment m ∷ [])) (events ++ kept.Moment m ∷ []) m n b
 moment_keeps told places actors events p m n b moment later w =
@@ -528,13 +507,15 @@ moment_keeps told places actors events p m n b moment later w =
       pid = w.pid ∙ sym (pid_push events k ∙ still_pid events k refl);
       count = w.count ∙ sym (still_count events k refl);
       unborn = w.unborn;
+      undelivered = w.undelivered;
+      numbered = numbered_still s t refl w.numbered;
       kept = crew_waits places actors s t events k p m later w.kept refl refl (λ a. refl) (λ a. refl) (λ a. refl);
       opens = on_told told (λ d. IsOpenTo d actors s) (λ d. IsOpenTo d actors t) (λ d o. moment_opens actors s m d o) w.opens;
       led = led_still told events (events ++ k ∷ []) p m (moment_told told events p m moment later) w.led;
     })
 
 -- the machine stopped
-pub halt_keeps : (old new : Option Disk) (places : List ℕ → Option ℕ) (actors stood : List Held) (events : List Kept) (p n b : ℕ) (how : Survival)
+pub halt_keeps : (old new : Option Disk) (places : List ℕ → Option ℕ) (actors stood : List Held) (events : List Kept) (p n : ℕ) (b : Counts) (how : Survival)
     → IsWorld old places actors (known events) events p n b → AreCutOff (length events) actors stood → Meets old new (λ d e. Halts how d e)
     → IsWorld new places stood (known (events ++ kept.Halt how ∷ [])) (events ++ kept.Halt how ∷ []) p n b
 halt_keeps old new places actors stood events p n b how w cut met =
@@ -548,6 +529,8 @@ halt_keeps old new places actors stood events p n b how w cut met =
       pid = w.pid ∙ sym (pid_push events k ∙ still_pid events k refl);
       count = w.count ∙ sym (still_count events k refl);
       unborn = w.unborn;
+      undelivered = w.undelivered;
+      numbered = numbered_halt s t (λ a. refl) w.numbered;
       kept = crew_halts places actors stood s t events how p w.kept halted cut;
       opens = on_both old new (λ d. IsOpenTo d actors s) (λ d. IsOpenTo d stood t) (λ d e. Halts how d e)
           (λ d e halts o. halt_opens (length events) actors stood s t e halted cut) met w.opens;
@@ -571,7 +554,7 @@ all_over places actors s events p how a crew was = by_place (places a) refl wher
       (last.0, span_push events (kept.Halt how) a ∙ ap (span_after a (kept.Halt how) (length events)) spans ∙ last.1)
 
 -- the actor that a place has
-pub stands_at : (told : Option Disk) (places : List ℕ → Option ℕ) (actors : List Held) (s : State) (events : List Kept) (p n b i : ℕ) (a : List ℕ) (x : Held)
+pub stands_at : (told : Option Disk) (places : List ℕ → Option ℕ) (actors : List Held) (s : State) (events : List Kept) (p n : ℕ) (b : Counts) (i : ℕ) (a : List ℕ) (x : Held)
     → IsWorld told places actors s events p n b → places a ≡ Some i → IsSomeAnd (slice_get actors i) (λ x. x.ended ≡ None) → x ≡ get_or actors i x
     → StandsAt places actors s events p i x × (x.name ≡ a)
 stands_at told places actors s events p n b i a x w place lives read =
@@ -582,19 +565,29 @@ stands_at told places actors s events p n b i a x w place lives read =
       ap (λ (x : Held). x.name) (sym same) ∙ named.2,
     )
 
-pub in_range : (told : Option Disk) (places : List ℕ → Option ℕ) (actors : List Held) (s : State) (events : List Kept) (p n b : ℕ) (a : List ℕ)
+pub in_range : (told : Option Disk) (places : List ℕ → Option ℕ) (actors : List Held) (s : State) (events : List Kept) (p n : ℕ) (b : Counts) (a : List ℕ)
     → IsWorld told places actors s events p n b → (i : ℕ) → places a ≡ Some i → i < length actors
 in_range told places actors s events p n b a w i place =
     let named = some_at (λ (x : Held). x.name ≡ a) (slice_get actors i) (w.kept.named a i place) in
     slice_get_within actors i named.0 named.1
 
 -- what led here goes on with a start
-pub start_leads_on : (told : Option Disk) (places : List ℕ → Option ℕ) (actors : List Held) (events : List Kept) (p n b : ℕ) (a : List ℕ) (program : Program) → IsMail program
+pub start_leads_on : (told : Option Disk) (places : List ℕ → Option ℕ) (actors : List Held) (events : List Kept) (p n : ℕ) (b : Counts) (a : List ℕ) (program : Program) → IsMail program
     → IsWorld told places actors (known events) events p n b → places a ≡ None → LeadsOn told told events (events ++ kept.Start a program ∷ []) p p
 start_leads_on told places actors events p n b a program mail w new = start_told told events p a program mail (w.kept.strangers a new).unknown
 
+-- who runs alone may be a mail
+mail_alone : (program : Program) → IsMail program → IsAlone program
+mail_alone (Injector args) mail = tt
+mail_alone other mail = absurd mail
+
+-- a mail is no delivery
+no_delivery_mail : (program : Program) → IsMail program → IsDelivery program → ⊥
+no_delivery_mail (Injector args) mail delivers = delivers
+no_delivery_mail other mail delivers = mail
+
 -- an actor started
-pub start_keeps : (told : Option Disk) (places next : List ℕ → Option ℕ) (actors : List Held) (events : List Kept) (p n q b : ℕ) (y : Held) (a : List ℕ) (program : Program) → IsMail program → is_member a ≡ false → IsMailName a
+pub start_keeps : (told : Option Disk) (places next : List ℕ → Option ℕ) (actors : List Held) (events : List Kept) (p n q : ℕ) (b : Counts) (y : Held) (a : List ℕ) (program : Program) → IsMail program → is_member a ≡ false → IsMailName a
     → IsWorld told places actors (known events) events p n b → places a ≡ None → ((b : List ℕ) → next b ≡ put_at places a (Some (length actors)) b)
     → y.name ≡ a → y.ended ≡ None → y.status ≡ None → y.owed ≡ None → y.descriptors.items ≡ [] → Follows y.machine program [] → awaits_of y.machine ≡ is_awaiting (known events) a
     → start_of program ≡ p → q ≡ min (n + 1) (2 ^ 32 - 1)
@@ -610,21 +603,28 @@ start_keeps told places next actors events p n q b y a program mail named letter
       pid = omega (arith, pid_push events k);
       count = w.count ∙ sym (still_count events k refl);
       unborn = λ m more. put (bounce_name m) ∙ put_at_other places a (Some (length actors)) (bounce_name m) (mail_no_bounce a m lettered) ∙ w.unborn m more;
+      undelivered = λ m more. let old = w.undelivered m more in (
+        put (delivery_name m) ∙ put_at_other places a (Some (length actors)) (delivery_name m) (mail_no_delivery a m lettered) ∙ old.0,
+        put (forward_of (delivery_name m)) ∙ put_at_other places a (Some (length actors)) (forward_of (delivery_name m)) (mail_no_forward a m lettered) ∙ old.1,
+      );
+      numbered = numbered_start s t a program refl (no_delivery_mail program mail) (λ m. mail_no_forward a m lettered) w.numbered;
       kept = crew_starts places actors s t events k p a y next w.kept new put name (start_alone s a program) (λ b other. refl)
-          (start_member s events p y a program (subst (λ (o : Option ℕ). RunsAt o program) (sym (seat_none a named)) mail) (w.kept.strangers a new) name ended status paid follows awaits start);
+          (start_member s events p y a program (subst (λ (o : Option ℕ). RunsAt o program) (sym (seat_none a named)) (mail_alone program mail)) (w.kept.strangers a new) name ended status paid follows awaits start);
       opens = on_told told (λ d. IsOpenTo d actors s) (λ d. IsOpenTo d (actors ++ y ∷ []) t)
           (λ d o. start_opens places actors s events p y a program d w.kept new name list o) w.opens;
       led = led_still told events (events ++ k ∷ []) p p (start_leads_on told places actors events p n b a program mail w new) w.led;
     })
 
 -- a world without actors
-pub new_keeps : (told : Option Disk) (places : List ℕ → Option ℕ) → ((a : List ℕ) → places a ≡ None) → IsWorld told places [] (known []) [] 0 77 0
+pub new_keeps : (told : Option Disk) (places : List ℕ → Option ℕ) → ((a : List ℕ) → places a ≡ None) → IsWorld told places [] (known []) [] 0 77 (counted 0 0)
 new_keeps told places none = record {
   moment = omega arith;
   now = refl;
   pid = refl;
   count = refl;
   unborn = λ m more. none (bounce_name m);
+  undelivered = λ m more. (none (delivery_name m), none (forward_of (delivery_name m)));
+  numbered = λ a x there. absurd (cc);
   kept = record {
     placed = λ i x is. absurd (cc);
     members = λ i x is. absurd (cc);
@@ -658,7 +658,7 @@ call_whole s pid a program (needs.Command bytes) came call = absurd call
 call_whole s pid a program needs.Wait came call = absurd call
 call_whole s pid a program (needs.Ended status) came call = absurd call
 
--- nothing of a child was due, so that what starts no remote program fails
+-- nothing of a child was due, so that only a remote program starts
 pass_whole : (s : State) (pid : ℕ) (a : List ℕ) (has : ℕ → Bool) (program : Program) (due : NeedData) (came : GotData) → is_due_of_child has due ≡ false
     → Brings s.pipework pid (most_of program) a due came → ComesWhole s pid a program due came
 pass_whole s pid a has program (needs.File c) came own brings = absurd brings
@@ -671,35 +671,39 @@ pass_whole s pid a has program (needs.Take port.Rspawn) came own brings = brings
 pass_whole s pid a has program (needs.Take port.Todo) came own brings = brings
 pass_whole s pid a has program (needs.Take (port.Program d)) came own brings = brings
 pass_whole s pid a has program (needs.Give port bytes) came own brings = brings
-pass_whole s pid a has program (needs.Start (child.Bounce room)) came own brings = absurd cc
-pass_whole s pid a has program (needs.Start (child.Forward uid room)) came own brings = brings
-pass_whole s pid a has program (needs.Start (child.Local slot words uid)) came own brings = brings
+pass_whole s pid a has program (needs.Start (child.Bounce room)) came own brings = absurd brings
+pass_whole s pid a has program (needs.Start (child.Forward uid room)) came own brings = absurd brings
+pass_whole s pid a has program (needs.Start (child.Local slot words uid)) came own brings = absurd brings
 pass_whole s pid a has program (needs.Start (child.Remote slot domain sender recipient)) came own brings = brings
 pass_whole s pid a has program (needs.Command bytes) came own brings = brings
 pass_whole s pid a has program needs.Wait came own brings = absurd brings
 pass_whole s pid a has program (needs.Ended status) came own brings = absurd brings
 
 -- and it is kept as an event of its own
-call_kept : (s : State) (bounces : ℕ) (a : List ℕ) (own : Own) (due : NeedData) (came : GotData) → IsCall due came → IsKeptBy s bounces a own due came (kept.Act a own)
-call_kept s bounces a own (needs.File c) came call = refl
-call_kept s bounces a own (needs.Take port) came call = absurd call
-call_kept s bounces a own (needs.Give port bytes) came call = absurd call
-call_kept s bounces a own (needs.Start asked) came call = absurd call
-call_kept s bounces a own (needs.Command bytes) came call = absurd call
-call_kept s bounces a own needs.Wait came call = absurd call
-call_kept s bounces a own (needs.Ended status) came call = absurd call
+call_kept : (s : State) (before : Counts) (a : List ℕ) (own : Own) (due : NeedData) (came : GotData) → IsCall due came → IsKeptBy s before a own due came (kept.Act a own)
+call_kept s before a own (needs.File c) came call = refl
+call_kept s before a own (needs.Take port) came call = absurd call
+call_kept s before a own (needs.Give port bytes) came call = absurd call
+call_kept s before a own (needs.Start asked) came call = absurd call
+call_kept s before a own (needs.Command bytes) came call = absurd call
+call_kept s before a own needs.Wait came call = absurd call
+call_kept s before a own (needs.Ended status) came call = absurd call
 
-slot_kept : (a : List ℕ) (own : Own) (bytes : List ℕ) (o : Option Tenant) → ((c : List ℕ) → o ≡ Some (Runs c) → ⊥) → IsKeptGiving o a own bytes (kept.Act a own)
-slot_kept a own bytes None none = refl
-slot_kept a own bytes (Some (Remote reported)) none = refl
-slot_kept a own bytes (Some (Runs c)) none = absurd (none c refl)
+slot_kept : (s : State) (a : List ℕ) (own : Own) (bytes : List ℕ) (o : Option Tenant) → ((c : List ℕ) → o ≡ Some (Runs c) → ⊥) → IsKeptGiving s o a own bytes (kept.Act a own)
+slot_kept s a own bytes None none = refl
+slot_kept s a own bytes (Some (Remote reported)) none = refl
+slot_kept s a own bytes (Some (Runs c)) none = absurd (none c refl)
 
-pass_kept : (s : State) (pid most bounces : ℕ) (a : List ℕ) (own : Own) (due : NeedData) (came : GotData) → GivesToNone s.pipework a due → Brings s.pipework pid most a due came
-    → IsKeptBy s bounces a own due came (kept.Act a own)
-pass_kept s pid most bounces a own (needs.Give (port.Program d) bytes) came none brings =
-    subst (λ (came : GotData). IsKeptBy s bounces a own (needs.Give (port.Program d) bytes) came (kept.Act a own)) (sym brings) (slot_kept a own bytes (s.pipework.programs a d) none)
-pass_kept s pid most bounces a own (needs.Start (child.Bounce room)) came none brings = absurd brings
-pass_kept s pid most bounces a own due came none brings = refl
+pass_kept : (s : State) (pid most : ℕ) (before : Counts) (a : List ℕ) (own : Own) (due : NeedData) (came : GotData) → GivesToNone s.pipework a due → Brings s.pipework pid most a due came
+    → IsKeptBy s before a own due came (kept.Act a own)
+pass_kept s pid most before a own (needs.Give (port.Program d) bytes) came none brings =
+    subst (λ (came : GotData). IsKeptBy s before a own (needs.Give (port.Program d) bytes) came (kept.Act a own)) (sym brings) (slot_kept s a own bytes (s.pipework.programs a d) none)
+pass_kept s pid most before a own (needs.Start (child.Bounce room)) came none brings = absurd brings
+pass_kept s pid most before a own (needs.Start (child.Forward uid room)) came none brings = absurd brings
+pass_kept s pid most before a own (needs.Start (child.Local slot words uid)) came none brings = absurd brings
+pass_kept s pid most before a own (needs.Start (child.Remote slot domain sender recipient)) came none brings =
+    subst (λ (came : GotData). IsKeptBy s before a own (needs.Start (child.Remote slot domain sender recipient)) came (kept.Act a own)) (sym brings) refl
+pass_kept s pid most before a own due came none brings = refl
 
 pub done_step : {D : Type 0} (d e : D) (old new : Option Disk) (pipes piped : List Mouths) (events later : List Kept) (p : ℕ) (a : List ℕ) (x y : Held) (has : ℕ → Bool) (ready : Ready)
     → x.name ≡ a → (m : IsMember (known events) events p x) → x.ended ≡ None → x.owed ≡ None → ready ≡ found_by (known events) x.name m.actor.program
@@ -723,9 +727,9 @@ done_step d e old new pipes piped events later p a x y has ready name m lives pa
     (subst (λ (most : ℕ). Brings s.pipework (next_pid events) most x.name own.due own.came) takes brings))
     (machine_takes x.machine m.actor.program m.actor.past follows))
     done.passed in
-    let kept_so : IsKeptBy s (bounces_in events) x.name own own.due own.came (kept.Act x.name own) = ⊎_elim
-    (λ call. call_kept s (bounces_in events) x.name own own.due own.came call.0)
-    (λ pass. pass_kept s (next_pid events) (takes_of x.machine) (bounces_in events) x.name own own.due own.came none (pass.1.brings by s.pipework wired))
+    let kept_so : IsKeptBy s (counts_in events) x.name own own.due own.came (kept.Act x.name own) = ⊎_elim
+    (λ call. call_kept s (counts_in events) x.name own own.due own.came call.0)
+    (λ pass. pass_kept s (next_pid events) (takes_of x.machine) (counts_in events) x.name own own.due own.came none (pass.1.brings by s.pipework wired))
     done.passed in
     subst (λ (a : List ℕ). IsStep a None (record { disk = d; events = events; present = p }) (record { disk = e; events = later; present = p })) name (
       own,
@@ -743,10 +747,17 @@ done_step d e old new pipes piped events later p a x y has ready name m lives pa
     )
 
 pub ended_step : {D : Type 0} (d e : D) (status : ℕ) (old new : Option Disk) (pipes piped : List Mouths) (events later : List Kept) (p : ℕ) (a : List ℕ) (x y : Held) (ready : Ready)
-    → x.name ≡ a → (m : IsMember (known events) events p x) → ready ≡ found_by (known events) x.name m.actor.program → HasEnded status old new pipes piped x y events later p ready
+    → x.name ≡ a → (m : IsMember (known events) events p x) → x.ended ≡ None → x.owed ≡ None → ready ≡ found_by (known events) x.name m.actor.program
+    → HasEnded status old new pipes piped x y events later p ready
     → IsStep a (Some status) (record { disk = d; events = events; present = p }) (record { disk = e; events = later; present = p })
-ended_step d e status old new pipes piped events later p a x y ready name m finds ended =
+ended_step d e status old new pipes piped events later p a x y ready name m lives paid finds ended =
     let s = known events in
     let here : ready ≡ found_in s x.name = finds ∙ sym (ap (found_at s x.name) m.is) in
-    ended.over.event ∙ ap (λ (ready : Ready). events ++ kept.End x.name p ready status ∷ []) here
-    ∙ ap (λ (a : List ℕ). events ++ kept.End a p (found_in (known events) a) status ∷ []) name
+    subst (λ (a : List ℕ). IsStep a (Some status) (record { disk = d; events = events; present = p }) (record { disk = e; events = later; present = p })) name (
+      record {
+        actor = m.actor;
+        is = m.is;
+        due = ap (next_of m.actor.program m.actor.past p) (sym here) ∙ ended.due m.actor.program m.actor.past (stands_whole s events p x m lives paid);
+      },
+      ended.over.event ∙ ap (λ (ready : Ready). events ++ kept.End x.name p ready status ∷ []) here,
+    )

@@ -81,7 +81,7 @@ pub record IsSeated (wire : Option ℕ) (mouths : List Mouths) : Type 0 where
   pub four : (i : ℕ) → wire ≡ Some i → 4 ≤ length mouths
   pub within : (i : ℕ) → wire ≡ Some i → i < length mouths
 
--- an actor keeps its pipes and its slot
+-- an actor keeps its pipes, its slot and its entry
 pub record StaysAt (x y : Held) : Type 0 where
   pub wire : y.wire ≡ x.wire
   pub slot : y.slot ≡ x.slot
@@ -181,7 +181,7 @@ pub record IsFinished (k : Kept) (status : Option ℕ) (old new : Option Disk) (
   pub descriptors : y.descriptors.items ≡ []
   pub ended : y.ended ≡ Some (length before)
   pub status_is : y.status ≡ status
-  pub entry : y.entry ≡ x.entry
+  pub stays : StaysAt x y
 
 -- a step was the actor's end
 pub record HasEnded (status : ℕ) (old new : Option Disk) (pipes piped : List Mouths) (x y : Held) (before now_kept : List Kept) (now : ℕ) (ready : Ready) : Type 0 where
@@ -210,7 +210,7 @@ pub record HasWaited (pipes piped : List Mouths) (x y : Held) (now : ℕ) (ready
   pub waits : (program : Program) (past : List Own) → Follows x.machine program past → (wires : List ℕ → Option ℕ) (w : Pipework)
       → HasWires wires pipes w x.name x.wire x.slot → BringsNone w x.name (next_of program past now ready)
 
--- an actor's life ended with the machine stop of this index, if it lasted until then, and it has nothing open any more
+-- an actor's life ended with the machine stop of this index, if it lasted until then, and it has nothing open and no pipes any more
 pub record IsCutOff (at : ℕ) (x y : Held) : Type 0 where
   pub name : y.name ≡ x.name
   pub machine : y.machine ≡ x.machine
@@ -218,6 +218,7 @@ pub record IsCutOff (at : ℕ) (x y : Held) : Type 0 where
   pub ended : y.ended ≡ ended_by at x.ended
   pub status : y.status ≡ x.status
   pub entry : y.entry ≡ x.entry
+  pub wire : y.wire ≡ None
 
 -- so each one's at its place
 pub record AreCutOff (at : ℕ) (old new : List Held) : Type 0 where

@@ -3,6 +3,8 @@
 use Rattle.std.specs.Prelude.{◌≡◌, ℕ, List, ◌∷◌, Bool, true, false, not, ◌&&◌, None}
 use Rattle.call_fs.specs.declared.file_system.TheConstants.{PIECE}
 use Rattle.call_fs.specs.declared.program.Ready.{Ready}
+use Rattle.call_fs.specs.declared.past.ChildData.{ChildData}
+use Rattle.call_fs.specs.declared.past.ChildData.TheVariants as child
 use Rattle.call_fs.specs.declared.past.NeedData.{NeedData}
 use Rattle.call_fs.specs.declared.past.GotData.{GotData}
 use Rattle.call_fs.specs.declared.past.Own.{Own}
@@ -11,33 +13,45 @@ use Rattle.queue_inject.specs.Table.{has_input}
 use Rattle.queue_clean.specs.Machine.{Machine as Cleaning, due_now as cleaning_due}
 use Rattle.queue_clean.specs.Stands.{Stands as CleansAfter}
 use Rattle.send_core.specs.Stands.{Machine as Sending, Stands as SendsAfter, due_now as sending_due, row_of, gone_on, is_search, is_between}
+use Rattle.local_deliver.specs.declared.machine.Local.{Local as Deliverer}
+use Rattle.local_deliver.specs.Stands.{Stands as DeliveryAfter, due_now as delivery_due}
 use Rattle.local_spawn.specs.declared.machine.LocalSpawn.{LocalSpawn}
-use Rattle.local_spawn.specs.Stands.{Stands as DeliversAfter, due_now as delivering_due}
+use Rattle.local_spawn.specs.Stands.{Stands as SpawnsLocalsAfter, due_now as local_spawning_due}
 use Rattle.remote_spawn.specs.declared.machine.RemoteSpawn.{RemoteSpawn}
-use Rattle.remote_spawn.specs.Stands.{Stands as RunsAfter, due_now as running_due}
+use Rattle.remote_spawn.specs.Stands.{Stands as SpawnsAfter, due_now as spawning_due}
 use Rattle.call_fs.specs.Disk.{Disk}
 use Rattle.queue_law.specs.Steps.{Outside}
+use Rattle.mail_world.specs.History.{IsDelivery}
 use Rattle.world_events.specs.declared.event.Program.{Program}
 use Rattle.world_events.specs.declared.event.Program.TheVariants.{Injector, Cleaner, Sender, LocalSpawner, RemoteSpawner, Delivery}
 use Rattle.fed_injector.specs.declared.fed.FedInjector.{FedInjector}
 use Rattle.fed_injector.specs.Inputs.{FedStands, awaits}
 use Rattle.world_events.specs.Inputs.{with_texts}
 use Rattle.mail_world.specs.declared.any_machine.AnyMachine.{AnyMachine}
-use Rattle.mail_world.specs.declared.any_machine.AnyMachine.TheVariants.{Mail, Clean, Send, Local, Remote}
+use Rattle.mail_world.specs.declared.any_machine.AnyMachine.TheVariants.{Mail, Clean, Send, Local, Remote, Deliver}
 -- what an injector is started with
 pub use Rattle.world_events.specs.Programs.{injection_of}
 
--- The program of a mail, or of a bounce. It takes, gives and starts nothing.
+-- The program of a mail, of a bounce, or of a forward. It takes, gives and starts nothing.
 abbrev pub IsMail : Program → Type 0
 IsMail (Injector args) = Unit {0}
 IsMail other = ⊥
 
--- A program that starts injectors, each in its first slot, and feeds it next.
-abbrev pub IsFeeder : Program → Type 0
-IsFeeder (Sender start) = Unit {0}
-IsFeeder other = ⊥
+-- What an actor runs that is no member of a generation: an injector, or a local delivery.
+abbrev pub IsAlone : Program → Type 0
+IsAlone (Injector args) = Unit {0}
+IsAlone (Delivery start args) = Unit {0}
+IsAlone other = ⊥
 
--- The injector of a mail or of a bounce, which is fed its input
+-- What runs in a slot of a program, if that is an actor: an injector in the first one of the sender or of a delivery, and a delivery in one
+-- of the local spawner.
+abbrev pub BearsIn : Program → ℕ → Program → Type 0
+BearsIn (Sender start) d child = (d ≡ 0) × IsMail child
+BearsIn (Delivery start args) d child = (d ≡ 0) × IsMail child
+BearsIn (LocalSpawner start) d child = IsDelivery child
+BearsIn other d child = ⊥
+
+-- The injector of a mail, of a bounce or of a forward, which is fed its input
 
 -- an injector with its input is that of this program with this past
 abbrev pub Mails : FedInjector → Program → List Own → Type 0
@@ -62,13 +76,20 @@ Sends sender other past = ⊥
 
 -- a local spawner is that of this program with this past
 abbrev pub SpawnsLocals : LocalSpawn → Program → List Own → Type 0
-SpawnsLocals spawner (LocalSpawner start) past = DeliversAfter spawner tt past
+SpawnsLocals spawner (LocalSpawner start) past = SpawnsLocalsAfter spawner tt past
 SpawnsLocals spawner other past = ⊥
 
 -- a remote spawner is that of this program with this past
 abbrev pub Spawns : RemoteSpawn → Program → List Own → Type 0
-Spawns spawner (RemoteSpawner start) past = RunsAfter spawner tt past
+Spawns spawner (RemoteSpawner start) past = SpawnsAfter spawner tt past
 Spawns spawner other past = ⊥
+
+-- A local delivery
+
+-- a local delivery is that of this program with this past
+abbrev pub Delivers : Deliverer → Program → List Own → Type 0
+Delivers delivery (Delivery start args) past = DeliveryAfter delivery args past
+Delivers delivery other past = ⊥
 
 -- Any machine
 
@@ -79,6 +100,7 @@ present_of (Clean cleaner) = cleaner.present
 present_of (Send sender) = sender.present
 present_of (Local spawner) = spawner.present
 present_of (Remote spawner) = spawner.present
+present_of (Deliver delivery) = delivery.present
 
 -- what it was told last to be ready
 abbrev pub found_of : AnyMachine → Ready
@@ -87,6 +109,7 @@ found_of (Clean cleaner) = cleaner.ready
 found_of (Send sender) = sender.ready
 found_of (Local spawner) = spawner.ready
 found_of (Remote spawner) = spawner.ready
+found_of (Deliver delivery) = delivery.ready
 
 -- it was told them since its last event
 abbrev pub looked_of : AnyMachine → Bool
@@ -95,6 +118,7 @@ looked_of (Clean cleaner) = true
 looked_of (Send sender) = sender.looked
 looked_of (Local spawner) = true
 looked_of (Remote spawner) = true
+looked_of (Deliver delivery) = true
 
 -- it may be told that this is ready
 abbrev pub CanFind : AnyMachine → Ready → Type 0
@@ -103,30 +127,34 @@ CanFind (Clean cleaner) ready = Unit {0}
 CanFind (Send sender) ready = Unit {0}
 CanFind (Local spawner) ready = Unit {0}
 CanFind (Remote spawner) ready = Unit {0}
+CanFind (Deliver delivery) ready = Unit {0}
 
 -- what it does next
 abbrev pub need_of : AnyMachine → NeedData
 need_of (Mail injector) = due_now injector.injector
 need_of (Clean cleaner) = cleaning_due cleaner
 need_of (Send sender) = sending_due sender
-need_of (Local spawner) = delivering_due spawner
-need_of (Remote spawner) = running_due spawner
+need_of (Local spawner) = local_spawning_due spawner
+need_of (Remote spawner) = spawning_due spawner
+need_of (Deliver delivery) = delivery_due delivery
 
--- how many bytes it may be handed of one taking: the sender and the spawners take any number
+-- how many bytes it may be handed of one taking: the sender, the spawners and a delivery take any number
 abbrev pub takes_of : AnyMachine → ℕ
 takes_of (Mail injector) = 0
 takes_of (Clean cleaner) = PIECE
 takes_of (Send sender) = 18446744073709551615
 takes_of (Local spawner) = 18446744073709551615
 takes_of (Remote spawner) = 18446744073709551615
+takes_of (Deliver delivery) = 18446744073709551615
 
--- it takes no memory any more: the sender and the spawners take some for what they keep
+-- it takes no memory any more: the sender, the spawners and a delivery take some for what they keep
 abbrev pub HasRoom : AnyMachine → Type 0
 HasRoom (Mail injector) = Unit {0}
 HasRoom (Clean cleaner) = Unit {0}
 HasRoom (Send sender) = ⊥
 HasRoom (Local spawner) = ⊥
 HasRoom (Remote spawner) = ⊥
+HasRoom (Deliver delivery) = ⊥
 
 -- it stands for this program and this past
 abbrev pub Follows : AnyMachine → Program → List Own → Type 0
@@ -135,6 +163,7 @@ Follows (Clean cleaner) program past = Cleans cleaner program past
 Follows (Send sender) program past = Sends sender program past
 Follows (Local spawner) program past = SpawnsLocals spawner program past
 Follows (Remote spawner) program past = Spawns spawner program past
+Follows (Deliver delivery) program past = Delivers delivery program past
 
 -- what is due and what came of it as the newest event of a past
 abbrev pub with_own : AnyMachine → GotData → List Own → List Own
@@ -160,6 +189,7 @@ awaits_of (Clean cleaner) = false
 awaits_of (Send sender) = false
 awaits_of (Local spawner) = false
 awaits_of (Remote spawner) = false
+awaits_of (Deliver delivery) = false
 
 -- it was given this input, and awaits none any more
 pub record IsGiven (message envelope : List ℕ) (old new : AnyMachine) : Type 0 where

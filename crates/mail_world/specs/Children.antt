@@ -1,7 +1,9 @@
 -- The children of actors, as a world keeps them.
 use Rattle.std.specs.Prelude.{◌≡◌, ℕ, ◌+◌, List, [], ◌∷◌, ◌++◌, length, set, Bool, true, false, Option, Some, None, is_some}
 use Rattle.std.specs.List.{slice_get}
+use Rattle.call_fs.specs.declared.past.ChildData.{ChildData}
 use Rattle.call_fs.specs.declared.past.ChildData.TheVariants as child
+use Rattle.local_steps.specs.Arguments.{local_args}
 use Rattle.call_fs.specs.declared.past.NeedData.{NeedData}
 use Rattle.call_fs.specs.declared.past.NeedData.TheVariants as needs
 use Rattle.call_fs.specs.declared.past.Own.{Own}
@@ -11,7 +13,8 @@ use Rattle.call_fs.specs.Program.{IsKind, IsWithin}
 use Rattle.call_fs.specs.Disk.{Disk}
 use Rattle.world_events.specs.declared.event.Event.{Event as Kept}
 use Rattle.world_events.specs.declared.event.Program.{Program}
-use Rattle.world_events.specs.Inputs.{with_texts}
+use Rattle.world_events.specs.declared.event.Program.TheVariants.{Injector, Delivery}
+use Rattle.world_events.specs.Inputs.{bounce, forward, with_texts}
 use Rattle.mail_world.specs.declared.world.Did.{Did}
 use Rattle.world_pipes.specs.declared.mouths.Mouths.{Mouths}
 use Rattle.world_pipes.specs.Mouths.{actor_of}
@@ -19,7 +22,7 @@ use Rattle.mail_world.specs.declared.actor.Actor.{Actor as Held}
 use Rattle.mail_world.specs.declared.any_machine.AnyMachine.{AnyMachine}
 use Rattle.mail_world.specs.History.{Actor, next_of}
 use Rattle.mail_world.specs.History.Life.{Alive}
-use Rattle.mail_world.specs.ByKind.{Follows, CanFind, awaits_of}
+use Rattle.mail_world.specs.ByKind.{IsMail, Follows, CanFind, awaits_of}
 use Rattle.mail_world.specs.Wired.{tenant_in, kept_at}
 use Rattle.mail_world.specs.Known.{known}
 use Rattle.mail_world.specs.Readiness.{found_in}
@@ -38,9 +41,11 @@ pub record IsDueOfChild {D : Type 0} (w : Seen D) (a : List ℕ) (due : NeedData
   pub due_is : next_of actor.program actor.past w.present (found_in (known w.events) a) ≡ due
   pub of_child : is_due_of_child (λ d. is_some (actor_of ((known w.events).pipework.programs a d))) due ≡ true
 
--- it is the start of a bounce, the whole input of a child, or its status
+-- it is the start of a child, the whole input of one, or its status
 abbrev pub IsStart : NeedData → Type 0
 IsStart (needs.Start (child.Bounce room)) = Unit {0}
+IsStart (needs.Start (child.Forward uid room)) = Unit {0}
+IsStart (needs.Start (child.Local slot words uid)) = Unit {0}
 IsStart other = ⊥
 
 abbrev pub IsGive : NeedData → Type 0
@@ -51,7 +56,7 @@ abbrev pub IsTake : NeedData → Type 0
 IsTake (needs.Take (port.Status d)) = Unit {0}
 IsTake other = ⊥
 
--- the place among all of the child in the first slot of whose pipes are there, if there is one
+-- the place among all of the child in a slot of whose pipes are there, if there is one
 abbrev pub place_by_name : ℕ → (List ℕ → Option ℕ) → Option (List ℕ) → Option ℕ
 place_by_name crew places None = None
 place_by_name crew places (Some c) = place_so (places c) where
@@ -59,8 +64,20 @@ place_by_name crew places (Some c) = place_so (places c) where
   place_so None = None
   place_so (Some i) = Some (crew + i)
 
-abbrev pub child_place : List Mouths → Option ℕ → ℕ → (List ℕ → Option ℕ) → Option ℕ
-child_place mouths wire crew places = place_by_name crew places (actor_of (tenant_in (kept_at wire mouths) 0))
+abbrev pub child_place : List Mouths → Option ℕ → ℕ → ℕ → (List ℕ → Option ℕ) → Option ℕ
+child_place mouths wire d crew places = place_by_name crew places (actor_of (tenant_in (kept_at wire mouths) d))
+
+-- the machine of an actor that starts stands for its program, and an injector awaits its input
+pub record Begins (machine : AnyMachine) (program : Program) : Type 0 where
+  pub follows : Follows machine program []
+  pub awaits : IsMail program → awaits_of machine ≡ true
+
+-- so does that of a child which is started with this process number at this moment
+abbrev pub IsMachineOf : ChildData → ℕ → ℕ → AnyMachine → Type 0
+IsMachineOf (child.Bounce room) pid start machine = Begins machine (Injector (bounce pid start))
+IsMachineOf (child.Forward uid room) pid start machine = Begins machine (Injector (forward uid pid start))
+IsMachineOf (child.Local slot words uid) pid start machine = Begins machine (Delivery start (local_args words uid pid))
+IsMachineOf (child.Remote slot domain sender recipient) pid start machine = ⊥
 
 -- its machine was handed what it owed
 pub record IsPaid (x z : Held) (events : List Kept) : Type 0 where

@@ -115,6 +115,11 @@ pub record Actor : Type 0 where
 abbrev pub newborn : Program → Actor
 newborn program = record { program = program; past = []; life = Alive }
 
+-- what an actor runs
+abbrev pub program_of : Option Actor → Option Program
+program_of None = None
+program_of (Some x) = Some x.program
+
 -- The state after a history: the disk, who holds each open descriptor, the present moment, the actors, the books, and the
 -- pipes and slots between actors.
 pub record State : Type 0 where

@@ -18,17 +18,18 @@ use Rattle.world_events.specs.declared.event.Event.TheVariants as kept
 use Rattle.world_events.specs.declared.event.Program.{Program}
 use Rattle.world_pipes.specs.declared.mouths.Mouths.{Mouths}
 use Rattle.call_fs.specs.Program.{IsKind, IsWithin}
-use Rattle.call_fs.specs.declared.program.Port.TheVariants as port
-use Rattle.mail_world.specs.Pipework.{fresh, is_member}
+use Rattle.call_fs.specs.declared.program.Port.{Port}
+use Rattle.mail_world.specs.Pipework.{Pipework, fresh, is_member}
 use Rattle.mail_world.specs.Pipework.Tenant.{Runs}
-use Rattle.mail_world.specs.ByKind.{IsMail, IsFeeder, Follows, present_of, found_of, looked_of, need_of, takes_of, awaits_of}
-use Rattle.mail_world.specs.History.{Event, Actor, Life, State, latest, next_of, IsSender, IsCleaner, IsLocalSpawner, IsRemoteSpawner}
-use Rattle.mail_world.specs.Wired.{seat, AreWired, IsSlotOf, HaveSlots, HaveChildren, AreOver, AreWholeGivings}
+use Rattle.mail_world.specs.ByKind.{IsMail, IsAlone, BearsIn, Follows, present_of, found_of, looked_of, need_of, takes_of, awaits_of}
+use Rattle.mail_world.specs.History.{Event, Actor, Life, State, latest, next_of, IsSender, IsCleaner, IsLocalSpawner, IsRemoteSpawner, IsDelivery}
+use Rattle.mail_world.specs.Wired.{seat, IsOwnPort, AreWired, IsSlotOf, HaveSlots, HaveChildren, AreOver, AreWholeGivings}
+use Rattle.local_deliver.specs.Deeds.{starts}
 use Rattle.mail_world.specs.History.Life.{Alive, Over, Stopped}
 use Rattle.world_events.specs.Inputs.{own_in, with_inputs}
 use Rattle.mail_world.specs.Readiness.{is_awaiting, is_gone}
-use Rattle.actor_names.specs.ChildNames.{bounce_name}
-use Rattle.mail_world.specs.World.{Leads, Span, span_of, was_started, next_pid, bounces_in}
+use Rattle.actor_names.specs.ChildNames.{bounce_name, delivery_name, forward_of}
+use Rattle.mail_world.specs.World.{Leads, Span, Counts, span_of, was_started, next_pid, counts_in}
 use Rattle.mail_world.specs.World.Span.{Unborn, Lasting, OverAt}
 -- lists of open descriptors
 pub use Rattle.open_files.specs.Opened.{has, AreApart}
@@ -46,13 +47,22 @@ life_by None status = Alive
 life_by (Some at) (Some status) = Over status
 life_by (Some at) None = Stopped
 
--- which program runs at a seat, and at none
+-- which program runs at a seat, and which ones at none
 abbrev pub RunsAt : Option ℕ → Program → Type 0
-RunsAt None program = IsMail program
+RunsAt None program = IsAlone program
 RunsAt (Some zero) program = IsSender program
 RunsAt (Some (suc zero)) program = IsCleaner program
 RunsAt (Some (suc (suc zero))) program = IsLocalSpawner program
 RunsAt (Some other) program = IsRemoteSpawner program
+
+-- which program has its pipes at a place: the members at the first four, and a delivery at any other; and who has none
+abbrev pub RunsBy : Option ℕ → Program → Type 0
+RunsBy None program = IsMail program
+RunsBy (Some zero) program = IsSender program
+RunsBy (Some (suc zero)) program = IsCleaner program
+RunsBy (Some (suc (suc zero))) program = IsLocalSpawner program
+RunsBy (Some (suc (suc (suc zero)))) program = IsRemoteSpawner program
+RunsBy (Some other) program = IsDelivery program
 
 -- what a machine has taken in of a past: not its newest event, if that is owed
 abbrev pub unowed : Option ℕ → List Own → List Own
@@ -90,7 +100,7 @@ pub record IsMember (s : State) (events : List Kept) (present : ℕ) (x : Held) 
   pub in_order : latest actor.program actor.past ≤ present
   pub life : actor.life ≡ life_by x.ended x.status
   pub unended : x.ended ≡ None → x.status ≡ None
-  pub awaits : x.ended ≡ None → awaits_of x.machine ≡ is_awaiting s x.name
+  pub awaits : x.ended ≡ None → IsMail actor.program → awaits_of x.machine ≡ is_awaiting s x.name
   pub spans : span_of x.name (reverse events) ≡ span_by x.ended
   pub closed : (at : ℕ) → x.ended ≡ Some at → x.descriptors.items ≡ []
 
@@ -138,14 +148,22 @@ pub record IsOpenTo (d : Disk) (actors : List Held) (s : State) : Type 0 where
 abbrev pub IsLed : Disk → List Kept → ℕ → Type 0
 IsLed now events present = (opening : Disk) × (h : List Event) × Leads opening now events present h
 
+-- a local delivery has the name of its number, and until it starts the injector of its forwards, no actor has that one's name
+pub record IsNumbered (s : State) (a : List ℕ) (x : Actor) : Type 0 where
+  pub number : ℕ
+  pub named : a ≡ delivery_name number
+  pub unborn : starts x.past ≡ [] → s.actors (forward_of a) ≡ None
+
 -- What the fields of a world keep together: the disk, the places, the actors, the events with what they tell, the moment, the next
--- process number, and how many bounces were injected: no actor has the name of a later one.
-pub record IsWorld (disk : Option Disk) (places : List ℕ → Option ℕ) (actors : List Held) (s : State) (events : List Kept) (present next bounces : ℕ) : Type 0 where
+-- process number, and how many bounces were injected and deliveries started: no actor has the name of a later one.
+pub record IsWorld (disk : Option Disk) (places : List ℕ → Option ℕ) (actors : List Held) (s : State) (events : List Kept) (present next : ℕ) (counts : Counts) : Type 0 where
   pub moment : IsMoment present
   pub now : s.now ≡ present
   pub pid : next ≡ next_pid events
-  pub count : bounces ≡ bounces_in events
-  pub unborn : (n : ℕ) → bounces < n → places (bounce_name n) ≡ None
+  pub count : counts ≡ counts_in events
+  pub unborn : (n : ℕ) → counts.bounces < n → places (bounce_name n) ≡ None
+  pub undelivered : (n : ℕ) → counts.deliveries < n → (places (delivery_name n) ≡ None) × (places (forward_of (delivery_name n)) ≡ None)
+  pub numbered : (a : List ℕ) (x : Actor) → s.actors a ≡ Some x → IsDelivery x.program → IsNumbered s a x
   pub kept : AreActors places actors s events present
   pub opens : OnTold disk (λ d. IsOpenTo d actors s)
   pub led : OnTold disk (λ d. IsLed d events present)
@@ -203,15 +221,22 @@ pub record IsAwaited (s : State) (c : List ℕ) : Type 0 where
   pub alive : actor.life ≡ Alive
   pub borne : HasBorneLast actor.past
 
--- who runs in a slot is known, and was started there by one that starts injectors
-pub record IsBorne (s : State) (a : List ℕ) (d : ℕ) (c : List ℕ) : Type 0 where
-  pub known : IsSome (s.actors c)
-  pub first : d ≡ 0
-  pub feeds : (x : Actor) → s.actors a ≡ Some x → IsFeeder x.program
+-- who runs in a slot is known, has its pipes by its program, and is what runs in a slot of that actor
+pub record IsBorne (wires : List ℕ → Option ℕ) (s : State) (a : List ℕ) (d : ℕ) (c : List ℕ) : Type 0 where
+  pub child : Actor
+  pub is : s.actors c ≡ Some child
+  pub runs : RunsBy (wires c) child.program
+  pub bears : (x : Actor) → s.actors a ≡ Some x → BearsIn x.program d child.program
 
--- What a world keeps of its pipes: those of the members, while one of them lives, and by `wires` at which place an actor has its own. Who
--- is no member has none. No giving failed. An actor in a slot is known, who has just started one gives it its input before it does
--- anything else, and nobody else awaits any.
+-- who was never started has no place and no slot, and nothing lies in its pipes
+pub record IsUnwired (wires : List ℕ → Option ℕ) (w : Pipework) (a : List ℕ) : Type 0 where
+  pub place : wires a ≡ None
+  pub slot : w.slots a ≡ None
+  pub pipes : (port : Port) → IsOwnPort 4 port → w.pipes a port ≡ fresh
+
+-- What a world keeps of its pipes: those of the members, while one of them lives, then those of deliveries, and by `wires` at which place
+-- an actor has its own. No giving failed. Who lives has its pipes by its program, and so has who runs in a slot. Who has just started an
+-- injector gives it its input before it does anything else, and no other injector awaits any.
 pub record ArePiped (crew : ℕ) (mouths : List Mouths) (actors : List Held) (s : State) (events : List Kept) : Type 0 where
   pub wires : List ℕ → Option ℕ
   pub wired : AreWired wires mouths s.pipework
@@ -220,12 +245,13 @@ pub record ArePiped (crew : ℕ) (mouths : List Mouths) (actors : List Held) (s 
   pub over : AreOver (λ c. is_gone (s.actors c)) mouths
   pub places : (i : ℕ) (x : Held) → slice_get actors i ≡ Some x → x.ended ≡ None → wires x.name ≡ x.wire
   pub stands : (i : ℕ) (x : Held) → slice_get actors i ≡ Some x → x.ended ≡ None → IsSlotOf wires (s.pipework.slots x.name) x.slot
-  pub alone : (a : List ℕ) → is_member a ≡ false → wires a ≡ None
-  pub born : (a : List ℕ) (d : ℕ) (c : List ℕ) → s.pipework.programs a d ≡ Some (Runs c) → IsBorne s a d c
+  pub others : (i : ℕ) (x : Held) → slice_get actors i ≡ Some x → is_member x.name ≡ false → wires x.name ≡ x.wire
+  pub runs : (a : List ℕ) (x : Actor) → s.actors a ≡ Some x → x.life ≡ Alive → RunsBy (wires a) x.program
+  pub born : (a : List ℕ) (d : ℕ) (c : List ℕ) → s.pipework.programs a d ≡ Some (Runs c) → IsBorne wires s a d c
   pub whole : AreWholeGivings (reverse events)
-  pub fresh : (a : List ℕ) → s.actors a ≡ None → is_member a ≡ false → s.pipework.pipes a port.Input ≡ fresh
+  pub fresh : (a : List ℕ) → s.actors a ≡ None → is_member a ≡ false → IsUnwired wires s.pipework a
   pub fed : (a : List ℕ) (x : Actor) → s.actors a ≡ Some x → x.life ≡ Alive → HasBorneLast x.past → MayFeed s events a
-  pub awaited : (c : List ℕ) → is_awaiting s c ≡ true → IsAwaited s c
+  pub awaited : (c : List ℕ) (x : Actor) → s.actors c ≡ Some x → IsMail x.program → is_awaiting s c ≡ true → IsAwaited s c
   pub count : (length mouths ≡ 0) ⊎ ((4 ≤ length mouths) × (crew ≡ 4))
   pub few : (crew ≡ 0) ⊎ (crew ≡ 4)
   pub many : crew ≤ length actors

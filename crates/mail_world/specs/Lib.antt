@@ -26,13 +26,13 @@ pub mod Generations
 pub mod Inside
 -- one step of an actor
 pub mod Acting
--- where each mail stands
+-- where each actor stands that is no member
 pub use Rattle.world_events.specs.Places
 -- what became of each injection
 pub mod Books
 -- who started, as it is kept
 pub mod Starts
--- the child of a sender, as it is kept
+-- the children of actors, as they are kept
 pub mod Children
 -- histories that are told anew, with another input of a child
 pub mod Anew

@@ -1,28 +1,11 @@
 -- Who started, as a world keeps it.
-use Rattle.std.specs.Prelude.{◌≡◌, ℕ, suc, ◌+◌, ◌-◌, ◌≤◌, ◌<◌, List, length, drop, true, not, Option, Some, None, nat_lt, if◌then◌else◌, is_some, is_none, bytes_eq, vec_len, vec_capacity}
+use Rattle.std.specs.Prelude.{◌≡◌, ℕ, suc, ◌≤◌, ◌<◌, List, length, drop, true, not, Option, Some, None, if◌then◌else◌, is_some, is_none, bytes_eq}
 use Rattle.std.specs.List.{slice_get, list_any}
 use Rattle.mail_world.specs.Pipework.{is_member}
 use Rattle.mail_world.specs.Inside.{among_all}
 use Rattle.mail_world.specs.declared.actor.Actor.{Actor as Held}
-use Rattle.mail_world.specs.declared.starts.Starts.{Starts}
-
--- the same starts, perhaps with more room
-pub record IsSameOrder (old new : Starts) : Type 0 where
-  pub order : new.order.items ≡ old.order.items
-  pub newest : new.newest ≡ old.newest
-
--- room for so many more
-abbrev pub HasRoomFor : Starts → ℕ → Type 0
-HasRoomFor starts more = vec_len starts.order + more ≤ vec_capacity starts.order
-
--- The place among all actors, of whom so many are members, of who started at a place in the order: a mail's, or that of a member, if
--- it is one of the newest generation.
-abbrev pub place_by_entry : ℕ → ℕ → ℕ → Option ℕ → Option ℕ
-place_by_entry crew newest at None = None
-place_by_entry crew newest at (Some entry) = if nat_lt entry 4 then (if nat_lt at newest then None else Some entry) else Some (crew + (entry - 4))
-
-abbrev pub place_at : Starts → ℕ → ℕ → Option ℕ
-place_at starts crew at = place_by_entry crew starts.newest at (slice_get starts.order.items at)
+use Rattle.world_events.specs.declared.starts.Starts.{Starts}
+use Rattle.world_events.specs.Starts.{place_by_entry, place_at}
 
 -- an actor, if it lives
 abbrev pub if_lives : Option Held → Option Held

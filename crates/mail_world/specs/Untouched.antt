@@ -8,7 +8,9 @@ use Rattle.queue_law.specs.Steps.{Outside}
 use Rattle.world_events.specs.declared.event.Program.{Program}
 use Rattle.mail_world.specs.ByKind.{Leaves}
 use Rattle.mail_world.specs.Waiting.{HasNoGeneration}
-use Rattle.mail_world.specs.History.{Event, Actor, State, happens, after, Legal}
+use Rattle.mail_world.specs.History.{Event, State, happens, after, Legal}
+-- what an actor runs
+pub use Rattle.mail_world.specs.History.{program_of}
 use Rattle.mail_world.specs.History.Event.{Start, Act, Child, Generation, Report, End, Stop, Moment, Halt}
 
 -- the queue of a state
@@ -35,10 +37,6 @@ is_halt (Halt how contents) = true
 abbrev pub LeavesBy : Option Program → Disk → Disk → Type 0
 LeavesBy None d e = Outside d e
 LeavesBy (Some program) d e = Leaves program d e
-
-abbrev pub program_of : Option Actor → Option Program
-program_of None = None
-program_of (Some x) = Some x.program
 
 -- the program whose event it is
 abbrev pub doer : State → Event → Option Program

@@ -1,19 +1,15 @@
 -- A world: what it keeps of its history, and what is promised of that.
-use Rattle.std.specs.Prelude.{◌≡◌, ℕ, ◌+◌, ◌-◌, ◌^◌, min, List, [], ◌∷◌, ◌++◌, length, reverse, ◌⊎◌, Bool, true, false, bytes_eq, if◌then◌else◌, Option, Some, None, IsSomeAnd, count_by}
+use Rattle.std.specs.Prelude.{◌≡◌, ℕ, ◌+◌, ◌-◌, ◌^◌, min, List, [], ◌∷◌, ◌++◌, length, reverse, ◌⊎◌, Bool, true, false, bytes_eq, if◌then◌else◌, Option, Some, None, IsSomeAnd}
 use Rattle.std.specs.List.{AllZip, list_any, sum_by}
-use Rattle.call_fs.specs.declared.calls.CallData.{CallData}
 use Rattle.call_fs.specs.declared.calls.Told.{Told}
-use Rattle.call_fs.specs.declared.program.Ready.{Ready}
 use Rattle.call_fs.specs.declared.past.NeedData.{NeedData}
 use Rattle.call_fs.specs.declared.past.Own.{Own}
 use Rattle.call_fs.specs.declared.past.NeedData.TheVariants.{File, Take, Give, Command}
-use Rattle.call_fs.specs.declared.past.NeedData.TheVariants.{Start as StartOf}
-use Rattle.call_fs.specs.declared.past.ChildData.{ChildData}
-use Rattle.call_fs.specs.declared.past.ChildData.TheVariants as child
+use Rattle.call_fs.specs.declared.past.NeedData.TheVariants.{Start as StartOf, Ended as EndOf}
 use Rattle.call_fs.specs.declared.program.Port.TheVariants as port
 use Rattle.call_fs.specs.declared.file_system.TheConstants.{PIECE}
 use Rattle.call_fs.specs.declared.past.GotData.{GotData}
-use Rattle.call_fs.specs.declared.past.GotData.TheVariants.{Answered, Ended, Gave, Started, Failed}
+use Rattle.call_fs.specs.declared.past.GotData.TheVariants.{Answered, Ended, Gave, Started}
 use Rattle.call_fs.specs.declared.crash_file_system.Survival.{Survival}
 use Rattle.call_fs.specs.Choices.{AreNamed, contents_by}
 use Rattle.call_fs.specs.Plan.{Plan, CallKeepsPlan}
@@ -25,23 +21,20 @@ use Rattle.world_events.specs.declared.event.Program.TheVariants.{Injector, Clea
 use Rattle.world_pipes.specs.Pipes.{offered}
 use Rattle.mail_world.specs.Pipework.{Tenant, is_member}
 use Rattle.mail_world.specs.Pipework.Tenant.{Runs}
-use Rattle.actor_names.specs.ChildNames.{bounce_name}
-use Rattle.world_events.specs.Inputs.{bounce, with_texts}
-use Rattle.mail_world.specs.History.{Event, Actor, State, own_call, netstring, TenantEnds, next_of, after, EachAllowed, Legal}
+use Rattle.world_events.specs.Inputs.{with_texts}
+use Rattle.mail_world.specs.History.{Event, Actor, State, netstring, TenantEnds, next_of, program_of, after, EachAllowed, Legal}
 use Rattle.mail_world.specs.History.Event.{Start, Act, Child, Generation, Report, End, Stop, Moment, Halt}
 use Rattle.mail_world.specs.Known.{known}
 use Rattle.mail_world.specs.Readiness.{found_in}
 -- how many programs an event starts, and what the injector of a mail is started with
 pub use Rattle.world_events.specs.Starting.{starts_in}
 pub use Rattle.world_events.specs.Mails.{mail}
+-- the children that actors start, and how many there are
+pub use Rattle.world_events.specs.Children.{Counts, counted, is_bounce, is_delivery, is_bounce_start, is_delivery_start, counts_in, child_of}
 -- with what the command of a user exits
 pub use Rattle.crew_pipes.specs.Commands.{command_exits}
 -- the kept events with the input of each child in its start, where a history has it
 pub use Rattle.world_events.specs.Inputs.{with_inputs}
-
--- an actor's file call, as it is kept
-abbrev pub kept_call : List ℕ → ℕ → Ready → CallData → Told → Kept
-kept_call a read ready call told = kept.Act a (own_call read ready call told)
 
 -- the four programs of a generation that started at this moment
 pub record AreMembers (start : ℕ) (sender clean lspawn rspawn : Program) : Type 0 where
@@ -212,21 +205,14 @@ abbrev pub most_of : Program → ℕ
 most_of (Cleaner start) = PIECE
 most_of other = 18446744073709551615
 
--- what comes of the start of a program: a remote one starts, and so does the injector of a bounce that a sender asks for; no other
--- one does yet
-abbrev pub StartsWhole : Program → ℕ → ChildData → GotData → Type 0
-StartsWhole program pid (child.Remote slot domain sender recipient) came = came ≡ Started pid
-StartsWhole (Sender start) pid (child.Bounce room) came = came ≡ Started pid
-StartsWhole program pid asked came = came ≡ Failed
-
 -- What comes of what is due to an actor in a world whose next process number is this: of a file call an answer; of a taking all
--- that lies there; a giving goes well, a program starts as `StartsWhole` says, and a command exits as its text says.
+-- that lies there; a giving goes well, a program starts, and a command exits as its text says.
 abbrev pub ComesWhole : State → ℕ → List ℕ → Program → NeedData → GotData → Type 0
 ComesWhole s pid a program (File call) came = (told : Told) × (came ≡ Answered told)
 ComesWhole s pid a program (Take (port.Status d)) came = TenantEnds s (s.pipework.programs a d) came
 ComesWhole s pid a program (Take port) came = offered (most_of program) (s.pipework.pipes a port) ≡ Some came
 ComesWhole s pid a program (Give port bytes) came = came ≡ Gave
-ComesWhole s pid a program (StartOf asked) came = StartsWhole program pid asked came
+ComesWhole s pid a program (StartOf asked) came = came ≡ Started pid
 ComesWhole s pid a program (Command bytes) came = came ≡ Ended (command_exits bytes)
 ComesWhole s pid a program due came = ⊥
 
@@ -240,34 +226,39 @@ pub record IsOwnOf (s : State) (pid present : ℕ) (a : List ℕ) (own : Own) : 
   pub due : next_of actor.program actor.past present (found_in s a) ≡ own.due
   pub came : ComesWhole s pid a actor.program own.due own.came
 
--- how many injectors of bounces were started
-abbrev pub is_child : Kept → Bool
-is_child (kept.Child a own c program) = true
-is_child event = false
+-- As what an event of an actor's past is kept: the start of a child as one, and what was given to an injector as its message and its
+-- envelope.
+abbrev pub IsKeptStart : Option (List ℕ × Program) → List ℕ → Own → Kept → Type 0
+IsKeptStart None a own event = event ≡ kept.Act a own
+IsKeptStart (Some born) a own event = event ≡ kept.Child a own born.0 born.1
 
-abbrev pub bounces_in : List Kept → ℕ
-bounces_in events = count_by is_child events
-
--- As what an event of an actor's past is kept: if so many bounces were injected before, the start of the next one has its name, and
--- what was given to a child is kept as its message and its envelope.
-abbrev pub IsKeptGiving : Option Tenant → List ℕ → Own → List ℕ → Kept → Type 0
-IsKeptGiving (Some (Runs c)) a own bytes event =
+abbrev pub IsKeptTo : Option Program → List ℕ → List ℕ → Own → List ℕ → Kept → Type 0
+IsKeptTo (Some (Injector args)) c a own bytes event =
     (message envelope : List ℕ) × (bytes ≡ netstring message ++ netstring envelope) × (event ≡ kept.Feed a own c message envelope)
-IsKeptGiving other a own bytes event = event ≡ kept.Act a own
+IsKeptTo other c a own bytes event = event ≡ kept.Act a own
 
-abbrev pub IsKeptBy : State → ℕ → List ℕ → Own → NeedData → GotData → Kept → Type 0
-IsKeptBy s bounces a own (StartOf (child.Bounce room)) (Started pid) event =
-    event ≡ kept.Child a own (bounce_name (bounces + 1)) (Injector (bounce pid own.read))
-IsKeptBy s bounces a own (Give (port.Program d) bytes) Gave event = IsKeptGiving (s.pipework.programs a d) a own bytes event
-IsKeptBy s bounces a own due came event = event ≡ kept.Act a own
+abbrev pub IsKeptGiving : State → Option Tenant → List ℕ → Own → List ℕ → Kept → Type 0
+IsKeptGiving s (Some (Runs c)) a own bytes event = IsKeptTo (program_of (s.actors c)) c a own bytes event
+IsKeptGiving s other a own bytes event = event ≡ kept.Act a own
 
--- A step of that actor appends one event: what it did, or the end that was told. It finds ready what the events so far
--- tell.
+abbrev pub IsKeptBy : State → Counts → List ℕ → Own → NeedData → GotData → Kept → Type 0
+IsKeptBy s before a own (StartOf asked) (Started pid) event = IsKeptStart (child_of before a asked pid own.read) a own event
+IsKeptBy s before a own (Give (port.Program d) bytes) Gave event = IsKeptGiving s (s.pipework.programs a d) a own bytes event
+IsKeptBy s before a own due came event = event ≡ kept.Act a own
+
+-- An end of that actor with this status, at this moment: it was due, with all that it finds ready.
+pub record IsEndOf (s : State) (present : ℕ) (a : List ℕ) (status : ℕ) : Type 0 where
+  pub actor : Actor
+  pub is : s.actors a ≡ Some actor
+  pub due : next_of actor.program actor.past present (found_in s a) ≡ EndOf status
+
+-- A step of that actor appends one event: what it did, or its end. Either was due, and it finds ready what the events so far tell.
 abbrev pub IsStep : {D : Type 0} → List ℕ → Option ℕ → Seen D → Seen D → Type 0
 IsStep a None old new =
     (own : Own) × (event : Kept) × IsOwnOf (known old.events) (next_pid old.events) old.present a own
-    × IsKeptBy (known old.events) (bounces_in old.events) a own own.due own.came event × (new.events ≡ old.events ++ event ∷ [])
-IsStep a (Some status) old new = new.events ≡ old.events ++ kept.End a old.present (found_in (known old.events) a) status ∷ []
+    × IsKeptBy (known old.events) (counts_in old.events) a own own.due own.came event × (new.events ≡ old.events ++ event ∷ [])
+IsStep a (Some status) old new =
+    IsEndOf (known old.events) old.present a status × (new.events ≡ old.events ++ kept.End a old.present (found_in (known old.events) a) status ∷ [])
 
 -- a stop of that actor appends one event, and the present moment stays
 abbrev pub IsStop : {D : Type 0} → List ℕ → Seen D → Seen D → Type 0

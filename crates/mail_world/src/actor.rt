@@ -46,7 +46,7 @@ pub struct Actor {
     pub wire: Option<usize>,
     /// The slot in which it was started, if its parent has pipes: where those are, and which slot.
     pub slot: Option<(usize, u8)>,
-    /// The place of its entry in the books, if it is a mail.
+    /// The place of its entry in the books, if it is an injector.
     pub entry: Option<usize>,
 }
 
@@ -418,7 +418,7 @@ impl Actor {
         close_all(disk, &mut self.descriptors);
     }
 
-    /// The machine stopped, with the event of this index: it is over, if it wasn't, and has nothing open any more.
+    /// The machine stopped, with the event of this index: it is over, if it wasn't, and has nothing open and no pipes any more.
     fn cut_off(&mut self, index: u64)
         ensures { IsCutOff index self.old self.new }
     {
@@ -426,6 +426,7 @@ impl Actor {
             self.ended = Some(index);
         }
         self.owed = None;
+        self.wire = None;
         self.descriptors.clear();
     }
 }

@@ -8,6 +8,7 @@ ghost use Rattle.mail_world.specs.ByKind.{Follows, HasRoom, HasGone, looked_of, 
 use crate::Program;
 use call_fs::{Got, Machine, Need, Ready};
 use fed_injector::FedInjector;
+use local_deliver::Local as Deliverer;
 use local_spawn::LocalSpawn;
 use mail_bytes::{ByteText, Memory};
 use queue_clean::Cleaner;
@@ -18,7 +19,7 @@ use std::alloc::Global;
 /// A program of the world as a machine, with what the world keeps beside it: a case for each kind.
 #[derive(Drop)]
 pub enum AnyMachine {
-    /// The injector of a mail or of a bounce, and its input.
+    /// The injector of a mail, of a bounce or of a forward, and its input.
     Mail(FedInjector),
     /// A cleaner.
     Clean(Cleaner),
@@ -28,6 +29,8 @@ pub enum AnyMachine {
     Local(LocalSpawn),
     /// A remote spawner.
     Remote(RemoteSpawn),
+    /// A local delivery.
+    Deliver(Deliverer),
 }
 
 impl AnyMachine {
@@ -50,6 +53,7 @@ impl AnyMachine {
             AnyMachine::Send(sender) => sender.done(alloc, got),
             AnyMachine::Local(spawner) => spawner.done(alloc, got),
             AnyMachine::Remote(spawner) => spawner.done(alloc, got),
+            AnyMachine::Deliver(delivery) => delivery.done(alloc, got),
         }
     }
 
@@ -63,6 +67,7 @@ impl AnyMachine {
             AnyMachine::Send(sender) => sender.is_searching(),
             AnyMachine::Mail(_) | AnyMachine::Clean(_) => false,
             AnyMachine::Local(_) | AnyMachine::Remote(_) => false,
+            AnyMachine::Deliver(_) => false,
         }
     }
 
@@ -74,6 +79,7 @@ impl AnyMachine {
             AnyMachine::Mail(injector) => injector.awaits(),
             AnyMachine::Clean(_) | AnyMachine::Send(_) => false,
             AnyMachine::Local(_) | AnyMachine::Remote(_) => false,
+            AnyMachine::Deliver(_) => false,
         }
     }
 
@@ -85,7 +91,7 @@ impl AnyMachine {
         match self {
             AnyMachine::Mail(injector) => injector.give(message, envelope),
             AnyMachine::Clean(_) | AnyMachine::Send(_) => {}
-            AnyMachine::Local(_) | AnyMachine::Remote(_) => {}
+            AnyMachine::Local(_) | AnyMachine::Remote(_) | AnyMachine::Deliver(_) => {}
         }
     }
 
@@ -97,7 +103,7 @@ impl AnyMachine {
         match self {
             AnyMachine::Mail(injector) => injector.cut(),
             AnyMachine::Clean(_) | AnyMachine::Send(_) => {}
-            AnyMachine::Local(_) | AnyMachine::Remote(_) => {}
+            AnyMachine::Local(_) | AnyMachine::Remote(_) | AnyMachine::Deliver(_) => {}
         }
     }
 
@@ -109,6 +115,7 @@ impl AnyMachine {
             AnyMachine::Send(sender) => sender.is_between(),
             AnyMachine::Mail(_) | AnyMachine::Clean(_) => false,
             AnyMachine::Local(_) | AnyMachine::Remote(_) => false,
+            AnyMachine::Deliver(_) => false,
         }
     }
 }
@@ -151,6 +158,7 @@ impl Machine for AnyMachine {
             AnyMachine::Send(sender) => sender.look(now, ready),
             AnyMachine::Local(spawner) => spawner.look(now, ready),
             AnyMachine::Remote(spawner) => spawner.look(now, ready),
+            AnyMachine::Deliver(delivery) => delivery.look(now, ready),
         }
     }
 
@@ -161,6 +169,7 @@ impl Machine for AnyMachine {
             AnyMachine::Send(sender) => sender.need(),
             AnyMachine::Local(spawner) => spawner.need(),
             AnyMachine::Remote(spawner) => spawner.need(),
+            AnyMachine::Deliver(delivery) => delivery.need(),
         }
     }
 
@@ -171,6 +180,7 @@ impl Machine for AnyMachine {
             AnyMachine::Send(sender) => sender.taking_room(),
             AnyMachine::Local(spawner) => spawner.taking_room(),
             AnyMachine::Remote(spawner) => spawner.taking_room(),
+            AnyMachine::Deliver(delivery) => delivery.taking_room(),
         }
     }
 

@@ -1,43 +1,42 @@
 // The children of actors: their places, their start, their input, and what an actor is handed of one.
-ghost use Rattle.std.specs.Prelude.{◌≡◌, ◌<◌, ◌^◌, [], List, ℕ, Some, None, true, length, IfOk, OnOk, OnErr, vec_len, vec_capacity};
-ghost use Rattle.actor_names.specs.ChildNames.{bounce_name};
+ghost use Rattle.std.specs.Prelude.{◌≡◌, ◌<◌, ◌^◌, List, ℕ, Some, None, length, IfOk, OnOk, OnErr, vec_len, vec_capacity};
 ghost use Rattle.call_fs.specs.declared.past.Own.{Own as Done};
-ghost use Rattle.call_fs.specs.Maps.{put_at};
-ghost use Rattle.fed_injector.specs.Inputs.{FedStands, IsNoInput, awaits};
 ghost use Rattle.mail_bytes.specs.Moments.{IsMoment};
-ghost use Rattle.queue_inject.specs.declared.injection.Arguments.{Arguments};
-ghost use Rattle.queue_inject.specs.Stands.{IsStartedBy};
 ghost use Rattle.world_events.specs.Books.{HasPlace};
+ghost use Rattle.world_events.specs.declared.event.Event.TheVariants as kept;
 ghost use Rattle.mail_world.specs.Books.{entries_of};
-ghost use Rattle.mail_world.specs.Children.{IsStart, GivesTexts, GivesTwo, child_place, IsPaid, IsCut, IsFed, HasLeftIf, MayTakeIn, HasTakenIn};
+ghost use Rattle.world_events.specs.Children.{IsActor};
+ghost use Rattle.mail_world.specs.Children.{IsMachineOf, GivesTexts, GivesTwo, child_place, IsPaid, IsCut, IsFed, HasLeftIf, MayTakeIn, HasTakenIn};
 ghost use Rattle.mail_world.specs.Inside.{Owes};
 ghost use Rattle.mail_world.specs.Kept.{events_of, HasRoom};
 ghost use Rattle.mail_world.specs.Places.{place_of};
-ghost use Rattle.mail_world.specs.Starts.{IsSameOrder, HasRoomFor};
+ghost use Rattle.world_events.specs.Starts.{IsSameOrder, HasRoomFor};
 
 use crate::actor::{Actor, Setting};
-use crate::starts::Starts;
-use crate::{Books, Did, History};
-use actor_names::bounce_name;
+use crate::any_machine::AnyMachine;
+use crate::{ActorName, Books, Did, Event, History};
 use call_fs::{ChildData, GotData, Machine, NeedData, Own};
 use fed_injector::{FedInjector, texts_to_give};
+use local_deliver::Local as Deliverer;
+use local_steps::LocalArgs;
 use mail_bytes::{ByteText, Memory};
 use received_line::Invoked;
 use std::alloc::Global;
-use world_events::Places;
+use world_events::{Born, Places, Starts};
 use world_pipes::Mouths;
 
-/// The place of the child in the first slot of whose pipes are here, if there is one. The condition: it is one of a usize.
+/// The place of the child in a slot of whose pipes are here, if there is one. The condition: it is one of a usize.
 pub fn child_at(
     mouths: &[Mouths],
     wire: Option<usize>,
+    slot: u8,
     places: &Places,
     crew: usize,
 ) -> Option<usize>
-    requires { (i : ℕ) → child_place mouths.now wire crew (place_of places.now) ≡ Some i → i < 2 ^ 64 }
-    ensures { result ≡ child_place mouths.now wire crew (place_of places.now) }
+    requires { (i : ℕ) → child_place mouths.now wire slot crew (place_of places.now) ≡ Some i → i < 2 ^ 64 }
+    ensures { result ≡ child_place mouths.now wire slot crew (place_of places.now) }
 {
-    let name = mouths.get(wire?)?.actor_in(0)?;
+    let name = mouths.get(wire?)?.actor_in(slot)?;
     Some(crew + places.find(name.as_slice())?)
 }
 
@@ -70,15 +69,24 @@ pub fn give_input(actor: &mut Actor, message: ByteText, envelope: ByteText)
     }
 }
 
-/// The room that the injector of a bounce asks for. The condition: its start is due.
-pub fn room_of(due: NeedData) -> u64
-    requires { IsStart due }
-    ensures { due ≡ NeedData.Start (ChildData.Bounce result) }
+/// The machine of a child that is to start with the next process number, at the present moment; an injector awaits its input. The
+/// conditions: it is an actor, and a clock may tell the moment.
+pub fn machine_of(alloc: Global, asked: &ChildData, at: Setting) -> Result<AnyMachine, Memory>
+    requires actor { IsActor asked.now }
+    requires moment { IsMoment at.now }
+    ensures { IfOk result (λ machine. IsMachineOf asked.now at.pid at.now machine) }
 {
-    let NeedData::Start(ChildData::Bounce { room }) = due else {
-        unreachable!()
+    let (uid, invoked) = match asked {
+        ChildData::Bounce { .. } => (0, Invoked::Bounce),
+        ChildData::Forward { uid, .. } => (*uid, Invoked::Uid(*uid)),
+        ChildData::Local { words, uid, .. } => {
+            let args = LocalArgs::of(alloc, words, *uid, at.pid)?;
+            return Ok(AnyMachine::Deliver(Deliverer::new(alloc, args)?));
+        }
+        ChildData::Remote { .. } => unreachable!(),
     };
-    room
+    let injector = FedInjector::new(alloc, uid, at.pid, invoked, at.now)?;
+    Ok(AnyMachine::Mail(injector))
 }
 
 /// Makes room for so many events, and hands an actor the event that it owes. After `Memory` it is as before, and so is what happened.
@@ -101,12 +109,15 @@ pub fn pay_with_room(
     Ok(())
 }
 
-/// Makes room for one actor more, for its entry and for its start.
+/// Makes room for one actor more, for its pipes, for its entry and for its start.
 pub fn room_for_one(
     actors: &mut Vec<Actor>,
+    mouths: &mut Vec<Mouths>,
     books: &mut Books,
     starts: &mut Starts,
 ) -> Result<(), Memory>
+    ensures pipes { mouths.new.items ≡ mouths.old.items }
+    ensures one { OnOk result (vec_len mouths.new < vec_capacity mouths.new) }
     ensures actors { actors.new.items ≡ actors.old.items }
     ensures books { entries_of books.new ≡ entries_of books.old }
     ensures starts { IsSameOrder starts.old starts.new }
@@ -115,28 +126,9 @@ pub fn room_for_one(
     ensures start { OnOk result (HasRoomFor starts.new 1) }
 {
     actors.reserve(1)?;
+    mouths.reserve(1)?;
     books.make_room()?;
     starts.make_room(1)
-}
-
-/// The injector of the bounce of this number, which awaits its input; its name gets this place. After `Memory` no name has another
-/// place. The condition: a clock may tell the moment.
-pub fn injector_at(
-    alloc: Global,
-    places: &mut Places,
-    number: u64,
-    place: usize,
-    at: Setting,
-) -> Result<FedInjector, Memory>
-    requires { IsMoment at.now }
-    ensures stands { IfOk result (λ fed. (args : Arguments) → IsStartedBy args 0 at.pid Invoked.Bounce at.now → IsNoInput args → FedStands fed args []) }
-    ensures awaits { IfOk result (λ fed. awaits fed ≡ true) }
-    ensures ok { OnOk result ((q : List ℕ) → place_of places.new q ≡ put_at (place_of places.old) (bounce_name number) (Some place) q) }
-    ensures err { OnErr result ((q : List ℕ) → place_of places.new q ≡ place_of places.old q) }
-{
-    let injector = FedInjector::new(alloc, 0, at.pid, Invoked::Bounce, at.now)?;
-    places.add(alloc, bounce_name(number).as_slice(), place)?;
-    Ok(injector)
 }
 
 /// The texts with which a child is given its input, each twice; with room for so many events, and the event that its parent owes handed
@@ -178,6 +170,18 @@ pub fn take_in(alloc: Global, actor: &mut Actor, own: &Own, at: Setting, index: 
     actor.machine.need();
     let idle = actor.take_in(alloc, own, index as u64);
     Did::new(index as u64, None, idle)
+}
+
+/// The event that an actor started this child.
+pub fn child_event(actor: &ActorName, own: Own, born: Born) -> Event
+    ensures { result ≡ kept.Child actor.now own born.name born.program }
+{
+    Event::Child {
+        actor: actor.copy(),
+        own,
+        child: born.name,
+        program: born.program,
+    }
 }
 
 /// What was due in this setting, and came.

@@ -25,22 +25,25 @@ ghost use Rattle.mail_world.specs.Books.{entries_of, books_of, books_in, noted};
 use crate::actor::{Actor, Setting, cut_off_all, status_of};
 use crate::any_machine::AnyMachine;
 use crate::children::{
-    child_at, give_input, injector_at, leave, own_at, pay_with_room, ready_to_feed, room_for_one,
-    room_of, take_in,
+    child_at, child_event, give_input, leave, machine_of, own_at, pay_with_room, ready_to_feed,
+    room_for_one, take_in,
 };
 use crate::generation::{first_alive, members, named, spawner_lives};
 use crate::laws::books_are_the_models;
-use crate::starts::Starts;
+use crate::starts::next_living;
 use crate::{ActorName, Books, Event, History, Program, WorldError};
-use actor_names::{bounce_name, is_mail_name};
-use call_fs::{CallFs, ChildData, CrashFs, GotData, NeedData, Port, Survival, Taken};
-use crew_pipes::{first_unreported, is_unreported, pipes, ready_at, seat};
+use actor_names::is_mail_name;
+use call_fs::{CallFs, CrashFs, GotData, NeedData, Port, Survival, Taken};
+use crew_pipes::{
+    SPAWNER, add_pipes, due_slot, first_unreported, is_unreported, pipes_for, pipes_of, ready_at,
+    renew, seat,
+};
 use fed_injector::FedInjector;
 use mail_bytes::{ByteText, Memory};
 use received_line::Invoked;
 use std::alloc::Global;
 use std::marker::Model;
-use world_events::{MAIL_USER, Places, bounce_of, mail_of, started_by};
+use world_events::{MAIL_USER, Places, Starts, child_of, counts_with, mail_of, started_by};
 use world_pipes::{Mouths, put_report};
 
 /// The process number of the first actor.
@@ -71,15 +74,17 @@ impl Did {
 #[derive(Drop)]
 pub struct World<D: CallFs> {
     disk: D,
-    // the members of the generation first, in their order, if one was started; then the injectors of mails and of bounces
+    // the members of the generation first, in their order, if one was started; then the injectors and the local deliveries
     actors: Vec<Actor>,
     // how many members there are: none or four
     crew: usize,
-    // where each injector stands among the injectors
+    // where each other actor stands among the others
     places: Places,
-    // how many of them are of bounces
+    // how many of them are injectors of bounces
     bounces: u64,
-    // what each member takes from, while one of them may live
+    // and how many local deliveries
+    deliveries: u64,
+    // what each member takes from, while one of them may live, and then each delivery
     mouths: Vec<Mouths>,
     books: Books,
     history: History,
@@ -99,12 +104,13 @@ impl<D: CallFs> Model for World<D> {
     ghost use Rattle.mail_world.specs.Kept.{HasRoom};
     ghost use Rattle.mail_world.specs.Places.{place_of};
     ghost use Rattle.mail_world.specs.Books.{AreBooked, entries_of};
+    ghost use Rattle.mail_world.specs.World.{counted};
     ghost use Rattle.mail_world.specs.Generations.{starts_of};
     ghost use Rattle.mail_world.specs.Starts.{AreStarts};
 
     ghost view = { λ w. record { disk = w.disk; events = w.history.events.items; present = w.present } };
 
-    ghost invariant = { λ w. IsWorld (D.disk w.disk) (among_all w.crew (place_of w.places)) w.actors.items (known w.history.events.items) w.history.events.items w.present w.next_pid w.bounces × HasRoom w.history (living w.actors.items) × AreBooked w.crew (entries_of w.books) w.actors.items w.history.events.items × ArePiped w.crew w.mouths.items w.actors.items (known w.history.events.items) w.history.events.items × AreStarts w.starts w.crew (place_of w.places) (starts_of (reverse w.history.events.items)) };
+    ghost invariant = { λ w. IsWorld (D.disk w.disk) (among_all w.crew (place_of w.places)) w.actors.items (known w.history.events.items) w.history.events.items w.present w.next_pid (counted w.bounces w.deliveries) × HasRoom w.history (living w.actors.items) × AreBooked w.crew (entries_of w.books) w.actors.items w.history.events.items × ArePiped w.crew w.mouths.items w.actors.items (known w.history.events.items) w.history.events.items × AreStarts w.starts w.crew (place_of w.places) (starts_of (reverse w.history.events.items)) };
 }
 
 impl<D: CallFs> World<D> {
@@ -122,6 +128,7 @@ impl<D: CallFs> World<D> {
             crew: 0,
             places: Places::new(alloc),
             bounces: 0,
+            deliveries: 0,
             mouths: Vec::new(alloc),
             books: Books::new(alloc),
             history: History::new(alloc),
@@ -223,7 +230,7 @@ impl<D: CallFs> World<D> {
         let actor = Actor::new(alloc, name.copy(), machine, None, None, Some(entry));
         self.actors.push(actor).unwrap();
         self.books.add(name, &arguments);
-        self.starts.add_mail(self.actors.len() - self.crew - 1);
+        self.starts.add_other(self.actors.len() - self.crew - 1);
         self.history.put(Event::Start {
             actor: name.copy(),
             program: Program::Injector(arguments),
@@ -255,7 +262,7 @@ impl<D: CallFs> World<D> {
         ensures err { OnErr result (self.new ≡ self.old) }
     {
         let mut actors = members(alloc)?;
-        let mouths = pipes(alloc)?;
+        let fresh = pipes_for(alloc, &self.mouths)?;
         actors.reserve(self.actors.len())?;
         // for its event, and for the stop of each actor, of these too
         self.history.reserve(self.actors.len() + 5)?;
@@ -264,7 +271,7 @@ impl<D: CallFs> World<D> {
         actors.append(&mut mails).unwrap();
         self.actors = actors;
         self.crew = 4;
-        self.mouths = mouths;
+        renew(&mut self.mouths, fresh);
         self.history.put(Event::Generation {
             start: self.present,
         });
@@ -274,10 +281,10 @@ impl<D: CallFs> World<D> {
     }
 
     /// One step of an actor: what is due by its machine at the present moment, with all that it finds ready. It is a file call, a
-    /// taking of all that lies in a pipe, a giving, the start of a remote program, the taking of its status, or its end, in which its
-    /// descriptors are closed and what it gives to is shut. `Unknown` exactly if no actor of this name was started, `Gone` exactly if
-    /// it has ended or was stopped, `NotWaiting` exactly if nothing of what is due can be done yet; but out of memory comes first. An
-    /// event that the actor owes is handed to its machine before, and stays handed in.
+    /// taking of all that lies in a pipe, a giving, the start of a program, the taking of its status, a command of a user, which exits
+    /// as its text says, or its end, in which its descriptors are closed and what it gives to is shut. `Unknown` exactly if no actor
+    /// of this name was started, `Gone` exactly if it has ended or was stopped, `NotWaiting` exactly if nothing of what is due can be
+    /// done yet; but out of memory comes first. An event that the actor owes is handed to its machine before, and stays handed in.
     pub fn step(&mut self, alloc: Global, actor: &ActorName) -> Result<Did, WorldError>
         ensures event { IfOk result (λ did. IsStep actor.now did.ended self.old self.new) }
         ensures present { self.new.present ≡ self.old.present }
@@ -305,7 +312,7 @@ impl<D: CallFs> World<D> {
         self.history.reserve(self.actors.len() + 1)?;
         let acting = &mut self.actors[place];
         let entry = acting.entry;
-        let child = child_at(&self.mouths, acting.wire, &self.places, self.crew);
+        let child = child_at(&self.mouths, acting.wire, 0, &self.places, self.crew);
         acting.pay(alloc, &self.history)?;
         let at = Setting {
             now: self.present,
@@ -343,6 +350,7 @@ impl<D: CallFs> World<D> {
     {
         match due {
             NeedData::Start(_) => Ok(self.start_child(alloc, actor, due)?),
+            NeedData::Give(..) if actor.is(b"lspawn") => Ok(self.fill_child(alloc, actor, due)?),
             NeedData::Give(..) => Ok(self.feed_child(alloc, actor, due)?),
             _ => match self.take_status(alloc, actor, due)? {
                 Some(did) => Ok(did),
@@ -367,7 +375,7 @@ impl<D: CallFs> World<D> {
         }
     }
 
-    /// This actor starts the injector of a bounce, which awaits its input then. The condition: this is due.
+    /// This actor starts a child: an injector, which awaits its input then, or a local delivery. The condition: this is due.
     fn start_child(
         &mut self,
         alloc: Global,
@@ -379,47 +387,82 @@ impl<D: CallFs> World<D> {
         ensures served { IfOk result (λ did. Serves D.disk actor.now self.old self.new did) }
         ensures err { OnErr result (self.new ≡ self.old) }
     {
-        let room = room_of(due);
         let at = self.setting(actor);
         let parent_at = place_among(&self.places, self.crew, actor).unwrap();
-        let bounces = self.bounces + 1;
         let place = self.actors.len() - self.crew;
-        room_for_one(&mut self.actors, &mut self.books, &mut self.starts)?;
+        let NeedData::Start(asked) = &due else {
+            unreachable!()
+        };
+        let counts = counts_with(self.bounces, self.deliveries, asked);
+        let born = child_of(alloc, actor, asked, counts, at.pid, at.now)?;
+        let machine = machine_of(alloc, asked, at)?;
+        let own_pipes = pipes_of(alloc, asked)?;
+        let number = due_slot(&due);
+        room_for_one(
+            &mut self.actors,
+            &mut self.mouths,
+            &mut self.books,
+            &mut self.starts,
+        )?;
         // for this event, and for the stop of each actor, of this one too
         let events = self.actors.len() + 2;
         let parent = &mut self.actors[parent_at];
         let wire = parent.wire.unwrap();
         pay_with_room(alloc, &mut self.history, parent, events)?;
-        let injector = injector_at(alloc, &mut self.places, bounces, place, at)?;
-        let started = GotData::Started { pid: at.pid };
-        let own = own_at(at, NeedData::Start(ChildData::Bounce { room }), started);
+        self.places.add(alloc, born.name.as_slice(), place)?;
+        let own = own_at(at, due, GotData::Started { pid: at.pid });
         let did = take_in(alloc, parent, &own, at, self.history.len());
-        let name = bounce_name(bounces);
-        let entry = next_entry(&self.books);
-        let machine = AnyMachine::Mail(injector);
-        let slot = Some((wire, 0));
-        let child = Actor::new(alloc, name.copy(), machine, None, slot, Some(entry));
+        self.mouths[wire].start_actor(number, born.name.copy());
+        let pipes = add_pipes(&mut self.mouths, own_pipes);
+        let entry = self.books.enter(&born.name, &born.program);
+        let slot = Some((wire, number));
+        let child = Actor::new(alloc, born.name.copy(), machine, pipes, slot, entry);
         self.actors.push(child).unwrap();
-        let arguments = bounce_of(alloc, at.pid, at.now);
-        self.books.add(&name, &arguments);
-        self.starts.add_mail(place);
-        self.mouths[wire].start_actor(0, name.copy());
-        self.history.put(Event::Child {
-            actor: actor.copy(),
-            own,
-            child: name,
-            program: Program::Injector(arguments),
-        });
+        self.starts.add_other(place);
+        self.history.put(child_event(actor, own, born));
         self.next_pid = self.next_pid.saturating_add(1);
-        self.bounces = bounces;
+        (self.bounces, self.deliveries) = counts;
         Ok(did)
     }
 
-    /// This actor gives its child its whole input; if that was stopped, it goes nowhere. The conditions: this is due, and there is a
-    /// child.
+    /// The local spawner gives a delivery its whole input, which lies in its pipe then; if that is over, nobody takes it. The conditions: it
+    /// is the local spawner, this is due, and there is a child.
+    fn fill_child(&mut self, alloc: Global, actor: &ActorName, due: NeedData) -> Result<Did, Memory>
+        requires due { IsDueOfChild self.old actor.now due }
+        requires give { IsGive due }
+        requires spawner { actor.now ≡ codes "lspawn" }
+        ensures served { IfOk result (λ did. Serves D.disk actor.now self.old self.new did) }
+        ensures err { OnErr result (self.new ≡ self.old) }
+    {
+        let at = self.setting(actor);
+        let parent_at = place_among(&self.places, self.crew, actor).unwrap();
+        // for this event, and for the stop of each actor
+        let room = self.actors.len() + 1;
+        let wire = self.actors[parent_at].wire;
+        let child = child_at(&self.mouths, wire, due_slot(&due), &self.places, self.crew).unwrap();
+        let to = self.actors[child].wire.unwrap();
+        let NeedData::Give(_, bytes) = &due else {
+            unreachable!()
+        };
+        self.mouths[to].make_room(Port::Input, bytes.as_slice().len())?;
+        let parent = &mut self.actors[parent_at];
+        pay_with_room(alloc, &mut self.history, parent, room)?;
+        self.mouths[to].give_all(bytes.as_slice());
+        let own = own_at(at, due, GotData::Gave);
+        let did = take_in(alloc, parent, &own, at, self.history.len());
+        self.history.put(Event::Act {
+            actor: actor.copy(),
+            own,
+        });
+        Ok(did)
+    }
+
+    /// This actor gives its injector its whole input; if that was stopped, it goes nowhere. The conditions: it isn't the local spawner,
+    /// this is due, and there is a child.
     fn feed_child(&mut self, alloc: Global, actor: &ActorName, due: NeedData) -> Result<Did, Memory>
         requires due { IsDueOfChild self.old actor.now due }
         requires give { IsGive due }
+        requires other { actor.now ≢ codes "lspawn" }
         ensures served { IfOk result (λ did. Serves D.disk actor.now self.old self.new did) }
         ensures err { OnErr result (self.new ≡ self.old) }
     {
@@ -428,7 +471,8 @@ impl<D: CallFs> World<D> {
         // for this event, and for the stop of each actor
         let room = self.actors.len() + 1;
         let parent = &mut self.actors[parent_at];
-        let child = child_at(&self.mouths, parent.wire, &self.places, self.crew).unwrap();
+        let wire = parent.wire;
+        let child = child_at(&self.mouths, wire, due_slot(&due), &self.places, self.crew).unwrap();
         let (message, envelope, kept_message, kept_envelope) = ready_to_feed(
             alloc,
             &mut self.history,
@@ -466,20 +510,20 @@ impl<D: CallFs> World<D> {
         ensures waits { IfOk result (λ did. IsNone did → Waits (known self.old.events) self.old.present actor.now × (self.new ≡ self.old)) }
         ensures err { OnErr result (self.new ≡ self.old) }
     {
-        drop(due);
+        let slot = due_slot(&due);
         let at = self.setting(actor);
         let parent_at = place_among(&self.places, self.crew, actor).unwrap();
         let wire = self.actors[parent_at].wire.unwrap();
-        let child = child_at(&self.mouths, Some(wire), &self.places, self.crew).unwrap();
+        let child = child_at(&self.mouths, Some(wire), slot, &self.places, self.crew).unwrap();
         let Some(came) = status_of(&self.actors[child]) else {
             return Ok(None);
         };
         let room = self.actors.len() + 1;
         let parent = &mut self.actors[parent_at];
         pay_with_room(alloc, &mut self.history, parent, room)?;
-        let own = own_at(at, NeedData::Take(Port::Status(0)), came);
+        let own = own_at(at, due, came);
         let did = take_in(alloc, parent, &own, at, self.history.len());
-        self.mouths[wire].free(0);
+        self.mouths[wire].free(slot);
         self.history.put(Event::Act {
             actor: actor.copy(),
             own,
@@ -526,7 +570,7 @@ impl<D: CallFs> World<D> {
         let kept = ByteText::from_slice(alloc, text)?;
         // for this event, and for the stop of each actor
         self.history.reserve(self.actors.len() + 1)?;
-        put_report(alloc, &mut self.mouths[3], slot, letter, text)?;
+        put_report(alloc, &mut self.mouths[SPAWNER], slot, letter, text)?;
         self.history.put(Event::Report {
             slot,
             letter,
@@ -539,7 +583,7 @@ impl<D: CallFs> World<D> {
     pub fn next_living(&self, from: u64) -> Option<(&ActorName, u64)>
         ensures { option_map (λ next. (next.0.now, next.1)) result ≡ next_living from self.now.events }
     {
-        let (actor, at) = self.starts.next_living(&self.actors, self.crew, from)?;
+        let (actor, at) = next_living(&self.starts, &self.actors, self.crew, from)?;
         Some((&actor.name, at))
     }
 
@@ -570,7 +614,7 @@ impl<D: CallFs> World<D> {
         let place = living(&self.places, self.crew, &self.actors, actor)?;
         let stopped = &mut self.actors[place];
         let entry = stopped.entry;
-        let child = child_at(&self.mouths, stopped.wire, &self.places, self.crew);
+        let child = child_at(&self.mouths, stopped.wire, 0, &self.places, self.crew);
         stopped.stop(&mut self.disk, &mut self.history, &mut self.mouths);
         note(&mut self.books, entry, self.history.newest());
         leave(&mut self.actors, true, child);

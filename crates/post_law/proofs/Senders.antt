@@ -1,8 +1,8 @@
 -- An event of the sender that is due.
 use Rattle.std.proofs.Common.{◌≡◌, ◌≢◌, ◌⊎◌, inl, inr, ℕ, ◌+◌, ◌≤◌, List, [], ◌∷◌, ◌++◌, length, take, drop, set, replicate, min, Bool, true, false, if◌then◌else◌, Option, Some, None, refl, sym, ap, ◌∙◌, subst, ⊎_elim}
 use Rattle.std.specs.Prelude.{is_some, nat_lt}
-use Rattle.std.proofs.lemmas.Bool.{cases_lt}
-use Rattle.std.proofs.lemmas.List.{get_or-replicate, get_or_past, length-replicate}
+use Rattle.std.proofs.lemmas.Bool.{cases_eq, cases_lt}
+use Rattle.std.proofs.lemmas.List.{get_or-replicate, get_or-set_other, get_or_past, length-replicate}
 use Rattle.address_rules.specs.declared.control_file.ControlFile.{ControlFile}
 use Rattle.address_rules.specs.Files.{Fault, first_fault, place}
 use Rattle.call_fs.specs.declared.past.GotData.{GotData}
@@ -12,6 +12,7 @@ use Rattle.call_fs.specs.declared.past.NeedData.TheVariants as needs
 use Rattle.call_fs.specs.declared.program.Port.TheVariants as port
 use Rattle.call_fs.specs.declared.program.Ready.{Ready}
 use Rattle.call_fs.specs.Maps.{put}
+use Rattle.call_fs.proofs.Maps.{put_other}
 use Rattle.call_fs.specs.Program.{MayCome}
 use Rattle.send_core.specs.declared.desk.Desk.{Desk}
 use Rattle.send_core.specs.declared.row.Point.TheVariants as point
@@ -43,6 +44,7 @@ use Rattle.send_steps.specs.Readings.{read_on}
 use Rattle.send_steps.specs.Replies.{Said, said}
 use Rattle.send_steps.specs.Requests.{first_text}
 use Rattle.send_steps.specs.Start.{act_start, by_way, control_read, file_after, info_read, info_row, judged_by, next_file, remote_limit, remote_stated, scan_row, scanned, start_failed}
+use Rattle.spawn_protocol.specs.declared.report.Report.{Report}
 use Rattle.spawn_protocol.specs.declared.request.Request.{Request}
 use Rattle.spawn_protocol.specs.Report.{Reader, read_on as reads}
 use Rattle.spawn_protocol.specs.Report.Reader.{AtBegin}
@@ -50,11 +52,11 @@ use Rattle.spawn_protocol.specs.Request.{request_text}
 use Rattle.spawner_parts.specs.declared.place.Place.{Place}
 use Rattle.spawner_parts.specs.Counts.{asked}
 use Rattle.post_law.specs.Laws.{request_for}
-use Rattle.post_law.specs.Posts.{Fares, Post, Posted, busy as at_work, channel_of, freed_all, goes_at, most, reports_by, told_of, work_of}
-use Rattle.post_law.specs.Senders.{AsksFor, IsFirst, IsLate, IsQuiet, IsSome, SendersKeep, asked_on, heard_at, heard_in, is_early, is_on, told_on, with_desk}
+use Rattle.post_law.specs.Posts.{Fares, Post, Posted, busy as at_work, channel_of, freed, freed_all, goes_at, most, reports_by, told_of, work_of}
+use Rattle.post_law.specs.Senders.{AsksFor, AsksInLowest, FliesInLowest, IsFirst, IsLate, IsQuiet, IsSome, SendersKeep, asked_on, heard_at, heard_in, is_early, is_on, told_on, with_desk}
 use Rattle.post_law.proofs.Asks.{asks_keep, greets_keep, lost as lost_posted, slots_keep, untold, waits_left}
 use Rattle.post_law.proofs.Aways.{IsAway, away_asked, away_told, control_away, row_away, start_away}
-use Rattle.post_law.proofs.Desks.{desks_tell}
+use Rattle.post_law.proofs.Desks.{desks_tell, was_in}
 use Rattle.post_law.proofs.Frames.{most_few}
 use Rattle.post_law.proofs.Hears.{hears_keep}
 use Rattle.post_law.proofs.Leaves.{Goes, Halves, IsStill, Same, act_goes, readied}
@@ -117,29 +119,75 @@ lives_by false x P on = lost_posted x P
 
 -- What an event leads to
 
-pub record Then (c : Channel) (e : Desk) (due : NeedData) (got : GotData) (wrote : ℕ) (x : Post) : Type 0 where
+pub record Then (c : Channel) (d e : Desk) (due : NeedData) (got : GotData) (wrote : ℕ) (x : Post) : Type 0 where
   pub last : ℕ → Option Request
   pub keeps : Posted (with_desk c e (record x { asked = asked_on c due got wrote x.asked; told = told_on c due got x.told; last = last }))
   pub first : IsFirst e.row e
+  pub asks : AsksInLowest (lane c d.slots).slots x.last last
+  pub flies : is_on e.row ≡ true → FliesInLowest (lane c d.slots).slots (lane c e.slots).slots
+
+-- What is in flight was so before: the slots are the same; reports were taken; or nothing is
+
+same_fly : (before slots : List (Option Attempt)) → slots ≡ before → FliesInLowest before slots
+same_fly before slots same slot a is = inl (ap (λ (s : List (Option Attempt)). attempt_in s slot) (sym same) ∙ is)
+
+was_among : (rs : List Report) (slots : List (Option Attempt)) (k : ℕ) (a : Attempt) → attempt_in (freed_all rs slots) k ≡ Some a → attempt_in slots k ≡ Some a
+was_among [] slots k a is = is
+was_among (r ∷ rs) slots k a is = was_in slots r k a (was_among rs (freed r slots) k a is)
+
+freed_fly : (rs : List Report) (before slots : List (Option Attempt)) → freed_all rs before ≡ slots → FliesInLowest before slots
+freed_fly rs before slots same slot a is = inl (was_among rs before slot a (ap (λ (s : List (Option Attempt)). attempt_in s slot) same ∙ is))
+
+no_attempt : (n slot : ℕ) → attempt_in (replicate n None) slot ≡ None
+no_attempt n slot = ⊎_elim
+    (λ lt. get_or-replicate n slot None None lt)
+    (λ past. get_or_past (replicate n None) slot None (subst (λ k. k ≤ slot) (sym (length-replicate n None)) past))
+    (cases_lt slot n)
+
+none_fly : (before : List (Option Attempt)) (n : ℕ) → FliesInLowest before (replicate n None)
+none_fly before n slot a is = let both : ◌≡◌ {A = Option Attempt} None (Some a) = sym (no_attempt n slot) ∙ is in absurd (cc)
+
+-- or a request was given, for the lowest free slot
+given_flies : (before : List (Option Attempt)) (low : ℕ) (b : Attempt) → lowest before ≡ Some low → FliesInLowest before (set before low (Some b))
+given_flies before low b free slot a is = ⊎_elim
+    (λ (e : slot ≡ low). inr (free ∙ ap Some (sym e)))
+    (λ (apart : slot ≢ low). inl (sym (get_or-set_other before low slot (Some b) None apart) ∙ is))
+    (cases_eq slot low)
+
+given_asks : (slots : List (Option Attempt)) (low : ℕ) (last : ℕ → Option Request) (r : Request) → lowest slots ≡ Some low → AsksInLowest slots last (put last low (Some r))
+given_asks slots low last r free slot = ⊎_elim
+    (λ (e : slot ≡ low). inr (free ∙ ap Some (sym e)))
+    (λ (apart : slot ≢ low). inl (put_other last low (Some r) slot apart))
+    (cases_eq slot low)
 
 -- neither pipe is touched
-as_it_was : (c : Channel) (e : Desk) (due : NeedData) (got : GotData) (wrote : ℕ) (x : Post) → asked_on c due got wrote x.asked ≡ x.asked → told_on c due got x.told ≡ x.told
-    → Posted (with_desk c e x) → IsFirst e.row e → Then c e due got wrote x
-as_it_was c e due got wrote x asks tells P first =
+as_it_was : (c : Channel) (d e : Desk) (due : NeedData) (got : GotData) (wrote : ℕ) (x : Post) → asked_on c due got wrote x.asked ≡ x.asked → told_on c due got x.told ≡ x.told
+    → Posted (with_desk c e x) → IsFirst e.row e → FliesInLowest (lane c d.slots).slots (lane c e.slots).slots → Then c d e due got wrote x
+as_it_was c d e due got wrote x asks tells P first flies =
     let same : with_desk c e x ≡ with_desk c e (record x { asked = asked_on c due got wrote x.asked; told = told_on c due got x.told; last = x.last }) =
     λ i. record (with_desk c e x) { asked = sym asks i; told = sym tells i } in
-    record { last = x.last; keeps = subst Posted same P; first = first }
+    record { last = x.last; keeps = subst Posted same P; first = first; asks = λ slot. inl refl; flies = λ on. flies }
+
+-- it is lost by it
+lost_flies : (c : Channel) (d e : Desk) → is_on e.row ≡ false → is_on e.row ≡ true → FliesInLowest (lane c d.slots).slots (lane c e.slots).slots
+lost_flies c d e off on = let both : true ≡ false = sym on ∙ off in absurd (cc)
 
 -- the sender is lost
 gone_then : (c : Channel) (d e : Desk) (due : NeedData) (got : GotData) (wrote : ℕ) (x : Post) → Posted (with_desk c d x) → is_on e.row ≡ false → IsLate e.row
-    → asked_on c due got wrote x.asked ≡ x.asked → Then c e due got wrote x
+    → asked_on c due got wrote x.asked ≡ x.asked → Then c d e due got wrote x
 gone_then c d e due got wrote x P off late asks =
     let holds = heard_at e.row c (link c e).reader in
     let told = told_on c due got x.told in
     let slots = (lane c e.slots).slots in
     let same : record (with_desk c d x) { lives = false; heard = holds; told = told; slots = slots } ≡ with_desk c e (record x { asked = asked_on c due got wrote x.asked; told = told; last = x.last }) =
     λ i. record x { lives = sym off i; heard = holds; told = told; slots = slots; asked = sym asks i } in
-    record { last = x.last; keeps = subst Posted same (gone_posted (with_desk c d x) holds told slots P); first = late_first e.row e late }
+    record {
+      last = x.last;
+      keeps = subst Posted same (gone_posted (with_desk c d x) holds told slots P);
+      first = late_first e.row e late;
+      asks = λ slot. inl refl;
+      flies = lost_flies c d e off;
+    }
 
 -- nothing has come, and nothing is in flight that wasn't
 unmoved : (c : Channel) (d e : Desk) (x : Post) → Posted (with_desk c d x) → is_on d.row ≡ true → IsLate d.row → IsLate e.row → (lane c e.slots).slots ≡ (lane c d.slots).slots
@@ -263,13 +311,15 @@ module _ (c : Channel) (d : Desk) (x : Post) (P : Posted (with_desk c d x)) (on 
   holds = late_heard d.row c (link c d).reader late
 
   abbrev Leads : Row → GotData → Type 0
-  Leads row got = Then c (moved_by row read got d) (due_at row d) got wrote x
+  Leads row got = Then c d (moved_by row read got d) (due_at row d) got wrote x
 
-  goes_leads : (e : Desk) (due : NeedData) (got : GotData) → Goes d e → IsAway due → Then c (ready e) due got wrote x
+  goes_leads : (e : Desk) (due : NeedData) (got : GotData) → Goes d e → IsAway due → Then c d (ready e) due got wrote x
   goes_leads e due got g away =
       let r = readied d e g in
-      as_it_was c (ready e) due got wrote x (away_asked c due got wrote x.asked away) (away_told c due got x.told away)
-      (unmoved c d (ready e) x P on late r.late (slots_on c d (ready e) r.same) (reader_on c d (ready e) r.same)) (late_first (ready e).row (ready e) r.late)
+      let slots = slots_on c d (ready e) r.same in
+      as_it_was c d (ready e) due got wrote x (away_asked c due got wrote x.asked away) (away_told c due got x.told away)
+      (unmoved c d (ready e) x P on late r.late slots (reader_on c d (ready e) r.same)) (late_first (ready e).row (ready e) r.late)
+      (same_fly (lane c d.slots).slots (lane c (ready e).slots).slots slots)
 
   still : (row : Row) (got : GotData) → IsStill row → Leads row got
   still row got is = goes_leads (act row read got d) (due_at row d) got (act_goes row read got d is) (row_away row d is)
@@ -288,17 +338,24 @@ module _ (c : Channel) (d : Desk) (x : Post) (P : Posted (with_desk c d x)) (on 
       let same : record x { lives = is_on d.row; slots = freed_all (reads (link c d).reader bytes).0 (lane c d.slots).slots; heard = Some (reads (link c d).reader bytes).1; told = rest }
       ≡ with_desk c e (record x { asked = x.asked; told = told_on c (needs.Take (port_of c)) (came.Took bytes) x.told; last = x.last }) =
       λ i. record x { lives = on i; slots = slots i; heard = Some (reader i); told = told i } in
-      record { last = x.last; keeps = subst Posted same H; first = tt }
+      record {
+        last = x.last;
+        keeps = subst Posted same H;
+        first = tt;
+        asks = λ slot. inl refl;
+        flies = λ goes. freed_fly (reads (link c d).reader bytes).0 (lane c d.slots).slots (lane c e.slots).slots slots;
+      }
 
   took_other : (k : Channel) (bytes : List ℕ) → k ≢ c → Leads (at.TakeLink k) (came.Took bytes)
   took_other k bytes apart =
       let h : Desk = heard k bytes d in
       let e : Desk = ready (busy (stands_at h (after_take k))) in
       let w = desks_tell.others k c bytes d (λ same. apart (sym same)) in
-      as_it_was c e (needs.Take (port_of k)) (came.Took bytes) wrote x refl (other_taken c k (came.Took bytes) x.told apart)
-      (unmoved c d e x P on late tt (slots_on c h e refl ∙ w.0) (reader_on c h e refl ∙ w.1)) tt
+      let slots : (lane c e.slots).slots ≡ (lane c d.slots).slots = slots_on c h e refl ∙ w.0 in
+      as_it_was c d e (needs.Take (port_of k)) (came.Took bytes) wrote x refl (other_taken c k (came.Took bytes) x.told apart)
+      (unmoved c d e x P on late tt slots (reader_on c h e refl ∙ w.1)) tt (same_fly (lane c d.slots).slots (lane c e.slots).slots slots)
 
-  took_none : (k : Channel) (got : GotData) → Then c (ready (busy (goes d (lost k)))) (needs.Take (port_of k)) got wrote x
+  took_none : (k : Channel) (got : GotData) → Then c d (ready (busy (goes d (lost k)))) (needs.Take (port_of k)) got wrote x
   took_none k got = gone_then c d (ready (busy (goes d (lost k)))) (needs.Take (port_of k)) got wrote x P (lost_off k) (lost_late k) refl
 
   takes : (k : Channel) (got : GotData) → MayCome (needs.Take (port_of k)) got → (k ≡ c → IsSome got x.told) → Leads (at.TakeLink k) got
@@ -340,7 +397,13 @@ module _ (c : Channel) (d : Desk) (x : Post) (P : Posted (with_desk c d x)) (on 
         let same : record x { lives = is_on d.row; slots = set (lane c d.slots).slots A.slot (Some a); heard = heard_at d.row c (link c d).reader; asked = x.asked ++ request_text r; last = put x.last A.slot (Some r) }
         ≡ with_desk c e (record x { asked = asked_on c (needs.Give (port_of c) text) came.Gave wrote x.asked; told = x.told; last = put x.last A.slot (Some r) }) =
         λ i. record x { lives = lives i; slots = slots i; heard = held i; asked = asks i; last = put x.last A.slot (Some r) } in
-        record { last = put x.last A.slot (Some r); keeps = subst Posted same W; first = late_first e.row e so }
+        record {
+          last = put x.last A.slot (Some r);
+          keeps = subst Posted same W;
+          first = late_first e.row e so;
+          asks = given_asks (lane c d.slots).slots A.slot x.last r A.free;
+          flies = λ goes. subst (FliesInLowest (lane c d.slots).slots) slots (given_flies (lane c d.slots).slots A.slot a A.free);
+        }
 
     gave_part : Leads (at.Request c) came.Failed
     gave_part =
@@ -353,7 +416,13 @@ module _ (c : Channel) (d : Desk) (x : Post) (P : Posted (with_desk c d x)) (on 
         let same : record x { lives = false; slots = (lane c e.slots).slots; heard = heard_at e.row c (link c e).reader; asked = x.asked ++ take wrote (request_text r); last = put x.last A.slot (Some r) }
         ≡ with_desk c e (record x { asked = asked_on c (needs.Give (port_of c) text) came.Failed wrote x.asked; told = x.told; last = put x.last A.slot (Some r) }) =
         λ i. record x { lives = sym (lost_off c) i; slots = (lane c e.slots).slots; heard = heard_at e.row c (link c e).reader; asked = asks i; last = put x.last A.slot (Some r) } in
-        record { last = put x.last A.slot (Some r); keeps = subst Posted same G; first = late_first e.row e (lost_late c) }
+        record {
+          last = put x.last A.slot (Some r);
+          keeps = subst Posted same G;
+          first = late_first e.row e (lost_late c);
+          asks = given_asks (lane c d.slots).slots A.slot x.last r A.free;
+          flies = lost_flies c d e (lost_off c);
+        }
 
   gave_other : (k : Channel) → k ≢ c → Leads (at.Request k) came.Gave
   gave_other k apart =
@@ -363,9 +432,10 @@ module _ (c : Channel) (d : Desk) (x : Post) (P : Posted (with_desk c d x)) (on 
       let b = is_some (next (lane k before.slots)) in
       let row : e.row ≡ at.Turn (point.Pass k false) = sent_row k b before in
       let so : IsLate e.row = subst IsLate (sym row) tt in
-      as_it_was c e (due_at (at.Request k) d) came.Gave wrote x (other_given c k (first_text (link k d).requests) came.Gave wrote x.asked apart) refl
-      (unmoved c d e x P on late so (slots_on c sent e refl ∙ sent_other_if c k b before apart ∙ slots_on c d before refl)
-      (reader_on c sent e refl ∙ sent_reader c k b before ∙ reader_on c d before refl)) (late_first e.row e so)
+      let slots : (lane c e.slots).slots ≡ (lane c d.slots).slots = slots_on c sent e refl ∙ sent_other_if c k b before apart ∙ slots_on c d before refl in
+      as_it_was c d e (due_at (at.Request k) d) came.Gave wrote x (other_given c k (first_text (link k d).requests) came.Gave wrote x.asked apart) refl
+      (unmoved c d e x P on late so slots (reader_on c sent e refl ∙ sent_reader c k b before ∙ reader_on c d before refl)) (late_first e.row e so)
+      (same_fly (lane c d.slots).slots (lane c e.slots).slots slots)
 
   gave_none : (k : Channel) → k ≢ c → Leads (at.Request k) came.Failed
   gave_none k apart = gone_then c d (ready (busy (goes d (lost k)))) (due_at (at.Request k) d) came.Failed wrote x P (lost_off k) (lost_late k)
@@ -471,7 +541,7 @@ scans (start.Ended status) d got late may = absurd may
 
 module _ (c : Channel) (d : Desk) (x : Post) (P : Posted (with_desk c d x)) (on : is_on d.row ≡ true) (late : IsLate d.row) (read wrote : ℕ) (got : GotData) where
   pub late_row : (row : Row) → IsLate row → MayCome (due_at row d) got → (due_at row d ≡ needs.Take (port_of c) → IsSome got x.told)
-      → ((text : List ℕ) → due_at row d ≡ needs.Give (port_of c) text → AsksFor c d text) → Then c (moved_by row read got d) (due_at row d) got wrote x
+      → ((text : List ℕ) → due_at row d ≡ needs.Give (port_of c) text → AsksFor c d text) → Then c d (moved_by row read got d) (due_at row d) got wrote x
   late_row (at.Start row) so may some asks_for =
       goes_leads c d x P on late read wrote (started row (said got) d) (due_at (at.Start row) d) got (start_goes row (said got) d (scans row d got so may)) (start_away row d so)
   late_row (at.TakeLink k) so may some asks_for = takes c d x P on late read wrote k got may (λ e. some (ap (λ (j : Channel). needs.Take (port_of j)) e))
@@ -519,12 +589,6 @@ control_opens Whole f reading s b = filed_opens (file_after f) (record b { files
 control_opens Missing f reading s b = filed_opens (file_after f) (record b { files = set b.files (place f) None })
 control_opens Failed f reading s b = failed_opens s.way
 
-no_attempt : (n slot : ℕ) → attempt_in (replicate n None) slot ≡ None
-no_attempt n slot = ⊎_elim
-    (λ lt. get_or-replicate n slot None None lt)
-    (λ past. get_or_past (replicate n None) slot None (subst (λ k. k ≤ slot) (sym (length-replicate n None)) past))
-    (cases_lt slot n)
-
 module _ (d : Desk) (x : Post) (wrote : ℕ) where
   abbrev at_start : StartRow → Desk
   at_start row = record d { row = at.Start row }
@@ -543,12 +607,14 @@ module _ (d : Desk) (x : Post) (wrote : ℕ) where
     control_due = due_at (at.Start (start.Control f reading)) here
 
     goes_on : (c : Channel) (row : StartRow) (got : GotData) (b : Book) → IsQuiet here → Posted (with_desk c (starts_at b d.slots (at.Start row)) x)
-        → Then c (starts_at b d.slots (at.Start row)) control_due got wrote x
+        → Then c here (starts_at b d.slots (at.Start row)) control_due got wrote x
     goes_on c row got b Q P =
-        as_it_was c (starts_at b d.slots (at.Start row)) control_due got wrote x (away_asked c control_due got wrote x.asked (control_away f reading here))
-        (away_told c control_due got x.told (control_away f reading here)) P (λ early. quiet_on here (starts_at b d.slots (at.Start row)) refl Q)
+        let e : Desk = starts_at b d.slots (at.Start row) in
+        as_it_was c here e control_due got wrote x (away_asked c control_due got wrote x.asked (control_away f reading here))
+        (away_told c control_due got x.told (control_away f reading here)) P (λ early. quiet_on here e refl Q)
+        (same_fly (lane c here.slots).slots (lane c e.slots).slots (slots_on c here e refl))
 
-    opens : (c : Channel) (row : StartRow) (got : GotData) (b : Book) → IsOpening row → Posted (with_desk c here x) → IsQuiet here → Then c (starts_at b d.slots (start_at row)) control_due got wrote x
+    opens : (c : Channel) (row : StartRow) (got : GotData) (b : Book) → IsOpening row → Posted (with_desk c here x) → IsQuiet here → Then c here (starts_at b d.slots (start_at row)) control_due got wrote x
     opens c (start.Control g after) got b is P Q = goes_on c (start.Control g after) got b Q P
     opens c start.GreetLocal got b is P Q = goes_on c start.GreetLocal got b Q P
     opens c (start.Ended status) got b is P Q =
@@ -559,7 +625,7 @@ module _ (d : Desk) (x : Post) (wrote : ℕ) where
 
   greeted_local : (c : Channel) (b : Book) (limit byte : ℕ) (bytes : List ℕ) → Posted (with_desk c (at_start start.GreetLocal) x) → IsQuiet (at_start start.GreetLocal)
       → (needs.Take port.Lspawn ≡ needs.Take (port_of c) → IsSome (came.Took (byte ∷ bytes)) x.told)
-      → Then c (starts_at b d.slots (at.Start (start.GreetRemote limit))) (needs.Take port.Lspawn) (came.Took (byte ∷ bytes)) wrote x
+      → Then c (at_start start.GreetLocal) (starts_at b d.slots (at.Start (start.GreetRemote limit))) (needs.Take port.Lspawn) (came.Took (byte ∷ bytes)) wrote x
   greeted_local Local b limit byte bytes P Q some =
       let o = some refl in
       let rest = o.1.0 in
@@ -570,13 +636,20 @@ module _ (d : Desk) (x : Post) (wrote : ℕ) where
       let same : record x { lives = true; slots = d.slots.local.slots; heard = Some AtBegin; told = rest }
       ≡ with_desk Local e (record x { asked = x.asked; told = drop (length (byte ∷ bytes)) x.told; last = x.last }) =
       λ i. record x { lives = true; slots = d.slots.local.slots; heard = Some (reader i); told = told i } in
-      record { last = x.last; keeps = subst Posted same G; first = λ early. quiet_on (at_start start.GreetLocal) e refl Q }
+      record {
+        last = x.last;
+        keeps = subst Posted same G;
+        first = λ early. quiet_on (at_start start.GreetLocal) e refl Q;
+        asks = λ slot. inl refl;
+        flies = λ goes slot a is. inl is;
+      }
   greeted_local Remote b limit byte bytes P Q some =
       let e : Desk = starts_at b d.slots (at.Start (start.GreetRemote limit)) in
-      as_it_was Remote e (needs.Take port.Lspawn) (came.Took (byte ∷ bytes)) wrote x refl refl P (λ early. quiet_on (at_start start.GreetLocal) e refl Q)
+      as_it_was Remote (at_start start.GreetLocal) e (needs.Take port.Lspawn) (came.Took (byte ∷ bytes)) wrote x refl refl P (λ early. quiet_on (at_start start.GreetLocal) e refl Q)
+      (λ slot a is. inl is)
 
   greets_local : (c : Channel) (got : GotData) → MayCome (needs.Take port.Lspawn) got → Posted (with_desk c (at_start start.GreetLocal) x) → IsQuiet (at_start start.GreetLocal)
-      → (needs.Take port.Lspawn ≡ needs.Take (port_of c) → IsSome got x.told) → Then c (ready (started start.GreetLocal (said got) (at_start start.GreetLocal))) (needs.Take port.Lspawn) got wrote x
+      → (needs.Take port.Lspawn ≡ needs.Take (port_of c) → IsSome got x.told) → Then c (at_start start.GreetLocal) (ready (started start.GreetLocal (said got) (at_start start.GreetLocal))) (needs.Take port.Lspawn) got wrote x
   greets_local c (came.Took []) may P Q some =
       gone_then c (at_start start.GreetLocal) (ready (started start.GreetLocal (said (came.Took [])) (at_start start.GreetLocal))) (needs.Take port.Lspawn) (came.Took []) wrote x P refl tt refl
   greets_local c (came.Took (byte ∷ bytes)) may P Q some = greeted_local c (act_start start.GreetLocal (said (came.Took (byte ∷ bytes))) d.book) (min byte d.book.controls.concurrency_local) byte bytes P Q some
@@ -596,10 +669,11 @@ module _ (d : Desk) (x : Post) (wrote : ℕ) where
     free_slots c n slot Q = no_attempt n slot ∙ sym (Q.free c slot)
 
     greeted_remote : (c : Channel) (b : Book) (far byte : ℕ) (bytes : List ℕ) → Posted (with_desk c there x) → IsQuiet there → (needs.Take port.Rspawn ≡ needs.Take (port_of c) → IsSome (came.Took (byte ∷ bytes)) x.told)
-        → Then c (starts_at b (none_out limit far) (at.Start (start.Scan 0))) (needs.Take port.Rspawn) (came.Took (byte ∷ bytes)) wrote x
+        → Then c there (starts_at b (none_out limit far) (at.Start (start.Scan 0))) (needs.Take port.Rspawn) (came.Took (byte ∷ bytes)) wrote x
     greeted_remote Local b far byte bytes P Q some =
-        as_it_was Local (starts_at b (none_out limit far) (at.Start (start.Scan 0))) (needs.Take port.Rspawn) (came.Took (byte ∷ bytes)) wrote x refl refl
+        as_it_was Local there (starts_at b (none_out limit far) (at.Start (start.Scan 0))) (needs.Take port.Rspawn) (came.Took (byte ∷ bytes)) wrote x refl refl
         (slots_keep (replicate (min limit 120) None) (with_desk Local there x) P (λ slot. free_slots Local (min limit 120) slot Q)) (λ early. absurd (cc))
+        (none_fly d.slots.local.slots (min limit 120))
     greeted_remote Remote b far byte bytes P Q some =
         let o = some refl in
         let rest = o.1.0 in
@@ -611,10 +685,16 @@ module _ (d : Desk) (x : Post) (wrote : ℕ) where
         let same : record x { lives = true; slots = replicate (min far 120) None; heard = Some AtBegin; told = rest }
         ≡ with_desk Remote e (record x { asked = x.asked; told = drop (length (byte ∷ bytes)) x.told; last = x.last }) =
         λ i. record x { lives = true; slots = replicate (min far 120) None; heard = Some (reader i); told = told i } in
-        record { last = x.last; keeps = subst Posted same S; first = λ early. absurd (cc) }
+        record {
+          last = x.last;
+          keeps = subst Posted same S;
+          first = λ early. absurd (cc);
+          asks = λ slot. inl refl;
+          flies = λ goes. none_fly d.slots.remote.slots (min far 120);
+        }
 
     greets_remote : (c : Channel) (got : GotData) → MayCome (needs.Take port.Rspawn) got → Posted (with_desk c there x) → IsQuiet there
-        → (needs.Take port.Rspawn ≡ needs.Take (port_of c) → IsSome got x.told) → Then c (ready (started (start.GreetRemote limit) (said got) there)) (needs.Take port.Rspawn) got wrote x
+        → (needs.Take port.Rspawn ≡ needs.Take (port_of c) → IsSome got x.told) → Then c there (ready (started (start.GreetRemote limit) (said got) there)) (needs.Take port.Rspawn) got wrote x
     greets_remote c (came.Took []) may P Q some =
         gone_then c there (ready (started (start.GreetRemote limit) (said (came.Took [])) there)) (needs.Take port.Rspawn) (came.Took []) wrote x P refl tt refl
     greets_remote c (came.Took (byte ∷ bytes)) may P Q some = greeted_remote c (act_start (start.GreetRemote limit) (said (came.Took (byte ∷ bytes))) d.book) (remote_limit (byte ∷ bytes) d.book.controls) byte bytes P Q some
@@ -629,7 +709,7 @@ module _ (d : Desk) (x : Post) (wrote : ℕ) where
 module _ (c : Channel) (x : Post) (read : ℕ) (ready_now : Ready) (got : GotData) (wrote : ℕ) where
   abbrev Leaves : Row → Desk → Type 0
   Leaves row d = Posted (with_desk c d x) → IsFirst d.row d → MayCome (due_at row d) got → (due_at row d ≡ needs.Take (port_of c) → IsSome got x.told)
-      → ((text : List ℕ) → due_at row d ≡ needs.Give (port_of c) text → AsksFor c d text) → Then c (moved_by row read got d) (due_at row d) got wrote x
+      → ((text : List ℕ) → due_at row d ≡ needs.Give (port_of c) text → AsksFor c d text) → Then c d (moved_by row read got d) (due_at row d) got wrote x
 
   from_row : (r : Row) (d : Desk) → (IsLate r → IsLate (arrive r (record d { row = r }) read ready_now)) → Leaves (arrive r (record d { row = r }) read ready_now) (record d { row = r })
   from_row (at.Start (start.Control f reading)) d late P first may some asks_for =
@@ -689,5 +769,7 @@ senders_keep = record {
         last = w.last;
         keeps = subst (λ (n : NeedData). Posted (with_desk c (moved d event) (record x { asked = asked_on c n event.came wrote x.asked; told = told_on c n event.came x.told; last = w.last }))) same w.keeps;
         first = w.first;
+        asks = w.asks;
+        flies = w.flies;
       };
 }

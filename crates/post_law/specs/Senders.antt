@@ -1,5 +1,5 @@
 -- The sender's half of a post by its desk, and what an event of the sender does to a post (qmail-send(8)).
-use Rattle.std.specs.Prelude.{◌≡◌, ◌≢◌, ℕ, List, [], ◌++◌, length, take, drop, Bool, true, false, Option, Some, None}
+use Rattle.std.specs.Prelude.{◌≡◌, ◌≢◌, ◌⊎◌, ℕ, List, [], ◌++◌, length, take, drop, Bool, true, false, Option, Some, None}
 use Rattle.call_fs.specs.declared.past.GotData.{GotData}
 use Rattle.call_fs.specs.declared.past.GotData.TheVariants as came
 use Rattle.call_fs.specs.declared.past.NeedData.{NeedData}
@@ -133,10 +133,21 @@ pub record IsSent (c : Channel) (d : Desk) (event : Own) (x : Post) : Type 0 whe
   pub takes : event.due ≡ needs.Take (port_of c) → IsSome event.came x.told
   pub gives : (text : List ℕ) → event.due ≡ needs.Give (port_of c) text → AsksFor c d text
 
+-- What it leaves of the slots: none but the lowest that was free has another last request,
+abbrev pub AsksInLowest : List (Option Attempt) → (before last : ℕ → Option Request) → Type 0
+AsksInLowest slots before last = (slot : ℕ) → (last slot ≡ before slot) ⊎ (lowest slots ≡ Some slot)
+
+-- and what is in flight in another one was so before.
+abbrev pub FliesInLowest : (before slots : List (Option Attempt)) → Type 0
+FliesInLowest before slots = (slot : ℕ) (a : Attempt) → attempt_in slots slot ≡ Some a → (attempt_in before slot ≡ Some a) ⊎ (lowest before ≡ Some slot)
+
 pub record Sends (c : Channel) (d : Desk) (event : Own) (wrote : ℕ) (x : Post) : Type 0 where
   pub last : ℕ → Option Request
   pub keeps : Posted (sends c d event wrote last x)
   pub first : IsFirst (moved d event).row (moved d event)
+  pub asks : AsksInLowest (lane c d.slots).slots x.last last
+  -- unless the sender is lost by it
+  pub flies : is_on (moved d event).row ≡ true → FliesInLowest (lane c d.slots).slots (lane c (moved d event).slots).slots
 
 pub record SendersKeep : Type 0 where
   pub begins : (turns : Option ℕ) → IsFirst (begun turns).row (begun turns)

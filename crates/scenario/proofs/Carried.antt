@@ -1,6 +1,6 @@
--- What a play keeps beside being legal: finitely many names, what each living actor's past holds open, which program each actor runs, and that
--- only a sender has an actor in a slot.
-use Rattle.std.proofs.Common.{◌≡◌, ◌≢◌, ◌⊎◌, inl, inr, ⊎_elim, ℕ, zero, suc, ◌+◌, ◌<◌, ◌≤◌, List, [], ◌∷◌, ◌++◌, length, take, drop, All, Contains, Bool, true, false, ◌&&◌, if◌then◌else◌, bytes_eq, Option, Some, None, refl, sym, ap, ◌∙◌, subst, arith}
+-- What a play keeps beside being legal: finitely many names, what each living actor's past holds open, which program each actor runs, and
+-- who runs in whose slots.
+use Rattle.std.proofs.Common.{◌≡◌, ◌≢◌, ◌⊎◌, inl, inr, ⊎_elim, ℕ, zero, suc, ◌<◌, ◌≤◌, List, [], ◌∷◌, length, take, drop, All, Contains, Bool, true, false, ◌&&◌, if◌then◌else◌, bytes_eq, Option, Some, None, refl, sym, ap, ◌∙◌, subst, arith}
 use Rattle.std.specs.Prelude.{◌==◌, codes, option_map}
 use Rattle.std.proofs.Math.Bool.{and-false}
 use Rattle.std.proofs.lemmas.Bool.{false≢true, eqb-true}
@@ -10,7 +10,7 @@ use Rattle.call_fs.specs.declared.calls.CallData.{CallData}
 use Rattle.call_fs.specs.declared.calls.Told.{Told}
 use Rattle.call_fs.specs.declared.past.ChildData.TheVariants as child
 use Rattle.call_fs.specs.declared.past.GotData.{GotData}
-use Rattle.call_fs.specs.declared.past.GotData.TheVariants.{Answered, Took, End as Ends, Ended, Crashed, Gave, Started, Failed}
+use Rattle.call_fs.specs.declared.past.GotData.TheVariants.{Answered, Took, End as Ends, Ended, Crashed, Gave, Started}
 use Rattle.call_fs.specs.declared.past.NeedData.{NeedData}
 use Rattle.call_fs.specs.declared.past.NeedData.TheVariants as needs
 use Rattle.call_fs.specs.declared.past.Own.{Own}
@@ -24,256 +24,58 @@ use Rattle.call_fs.specs.Program.{IsTaken, MayCome}
 use Rattle.call_fs.specs.Disk.{Disk}
 use Rattle.call_fs.specs.Apply.{Fits}
 use Rattle.call_fs.specs.Maps.{put_at}
-use Rattle.call_fs.proofs.Maps.{put_at_cases}
-use Rattle.actor_names.specs.ChildNames.{bounce_name}
+use Rattle.call_fs.proofs.Maps.{put_at_cases, put_at_other}
+use Rattle.actor_names.specs.ChildNames.{delivery_name}
 use Rattle.actor_names.specs.MailNames.{IsMailName, members}
-use Rattle.world_events.specs.Inputs.{bounce}
 use Rattle.world_events.specs.declared.event.Program.{Program}
 use Rattle.world_events.specs.declared.event.Program.TheVariants.{Injector, Cleaner, Sender, LocalSpawner, RemoteSpawner, Delivery}
 use Rattle.world_pipes.specs.Pipes.{offered, end_of}
 use Rattle.mail_world.specs.Generations.{lives_in, is_unreported}
 use Rattle.mail_world.specs.World.{command_exits, most_of}
-use Rattle.mail_world.specs.History.{call_act, netstring, Actor, Life, State, MayRun, IsLiving, IsSender, IsStatusOf, ComesOf, TenantEnds, IsFed, next_of, latest, newborn, start_of, stopped, acted, begins, disk_after, holder_after, happens, called, finished, report_text, unless_by, shut_by}
-use Rattle.mail_world.specs.History.Event.{Act, Child, Report, End, Moment, Halt}
+use Rattle.mail_world.specs.History.{Actor, Life, State, MayRun, IsDelivery, IsInputOf, IsLiving, IsLocalSpawner, IsSender, IsStatusOf, ComesOf, TenantEnds, IsFed, next_of, latest, newborn, start_of, stopped, acted, begins, disk_after, holder_after, happens, called, finished, report_text, unless_by, shut_by}
+use Rattle.mail_world.specs.History.Event.{Report, Moment, Halt}
 use Rattle.mail_world.specs.History.Life.{Alive, Over, Stopped}
-use Rattle.mail_world.specs.Inside.{Owns, RunsAt, IsBirth}
+use Rattle.mail_world.specs.Inside.{Owns, RunsAt}
 use Rattle.mail_world.specs.Acting.{MayMake}
 use Rattle.mail_world.specs.Readiness.{found_in}
 use Rattle.mail_world.proofs.Opens.{opens_by, fits_answer, owns_backs, closes_own, own_stays, owns_after}
-use Rattle.mail_world.specs.ByKind.{IsMail}
+use Rattle.mail_world.specs.ByKind.{BearsIn, IsAlone, IsMail}
 use Rattle.mail_world.specs.Anew.{IsSameButInput, idle}
 use Rattle.mail_world.specs.Pipework.{Pipe, Pipework, Slot, Tenant, Yields, fresh, given, closed, is_member, is_writer, feeder, pipework_after, with_generation}
 use Rattle.mail_world.specs.Pipework.Tenant.{Runs, Remote}
 use Rattle.mail_world.specs.Wired.{seat}
-use Rattle.mail_world.proofs.Anew.{none_put, runs_if, no_tenant, remote_tenant}
-use Rattle.mail_world.proofs.Awaiting.{GivesToNone, ran_before}
+use Rattle.mail_world.proofs.Anew.{none_put, none_some, runs_if, no_tenant, remote_tenant}
+use Rattle.mail_world.proofs.Awaiting.{ran_before}
 use Rattle.mail_world.proofs.Begun.{seated_apart}
-use Rattle.mail_world.proofs.Members.{contained_member}
+use Rattle.mail_world.proofs.Members.{contained_member, other_than}
 use Rattle.mail_world.proofs.Seats.{seat_none, seat_some, same_seat}
 use Rattle.mail_world.proofs.Programs.{program_uses}
 use Rattle.mail_world.proofs.Worlds.{may_make}
 use Rattle.mail_world.proofs.Hands.{own_after}
 use Rattle.queue_law.proofs.Tests.{text_cases}
-use Rattle.scenario.specs.Deeds.{Deed, next_pid, bounces_in, after}
-use Rattle.scenario.specs.Deeds.Deed.{Came, Fed}
-use Rattle.scenario.specs.Steps.{Gives, DoesNext, DoesAlive, DoesStep, StepsTo, status_told, status_of, status_in, starts_as, comes, own_by, event_by, does}
-use Rattle.scenario.specs.Steps.Outcome.{Happens}
+use Rattle.scenario.specs.Steps.{status_told, status_of, status_in, comes}
 use Rattle.scenario.specs.Turns.{first_alive, generation_at}
-use Rattle.crash_fs.specs.Answers.{Answers, IsFinite}
+use Rattle.crash_fs.specs.Answers.{IsFinite}
 use Rattle.crash_fs.proofs.FiniteDisks.{finite_after, fewer_open, finite_halted}
 use Rattle.scenario.proofs.LastingFiles.{AreLasting, lasting_after, lasting_halted}
 use Rattle.call_fs.specs.Choices.{contents_by}
-use Rattle.call_fs.specs.Plan.{Plan}
 use Rattle.mail_world.proofs.Halts.{never_alive}
 use Rattle.mail_world.proofs.Looks.{mapped_some}
-
--- What a step of a living actor is
-
--- a call with an answer
-abbrev pub HasCalled : Plan → State → List ℕ → Actor → Deed → Type 0
-HasCalled plan s a x deed =
-    (c : CallData) × (got : Told) × (next_of x.program x.past s.now (found_in s a) ≡ needs.File c)
-    × Answers plan s.disk c got × (deed ≡ Came (call_act a s.now (found_in s a) c got 0))
-
--- its end
-abbrev pub HasEnded : State → List ℕ → Actor → Deed → Type 0
-HasEnded s a x deed =
-    (status : ℕ) × (next_of x.program x.past s.now (found_in s a) ≡ needs.Ended status)
-    × (deed ≡ Came (End a s.now (found_in s a) status))
-
-abbrev pub IsNoFile : NeedData → Type 0
-IsNoFile (needs.File call) = ⊥
-IsNoFile other = Unit {0}
-
--- what comes of a taking, of a giving to no actor, or of the start of a remote program
-pub record HasPassed (s : State) (pid : ℕ) (a : List ℕ) (x : Actor) (deed : Deed) : Type 0 where
-  pub due : NeedData
-  pub came : GotData
-  pub no_file : IsNoFile due
-  pub next : next_of x.program x.past s.now (found_in s a) ≡ due
-  pub comes_so : comes s pid a x.program due ≡ Some came
-  pub no_birth : IsBirth due came → ⊥
-  pub to_none : GivesToNone s.pipework a due
-  pub is : deed ≡ Came (Act a (own_by s a due came) 0)
-
--- the start of the injector of a bounce
-pub record HasBorne (s : State) (pid bounces : ℕ) (a : List ℕ) (x : Actor) (deed : Deed) : Type 0 where
-  pub room : ℕ
-  pub next : next_of x.program x.past s.now (found_in s a) ≡ needs.Start (child.Bounce room)
-  pub sends : IsSender x.program
-  pub is : deed ≡ Came (Child a (own_by s a (needs.Start (child.Bounce room)) (Started pid)) (bounce_name (bounces + 1)) (Injector (bounce pid s.now)))
-
--- the whole input of one
-pub record HasFed (s : State) (a : List ℕ) (x : Actor) (deed : Deed) : Type 0 where
-  pub slot : ℕ
-  pub child : List ℕ
-  pub message : List ℕ
-  pub envelope : List ℕ
-  pub next : next_of x.program x.past s.now (found_in s a) ≡ needs.Give (port.Program slot) (netstring message ++ netstring envelope)
-  pub runs : s.pipework.programs a slot ≡ Some (Runs child)
-  pub is : deed ≡ Fed a (own_by s a (needs.Give (port.Program slot) (netstring message ++ netstring envelope)) Gave) child message envelope
-
-pub data HasDone (plan : Plan) (s : State) (pid bounces : ℕ) (a : List ℕ) (x : Actor) (deed : Deed) : Type 0 where
-  Calls : HasCalled plan s a x deed → HasDone plan s pid bounces a x deed
-  Finishes : HasEnded s a x deed → HasDone plan s pid bounces a x deed
-  Passes : HasPassed s pid a x deed → HasDone plan s pid bounces a x deed
-  Bears : HasBorne s pid bounces a x deed → HasDone plan s pid bounces a x deed
-  Feeds : HasFed s a x deed → HasDone plan s pid bounces a x deed
-
-pub record HasStepped (plan : Plan) (s : State) (pid bounces : ℕ) (a : List ℕ) (deed : Deed) : Type 0 where
-  pub actor : Actor
-  pub is : s.actors a ≡ Some actor
-  pub alive : actor.life ≡ Alive
-  pub did : HasDone plan s pid bounces a actor deed
-
-same_deed : (e f : Deed) → Happens e ≡ Happens f → e ≡ f
-same_deed e f h = cc
-
--- the event of an actor that starts no injector
-own_event : (bounces : ℕ) (a : List ℕ) (own : Own) (due : NeedData) (came : GotData) → (IsBirth due came → ⊥) → event_by bounces a own due came ≡ Act a own 0
-own_event bounces a own (needs.Start (child.Bounce room)) (Started pid) none = absurd (none tt)
-own_event bounces a own due came none = refl
-
-passed : (s : State) (bounces : ℕ) (a : List ℕ) (due : NeedData) (c : Option GotData) (deed : Deed) → Happens deed ≡ does s bounces a due c
-    → (came : GotData) × (c ≡ Some came) × (deed ≡ Came (event_by bounces a (own_by s a due came) due came))
-passed s bounces a due None deed h = absurd (cc)
-passed s bounces a due (Some came) deed h = (came, refl, same_deed deed (Came (event_by bounces a (own_by s a due came) due came)) h)
-
-module _ (plan : Plan) (s : State) (pid bounces : ℕ) (a : List ℕ) (x : Actor) (deed : Deed) where
-  abbrev Done : Type 0
-  Done = HasDone plan s pid bounces a x deed
-
-  abbrev IsNext : NeedData → Type 0
-  IsNext due = next_of x.program x.past s.now (found_in s a) ≡ due
-
-  passes : (due : NeedData) → IsNoFile due → ((came : GotData) → IsBirth due came → ⊥) → GivesToNone s.pipework a due → IsNext due
-      → Happens deed ≡ does s bounces a due (comes s pid a x.program due) → Done
-  passes due unfiled unborn none next h =
-      let p = passed s bounces a due (comes s pid a x.program due) deed h in
-      Passes (record {
-        due = due;
-        came = p.0;
-        no_file = unfiled;
-        next = next;
-        comes_so = p.1;
-        no_birth = unborn p.0;
-        to_none = none;
-        is = p.2 ∙ ap Came (own_event bounces a (own_by s a due p.0) due p.0 (unborn p.0));
-      })
-
-  -- what is given to a slot
-  given_to : (d : ℕ) (bytes : List ℕ) (o : Option Tenant) → s.pipework.programs a d ≡ o → IsNext (needs.Give (port.Program d) bytes)
-      → Gives s a (own_by s a (needs.Give (port.Program d) bytes) Gave) bytes o (Happens deed) → Done
-  given_to d bytes None is next h =
-      Passes (record {
-        due = needs.Give (port.Program d) bytes;
-        came = Gave;
-        no_file = tt;
-        next = next;
-        comes_so = refl;
-        no_birth = λ w. w;
-        to_none = λ c runs. no_tenant c (sym is ∙ runs);
-        is = same_deed deed (Came (Act a (own_by s a (needs.Give (port.Program d) bytes) Gave) 0)) h;
-      })
-  given_to d bytes (Some (Remote reported)) is next h =
-      Passes (record {
-        due = needs.Give (port.Program d) bytes;
-        came = Gave;
-        no_file = tt;
-        next = next;
-        comes_so = refl;
-        no_birth = λ w. w;
-        to_none = λ c runs. remote_tenant reported c (sym is ∙ runs);
-        is = same_deed deed (Came (Act a (own_by s a (needs.Give (port.Program d) bytes) Gave) 0)) h;
-      })
-  given_to d bytes (Some (Runs c)) is next h =
-      Feeds (record {
-        slot = d;
-        child = c;
-        message = h.0;
-        envelope = h.1;
-        next = next ∙ ap (λ (t : List ℕ). needs.Give (port.Program d) t) h.2;
-        runs = is;
-        is = same_deed deed (Fed a (own_by s a (needs.Give (port.Program d) bytes) Gave) c h.0 h.1) h.3
-            ∙ ap (λ (t : List ℕ). Fed a (own_by s a (needs.Give (port.Program d) t) Gave) c h.0 h.1) h.2;
-      })
-
-  -- only a sender starts one
-  borne_by : (room : ℕ) (program : Program) → x.program ≡ program → IsNext (needs.Start (child.Bounce room))
-      → Happens deed ≡ does s bounces a (needs.Start (child.Bounce room)) (Some (starts_as pid program (child.Bounce room))) → Done
-  borne_by room (Sender start) is next h =
-      Bears (record {
-        room = room;
-        next = next;
-        sends = subst IsSender (sym is) tt;
-        is = same_deed deed (Came (Child a (own_by s a (needs.Start (child.Bounce room)) (Started pid)) (bounce_name (bounces + 1)) (Injector (bounce pid s.now)))) h;
-      })
-  borne_by room other is next h =
-      Passes (record {
-        due = needs.Start (child.Bounce room);
-        came = Failed;
-        no_file = tt;
-        next = next;
-        comes_so = ap (λ (program : Program). Some (starts_as pid program (child.Bounce room))) is;
-        no_birth = λ w. w;
-        to_none = tt;
-        is = same_deed deed (Came (Act a (own_by s a (needs.Start (child.Bounce room)) Failed) 0)) h;
-      })
-
-  stepped_due : (due : NeedData) → IsNext due → DoesNext plan s pid bounces a x.program due (Happens deed) → Done
-  stepped_due (needs.File c) next h = Calls (c, h.0, next, h.1, same_deed deed (Came (call_act a s.now (found_in s a) c h.0 0)) h.2)
-  stepped_due (needs.Ended status) next h = Finishes (status, next, same_deed deed (Came (End a s.now (found_in s a) status)) h)
-  stepped_due (needs.Take port) next h = passes (needs.Take port) tt (λ came w. w) tt next h
-  stepped_due (needs.Give (port.Program d) bytes) next h = given_to d bytes (s.pipework.programs a d) refl next h
-  stepped_due (needs.Give port.Input bytes) next h = passes (needs.Give port.Input bytes) tt (λ came w. w) tt next h
-  stepped_due (needs.Give port.Output bytes) next h = passes (needs.Give port.Output bytes) tt (λ came w. w) tt next h
-  stepped_due (needs.Give port.Clean bytes) next h = passes (needs.Give port.Clean bytes) tt (λ came w. w) tt next h
-  stepped_due (needs.Give port.Lspawn bytes) next h = passes (needs.Give port.Lspawn bytes) tt (λ came w. w) tt next h
-  stepped_due (needs.Give port.Rspawn bytes) next h = passes (needs.Give port.Rspawn bytes) tt (λ came w. w) tt next h
-  stepped_due (needs.Give port.Todo bytes) next h = passes (needs.Give port.Todo bytes) tt (λ came w. w) tt next h
-  stepped_due (needs.Give (port.Status d) bytes) next h = passes (needs.Give (port.Status d) bytes) tt (λ came w. w) tt next h
-  stepped_due (needs.Start (child.Bounce room)) next h = borne_by room x.program refl next h
-  stepped_due (needs.Start (child.Remote slot domain sender recipient)) next h = passes (needs.Start (child.Remote slot domain sender recipient)) tt (λ came w. w) tt next h
-  stepped_due (needs.Start (child.Forward uid room)) next h =
-      Passes (record {
-        due = needs.Start (child.Forward uid room);
-        came = Failed;
-        no_file = tt;
-        next = next;
-        comes_so = refl;
-        no_birth = λ w. w;
-        to_none = tt;
-        is = same_deed deed (Came (Act a (own_by s a (needs.Start (child.Forward uid room)) Failed) 0)) h;
-      })
-  stepped_due (needs.Start (child.Local slot words uid)) next h = passes (needs.Start (child.Local slot words uid)) tt (λ came w. w) tt next h
-  stepped_due (needs.Command bytes) next h = passes (needs.Command bytes) tt (λ came w. w) tt next h
-  stepped_due needs.Wait next h = passes needs.Wait tt (λ came w. w) tt next h
-
-stepped_life : (plan : Plan) (s : State) (pid bounces : ℕ) (a : List ℕ) (x : Actor) (life : Life) (deed : Deed) → s.actors a ≡ Some x → x.life ≡ life
-    → DoesAlive plan s pid bounces a x life (Happens deed) → HasStepped plan s pid bounces a deed
-stepped_life plan s pid bounces a x Alive deed is alive h = record {
-  actor = x;
-  is = is;
-  alive = alive;
-  did = stepped_due plan s pid bounces a x deed (next_of x.program x.past s.now (found_in s a)) refl h;
-}
-stepped_life plan s pid bounces a x (Over status) deed is over h = absurd (cc)
-stepped_life plan s pid bounces a x Stopped deed is over h = absurd (cc)
-
-stepped_by : (plan : Plan) (s : State) (pid bounces : ℕ) (a : List ℕ) (o : Option Actor) (deed : Deed) → s.actors a ≡ o → DoesStep plan s pid bounces a o (Happens deed)
-    → HasStepped plan s pid bounces a deed
-stepped_by plan s pid bounces a None deed is h = absurd (cc)
-stepped_by plan s pid bounces a (Some x) deed is h = stepped_life plan s pid bounces a x x.life deed is refl h
-
-pub has_stepped : (d : Disk) (h : List Deed) (plan : Plan) (a : List ℕ) (deed : Deed) → StepsTo d h plan a (Happens deed)
-    → HasStepped plan (after d h) (next_pid h) (bounces_in h) a deed
-has_stepped d h plan a deed step = stepped_by plan (after d h) (next_pid h) (bounces_in h) a ((after d h).actors a) deed refl step
+use Rattle.scenario.proofs.StepKinds.{IsNoFile, GivesNoMail, BearsNone}
 
 -- What is kept
 
--- only a sender has an actor in a slot
-abbrev pub OnlySendersRun : (List ℕ → ℕ → Option Tenant) → Type 0
-OnlySendersRun programs = (a : List ℕ) (d : ℕ) (c : List ℕ) → programs a d ≡ Some (Runs c) → a ≡ codes "sender"
+-- who runs in a slot is known, is no member, and was started there as its parent starts one
+pub record IsTenant (actors : List ℕ → Option Actor) (a : List ℕ) (d : ℕ) (c : List ℕ) : Type 0 where
+  pub child : Actor
+  pub is : actors c ≡ Some child
+  pub named : is_member c ≡ false
+  pub parent : Actor
+  pub there : actors a ≡ Some parent
+  pub bears : BearsIn parent.program d child.program
+
+abbrev pub AreTenants : (List ℕ → Option Actor) → (List ℕ → ℕ → Option Tenant) → Type 0
+AreTenants actors programs = (a : List ℕ) (d : ℕ) (c : List ℕ) → programs a d ≡ Some (Runs c) → IsTenant actors a d c
 
 -- who hasn't started is nobody's child, and was given nothing
 abbrev pub AreNew : (List ℕ → Option Actor) → Pipework → Type 0
@@ -286,8 +88,13 @@ pub record Carries (s : State) : Type 0 where
   pub runs : (a : List ℕ) (x : Actor) → s.actors a ≡ Some x → IsRunBy (next_of x.program) x.past
   pub in_order : (a : List ℕ) (x : Actor) → s.actors a ≡ Some x → latest x.program x.past ≤ s.now
   pub kinds : (a : List ℕ) (x : Actor) → s.actors a ≡ Some x → RunsAt (seat a) x.program
-  pub children : OnlySendersRun s.pipework.programs
+  pub names : (a : List ℕ) (x : Actor) → s.actors a ≡ Some x → IsDelivery x.program → (k : ℕ) × (a ≡ delivery_name k)
+  pub children : AreTenants s.actors s.pipework.programs
   pub new : AreNew s.actors s.pipework
+
+-- a delivery has a name of its kind
+abbrev pub IsNamedAs : List ℕ → Actor → Type 0
+IsNamedAs a x = IsDelivery x.program → (k : ℕ) × (a ≡ delivery_name k)
 
 unless_was : {X : Type 0} (a : List ℕ) (o : Option (List ℕ)) (file : Option X) (x : X) → unless_by a o file ≡ Some x
     → file ≡ Some x
@@ -321,6 +128,56 @@ put_named P actors a b x y here mine old = ⊎_elim
     (λ h. subst (λ (q : List ℕ). P q y) (sym h.0) (subst (P a) h.1 mine))
     (λ h. old h.1)
     (put_actor actors a b x y here)
+
+-- Who runs in whose slots, as actors change
+
+some_one : (x y : Actor) → ◌≡◌ {A = Option Actor} (Some x) (Some y) → x ≡ y
+some_one x y e = cc
+
+put_same : (actors : List ℕ → Option Actor) (a b : List ℕ) (x y z : Actor) → actors a ≡ Some x → y.program ≡ x.program → actors b ≡ Some z
+    → (w : Actor) × (put_at actors a (Some y) b ≡ Some w) × (w.program ≡ z.program)
+put_same actors a b x y z is same there = ⊎_elim
+    (λ h. (y, h.1, same ∙ ap (λ (v : Actor). v.program) (some_one x z (sym is ∙ ap actors (sym h.0) ∙ there))))
+    (λ h. (z, h.1 ∙ there, refl))
+    (put_at_cases actors a (Some y) b)
+
+-- one goes on with its program
+tenants_put : (actors : List ℕ → Option Actor) (programs : List ℕ → ℕ → Option Tenant) (a : List ℕ) (x y : Actor) → actors a ≡ Some x → y.program ≡ x.program → AreTenants actors programs
+    → AreTenants (put_at actors a (Some y)) programs
+tenants_put actors programs a x y is same tenants b d c runs =
+    let t = tenants b d c runs in
+    let child = put_same actors a c x y t.child is same t.is in
+    let parent = put_same actors a b x y t.parent is same t.there in
+    record {
+      child = child.0;
+      is = child.1;
+      named = t.named;
+      parent = parent.0;
+      there = parent.1;
+      bears = subst (λ (p : Program). BearsIn p d child.0.program) (sym parent.2) (subst (BearsIn t.parent.program d) (sym child.2) t.bears);
+    }
+
+-- another one takes a name
+pub tenants_far : (actors : List ℕ → Option Actor) (programs : List ℕ → ℕ → Option Tenant) (a : List ℕ) (y : Actor)
+    → ((b : List ℕ) (d : ℕ) (c : List ℕ) → programs b d ≡ Some (Runs c) → (b ≢ a) × (c ≢ a)) → AreTenants actors programs → AreTenants (put_at actors a (Some y)) programs
+tenants_far actors programs a y far tenants b d c runs =
+    let t = tenants b d c runs in
+    let other = far b d c runs in
+    record {
+      child = t.child;
+      is = put_at_other actors a (Some y) c other.1 ∙ t.is;
+      named = t.named;
+      parent = t.parent;
+      there = put_at_other actors a (Some y) b other.0 ∙ t.there;
+      bears = t.bears;
+    }
+
+-- that nobody had
+pub unknown_far : (actors : List ℕ → Option Actor) (programs : List ℕ → ℕ → Option Tenant) (a : List ℕ) → actors a ≡ None → AreTenants actors programs
+    → (b : List ℕ) (d : ℕ) (c : List ℕ) → programs b d ≡ Some (Runs c) → (b ≢ a) × (c ≢ a)
+unknown_far actors programs a none tenants b d c runs =
+    let t = tenants b d c runs in
+    (λ e. none_some (actors a) t.parent none (ap actors (sym e) ∙ t.there), λ e. none_some (actors a) t.child none (ap actors (sym e) ∙ t.is))
 
 module _ (s : State) (a : List ℕ) (x : Actor) (carries : Carries s) (is : s.actors a ≡ Some x) where
   -- what is due uses what is held
@@ -359,7 +216,8 @@ module _ (s : State) (a : List ℕ) (x : Actor) (carries : Carries s) (is : s.ac
             (omega arith)
             (λ old. carries.in_order b y old);
         kinds = λ b y here. put_named (λ (q : List ℕ) (z : Actor). RunsAt (seat q) z.program) s.actors a b now y here (carries.kinds a x is) (carries.kinds b y);
-        children = carries.children;
+        names = λ b y here. put_named IsNamedAs s.actors a b now y here (carries.names a x is) (carries.names b y);
+        children = tenants_put s.actors s.pipework.programs a x now is refl carries.children;
         new = λ b none. carries.new b (none_put s.actors a now b none);
       }
 
@@ -387,15 +245,16 @@ finished_carries s a x life over carries is =
           (carries.in_order a x is)
           (λ old. carries.in_order b y old);
       kinds = λ b y here. put_named (λ (q : List ℕ) (z : Actor). RunsAt (seat q) z.program) s.actors a b gone y here (carries.kinds a x is) (carries.kinds b y);
-      children = carries.children;
+      names = λ b y here. put_named IsNamedAs s.actors a b gone y here (carries.names a x is) (carries.names b y);
+      children = tenants_put s.actors s.pipework.programs a x gone is refl carries.children;
       new = λ b none named.
           let old = carries.new b (none_put s.actors a gone b none) named in
           (old.0, ap (λ (t : Bool). if t then closed (s.pipework.pipes b port.Input) else s.pipework.pipes b port.Input) (no_writer s.pipework a b named old.0) ∙ old.1);
     }
 
-pub begins_carries : (s : State) (a : List ℕ) (program : Program) (pipework : Pipework) → start_of program ≤ s.now → RunsAt (seat a) program → OnlySendersRun pipework.programs
-    → AreNew (put_at s.actors a (Some (newborn program))) pipework → Carries s → Carries (begins s a program pipework)
-begins_carries s a program pipework begun kind children new carries =
+pub begins_carries : (s : State) (a : List ℕ) (program : Program) (pipework : Pipework) → start_of program ≤ s.now → RunsAt (seat a) program → IsNamedAs a (newborn program)
+    → AreTenants (put_at s.actors a (Some (newborn program))) pipework.programs → AreNew (put_at s.actors a (Some (newborn program))) pipework → Carries s → Carries (begins s a program pipework)
+begins_carries s a program pipework begun kind named children new carries =
     let one : Actor = record { program = program; past = []; life = Alive } in
     record {
       finite = carries.finite;
@@ -411,16 +270,46 @@ begins_carries s a program pipework begun kind children new carries =
           begun
           (λ old. carries.in_order b y old);
       kinds = λ b y here. put_named (λ (q : List ℕ) (z : Actor). RunsAt (seat q) z.program) s.actors a b one y here kind (carries.kinds b y);
+      names = λ b y here. put_named IsNamedAs s.actors a b one y here named (carries.names b y);
       children = children;
       new = new;
     }
 
 -- with the same pipes
-pub starts_carries : (s : State) (a : List ℕ) (program : Program) → start_of program ≤ s.now → RunsAt (seat a) program → Carries s → Carries (begins s a program s.pipework)
-starts_carries s a program begun kind carries =
-    begins_carries s a program s.pipework begun kind carries.children (λ b none. carries.new b (none_put s.actors a (newborn program) b none)) carries
+pub starts_carries : (s : State) (a : List ℕ) (program : Program) → start_of program ≤ s.now → RunsAt (seat a) program → IsNamedAs a (newborn program)
+    → ((b : List ℕ) (d : ℕ) (c : List ℕ) → s.pipework.programs b d ≡ Some (Runs c) → (b ≢ a) × (c ≢ a)) → Carries s → Carries (begins s a program s.pipework)
+starts_carries s a program begun kind named far carries =
+    begins_carries s a program s.pipework begun kind named (tenants_far s.actors s.pipework.programs a (newborn program) far carries.children)
+    (λ b none. carries.new b (none_put s.actors a (newborn program) b none)) carries
 
 -- A state in which one actor, who has done nothing, runs another injector
+
+-- a mail runs alone, and is no delivery
+pub mail_alone : (program : Program) → IsMail program → IsAlone program
+mail_alone (Injector args) mail = tt
+mail_alone other mail = absurd mail
+
+pub mail_no_delivery : (program : Program) → IsMail program → IsDelivery program → ⊥
+mail_no_delivery (Injector args) mail delivers = delivers
+mail_no_delivery other mail delivers = mail
+
+-- an injector bears none, and is borne as any other one
+mail_bears_none : (p : Program) (d : ℕ) (child : Program) → IsMail p → BearsIn p d child → ⊥
+mail_bears_none (Injector args) d child mail bears = bears
+mail_bears_none other d child mail bears = absurd mail
+
+bears_mail : (parent : Program) (d : ℕ) (p q : Program) → IsMail p → IsMail q → BearsIn parent d p → BearsIn parent d q
+bears_mail (Sender start) d p q mail same bears = (bears.0, same)
+bears_mail (Delivery start args) d p q mail same bears = (bears.0, same)
+bears_mail (LocalSpawner start) d (Injector args) q mail same bears = absurd bears
+bears_mail (LocalSpawner start) d other q mail same bears = absurd mail
+bears_mail (Injector args) d p q mail same bears = absurd bears
+bears_mail (Cleaner start) d p q mail same bears = absurd bears
+bears_mail (RemoteSpawner start) d p q mail same bears = absurd bears
+
+same_mail : (p q : Program) → IsSameButInput p q → IsMail p × IsMail q
+same_mail (Injector args) (Injector other) same = (tt, tt)
+same_mail p q same = absurd same
 
 begun_then : (p q : Program) (now : ℕ) → IsSameButInput p q → start_of p ≤ now → start_of q ≤ now
 begun_then (Injector args) (Injector other) now same begun = let at = same.start_is in omega (arith, at, begun)
@@ -438,6 +327,28 @@ module _ (s : State) (m : List ℕ → Option Actor) (c : List ℕ) (p q : Progr
       (λ (h : (b ≢ c) × (bytes_eq b c ≡ false)). old (sym (others b h.0) ∙ here))
       (text_cases b c)
 
+  -- who runs in a slot runs there still
+  other_tenant : (b : List ℕ) (d : ℕ) (e : List ℕ) → IsTenant s.actors b d e → IsTenant m b d e
+  other_tenant b d e t =
+      let both = same_mail p q same in
+      let far : b ≢ c = λ f.
+      let one : t.parent ≡ idle p life = some_one t.parent (idle p life) (sym t.there ∙ ap s.actors f ∙ was) in
+      mail_bears_none p d t.child.program both.0 (subst (λ (z : Actor). BearsIn z.program d t.child.program) one t.bears) in
+      ⊎_elim
+      (λ (h : (e ≡ c) × (bytes_eq e c ≡ true)).
+      let one : t.child ≡ idle p life = some_one t.child (idle p life) (sym t.is ∙ ap s.actors h.0 ∙ was) in
+      record {
+        child = idle q life;
+        is = ap m h.0 ∙ is;
+        named = t.named;
+        parent = t.parent;
+        there = others b far ∙ t.there;
+        bears = bears_mail t.parent.program d p q both.0 mail (subst (λ (z : Actor). BearsIn t.parent.program d z.program) one t.bears);
+      })
+      (λ (h : (e ≢ c) × (bytes_eq e c ≡ false)).
+      record { child = t.child; is = others e h.0 ∙ t.is; named = t.named; parent = t.parent; there = others b far ∙ t.there; bears = t.bears })
+      (text_cases e c)
+
   pub other_carries : Carries (record { disk = s.disk; holder = s.holder; now = s.now; actors = m; books = s.books; pipework = s.pipework })
   other_carries = record {
     finite = carries.finite;
@@ -445,8 +356,9 @@ module _ (s : State) (m : List ℕ → Option Actor) (c : List ℕ) (p q : Progr
     owns = λ b y here. holds_but (λ (b : List ℕ) (z : Actor). z.life ≡ Alive → Owns s.disk s.holder b (held z.past)) b y here (λ alive fd mode at. absurd (cc)) (carries.owns b y);
     runs = λ b y here. holds_but (λ (b : List ℕ) (z : Actor). IsRunBy (next_of z.program) z.past) b y here tt (carries.runs b y);
     in_order = λ b y here. holds_but (λ (b : List ℕ) (z : Actor). latest z.program z.past ≤ s.now) b y here (begun_then p q s.now same (carries.in_order c (idle p life) was)) (carries.in_order b y);
-    kinds = λ b y here. holds_but (λ (b : List ℕ) (z : Actor). RunsAt (seat b) z.program) b y here (subst (λ (o : Option ℕ). RunsAt o q) (sym (seat_none c named)) mail) (carries.kinds b y);
-    children = carries.children;
+    kinds = λ b y here. holds_but (λ (b : List ℕ) (z : Actor). RunsAt (seat b) z.program) b y here (subst (λ (o : Option ℕ). RunsAt o q) (sym (seat_none c named)) (mail_alone q mail)) (carries.kinds b y);
+    names = λ b y here. holds_but IsNamedAs b y here (λ delivers. absurd (mail_no_delivery q mail delivers)) (carries.names b y);
+    children = λ b d e runs. other_tenant b d e (carries.children b d e runs);
     new = λ b none. carries.new b (⊎_elim
         (λ (h : (b ≡ c) × (bytes_eq b c ≡ true)). let both : ◌≡◌ {A = Option Actor} None (Some (idle q life)) = sym none ∙ (ap m h.0 ∙ is) in absurd (cc))
         (λ (h : (b ≢ c) × (bytes_eq b c ≡ false)). sym (others b h.0) ∙ none)
@@ -518,51 +430,65 @@ status_comes s slot (Some (Runs b)) came e = status_actor s slot b (s.actors b) 
 status_comes s slot (Some (Remote true)) came e = let same : Ended 0 ≡ came = cc in (sym same, subst (IsTaken (port.Status slot)) same tt)
 status_comes s slot (Some (Remote false)) came e = absurd (cc)
 
-fed : (s : State) (o : Option Tenant) (bytes : List ℕ) → ((b : List ℕ) → o ≡ Some (Runs b) → ⊥) → IsFed s o bytes
-fed s None bytes none = tt
-fed s (Some (Runs b)) bytes none = absurd (none b refl)
-fed s (Some (Remote reported)) bytes none = tt
+-- what is given to a slot is the input of who runs there
+abbrev pub IsFedBy : State → List ℕ → NeedData → Type 0
+IsFedBy s a (needs.Give (port.Program d) bytes) = IsFed s (s.pipework.programs a d) bytes
+IsFedBy s a due = Unit {0}
 
-bounce_comes : (s : State) (pid : ℕ) (a : List ℕ) (program : Program) (room : ℕ) (came : GotData) → starts_as pid program (child.Bounce room) ≡ came → (IsBirth (needs.Start (child.Bounce room)) came → ⊥)
-    → Comes s a (needs.Start (child.Bounce room)) came
-bounce_comes s pid a (Sender start) room came e unborn = absurd (unborn (subst (IsBirth (needs.Start (child.Bounce room))) e tt))
-bounce_comes s pid a other room came e unborn = subst (Comes s a (needs.Start (child.Bounce room))) e (record { of = tt; may = tt })
+takes_any : (program : Program) (bytes : List ℕ) → IsAlone program → (IsMail program → ⊥) → IsInputOf program bytes
+takes_any (Injector args) bytes alone never = absurd (never tt)
+takes_any (Delivery start args) bytes alone never = tt
+takes_any (Cleaner start) bytes alone never = absurd alone
+takes_any (Sender start) bytes alone never = absurd alone
+takes_any (LocalSpawner start) bytes alone never = absurd alone
+takes_any (RemoteSpawner start) bytes alone never = absurd alone
+
+fed_slot : (s : State) (a bytes : List ℕ) (d : ℕ) (o : Option Tenant) → s.pipework.programs a d ≡ o → Carries s → GivesNoMail s a (needs.Give (port.Program d) bytes) → IsFed s o bytes
+fed_slot s a bytes d None is carries never = tt
+fed_slot s a bytes d (Some (Remote reported)) is carries never = tt
+fed_slot s a bytes d (Some (Runs c)) is carries never = λ y there.
+    let t = carries.children a d c is in
+    takes_any y.program bytes (subst (λ (o : Option ℕ). RunsAt o y.program) (seat_none c t.named) (carries.kinds c y there)) (never c y is there)
+
+pub fed_by : (s : State) (a : List ℕ) (due : NeedData) → Carries s → GivesNoMail s a due → IsFedBy s a due
+fed_by s a (needs.Give (port.Program d) bytes) carries never = fed_slot s a bytes d (s.pipework.programs a d) refl carries never
+fed_by s a due carries never = tt
 
 module _ (s : State) (pid : ℕ) (a : List ℕ) (program : Program) where
   took : (p : Port) (came : GotData) → offered (most_of program) (s.pipework.pipes a p) ≡ Some came → ((bytes : List ℕ) → IsTaken p (Took bytes)) → IsTaken p Ends
       → IsOffered p (s.pipework.pipes a p) came
   took p came e bytes ends = all_offered p (most_of program) (s.pipework.pipes a p) came (some_most program) e bytes ends
 
-  pub comes_may : (due : NeedData) (came : GotData) → comes s pid a program due ≡ Some came → (IsBirth due came → ⊥) → GivesToNone s.pipework a due → Comes s a due came
-  comes_may (needs.Take port.Input) came e unborn none = let o = took port.Input came e (λ bytes. tt) tt in record { of = o.yields; may = o.taken }
-  comes_may (needs.Take port.Output) came e unborn none = let o = took port.Output came e (λ bytes. tt) tt in record { of = o.yields; may = o.taken }
-  comes_may (needs.Take port.Clean) came e unborn none = let o = took port.Clean came e (λ bytes. tt) tt in record { of = o.yields; may = o.taken }
-  comes_may (needs.Take port.Lspawn) came e unborn none = let o = took port.Lspawn came e (λ bytes. tt) tt in record { of = o.yields; may = o.taken }
-  comes_may (needs.Take port.Rspawn) came e unborn none = let o = took port.Rspawn came e (λ bytes. tt) tt in record { of = o.yields; may = o.taken }
-  comes_may (needs.Take port.Todo) came e unborn none = let o = took port.Todo came e (λ bytes. tt) tt in record { of = o.yields; may = o.taken }
-  comes_may (needs.Take (port.Program d)) came e unborn none = let o = took (port.Program d) came e (λ bytes. tt) tt in record { of = o.yields; may = o.taken }
-  comes_may (needs.Take (port.Status d)) came e unborn none =
+  pub comes_may : (due : NeedData) (came : GotData) → comes s pid a program due ≡ Some came → BearsNone due → IsFedBy s a due → Comes s a due came
+  comes_may (needs.Take port.Input) came e none fed = let o = took port.Input came e (λ bytes. tt) tt in record { of = o.yields; may = o.taken }
+  comes_may (needs.Take port.Output) came e none fed = let o = took port.Output came e (λ bytes. tt) tt in record { of = o.yields; may = o.taken }
+  comes_may (needs.Take port.Clean) came e none fed = let o = took port.Clean came e (λ bytes. tt) tt in record { of = o.yields; may = o.taken }
+  comes_may (needs.Take port.Lspawn) came e none fed = let o = took port.Lspawn came e (λ bytes. tt) tt in record { of = o.yields; may = o.taken }
+  comes_may (needs.Take port.Rspawn) came e none fed = let o = took port.Rspawn came e (λ bytes. tt) tt in record { of = o.yields; may = o.taken }
+  comes_may (needs.Take port.Todo) came e none fed = let o = took port.Todo came e (λ bytes. tt) tt in record { of = o.yields; may = o.taken }
+  comes_may (needs.Take (port.Program d)) came e none fed = let o = took (port.Program d) came e (λ bytes. tt) tt in record { of = o.yields; may = o.taken }
+  comes_may (needs.Take (port.Status d)) came e none fed =
       let o = status_comes s d (s.pipework.programs a d) came e in record { of = inr o.0; may = o.1 }
-  comes_may (needs.Give (port.Program d) bytes) came e unborn none =
+  comes_may (needs.Give (port.Program d) bytes) came e none fed =
       let same : Gave ≡ came = cc in
-      subst (Comes s a (needs.Give (port.Program d) bytes)) same (record { of = fed s (s.pipework.programs a d) bytes none; may = tt })
-  comes_may (needs.Give port.Input bytes) came e unborn none = let same : Gave ≡ came = cc in subst (Comes s a (needs.Give port.Input bytes)) same (record { of = tt; may = tt })
-  comes_may (needs.Give port.Output bytes) came e unborn none = let same : Gave ≡ came = cc in subst (Comes s a (needs.Give port.Output bytes)) same (record { of = tt; may = tt })
-  comes_may (needs.Give port.Clean bytes) came e unborn none = let same : Gave ≡ came = cc in subst (Comes s a (needs.Give port.Clean bytes)) same (record { of = tt; may = tt })
-  comes_may (needs.Give port.Lspawn bytes) came e unborn none = let same : Gave ≡ came = cc in subst (Comes s a (needs.Give port.Lspawn bytes)) same (record { of = tt; may = tt })
-  comes_may (needs.Give port.Rspawn bytes) came e unborn none = let same : Gave ≡ came = cc in subst (Comes s a (needs.Give port.Rspawn bytes)) same (record { of = tt; may = tt })
-  comes_may (needs.Give port.Todo bytes) came e unborn none = let same : Gave ≡ came = cc in subst (Comes s a (needs.Give port.Todo bytes)) same (record { of = tt; may = tt })
-  comes_may (needs.Give (port.Status d) bytes) came e unborn none = let same : Gave ≡ came = cc in subst (Comes s a (needs.Give (port.Status d) bytes)) same (record { of = tt; may = tt })
-  comes_may (needs.Start (child.Remote slot domain sender recipient)) came e unborn none =
+      subst (Comes s a (needs.Give (port.Program d) bytes)) same (record { of = fed; may = tt })
+  comes_may (needs.Give port.Input bytes) came e none fed = let same : Gave ≡ came = cc in subst (Comes s a (needs.Give port.Input bytes)) same (record { of = tt; may = tt })
+  comes_may (needs.Give port.Output bytes) came e none fed = let same : Gave ≡ came = cc in subst (Comes s a (needs.Give port.Output bytes)) same (record { of = tt; may = tt })
+  comes_may (needs.Give port.Clean bytes) came e none fed = let same : Gave ≡ came = cc in subst (Comes s a (needs.Give port.Clean bytes)) same (record { of = tt; may = tt })
+  comes_may (needs.Give port.Lspawn bytes) came e none fed = let same : Gave ≡ came = cc in subst (Comes s a (needs.Give port.Lspawn bytes)) same (record { of = tt; may = tt })
+  comes_may (needs.Give port.Rspawn bytes) came e none fed = let same : Gave ≡ came = cc in subst (Comes s a (needs.Give port.Rspawn bytes)) same (record { of = tt; may = tt })
+  comes_may (needs.Give port.Todo bytes) came e none fed = let same : Gave ≡ came = cc in subst (Comes s a (needs.Give port.Todo bytes)) same (record { of = tt; may = tt })
+  comes_may (needs.Give (port.Status d) bytes) came e none fed = let same : Gave ≡ came = cc in subst (Comes s a (needs.Give (port.Status d) bytes)) same (record { of = tt; may = tt })
+  comes_may (needs.Start (child.Remote slot domain sender recipient)) came e none fed =
       let same : Started pid ≡ came = cc in
       subst (Comes s a (needs.Start (child.Remote slot domain sender recipient))) same (record { of = tt; may = tt })
-  comes_may (needs.Start (child.Bounce room)) came e unborn none = let same : starts_as pid program (child.Bounce room) ≡ came = cc in bounce_comes s pid a program room came same unborn
-  comes_may (needs.Start (child.Forward uid room)) came e unborn none = let same : Failed ≡ came = cc in subst (Comes s a (needs.Start (child.Forward uid room))) same (record { of = tt; may = tt })
-  comes_may (needs.Start (child.Local slot words uid)) came e unborn none = let same : Failed ≡ came = cc in subst (Comes s a (needs.Start (child.Local slot words uid))) same (record { of = tt; may = tt })
-  comes_may (needs.File call) came e unborn none = absurd (cc)
-  comes_may (needs.Command bytes) came e unborn none = let same : Ended (command_exits bytes) ≡ came = cc in subst (Comes s a (needs.Command bytes)) same (record { of = tt; may = tt })
-  comes_may needs.Wait came e unborn none = absurd (cc)
-  comes_may (needs.Ended status) came e unborn none = absurd (cc)
+  comes_may (needs.Start (child.Bounce room)) came e none fed = absurd none
+  comes_may (needs.Start (child.Forward uid room)) came e none fed = absurd none
+  comes_may (needs.Start (child.Local slot words uid)) came e none fed = absurd none
+  comes_may (needs.File call) came e none fed = absurd (cc)
+  comes_may (needs.Command bytes) came e none fed = let same : Ended (command_exits bytes) ≡ came = cc in subst (Comes s a (needs.Command bytes)) same (record { of = tt; may = tt })
+  comes_may needs.Wait came e none fed = absurd (cc)
+  comes_may (needs.Ended status) came e none fed = absurd (cc)
 
 -- What it leaves
 
@@ -609,7 +535,8 @@ passed_carries s a x ready due came unfiled carries is alive next may still =
           (omega arith)
           (λ old. carries.in_order b y old);
       kinds = λ b y here. put_named (λ (q : List ℕ) (z : Actor). RunsAt (seat q) z.program) s.actors a b now y here (carries.kinds a x is) (carries.kinds b y);
-      children = λ b d c runs. carries.children b d c (ran_before s.pipework a due came b d c runs);
+      names = λ b y here. put_named IsNamedAs s.actors a b now y here (carries.names a x is) (carries.names b y);
+      children = λ b d c runs. tenants_put s.actors s.pipework.programs a x now is refl carries.children b d c (ran_before s.pipework a due came b d c runs);
       new = λ b none named.
           let unknown = none_put s.actors a now b none in
           let old = carries.new b unknown named in
@@ -625,6 +552,7 @@ moment_carries s m later carries = record {
   runs = carries.runs;
   in_order = λ a x is. let before = carries.in_order a x is in omega arith;
   kinds = carries.kinds;
+  names = carries.names;
   children = carries.children;
   new = carries.new;
 }
@@ -646,25 +574,37 @@ halted_carries s how named carries = record {
   kinds = λ a x is.
       let w = mapped_some stopped (s.actors a) x is in
       subst (λ (x : Actor). RunsAt (seat a) x.program) w.2 (carries.kinds a w.0 w.1);
+  names = λ a x is.
+      let w = mapped_some stopped (s.actors a) x is in
+      subst (IsNamedAs a) w.2 (carries.names a w.0 w.1);
   children = λ a d c is. absurd (no_tenant c is);
   new = λ b none named. (refl, refl);
 }
 
 -- a generation
+unless_member : (t : Bool) (o : Option Tenant) (c : List ℕ) → (if t then None else o) ≡ Some (Runs c) → t ≡ false
+unless_member true o c is = absurd (no_tenant c is)
+unless_member false o c is = refl
+
 pub generation_carries : (s : State) → Carries s → Carries (happens s (generation_at s.now))
 generation_carries s carries =
     let pipework = with_generation s.pipework in
     let one = begins s (codes "sender") (Sender s.now) pipework in
     let two = begins one (codes "clean") (Cleaner s.now) pipework in
     let three = begins two (codes "lspawn") (LocalSpawner s.now) pipework in
-    let children : OnlySendersRun pipework.programs = λ a d c is. carries.children a d c (runs_if (is_member a) None (s.pipework.programs a d) c (no_tenant c) is) in
+    let old : (a : List ℕ) (d : ℕ) (c : List ℕ) → pipework.programs a d ≡ Some (Runs c) → s.pipework.programs a d ≡ Some (Runs c) = λ a d c is. runs_if (is_member a) None (s.pipework.programs a d) c (no_tenant c) is in
+    let far : (m : List ℕ) → is_member m ≡ true → (a : List ℕ) (d : ℕ) (c : List ℕ) → pipework.programs a d ≡ Some (Runs c) → (a ≢ m) × (c ≢ m) = λ m member a d c is. (
+      other_than a m (unless_member (is_member a) (s.pipework.programs a d) c is) member,
+      other_than c m (carries.children a d c (old a d c is)).named member,
+    ) in
+    let children : AreTenants one.actors pipework.programs = tenants_far s.actors pipework.programs (codes "sender") (newborn (Sender s.now)) (far (codes "sender") refl) (λ a d c is. carries.children a d c (old a d c is)) in
     let new : AreNew one.actors pipework = λ b none named.
     let old = carries.new b (none_put s.actors (codes "sender") (newborn (Sender s.now)) b none) named in
     (old.0, ap (λ (t : Bool). if t then fresh else s.pipework.pipes b port.Input) named ∙ old.1) in
-    starts_carries three (codes "rspawn") (RemoteSpawner s.now) (omega arith) tt
-    (starts_carries two (codes "lspawn") (LocalSpawner s.now) (omega arith) tt
-    (starts_carries one (codes "clean") (Cleaner s.now) (omega arith) tt
-    (begins_carries s (codes "sender") (Sender s.now) pipework (omega arith) tt children new carries)))
+    starts_carries three (codes "rspawn") (RemoteSpawner s.now) (omega arith) tt (λ no. absurd no) (far (codes "rspawn") refl)
+    (starts_carries two (codes "lspawn") (LocalSpawner s.now) (omega arith) tt (λ no. absurd no) (far (codes "lspawn") refl)
+    (starts_carries one (codes "clean") (Cleaner s.now) (omega arith) tt (λ no. absurd no) (far (codes "clean") refl)
+    (begins_carries s (codes "sender") (Sender s.now) pipework (omega arith) tt (λ no. absurd no) children new carries)))
 
 -- the report of a remote program
 pub report_carries : (s : State) (slot letter : ℕ) (text : List ℕ) → Carries s → Carries (happens s (Report slot letter text))
@@ -675,6 +615,7 @@ report_carries s slot letter text carries = record {
   runs = carries.runs;
   in_order = carries.in_order;
   kinds = carries.kinds;
+  names = carries.names;
   children = λ a d c is. carries.children a d c (runs_if (bytes_eq a (codes "rspawn") && (d == slot)) (Some (Remote true)) (s.pipework.programs a d) c (remote_tenant true c) is);
   new = λ b none named.
       let old = carries.new b none named in (
@@ -702,6 +643,18 @@ seated_sender a o other at runs sends = absurd sends
 
 pub sender_named : (a : List ℕ) (program : Program) → RunsAt (seat a) program → IsSender program → a ≡ codes "sender"
 sender_named a program runs sends = seated_sender a (seat a) program refl runs sends
+
+-- and so has a local spawner
+seated_spawner : (a : List ℕ) (o : Option ℕ) (program : Program) → seat a ≡ o → RunsAt o program → IsLocalSpawner program → a ≡ codes "lspawn"
+seated_spawner a None (LocalSpawner start) at runs spawns = absurd runs
+seated_spawner a (Some zero) (LocalSpawner start) at runs spawns = absurd runs
+seated_spawner a (Some (suc zero)) (LocalSpawner start) at runs spawns = absurd runs
+seated_spawner a (Some (suc (suc zero))) program at runs spawns = same_seat (codes "lspawn") a 2 refl at
+seated_spawner a (Some (suc (suc (suc i)))) (LocalSpawner start) at runs spawns = absurd runs
+seated_spawner a o other at runs spawns = absurd spawns
+
+pub spawner_named : (a : List ℕ) (program : Program) → RunsAt (seat a) program → IsLocalSpawner program → a ≡ codes "lspawn"
+spawner_named a program runs spawns = seated_spawner a (seat a) program refl runs spawns
 
 -- a mail has no member's name
 pub not_member : (a : List ℕ) → IsMailName a → ¬ (Contains members a)
@@ -747,8 +700,3 @@ unreported_is None e = absurd (cc)
 unreported_is (Some (Runs a)) e = absurd (cc)
 unreported_is (Some (Remote true)) e = absurd (cc)
 unreported_is (Some (Remote false)) e = refl
-
-pub both_true : (p q : Bool) → (p && q) ≡ true → (p ≡ true) × (q ≡ true)
-both_true true true e = (refl, refl)
-both_true true false e = absurd (cc)
-both_true false q e = absurd (cc)

@@ -1,7 +1,7 @@
 -- What a world keeps tells the deeds of a play, and those the history.
 use Rattle.std.proofs.Common.{◌≡◌, inl, inr, ℕ, List, [], ◌∷◌, ◌++◌, length, reverse, Bool, true, false, if◌then◌else◌, Option, Some, refl, sym, ap, ◌∙◌, subst, arith, bytes_eq}
-use Rattle.std.specs.Prelude.{cond}
-use Rattle.std.specs.List.{AllZip, sum_by}
+use Rattle.std.specs.Prelude.{cond, count_by}
+use Rattle.std.specs.List.{AllByRecursion, AllZip, sum_by}
 use Rattle.std.proofs.lemmas.List.{reverse-append, length-reverse}
 use Rattle.std.proofs.lemmas.List.Sums.{sum_by-append, sum_by-cons}
 use Rattle.std.proofs.lemmas.Slice.Zip.{AllZip-long}
@@ -9,24 +9,25 @@ use Rattle.call_fs.specs.declared.past.Own.{Own}
 use Rattle.call_fs.specs.Disk.{Disk}
 use Rattle.call_fs.specs.Plan.{Plan}
 use Rattle.crash_fs.specs.Crash.{Crash, crash_disk, crash_plan}
+use Rattle.world_events.specs.Children.{counted, counts_in as kept_counts, is_bounce, is_bounce_start, is_delivery, is_delivery_start}
 use Rattle.world_events.specs.Inputs.{with_texts, start_with, with_inputs}
 use Rattle.world_events.specs.Starting.{starts_in}
 use Rattle.world_events.specs.declared.event.Event.{Event as Kept}
 use Rattle.world_events.specs.declared.event.Event.TheVariants as kept
 use Rattle.world_events.specs.declared.event.Program.{Program}
-use Rattle.world_events.specs.declared.event.Program.TheVariants.{Injector}
+use Rattle.world_events.specs.declared.event.Program.TheVariants.{Injector, Cleaner, Sender, LocalSpawner, RemoteSpawner, Delivery}
 use Rattle.mail_world.specs.ByKind.{IsMail}
 use Rattle.mail_world.specs.Generations.{started_in as kept_started, starts_of as kept_starts}
 use Rattle.mail_world.specs.History.{Event, started_by}
 use Rattle.mail_world.specs.History.Event.{Start, Act, Child, Generation, Report, End, Stop, Moment, Halt}
 use Rattle.mail_world.specs.Wired.{AreWholeGivings, IsWholeGiving}
-use Rattle.mail_world.specs.World.{Seen, Tells, GoesOn, IsBefore, IsHistory, begun_with, next_pid as kept_pid, pid_after, bounces_in as kept_bounces, is_child as is_kept_child}
+use Rattle.mail_world.specs.World.{Seen, Tells, GoesOn, IsBefore, IsHistory, begun_with, next_pid as kept_pid, pid_after}
 use Rattle.mail_world.proofs.Histories.{began_told}
 use Rattle.mail_world.proofs.Known.{IsPlain, inputs_push, inputs_fed}
 use Rattle.mail_world.proofs.Piped.{whole_push}
-use Rattle.scenario.specs.Deeds.{Deed, TellsDeed, event_in, history_of, started, next_pid, is_birth, bounces_in}
+use Rattle.scenario.specs.Deeds.{Deed, TellsDeed, event_in, history_of, started, next_pid, bears_such, is_bounce_birth, is_delivery_birth, counts_in}
 use Rattle.scenario.specs.Deeds.Deed.{Came, Fed}
-use Rattle.scenario.specs.Fates.{IsMailStart, AreMailStarts}
+use Rattle.scenario.specs.Fates.{IsFedSo, IsNamedStart, IsNamedSo, AreNamedStarts}
 use Rattle.scenario.specs.Playing.{IsPlaying}
 use Rattle.scenario.specs.Turns.{started_in, starts_of}
 
@@ -184,13 +185,22 @@ pub texts_mail : (message envelope : List ℕ) (program : Program) → IsMail pr
 texts_mail message envelope (Injector args) mail = tt
 texts_mail message envelope other mail = absurd mail
 
--- the starts are of mails, whatever input stands in them
-pub starts_begun : (c message envelope : List ℕ) (h : List Event) → AreMailStarts h → AreMailStarts (begun_with c message envelope h)
+-- its name suits it as before
+pub texts_named : (a message envelope : List ℕ) (program : Program) → IsNamedSo a program → IsNamedSo a (with_texts message envelope program)
+texts_named a message envelope (Injector args) named = named
+texts_named a message envelope (Delivery start args) named = named
+texts_named a message envelope (Cleaner start) named = absurd named
+texts_named a message envelope (Sender start) named = absurd named
+texts_named a message envelope (LocalSpawner start) named = absurd named
+texts_named a message envelope (RemoteSpawner start) named = absurd named
+
+-- the starts are as they should be, whatever input stands in them
+pub starts_begun : (c message envelope : List ℕ) (h : List Event) → AreNamedStarts h → AreNamedStarts (begun_with c message envelope h)
 starts_begun c message envelope [] starts = tt
 starts_begun c message envelope ((Child parent own a program) ∷ h) starts = by_test (bytes_eq a c) (starts_begun c message envelope h starts.1) where
-  by_test : (t : Bool) → AreMailStarts (begun_with c message envelope h)
-      → AreMailStarts (if t then (Child parent own a (with_texts message envelope program)) ∷ h else (Child parent own a program ∷ begun_with c message envelope h))
-  by_test true rest = ((starts.0.0, texts_mail message envelope program starts.0.1), starts.1)
+  by_test : (t : Bool) → AreNamedStarts (begun_with c message envelope h)
+      → AreNamedStarts (if t then (Child parent own a (with_texts message envelope program)) ∷ h else (Child parent own a program ∷ begun_with c message envelope h))
+  by_test true rest = ((starts.0.0, texts_named a message envelope program starts.0.1), starts.1)
   by_test false rest = (starts.0, rest)
 starts_begun c message envelope ((Start a program) ∷ h) starts = (starts.0, starts_begun c message envelope h starts.1)
 starts_begun c message envelope ((Act a own wrote) ∷ h) starts = (starts.0, starts_begun c message envelope h starts.1)
@@ -201,21 +211,35 @@ starts_begun c message envelope ((Stop a) ∷ h) starts = (starts.0, starts_begu
 starts_begun c message envelope ((Moment m) ∷ h) starts = (starts.0, starts_begun c message envelope h starts.1)
 starts_begun c message envelope ((Halt how contents) ∷ h) starts = (starts.0, starts_begun c message envelope h starts.1)
 
-pub starts_more : (x : Deed) (h : List Deed) → IsMailStart (event_in x) → AreMailStarts (history_of h) → AreMailStarts (history_of (x ∷ h))
+pub starts_more : (x : Deed) (h : List Deed) → IsNamedStart (event_in x) → AreNamedStarts (history_of h) → AreNamedStarts (history_of (x ∷ h))
 starts_more (Came e) h one starts = (one, starts)
 starts_more (Fed a own c message envelope) h one starts = (one, starts_begun c message envelope (history_of h) starts)
 
 -- one deed more in a play
 pub playing_push : (d : Disk) (old new : Seen Crash) (plan left : Plan) (k : Kept) (x : Deed) (h : List Deed) → IsPlaying d old plan h → new.events ≡ old.events ++ k ∷ []
-    → IsHistory d (crash_disk new.disk) new.events new.present (history_of (x ∷ h)) → TellsDeed k x → crash_plan new.disk ≡ Some left → IsWholeGiving k → IsMailStart (event_in x)
-    → IsPlaying d new left (x ∷ h)
-playing_push d old new plan left k x h playing events is told planned whole start = record {
+    → IsHistory d (crash_disk new.disk) new.events new.present (history_of (x ∷ h)) → TellsDeed k x → crash_plan new.disk ≡ Some left → IsWholeGiving k → IsNamedStart (event_in x)
+    → IsFedSo k → IsPlaying d new left (x ∷ h)
+playing_push d old new plan left k x h playing events is told planned whole start fed = record {
   is = is;
   told = subst (λ (l : List Kept). AllZip TellsDeed (reverse l) (x ∷ h)) (sym events) (told_push old.events k x h told playing.told);
   planned = planned;
   whole = subst (λ (l : List Kept). AreWholeGivings (reverse l)) (sym events) (whole_push old.events k playing.whole whole);
   starts = starts_more x h start playing.starts;
+  fed = subst (λ (l : List Kept). AllByRecursion IsFedSo l) (sym (ap reverse events ∙ reverse-append old.events (k ∷ []))) (fed, playing.fed);
 }
+
+-- an event that gives no child its input gives none to a delivery
+pub plain_fed : (k : Kept) → IsPlain k → IsFedSo k
+plain_fed (kept.Feed a own c message envelope) plain = absurd plain
+plain_fed (kept.Start a program) plain = tt
+plain_fed (kept.Act a own) plain = tt
+plain_fed (kept.Child a own c program) plain = tt
+plain_fed (kept.Generation start) plain = tt
+plain_fed (kept.Report slot letter text) plain = tt
+plain_fed (kept.End a read ready status) plain = tt
+plain_fed (kept.Stop a) plain = tt
+plain_fed (kept.Moment m) plain = tt
+plain_fed (kept.Halt how) plain = tt
 
 -- What deeds started
 
@@ -265,24 +289,43 @@ starts_told events h told = sums_told starts_in started same_count events h told
 pub pid_told : (events : List Kept) (h : List Deed) → AllZip TellsDeed (reverse events) h → kept_pid events ≡ next_pid h
 pid_told events h told = ap pid_after (starts_told events h told)
 
-event_bears : (k : Kept) (e : Event) → Tells k e → is_kept_child k ≡ is_birth (Came e)
-event_bears k (Start a program) told = ap is_kept_child told
-event_bears k (Act a own w) told = ap is_kept_child told
-event_bears k (Child parent own a program) told = ap is_kept_child told
-event_bears k (Generation sender clean lspawn rspawn) told = ap is_kept_child told.1
-event_bears k (Report slot letter text) told = ap is_kept_child told
-event_bears k (End a read ready status) told = ap is_kept_child told
-event_bears k (Stop a) told = ap is_kept_child told
-event_bears k (Moment m) told = ap is_kept_child told
-event_bears k (Halt how contents) told = ap is_kept_child told
+event_bears : (kept_so : Kept → Bool) (is_such : Program → Bool) → ((k : Kept) (e : Event) → Tells k e → kept_so k ≡ bears_such is_such e)
+    → ((a : List ℕ) (own : Own) (c message envelope : List ℕ) → kept_so (kept.Feed a own c message envelope) ≡ false) → (k : Kept) (x : Deed) → TellsDeed k x
+    → kept_so k ≡ bears_such is_such (event_in x)
+event_bears kept_so is_such each fed k (Came e) told = each k e told
+event_bears kept_so is_such each fed k (Fed a own c message envelope) told = ap kept_so told ∙ fed a own c message envelope
 
-same_birth : (k : Kept) (x : Deed) → TellsDeed k x → is_kept_child k ≡ is_birth x
-same_birth k (Came e) told = event_bears k e told
-same_birth k (Fed a own c message envelope) told = ap is_kept_child told
+bounce_told : (k : Kept) (e : Event) → Tells k e → is_bounce_start k ≡ bears_such is_bounce e
+bounce_told k (Start a program) told = ap is_bounce_start told
+bounce_told k (Act a own w) told = ap is_bounce_start told
+bounce_told k (Child parent own a program) told = ap is_bounce_start told
+bounce_told k (Generation sender clean lspawn rspawn) told = ap is_bounce_start told.1
+bounce_told k (Report slot letter text) told = ap is_bounce_start told
+bounce_told k (End a read ready status) told = ap is_bounce_start told
+bounce_told k (Stop a) told = ap is_bounce_start told
+bounce_told k (Moment m) told = ap is_bounce_start told
+bounce_told k (Halt how contents) told = ap is_bounce_start told
 
-pub bounces_told : (events : List Kept) (h : List Deed) → AllZip TellsDeed (reverse events) h → kept_bounces events ≡ bounces_in h
-bounces_told events h told =
-    sums_told (λ k. cond (is_kept_child k) 1 0) (λ x. cond (is_birth x) 1 0) (λ k x is. ap (λ (t : Bool). cond t 1 0) (same_birth k x is)) events h told
+delivery_told : (k : Kept) (e : Event) → Tells k e → is_delivery_start k ≡ bears_such is_delivery e
+delivery_told k (Start a program) told = ap is_delivery_start told
+delivery_told k (Act a own w) told = ap is_delivery_start told
+delivery_told k (Child parent own a program) told = ap is_delivery_start told
+delivery_told k (Generation sender clean lspawn rspawn) told = ap is_delivery_start told.1
+delivery_told k (Report slot letter text) told = ap is_delivery_start told
+delivery_told k (End a read ready status) told = ap is_delivery_start told
+delivery_told k (Stop a) told = ap is_delivery_start told
+delivery_told k (Moment m) told = ap is_delivery_start told
+delivery_told k (Halt how contents) told = ap is_delivery_start told
+
+births_told : (kept_so : Kept → Bool) (deed_so : Deed → Bool) → ((k : Kept) (x : Deed) → TellsDeed k x → kept_so k ≡ deed_so x) → (events : List Kept) (h : List Deed)
+    → AllZip TellsDeed (reverse events) h → count_by kept_so events ≡ count_by deed_so h
+births_told kept_so deed_so each events h told =
+    sums_told (λ k. cond (kept_so k) 1 0) (λ x. cond (deed_so x) 1 0) (λ k x is. ap (λ (t : Bool). cond t 1 0) (each k x is)) events h told
+
+pub counts_told : (events : List Kept) (h : List Deed) → AllZip TellsDeed (reverse events) h → kept_counts events ≡ counts_in h
+counts_told events h told =
+    ap (λ (n : ℕ). counted n (count_by is_delivery_start events)) (births_told is_bounce_start is_bounce_birth (event_bears is_bounce_start is_bounce bounce_told (λ a own c message envelope. refl)) events h told)
+    ∙ ap (λ (n : ℕ). counted (count_by is_bounce_birth h) n) (births_told is_delivery_start is_delivery_birth (event_bears is_delivery_start is_delivery delivery_told (λ a own c message envelope. refl)) events h told)
 
 -- the actors that they started, in order
 event_started : (k : Kept) (e : Event) → Tells k e → kept_started k ≡ started_in e

@@ -1,29 +1,36 @@
 -- Each run, turn and `settle` comes to its end, and keeps what a script's history keeps.
-use Rattle.std.proofs.Common.{◌≡◌, ◌≢◌, ◌⊎◌, inl, inr, ⊎_elim, ℕ, ◌+◌, ◌-◌, ◌<◌, ◌≤◌, List, [], ◌∷◌, ◌++◌, length, get_or, Bool, true, false, not, ◌&&◌, ◌||◌, Option, Some, None, refl, sym, ap, ◌∙◌, subst, arith, append_assoc}
+use Rattle.std.proofs.Common.{◌≡◌, ◌≢◌, ◌⊎◌, inl, inr, ⊎_elim, ℕ, zero, suc, ◌+◌, ◌-◌, ◌*◌, ◌<◌, ◌≤◌, List, [], ◌∷◌, ◌++◌, length, get_or, Bool, true, false, not, ◌&&◌, Option, Some, None, refl, sym, ap, ◌∙◌, subst, arith, append_assoc}
 use Rattle.std.specs.Prelude.{nat_lt, if◌then◌else◌, bytes_eq, codes}
-use Rattle.std.specs.List.{list_any, range_with_len}
-use Rattle.std.proofs.lemmas.Bool.{cases_lt, ltb-false}
-use Rattle.std.proofs.lemmas.List.{append-nil, length-append}
+use Rattle.std.specs.List.{list_any, range_with_len, sum_by}
+use Rattle.std.proofs.Math.Nat.{mul-le-mul_right, mul-one, mul-zero, one-mul, suc-mul}
+use Rattle.std.proofs.lemmas.Bool.{and_parts, cases_lt, ltb-false}
+use Rattle.std.proofs.lemmas.List.{append-nil}
+use Rattle.std.proofs.lemmas.List.Sums.{sum_by-append, sum_by-cons}
 use Rattle.std.proofs.lemmas.List.Quantifiers.{position-Some}
 use Rattle.std.proofs.lemmas.List.FromFn.{get_or-range_with_len, length-range_with_len}
+use Rattle.actor_names.specs.ChildNames.{bounce_name, delivery_name, forward_of}
+use Rattle.call_fs.specs.declared.past.ChildData.{ChildData}
+use Rattle.call_fs.specs.declared.past.ChildData.TheVariants as child
 use Rattle.call_fs.specs.declared.past.NeedData.{NeedData}
 use Rattle.call_fs.specs.declared.past.NeedData.TheVariants as needs
 use Rattle.call_fs.specs.declared.program.Port.TheVariants as port
 use Rattle.call_fs.specs.Disk.{Disk}
 use Rattle.call_fs.specs.Plan.{Plan}
+use Rattle.world_events.specs.Children.{Counts, child_of}
+use Rattle.world_events.specs.declared.event.Program.{Program}
+use Rattle.world_events.specs.declared.event.Program.TheVariants.{Injector, Cleaner, Sender, LocalSpawner, RemoteSpawner, Delivery}
 use Rattle.mail_world.specs.Generations.{lives_in, is_unreported, lowest_unreported}
-use Rattle.mail_world.specs.History.{Actor, Life, State, IsSender, next_of}
+use Rattle.mail_world.specs.History.{Actor, Life, State, IsDelivery, IsLocalSpawner, IsSender, next_of, program_of}
 use Rattle.mail_world.specs.History.Life.{Alive, Over, Stopped}
-use Rattle.mail_world.specs.Inside.{RunsAt}
-use Rattle.mail_world.specs.Pipework.{Tenant, is_member}
+use Rattle.mail_world.specs.Pipework.{Tenant}
 use Rattle.mail_world.specs.Pipework.Tenant.{Runs, Remote}
 use Rattle.mail_world.specs.Readiness.{found_in}
-use Rattle.mail_world.specs.Wired.{seat}
-use Rattle.queue_law.proofs.Tests.{text_cases}
+use Rattle.mail_world.proofs.Feeders.{Starts, feeder_gives, starter}
 use Rattle.script_words.specs.declared.letter.Letter.{Letter}
 use Rattle.script_words.specs.Words.{letter_byte}
 use Rattle.scenario.specs.Chains.{EachFollows}
-use Rattle.scenario.specs.Deeds.{Deed, event_in, after, next_pid, bounces_in}
+use Rattle.scenario.specs.Deeds.{Deed, event_in, after, next_pid, counts_in}
+use Rattle.scenario.specs.Fates.{is_delivery_name}
 use Rattle.scenario.specs.Steps.{Outcome, DoesAlive, DoesStep, StepsTo, RunsOn, AreSteps, plan_through, has_idled, most_steps, Stops, IsRunOf, stop_text, refusal_line}
 use Rattle.scenario.specs.Steps.Stops.{Idles, Refused, Full}
 use Rattle.scenario.specs.Steps.Outcome.{Happens, Is}
@@ -31,38 +38,48 @@ use Rattle.scenario.specs.Steps.Refusal.{Unknown, Gone, Steps, Rounds}
 use Rattle.scenario.specs.Turns.{awaits_report, started_in, starts_of, is_next, next_in, next_living, Part, events_of, text_of, place_after, TurnsOn, AreParts, IsTurnOf, Round, reports_of, slot_after, ReportsOn, AreReported, AreReportsAfter, round_events, IsRound, events_in, is_last, text_in, most_rounds, SettlesOn, Settles, IsSettled}
 use Rattle.scenario.specs.Turns.Settles.{Rests, Full as All}
 use Rattle.scenario.proofs.Chains.{OneMore, grow}
-use Rattle.scenario.proofs.Carried.{Carries, HasDone, due_may, has_stepped, sender_named, both_true}
-use Rattle.scenario.proofs.Carried.HasDone.{Calls, Finishes, Passes, Bears, Feeds}
-use Rattle.scenario.proofs.Going.{Goes, goes_on, goes_report, sender_gives}
-use Rattle.scenario.proofs.Outcomes.{AreTextsFor, GivesTexts, due_comes, is_gone}
+use Rattle.scenario.proofs.Carried.{Carries, due_may, sender_named, spawner_named}
+use Rattle.scenario.proofs.StepKinds.{HasDone, has_stepped}
+use Rattle.scenario.proofs.StepKinds.HasDone.{Calls, Finishes, Passes, Bears, Feeds}
+use Rattle.scenario.proofs.FreeNames.{Goes}
+use Rattle.scenario.proofs.Going.{feeds_so, goes_on, goes_report}
+use Rattle.scenario.proofs.Outcomes.{AreTextsFor, AreTextsTo, GivesTexts, due_comes, is_gone}
 use Rattle.scenario.proofs.TurnStarts.{place_told}
 
 -- Steps
 
--- what is given to an actor in a slot are two texts
+-- what is given to an injector in a slot are two texts
 gives_two : (s : State) (a : List ℕ) (x : Actor) → Carries s → s.actors a ≡ Some x → (due : NeedData) → next_of x.program x.past s.now (found_in s a) ≡ due → GivesTexts s a due
 gives_two s a x carries is (needs.Give (port.Program d) bytes) next = by_tenant (s.pipework.programs a d) refl
   where
-    by_tenant : (o : Option Tenant) → s.pipework.programs a d ≡ o → AreTextsFor o bytes
+    by_program : (c : List ℕ) (o : Option Program) → s.pipework.programs a d ≡ Some (Runs c) → program_of (s.actors c) ≡ o → AreTextsTo o bytes
+    by_program c (Some (Injector args)) at of =
+        let gives = feeder_gives x.program x.past s.now (found_in s a) d bytes (feeds_so s a x d c args carries is at of) (carries.runs a x is) next in
+        (gives.texts.message, gives.texts.envelope, gives.texts.are)
+    by_program c (Some (Cleaner start)) at of = tt
+    by_program c (Some (Sender start)) at of = tt
+    by_program c (Some (LocalSpawner start)) at of = tt
+    by_program c (Some (RemoteSpawner start)) at of = tt
+    by_program c (Some (Delivery start args)) at of = tt
+    by_program c None at of = tt
+
+    by_tenant : (o : Option Tenant) → s.pipework.programs a d ≡ o → AreTextsFor s o bytes
     by_tenant None at = tt
     by_tenant (Some (Remote reported)) at = tt
-    by_tenant (Some (Runs c)) at =
-        let sends : IsSender x.program = subst (λ (q : List ℕ). RunsAt (seat q) x.program) (carries.children a d c at) (carries.kinds a x is) in
-        let gives = sender_gives x.program sends s x (found_in s a) d bytes refl (carries.runs a x is) next in
-        (gives.texts.message, gives.texts.envelope, gives.texts.are)
+    by_tenant (Some (Runs c)) at = by_program c (program_of (s.actors c)) at refl
 gives_two s a x carries is due next = tt
 
 step_life : (d : Disk) (h : List Deed) (plan : Plan) (a : List ℕ) (x : Actor) (life : Life) → Carries (after d h) → (after d h).actors a ≡ Some x → x.life ≡ life
-    → (outcome : Outcome) × DoesAlive plan (after d h) (next_pid h) (bounces_in h) a x life outcome
+    → (outcome : Outcome) × DoesAlive plan (after d h) (next_pid h) (counts_in h) a x life outcome
 step_life d h plan a x Alive carries is alive =
     let s = after d h in
     let due = next_of x.program x.past s.now (found_in s a) in
-    due_comes plan s (next_pid h) (bounces_in h) a x.program due (due_may s a x carries is alive) carries.finite (gives_two s a x carries is due refl)
+    due_comes plan s (next_pid h) (counts_in h) a x.program due (due_may s a x carries is alive) carries.finite (gives_two s a x carries is due refl)
 step_life d h plan a x (Over status) carries is over = (Is Gone, refl)
 step_life d h plan a x Stopped carries is over = (Is Gone, refl)
 
 step_actor : (d : Disk) (h : List Deed) (plan : Plan) (a : List ℕ) (o : Option Actor) → Carries (after d h) → (after d h).actors a ≡ o
-    → (outcome : Outcome) × DoesStep plan (after d h) (next_pid h) (bounces_in h) a o outcome
+    → (outcome : Outcome) × DoesStep plan (after d h) (next_pid h) (counts_in h) a o outcome
 step_actor d h plan a None carries is = (Is Unknown, refl)
 step_actor d h plan a (Some x) carries is = step_life d h plan a x x.life carries is refl
 
@@ -126,63 +143,150 @@ module _ (d : Disk) (h : List Deed) (plan : Plan) (a : List ℕ) where
       let all = grow (RunsOn d h plan a) (RunEnds d h plan a) RunKeeps steps_left run_next most_steps [] tt so (omega arith) in
       (all.list, all.stops.0, record { are_steps = all.follow; stops = all.stops.1 })
 
--- Whom a run starts: injectors of bounces, at most one with each step, if it is the sender's
+name_of : (born : List ℕ × Program) (b : List ℕ) (program : Program) → ◌≡◌ {A = Option (List ℕ × Program)} (Some (b, program)) (Some born) → born.0 ≡ b
+name_of born b program of = let same : born ≡ (b, program) = cc in ap (λ (p : List ℕ × Program). p.0) same
 
--- none of these is the sender
-abbrev AreOthers : List (List ℕ) → Type 0
-AreOthers [] = Unit {0}
-AreOthers (b ∷ later) = (b ≢ codes "sender") × AreOthers later
+-- Numbers
 
-others_append : (l more : List (List ℕ)) → AreOthers l → AreOthers more → AreOthers (l ++ more)
-others_append [] more others newest = newest
-others_append (b ∷ l) more others newest = (others.0, others_append l more others.1 newest)
+part_le : (w l t x b : ℕ) → t ≡ b + x → x ≡ w + l → w + l ≤ t
+part_le w l t x b all one = omega (arith, all, one)
 
--- an actor starts these, so many at most
-record StartsFew (a : List ℕ) (most : ℕ) (started : List (List ℕ)) : Type 0 where
-  few : length started ≤ most
-  others : AreOthers started
-  alone : a ≢ codes "sender" → started ≡ []
+one_few : (s w z o c : ℕ) → s ≡ w + z → z ≡ 0 → o ≡ c → w ≤ c → s ≤ o
+one_few s w z o c all none same low = omega (arith, all, none, same, low)
 
-done_starts : (plan : Plan) (s : State) (pid bounces : ℕ) (a : List ℕ) (x : Actor) (deed : Deed) → Carries s → s.actors a ≡ Some x → HasDone plan s pid bounces a x deed
-    → StartsFew a 1 (started_in (event_in deed))
-done_starts plan s pid bounces a x deed carries is (Calls (c, got, next, given, same)) =
-    subst (λ (deed : Deed). StartsFew a 1 (started_in (event_in deed))) (sym same) (record { few = omega arith; others = tt; alone = λ far. refl })
-done_starts plan s pid bounces a x deed carries is (Finishes (status, next, same)) =
-    subst (λ (deed : Deed). StartsFew a 1 (started_in (event_in deed))) (sym same) (record { few = omega arith; others = tt; alone = λ far. refl })
-done_starts plan s pid bounces a x deed carries is (Passes p) =
-    subst (λ (deed : Deed). StartsFew a 1 (started_in (event_in deed))) (sym p.is) (record { few = omega arith; others = tt; alone = λ far. refl })
-done_starts plan s pid bounces a x deed carries is (Bears p) =
-    subst (λ (deed : Deed). StartsFew a 1 (started_in (event_in deed))) (sym p.is) (record {
-      few = omega arith;
-      others = (λ e. let both : false ≡ true = ap is_member e in absurd (cc), tt);
-      alone = λ far. absurd (far (sender_named a x.program (carries.kinds a x is) p.sends));
-    })
-done_starts plan s pid bounces a x deed carries is (Feeds p) =
-    subst (λ (deed : Deed). StartsFew a 1 (started_in (event_in deed))) (sym p.is) (record { few = omega arith; others = tt; alone = λ far. refl })
+step_few : (s a b p o c m : ℕ) → s ≡ a + b → a ≤ p → b ≤ o → o ≡ c → m ≡ p + c → s ≤ m
+step_few s a b p o c m all first last same more = omega (arith, all, first, last, same, more)
 
-record RunStarts (a : List ℕ) (most : ℕ) (before now : List (List ℕ)) : Type 0 where
-  started : List (List ℕ)
-  are : now ≡ before ++ started
-  starts : StartsFew a most started
+as_many : (w c k : ℕ) → w ≡ k → c ≡ k → w ≤ c
+as_many w c k one other = omega (arith, one, other)
 
-run_starts : (d : Disk) (h : List Deed) (plan : Plan) (a : List ℕ) (events : List Deed) → Goes d h → AreSteps d h plan a events
-    → RunStarts a (length events) (starts_of h) (starts_of (events ++ h))
-run_starts d h plan a [] so steps = record { started = []; are = sym (append-nil (starts_of h)); starts = record { few = omega arith; others = tt; alone = λ far. refl } }
-run_starts d h plan a (deed ∷ events) so steps =
-    let before = run_starts d h plan a events so steps.0 in
-    let did = has_stepped d (events ++ h) (plan_through plan events) a deed steps.1.2 in
-    let kept = steps_kept d h plan a events so steps.0 in
-    let one = done_starts (plan_through plan events) (after d (events ++ h)) (next_pid (events ++ h)) (bounces_in (events ++ h)) a did.actor deed kept.carries did.is did.did in
-    let newest = started_in (event_in deed) in
-    record {
-      started = before.started ++ newest;
-      are = ap (λ (l : List (List ℕ)). l ++ newest) before.are ∙ append_assoc (starts_of h) before.started newest;
-      starts = record {
-        few = (let all = length-append before.started newest in let old = before.starts.few in let new = one.few in omega (arith, all, old, new));
-        others = others_append before.started newest before.starts.others one.others;
-        alone = λ far. ap (λ (l : List (List ℕ)). l ++ newest) (before.starts.alone far) ∙ one.alone far;
-      };
-    }
+none_le : (n : ℕ) → 0 ≤ n
+none_le n = omega arith
+
+le_two : (a b c : ℕ) → a ≤ b → b ≤ c → a ≤ c
+le_two a b c low high = omega (arith, low, high)
+
+-- What a start weighs: as much as all that may be started after it in one turn. Who runs makes so many steps at most, and with each starts
+-- one child at most: the local spawner deliveries, and these and the sender injectors, which start nothing.
+
+module _ (most : ℕ) where
+  abbrev pub child_weight : List ℕ → ℕ
+  child_weight a = if bytes_eq a (codes "sender") then 1 else (if bytes_eq a (codes "lspawn") then 1 + most else (if is_delivery_name a then 1 else 0))
+
+  abbrev pub weight : List ℕ → ℕ
+  weight a = 1 + most * child_weight a
+
+  -- that of the starts from a place on
+  abbrev pub weight_from : ℕ → List (List ℕ) → ℕ
+  weight_from zero starts = sum_by weight starts
+  weight_from (suc n) [] = 0
+  weight_from (suc n) (b ∷ later) = weight_from n later
+
+  sum_append : (l more : List (List ℕ)) → sum_by weight (l ++ more) ≡ sum_by weight l + sum_by weight more
+  sum_append l more = sum_by-append weight l more
+
+  -- it is no more than that of all, and at least that of one there and those after it
+  at_least : (from : ℕ) (before : List (List ℕ)) (a : List ℕ) (later : List (List ℕ)) → from ≤ length before → weight a + sum_by weight later ≤ weight_from from (before ++ a ∷ later)
+  at_least zero before a later low =
+      let all = sum_append before (a ∷ later) in
+      let one = sum_by-cons weight a later in
+      part_le (weight a) (sum_by weight later) (sum_by weight (before ++ a ∷ later)) (sum_by weight (a ∷ later)) (sum_by weight before) all one
+  at_least (suc n) [] a later low = absurd (omega (arith, low))
+  at_least (suc n) (b ∷ before) a later low = at_least n before a later (omega (arith, low))
+
+  just_after : (before : List (List ℕ)) (a : List ℕ) (rest : List (List ℕ)) → weight_from (suc (length before)) (before ++ a ∷ rest) ≡ sum_by weight rest
+  just_after [] a rest = refl
+  just_after (b ∷ before) a rest = just_after before a rest
+
+  -- an actor starts these
+  pub record StartsFew (a : List ℕ) (steps : ℕ) (started : List (List ℕ)) : Type 0 where
+    pub few : sum_by weight started ≤ steps * child_weight a
+
+  starts_none : (a : List ℕ) (steps : ℕ) → StartsFew a steps []
+  starts_none a steps = record { few = none_le (steps * child_weight a) }
+
+  starts_one : (a b : List ℕ) → weight b ≤ child_weight a → StartsFew a 1 (b ∷ [])
+  starts_one a b low =
+      let one = sum_by-cons weight b [] in
+      let none : sum_by weight [] ≡ 0 = refl in
+      let same : 1 * child_weight a ≡ child_weight a = one-mul (child_weight a) in
+      record { few = one_few (sum_by weight (b ∷ [])) (weight b) (sum_by weight []) (1 * child_weight a) (child_weight a) one none same low }
+
+  starts_more : (a : List ℕ) (steps : ℕ) (before newest : List (List ℕ)) → StartsFew a steps before → StartsFew a 1 newest → StartsFew a (suc steps) (before ++ newest)
+  starts_more a steps before newest old new =
+      let all = sum_append before newest in
+      let same : 1 * child_weight a ≡ child_weight a = one-mul (child_weight a) in
+      let more : suc steps * child_weight a ≡ steps * child_weight a + child_weight a = suc-mul steps (child_weight a) in
+      record {
+        few = step_few (sum_by weight (before ++ newest)) (sum_by weight before) (sum_by weight newest) (steps * child_weight a) (1 * child_weight a) (child_weight a) (suc steps * child_weight a) all old.few new.few same more;
+      }
+
+  -- the weight of whom a child may be
+  child_light : (b : List ℕ) → child_weight b ≡ 0 → weight b ≡ 1
+  child_light b none = ap (λ (n : ℕ). 1 + most * n) none ∙ ap (λ (n : ℕ). 1 + n) (mul-zero most)
+
+  delivery_weight : (b : List ℕ) → child_weight b ≡ 1 → weight b ≡ 1 + most
+  delivery_weight b one = ap (λ (n : ℕ). 1 + most * n) one ∙ ap (λ (n : ℕ). 1 + n) (mul-one most)
+
+  forward_weight : (a : List ℕ) → child_weight (forward_of a) ≡ 0
+  forward_weight [] = refl
+  forward_weight (letter ∷ rest) = refl
+
+  born_light : (n : Counts) (a : List ℕ) (parent : Program) (asked : ChildData) (pid now : ℕ) (born : List ℕ × Program) → Starts parent asked → child_of n a asked pid now ≡ Some born
+      → (IsSender parent → a ≡ codes "sender") → (IsLocalSpawner parent → a ≡ codes "lspawn") → (IsDelivery parent → (k : ℕ) × (a ≡ delivery_name k)) → weight born.0 ≤ child_weight a
+  born_light n a (Sender start) (child.Bounce room) pid now born by of sender spawner delivery =
+      let same : born.0 ≡ bounce_name (n.bounces + 1) = name_of born (bounce_name (n.bounces + 1)) _ of in
+      let mine : child_weight a ≡ 1 = ap child_weight (sender tt) in
+      let its : weight born.0 ≡ 1 = ap weight same ∙ child_light (bounce_name (n.bounces + 1)) refl in
+      as_many (weight born.0) (child_weight a) 1 its mine
+  born_light n a (LocalSpawner start) (child.Local slot words uid) pid now born by of sender spawner delivery =
+      let same : born.0 ≡ delivery_name (n.deliveries + 1) = name_of born (delivery_name (n.deliveries + 1)) _ of in
+      let mine : child_weight a ≡ 1 + most = ap child_weight (spawner tt) in
+      let its : weight born.0 ≡ 1 + most = ap weight same ∙ delivery_weight (delivery_name (n.deliveries + 1)) refl in
+      as_many (weight born.0) (child_weight a) (1 + most) its mine
+  born_light n a (Delivery start args) (child.Forward uid room) pid now born by of sender spawner delivery =
+      let at = delivery tt in
+      let same : born.0 ≡ forward_of a = name_of born (forward_of a) _ of in
+      let mine : child_weight a ≡ 1 = ap child_weight at.1 in
+      let its : weight born.0 ≡ 1 = ap weight same ∙ child_light (forward_of a) (forward_weight a) in
+      as_many (weight born.0) (child_weight a) 1 its mine
+  born_light n a parent (child.Remote slot domain sender_of recipient) pid now born by of sender spawner delivery = absurd (cc)
+  born_light n a parent asked pid now born by of sender spawner delivery = absurd by
+
+  done_starts : (plan : Plan) (s : State) (pid : ℕ) (n : Counts) (a : List ℕ) (x : Actor) (deed : Deed) → Carries s → s.actors a ≡ Some x → HasDone plan s pid n a x deed
+      → StartsFew a 1 (started_in (event_in deed))
+  done_starts plan s pid n a x deed carries is (Calls (c, got, next, given, same)) =
+      subst (λ (deed : Deed). StartsFew a 1 (started_in (event_in deed))) (sym same) (starts_none a 1)
+  done_starts plan s pid n a x deed carries is (Finishes (status, next, same)) =
+      subst (λ (deed : Deed). StartsFew a 1 (started_in (event_in deed))) (sym same) (starts_none a 1)
+  done_starts plan s pid n a x deed carries is (Passes p) =
+      subst (λ (deed : Deed). StartsFew a 1 (started_in (event_in deed))) (sym p.is) (starts_none a 1)
+  done_starts plan s pid n a x deed carries is (Bears p) =
+      subst (λ (deed : Deed). StartsFew a 1 (started_in (event_in deed))) (sym p.is)
+      (starts_one a p.child.0 (born_light n a x.program p.asked pid s.now p.child (starter x.program x.past s.now (found_in s a) p.asked (carries.runs a x is) p.next) p.of
+      (sender_named a x.program (carries.kinds a x is)) (spawner_named a x.program (carries.kinds a x is)) (carries.names a x is)))
+  done_starts plan s pid n a x deed carries is (Feeds p) =
+      subst (λ (deed : Deed). StartsFew a 1 (started_in (event_in deed))) (sym p.is) (starts_none a 1)
+
+  pub record RunStarts (a : List ℕ) (steps : ℕ) (before now : List (List ℕ)) : Type 0 where
+    pub started : List (List ℕ)
+    pub are : now ≡ before ++ started
+    pub starts : StartsFew a steps started
+
+  pub run_starts : (d : Disk) (h : List Deed) (plan : Plan) (a : List ℕ) (events : List Deed) → Goes d h → AreSteps d h plan a events
+      → RunStarts a (length events) (starts_of h) (starts_of (events ++ h))
+  run_starts d h plan a [] so steps = record { started = []; are = sym (append-nil (starts_of h)); starts = starts_none a 0 }
+  run_starts d h plan a (deed ∷ events) so steps =
+      let before = run_starts d h plan a events so steps.0 in
+      let did = has_stepped d (events ++ h) (plan_through plan events) a deed steps.1.2 in
+      let kept = steps_kept d h plan a events so steps.0 in
+      let one = done_starts (plan_through plan events) (after d (events ++ h)) (next_pid (events ++ h)) (counts_in (events ++ h)) a did.actor deed kept.carries did.is did.did in
+      let newest = started_in (event_in deed) in
+      record {
+        started = before.started ++ newest;
+        are = ap (λ (l : List (List ℕ)). l ++ newest) before.are ∙ append_assoc (starts_of h) before.started newest;
+        starts = starts_more a (length events) before.started newest before.starts one;
+      }
 
 -- Turns
 
@@ -195,173 +299,97 @@ parts_kept d h plan (part ∷ before) so are =
 pub turn_kept : (d : Disk) (h : List Deed) (plan : Plan) (parts : List Part) → Goes d h → IsTurnOf d h plan parts → Goes d (events_of parts ++ h)
 turn_kept d h plan parts so turn = parts_kept d h plan parts so turn.are
 
--- the next one has a place from this one on, of a start
-record IsPlaced (from at : ℕ) (starts : List (List ℕ)) (k : ℕ) : Type 0 where
+-- the next one stands among the starts, at a place from this one on
+record IsPlaced (from at : ℕ) (starts : List (List ℕ)) (a : List ℕ) (k : ℕ) : Type 0 where
   no_earlier : from ≤ k
-  later : at ≤ k
-  there : k < at + length starts
+  before : List (List ℕ)
+  later : List (List ℕ)
+  are : starts ≡ before ++ a ∷ later
+  there : k ≡ at + length before
 
 not_is : (t : Bool) → not t ≡ true → t ≡ false
 not_is true e = absurd (cc)
 not_is false e = refl
-
-next_placed : (s : State) (from at : ℕ) (starts : List (List ℕ)) (a : List ℕ) (k : ℕ) → next_in s from at starts ≡ Some (a, k) → IsPlaced from at starts k
-next_placed s from at [] a k e = absurd (cc)
-next_placed s from at (b ∷ later) a k e = by (is_next s from at b later) refl e (next_placed s from (at + 1) later a k)
-  where
-    by : (t : Bool) → is_next s from at b later ≡ t → (if t then Some (b, at) else next_in s from (at + 1) later) ≡ Some (a, k)
-        → (next_in s from (at + 1) later ≡ Some (a, k) → IsPlaced from (at + 1) later k) → IsPlaced from at (b ∷ later) k
-    by true is e placed =
-        let tests = both_true (not (nat_lt at from)) (not (list_any (bytes_eq b) later) && lives_in (s.actors b)) is in
-        let low = ltb-false at from (not_is (nat_lt at from) tests.0) in
-        let same : at ≡ k = ap place_told e in
-        record { no_earlier = omega arith; later = omega arith; there = omega arith }
-    by false is e placed =
-        let rest = placed e in
-        let low = rest.later in
-        let high = rest.there in
-        record { no_earlier = rest.no_earlier; later = omega arith; there = omega arith }
-
--- The sender runs once in a turn
-
--- it isn't among these starts, of which the first has the place `at`, from that place on
-abbrev NoSender : ℕ → ℕ → List (List ℕ) → Type 0
-NoSender from at [] = Unit {0}
-NoSender from at (b ∷ later) = (from ≤ at → b ≢ codes "sender") × NoSender from (at + 1) later
-
-none_later : (from more at : ℕ) (starts : List (List ℕ)) → from ≤ more → NoSender from at starts → NoSender more at starts
-none_later from more at [] le none = tt
-none_later from more at (b ∷ later) le none = (λ low. none.0 (omega (arith, le, low)), none_later from more (at + 1) later le none.1)
-
-none_others : (from at : ℕ) (starts : List (List ℕ)) → AreOthers starts → NoSender from at starts
-none_others from at [] others = tt
-none_others from at (b ∷ later) others = (λ low. others.0, none_others from (at + 1) later others.1)
-
-none_append : (from at : ℕ) (starts more : List (List ℕ)) → NoSender from at starts → AreOthers more → NoSender from at (starts ++ more)
-none_append from at [] more none others = none_others from at more others
-none_append from at (b ∷ later) more none others = (none.0, none_append from (at + 1) later more none.1 others)
-
-none_again : (from at : ℕ) (starts : List (List ℕ)) → list_any (bytes_eq (codes "sender")) starts ≡ false → NoSender from at starts
-none_again from at [] e = tt
-none_again from at (b ∷ later) e = ⊎_elim
-    (λ (f : (codes "sender" ≡ b) × (bytes_eq (codes "sender") b ≡ true)).
-    let both : true ≡ false = sym (ap (λ t. t || list_any (bytes_eq (codes "sender")) later) f.1) ∙ e in absurd (cc))
-    (λ (f : (codes "sender" ≢ b) × (bytes_eq (codes "sender") b ≡ false)). (
-      λ low same. f.0 (sym same),
-      none_again from (at + 1) later (sym (ap (λ t. t || list_any (bytes_eq (codes "sender")) later) f.1) ∙ e),
-    ))
-    (text_cases (codes "sender") b)
 
 -- who is the next one
 abbrev who_told : Option (List ℕ × ℕ) → List ℕ
 who_told None = []
 who_told (Some next) = next.0
 
-not_next : (s : State) (from at : ℕ) (starts : List (List ℕ)) (a : List ℕ) (k : ℕ) → NoSender from at starts → next_in s from at starts ≡ Some (a, k) → a ≢ codes "sender"
-not_next s from at [] a k none e = absurd (cc)
-not_next s from at (b ∷ later) a k none e = by (is_next s from at b later) refl e (not_next s from (at + 1) later a k none.1)
+next_placed : (s : State) (from at : ℕ) (starts : List (List ℕ)) (a : List ℕ) (k : ℕ) → next_in s from at starts ≡ Some (a, k) → IsPlaced from at starts a k
+next_placed s from at [] a k e = absurd (cc)
+next_placed s from at (b ∷ later) a k e = by (is_next s from at b later) refl e (next_placed s from (at + 1) later a k)
   where
     by : (t : Bool) → is_next s from at b later ≡ t → (if t then Some (b, at) else next_in s from (at + 1) later) ≡ Some (a, k)
-        → (next_in s from (at + 1) later ≡ Some (a, k) → a ≢ codes "sender") → a ≢ codes "sender"
-    by true is e rest =
-        let tests = both_true (not (nat_lt at from)) (not (list_any (bytes_eq b) later) && lives_in (s.actors b)) is in
+        → (next_in s from (at + 1) later ≡ Some (a, k) → IsPlaced from (at + 1) later a k) → IsPlaced from at (b ∷ later) a k
+    by true is e placed =
+        let tests = and_parts (not (nat_lt at from)) (not (list_any (bytes_eq b) later) && lives_in (s.actors b)) is in
         let low = ltb-false at from (not_is (nat_lt at from) tests.0) in
-        let same : b ≡ a = ap who_told e in
-        λ named. none.0 (omega (arith, low)) (same ∙ named)
-    by false is e rest = rest e
+        let same : at ≡ k = ap place_told e in
+        let name : b ≡ a = ap who_told e in
+        record { no_earlier = omega (arith, low, same); before = []; later = later; are = ap (λ (c : List ℕ). c ∷ later) name; there = omega (arith, same) }
+    by false is e placed =
+        let rest = placed e in
+        let there = rest.there in
+        record { no_earlier = rest.no_earlier; before = b ∷ rest.before; later = rest.later; are = ap (λ (l : List (List ℕ)). b ∷ l) rest.are; there = omega (arith, there) }
 
--- it is the newest start of the next one
-no_more : (s : State) (from at : ℕ) (starts : List (List ℕ)) (k : ℕ) → next_in s from at starts ≡ Some (codes "sender", k) → NoSender (k + 1) at starts
-no_more s from at [] k e = absurd (cc)
-no_more s from at (b ∷ later) k e = by (is_next s from at b later) refl e (no_more s from (at + 1) later k)
-  where
-    by : (t : Bool) → is_next s from at b later ≡ t → (if t then Some (b, at) else next_in s from (at + 1) later) ≡ Some (codes "sender", k)
-        → (next_in s from (at + 1) later ≡ Some (codes "sender", k) → NoSender (k + 1) (at + 1) later) → NoSender (k + 1) at (b ∷ later)
-    by true is e rest =
-        let tests = both_true (not (nat_lt at from)) (not (list_any (bytes_eq b) later) && lives_in (s.actors b)) is in
-        let again = both_true (not (list_any (bytes_eq b) later)) (lives_in (s.actors b)) tests.1 in
-        let here : at ≡ k = ap place_told e in
-        let same : b ≡ codes "sender" = ap who_told e in (
-          λ low. absurd (omega (arith, here, low)),
-          none_again (k + 1) (at + 1) later (subst (λ (b : List ℕ). list_any (bytes_eq b) later ≡ false) same (not_is (list_any (bytes_eq b) later) again.0)),
-        )
-    by false is e rest =
-        let placed = (next_placed s from (at + 1) later (codes "sender") k e).later in
-        (λ low. absurd (omega (arith, placed, low)), rest e)
+less_by : (p l s m : ℕ) → (1 + p) + l ≤ m → s ≤ p → l + s < m
+less_by p l s m all few = omega (arith, all, few)
+
+-- the starts that are left weigh less after a run
+lighter : (most : ℕ) (s : State) (old now : List (List ℕ)) (from steps : ℕ) (a : List ℕ) (k : ℕ) → steps ≤ most → next_in s from 0 old ≡ Some (a, k) → RunStarts most a steps old now
+    → weight_from most (k + 1) now < weight_from most from old
+lighter most s old now from steps a k few next grown =
+    let w = next_placed s from 0 old a k next in
+    let there = w.there in
+    let low = w.no_earlier in
+    let all : weight most a + sum_by (weight most) w.later ≤ weight_from most from old =
+    subst (λ (l : List (List ℕ)). weight most a + sum_by (weight most) w.later ≤ weight_from most from l) (sym w.are) (at_least most from w.before a w.later (omega (arith, there, low))) in
+    let now_is : now ≡ w.before ++ a ∷ (w.later ++ grown.started) =
+    grown.are ∙ ap (λ (l : List (List ℕ)). l ++ grown.started) w.are ∙ append_assoc w.before (a ∷ w.later) grown.started in
+    let place : k + 1 ≡ suc (length w.before) = omega (arith, there) in
+    let left : weight_from most (k + 1) now ≡ sum_by (weight most) (w.later ++ grown.started) =
+    ap (λ (n : ℕ). weight_from most n now) place ∙ ap (weight_from most (suc (length w.before))) now_is ∙ just_after most w.before a (w.later ++ grown.started) in
+    let both = sum_by-append (weight most) w.later grown.started in
+    let times : steps * child_weight most a ≤ most * child_weight most a = mul-le-mul_right (child_weight most a) few in
+    let bound = le_two (sum_by (weight most) grown.started) (steps * child_weight most a) (most * child_weight most a) grown.starts.few times in
+    let less = less_by (most * child_weight most a) (sum_by (weight most) w.later) (sum_by (weight most) grown.started) (weight_from most from old) all bound in
+    omega (arith, left, both, less)
 
 abbrev TurnEnds : Disk → List Deed → List Part → Type 0
 TurnEnds d h parts = (text_of parts ≢ []) ⊎ (next_living d (events_of parts ++ h) (place_after parts) ≡ None)
-
--- Nobody was started yet; or the sender ran, which won't run again in this turn.
-abbrev HasRoom : List (List ℕ) → List (List ℕ) → ℕ → Type 0
-HasRoom before now from = (now ≡ before) ⊎ (NoSender from 0 now × (length now ≤ length before + most_steps))
-
-has_most : (before now : List (List ℕ)) (from : ℕ) → HasRoom before now from → length now ≤ length before + most_steps
-has_most before now from (inl same) = let long = ap length same in omega (arith, long)
-has_most before now from (inr rest) = rest.1
-
-record TurnKeeps (d : Disk) (h : List Deed) (parts : List Part) : Type 0 where
-  so : Goes d (events_of parts ++ h)
-  room : HasRoom (starts_of h) (starts_of (events_of parts ++ h)) (place_after parts)
-
--- the room after a run
-room_after : (s : State) (before old now : List (List ℕ)) (from most : ℕ) (a : List ℕ) (k : ℕ) → most ≤ most_steps → next_in s from 0 old ≡ Some (a, k) → RunStarts a most old now
-    → HasRoom before old from → HasRoom before now (k + 1)
-room_after s before old now from most a k few next grown room = ⊎_elim
-    (λ (f : (a ≡ codes "sender") × (bytes_eq a (codes "sender") ≡ true)).
-    let runs : next_in s from 0 old ≡ Some (codes "sender", k) = next ∙ ap (λ (a : List ℕ). Some (a, k)) f.0 in
-    ⊎_elim
-    (λ same.
-    let all = ap length grown.are ∙ length-append old grown.started in
-    let long = ap length same in
-    let new = grown.starts.few in
-    inr (subst (NoSender (k + 1) 0) (sym grown.are) (none_append (k + 1) 0 old grown.started (no_more s from 0 old k runs) grown.starts.others), omega (arith, all, long, new, few)))
-    (λ rest. absurd (not_next s from 0 old a k rest.0 next f.0))
-    room)
-    (λ (f : (a ≢ codes "sender") × (bytes_eq a (codes "sender") ≡ false)).
-    let still : now ≡ old = grown.are ∙ (ap (λ (l : List (List ℕ)). old ++ l) (grown.starts.alone f.0) ∙ append-nil old) in
-    let low = (next_placed s from 0 old a k next).no_earlier in
-    ⊎_elim
-    (λ same. inl (still ∙ same))
-    (λ rest. inr (subst (NoSender (k + 1) 0) (sym still) (none_later from (k + 1) 0 old (omega (arith, low)) rest.0), subst (λ (l : List (List ℕ)). length l ≤ length before + most_steps) (sym still) rest.1))
-    room)
-    (text_cases a (codes "sender"))
 
 some_text : (b : ℕ) (text : List ℕ) → b ∷ text ≢ []
 some_text b text e = absurd (cc)
 
 module _ (d : Disk) (h : List Deed) (plan : Plan) where
+  abbrev TurnKeeps : List Part → Type 0
+  TurnKeeps parts = Goes d (events_of parts ++ h)
+
   abbrev places_left : List Part → ℕ
-  places_left parts = (length (starts_of h) + most_steps) - place_after parts
+  places_left parts = weight_from most_steps (place_after parts) (starts_of (events_of parts ++ h))
 
   abbrev TurnMore : List Part → Type 0
-  TurnMore parts = OneMore (TurnsOn d h plan) (TurnKeeps d h) places_left parts
+  TurnMore parts = OneMore (TurnsOn d h plan) TurnKeeps places_left parts
 
-  turn_by : (parts : List Part) → TurnKeeps d h parts → text_of parts ≡ [] → (o : Option (List ℕ × ℕ)) → next_living d (events_of parts ++ h) (place_after parts) ≡ o
+  turn_by : (parts : List Part) → TurnKeeps parts → text_of parts ≡ [] → (o : Option (List ℕ × ℕ)) → next_living d (events_of parts ++ h) (place_after parts) ≡ o
       → TurnEnds d h parts ⊎ TurnMore parts
-  turn_by parts keeps quiet None is = inl (inr is)
-  turn_by parts keeps quiet (Some next) is =
+  turn_by parts so quiet None is = inl (inr is)
+  turn_by parts so quiet (Some next) is =
       let g = events_of parts ++ h in
       let left = plan_through plan (events_of parts) in
-      let run = runs d g left next.0 keeps.so in
-      let placed = next_placed (after d g) (place_after parts) 0 (starts_of g) next.0 next.1 is in
-      let most = has_most (starts_of h) (starts_of g) (place_after parts) keeps.room in
-      let low = placed.no_earlier in
-      let high = placed.there in
+      let run = runs d g left next.0 so in
       let assoc = append_assoc run.0 (events_of parts) h in
       inr (record {
         newest = record { actor = next.0; place = next.1; events = run.0; text = run.1 };
         follows = record { quiet = quiet; next = is; run = run.2 };
-        keeps = record {
-          so = subst (Goes d) (sym assoc) (steps_kept d g left next.0 run.0 keeps.so run.2.are_steps);
-          room = subst (λ (l : List Deed). HasRoom (starts_of h) (starts_of l) (next.1 + 1)) (sym assoc)
-              (room_after (after d g) (starts_of h) (starts_of g) (starts_of (run.0 ++ g)) (place_after parts) (length run.0) next.0 next.1 (within d g left next.0 run.0 run.2.are_steps) is
-              (run_starts d g left next.0 run.0 keeps.so run.2.are_steps) keeps.room);
-        };
-        less = omega (arith, most, low, high);
+        keeps = subst (Goes d) (sym assoc) (steps_kept d g left next.0 run.0 so run.2.are_steps);
+        less = subst (λ (l : List Deed). weight_from most_steps (next.1 + 1) (starts_of l) < places_left parts) (sym assoc)
+            (lighter most_steps (after d g) (starts_of g) (starts_of (run.0 ++ g)) (place_after parts) (length run.0) next.0 next.1 (within d g left next.0 run.0 run.2.are_steps) is
+            (run_starts most_steps d g left next.0 run.0 so run.2.are_steps));
       })
 
-  turn_next : (parts : List Part) → AreParts d h plan parts → TurnKeeps d h parts → TurnEnds d h parts ⊎ TurnMore parts
+  turn_next : (parts : List Part) → AreParts d h plan parts → TurnKeeps parts → TurnEnds d h parts ⊎ TurnMore parts
   turn_next parts are keeps = by (text_of parts) refl
     where
       by : (text : List ℕ) → text_of parts ≡ text → TurnEnds d h parts ⊎ TurnMore parts
@@ -370,7 +398,7 @@ module _ (d : Disk) (h : List Deed) (plan : Plan) where
 
   pub turns : Goes d h → (parts : List Part) × IsTurnOf d h plan parts
   turns so =
-      let all = grow (TurnsOn d h plan) (TurnEnds d h) (TurnKeeps d h) places_left turn_next (length (starts_of h) + most_steps) [] tt (record { so = so; room = inl refl }) (omega arith) in
+      let all = grow (TurnsOn d h plan) (TurnEnds d h) TurnKeeps places_left turn_next (places_left []) [] tt so (omega arith) in
       (all.list, record { are = all.follow; over = all.stops })
 
 -- Reports
@@ -388,7 +416,7 @@ lowest from s slot e =
     let small : slot < 256 = let there = found.0 in omega arith in
     let same : 0 + slot ≡ slot = omega arith in
     let is : get_or (range_with_len 0 256) slot 0 ≡ slot = get_or-range_with_len 0 256 slot 0 small ∙ same in
-    let tests = both_true (not (nat_lt slot from)) (awaits_report s slot) (subst (λ (d : ℕ). test d ≡ true) is found.1) in
+    let tests = and_parts (not (nat_lt slot from)) (awaits_report s slot) (subst (λ (d : ℕ). test d ≡ true) is found.1) in
     record {
       no_earlier = ltb-false slot from (not_is (nat_lt slot from) tests.0);
       small = small;

@@ -25,17 +25,15 @@ use Rattle.world_events.specs.declared.event.Event.{Event as Kept}
 use Rattle.world_events.specs.declared.event.Event.TheVariants as kept
 use Rattle.world_events.specs.declared.event.Program.{Program}
 use Rattle.world_events.specs.declared.event.Program.TheVariants.{Injector, Cleaner, Sender, LocalSpawner, RemoteSpawner, Delivery}
-use Rattle.mail_world.specs.ByKind.{IsMail}
 use Rattle.mail_world.specs.History.{Event, Actor, Life, State, Allowed, IsSender, Legal, MayBear, MayDo, MayRun, acted, after, begins, books_after, bouncer_of, finished, happens, newborn, next_of, slot_by, stopped}
 use Rattle.mail_world.specs.History.Event.{Start, Act, Child, Generation, Report, End, Stop, Moment, Halt}
-use Rattle.mail_world.specs.History.Life.{Alive, Over, Stopped}
+use Rattle.mail_world.specs.History.Life.{Over, Stopped}
 use Rattle.mail_world.specs.Pipework.{Pipework, with_child, with_generation}
 use Rattle.mail_world.specs.World.{Tells}
 use Rattle.scenario.specs.declared.fates.Fates.{Fates}
 use Rattle.scenario.specs.declared.fates.Following.{Following}
-use Rattle.scenario.specs.Fates.{AreFates, AreMailStarts, AreNamed, Follows, HasDone, HasDue, IsHeard, IsMailStart, IsReadAs, TellsRead, heard_by}
+use Rattle.scenario.specs.Fates.{AreFates, AreNamedStarts, AreNamed, Follows, HasDone, HasDue, IsHeard, IsNamedStart, IsNamedSo, IsReadAs, TellsRead, heard_by, is_delivery_name}
 use Rattle.mail_world.proofs.Coming.{may_come}
-use Rattle.mail_world.proofs.Programs.{mail_runs}
 use Rattle.scenario.proofs.KeptEvents.{act_told, child_told}
 
 -- what an actor did by an event of its own, and by the start of a child
@@ -62,11 +60,11 @@ put_actor actors a b x y is = ⊎_elim
 -- what is asked of an actor with its name
 pub record IsNamed (a : List ℕ) (program : Program) : Type 0 where
   pub member : Contains members a → MayRun program → ⊥
-  pub mail : ¬ (Contains members a) → IsMail program
+  pub alone : ¬ (Contains members a) → IsNamedSo a program
   pub sender : IsSender program → a ≡ codes "sender"
 
 named_one : (s : State) (a : List ℕ) (x : Actor) → AreNamed s → s.actors a ≡ Some x → IsNamed a x.program
-named_one s a x named is = record { member = named.member a x is; mail = named.mail a x is; sender = named.sender a x is }
+named_one s a x named is = record { member = named.member a x is; alone = named.alone a x is; sender = named.sender a x is }
 
 named_put : (s t : State) (a : List ℕ) (x : Actor) → t.actors ≡ put_at s.actors a (Some x) → IsNamed a x.program → AreNamed s → AreNamed t
 named_put s t a x are here named =
@@ -74,12 +72,12 @@ named_put s t a x are here named =
     (λ h. subst (λ (b : List ℕ). IsNamed b y.program) (sym h.0) (subst (λ (x : Actor). IsNamed a x.program) h.1 here))
     (λ h. named_one s b y named h.1)
     (put_actor s.actors a b x y (ap (λ (m : List ℕ → Option Actor). m b) (sym are) ∙ is)) in
-    record { member = λ b y is. (each b y is).member; mail = λ b y is. (each b y is).mail; sender = λ b y is. (each b y is).sender }
+    record { member = λ b y is. (each b y is).member; alone = λ b y is. (each b y is).alone; sender = λ b y is. (each b y is).sender }
 
 named_same : (s t : State) → t.actors ≡ s.actors → AreNamed s → AreNamed t
 named_same s t are named = record {
   member = λ a x is. named.member a x (ap (λ (m : List ℕ → Option Actor). m a) (sym are) ∙ is);
-  mail = λ a x is. named.mail a x (ap (λ (m : List ℕ → Option Actor). m a) (sym are) ∙ is);
+  alone = λ a x is. named.alone a x (ap (λ (m : List ℕ → Option Actor). m a) (sym are) ∙ is);
   sender = λ a x is. named.sender a x (ap (λ (m : List ℕ → Option Actor). m a) (sym are) ∙ is);
 }
 
@@ -99,21 +97,23 @@ stopped_is (Some x) y is = (x, refl, let same : stopped x ≡ y = some_is (stopp
   some_is : (x y : Actor) → ◌≡◌ {A = Option Actor} (Some x) (Some y) → x ≡ y
   some_is x y e = cc
 
-mail_run : (program : Program) → MayRun program → IsMail program
-mail_run (Injector args) runs = tt
-mail_run (Cleaner start) runs = absurd runs
-mail_run (Sender start) runs = absurd runs
-mail_run (LocalSpawner start) runs = absurd runs
-mail_run (RemoteSpawner start) runs = absurd runs
-mail_run (Delivery start args) runs = absurd runs
+-- no sender has such a name
+no_sender_named : (a : List ℕ) (program : Program) → IsNamedSo a program → IsSender program → ⊥
+no_sender_named a (Injector args) named sends = sends
+no_sender_named a (Cleaner start) named sends = named
+no_sender_named a (Sender start) named sends = named
+no_sender_named a (LocalSpawner start) named sends = named
+no_sender_named a (RemoteSpawner start) named sends = named
+no_sender_named a (Delivery start args) named sends = sends
 
-sender_runs : (program : Program) → MayRun program → IsSender program → ⊥
-sender_runs (Injector args) runs sends = sends
-sender_runs (Cleaner start) runs sends = runs
-sender_runs (Sender start) runs sends = runs
-sender_runs (LocalSpawner start) runs sends = runs
-sender_runs (RemoteSpawner start) runs sends = runs
-sender_runs (Delivery start args) runs sends = runs
+-- and who has a delivery's starts alone
+no_delivery_runs : (a : List ℕ) (program : Program) → is_delivery_name a ≡ true → IsNamedSo a program → MayRun program → ⊥
+no_delivery_runs a (Injector args) is named runs = let both : true ≡ false = sym is ∙ named in absurd (cc)
+no_delivery_runs a (Cleaner start) is named runs = runs
+no_delivery_runs a (Sender start) is named runs = runs
+no_delivery_runs a (LocalSpawner start) is named runs = runs
+no_delivery_runs a (RemoteSpawner start) is named runs = runs
+no_delivery_runs a (Delivery start args) is named runs = runs
 
 -- the members of a generation
 is_member_sender : Contains members (codes "sender")
@@ -135,21 +135,21 @@ named_generation s start named =
     let two = begins one (codes "clean") (Cleaner start) pipework in
     let three = begins two (codes "lspawn") (LocalSpawner start) pipework in
     let four = begins three (codes "rspawn") (RemoteSpawner start) pipework in
-    named_put three four (codes "rspawn") (newborn (RemoteSpawner start)) refl (record { member = λ m r. r; mail = λ m. absurd (m is_member_rspawn); sender = λ sends. absurd sends })
-    (named_put two three (codes "lspawn") (newborn (LocalSpawner start)) refl (record { member = λ m r. r; mail = λ m. absurd (m is_member_lspawn); sender = λ sends. absurd sends })
-    (named_put one two (codes "clean") (newborn (Cleaner start)) refl (record { member = λ m r. r; mail = λ m. absurd (m is_member_clean); sender = λ sends. absurd sends })
-    (named_put s one (codes "sender") (newborn (Sender start)) refl (record { member = λ m r. r; mail = λ m. absurd (m is_member_sender); sender = λ sends. refl }) named)))
+    named_put three four (codes "rspawn") (newborn (RemoteSpawner start)) refl (record { member = λ m r. r; alone = λ m. absurd (m is_member_rspawn); sender = λ sends. absurd sends })
+    (named_put two three (codes "lspawn") (newborn (LocalSpawner start)) refl (record { member = λ m r. r; alone = λ m. absurd (m is_member_lspawn); sender = λ sends. absurd sends })
+    (named_put one two (codes "clean") (newborn (Cleaner start)) refl (record { member = λ m r. r; alone = λ m. absurd (m is_member_clean); sender = λ sends. absurd sends })
+    (named_put s one (codes "sender") (newborn (Sender start)) refl (record { member = λ m r. r; alone = λ m. absurd (m is_member_sender); sender = λ sends. refl }) named)))
 
-named_start : (a : List ℕ) (program : Program) → ¬ (Contains members a) → MayRun program → IsNamed a program
-named_start a program mail runs = record { member = λ m r. mail m; mail = λ m. mail_run program runs; sender = λ sends. absurd (sender_runs program runs sends) }
+named_start : (a : List ℕ) (program : Program) → ¬ (Contains members a) → IsNamedSo a program → IsNamed a program
+named_start a program alone named = record { member = λ m r. alone m; alone = λ m. named; sender = λ sends. absurd (no_sender_named a program named sends) }
 
-named_event : (s : State) (k : Kept) (e : Event) → Tells k e → IsMailStart e → Allowed s e → AreNamed s → AreNamed (happens s e)
+named_event : (s : State) (k : Kept) (e : Event) → Tells k e → IsNamedStart e → Allowed s e → AreNamed s → AreNamed (happens s e)
 named_event s k (Start a program) told mail may named =
-    named_put s (begins s a program s.pipework) a (newborn program) refl (named_start a program mail may.runs) named
+    named_put s (begins s a program s.pipework) a (newborn program) refl (named_start a program mail.0 mail.1) named
 named_event s k (Act a own wrote) told mail may named = named_acted s a own wrote (s.actors a) refl named
 named_event s k (Child parent own a program) told mail may named =
     named_put (acted s parent own 0 (s.actors parent)) (happens s (Child parent own a program)) a (newborn program) refl
-    (named_start a program mail.0 (mail_runs program mail.1)) (named_acted s parent own 0 (s.actors parent) refl named)
+    (named_start a program mail.0 mail.1) (named_acted s parent own 0 (s.actors parent) refl named)
 named_event s k (Generation sender clean lspawn rspawn) told mail may named =
     let are = told.2 in
     rw (are.sender_is, are.clean_is, are.lspawn_is, are.rspawn_is) (named_generation s told.0 named)
@@ -159,7 +159,7 @@ named_event s k (Stop a) told mail may named = named_finished s a Stopped (s.act
 named_event s k (Moment m) told mail may named = named_same s (happens s (Moment m)) refl named
 named_event s k (Halt how contents) told mail may named = record {
   member = λ a y is. let w = stopped_is (s.actors a) y is in subst (λ (p : Program). Contains members a → MayRun p → ⊥) w.2 (named.member a w.0 w.1);
-  mail = λ a y is. let w = stopped_is (s.actors a) y is in subst (λ (p : Program). ¬ (Contains members a) → IsMail p) w.2 (named.mail a w.0 w.1);
+  alone = λ a y is. let w = stopped_is (s.actors a) y is in subst (λ (p : Program). ¬ (Contains members a) → IsNamedSo a p) w.2 (named.alone a w.0 w.1);
   sender = λ a y is. let w = stopped_is (s.actors a) y is in subst (λ (p : Program). IsSender p → a ≡ codes "sender") w.2 (named.sender a w.0 w.1);
 }
 
@@ -187,9 +187,9 @@ pub record IsOrderly (s : State) : Type 0 where
   pub named : AreNamed s
   pub moment : IsMoment s.now
 
-pub orderly : (d : Disk) (ks : List Kept) (h : List Event) → Legal d h → AllZip TellsRead ks h → AreMailStarts h → IsOrderly (after d h)
+pub orderly : (d : Disk) (ks : List Kept) (h : List Event) → Legal d h → AllZip TellsRead ks h → AreNamedStarts h → IsOrderly (after d h)
 orderly d [] [] legal told mails = record {
-  named = record { member = λ a x is. absurd (cc); mail = λ a x is. absurd (cc); sender = λ a x is. absurd (cc) };
+  named = record { member = λ a x is. absurd (cc); alone = λ a x is. absurd (cc); sender = λ a x is. absurd (cc) };
   moment = omega arith;
 }
 orderly d (k ∷ ks) [] legal told mails = absurd told
@@ -243,8 +243,8 @@ IsOther (kept.Feed a own c message envelope) = ⊥
 IsOther (kept.Generation start) = ⊥
 IsOther k = Unit {0}
 
-follows_other : (f : Following) (s : State) (k : Kept) (e : Event) → IsOther k → Tells k e → IsMailStart e → Follows f s → Follows f (happens s e)
-follows_other f s k (Start a program) other told mail h = follows_begins f s a program s.pipework mail h
+follows_other : (f : Following) (s : State) (k : Kept) (e : Event) → IsOther k → Tells k e → IsNamedStart e → Follows f s → Follows f (happens s e)
+follows_other f s k (Start a program) other told mail h = follows_begins f s a program s.pipework mail.0 h
 follows_other f s k (Act a own wrote) other told mail h = absurd (subst IsOther told other)
 follows_other f s k (Child parent own a program) other told mail h = absurd (subst IsOther told other)
 follows_other f s k (Generation sender clean lspawn rspawn) other told mail h = absurd (subst IsOther told.1 other)
@@ -294,7 +294,7 @@ follows_generation old new s (Halt how contents) start m told fates is stands h 
 
 -- the same, by what a kept event is
 pub other_told : (f : Following) (s : State) (k : Kept) (e : Event) → ((a : List ℕ) (own : Own) → k ≢ kept.Act a own) → ((a : List ℕ) (own : Own) (c : List ℕ) (program : Program) → k ≢ kept.Child a own c program)
-    → ((a : List ℕ) (own : Own) (c message envelope : List ℕ) → k ≢ kept.Feed a own c message envelope) → ((start : ℕ) → k ≢ kept.Generation start) → TellsRead k e → IsMailStart e → Follows f s → Follows f (happens s e)
+    → ((a : List ℕ) (own : Own) (c message envelope : List ℕ) → k ≢ kept.Feed a own c message envelope) → ((start : ℕ) → k ≢ kept.Generation start) → TellsRead k e → IsNamedStart e → Follows f s → Follows f (happens s e)
 other_told f s (kept.Act a own) e act child feed generation told mail h = absurd (act a own refl)
 other_told f s (kept.Child a own c program) e act child feed generation told mail h = absurd (child a own c program refl)
 other_told f s (kept.Feed a own c message envelope) e act child feed generation told mail h = absurd (feed a own c message envelope refl)
@@ -321,7 +321,7 @@ own_told new s k e x a own is same told may follows =
     subst (λ (e : Event). Follows new (happens s e)) (sym it.1) (follows it.0 (act_done s a own it.0 (subst (Allowed s) it.1 may)))
 
 -- the start of a child
-pub bred_told : (new : Following) (s : State) (k : Kept) (e : Event) (a : List ℕ) (own : Own) (c : List ℕ) (program : Program) → k ≡ kept.Child a own c program → TellsRead k e → IsMailStart e → Allowed s e
+pub bred_told : (new : Following) (s : State) (k : Kept) (e : Event) (a : List ℕ) (own : Own) (c : List ℕ) (program : Program) → k ≡ kept.Child a own c program → TellsRead k e → IsNamedStart e → Allowed s e
     → ((wrote : ℕ) → HasDone s a own → Follows new (acted s a own wrote (s.actors a))) → Follows new (happens s e)
 bred_told new s k e a own c program is told mail may follows =
     let read = subst (λ (k : Kept). TellsRead k e) is told in
@@ -329,7 +329,7 @@ bred_told new s k e a own c program is told mail may follows =
     let it : e ≡ Child a own c whole = child_told a own c whole e (subst (λ (k : Kept). Tells k e) read.1.1 read.2) in
     let s' = acted s a own 0 (s.actors a) in
     subst (λ (e : Event). Follows new (happens s e)) (sym it)
-    (follows_begins new s' c whole (with_child s'.pipework a (slot_by own.due) c) (subst IsMailStart it mail).0 (follows 0 (child_done s a own c whole (subst (Allowed s) it may))))
+    (follows_begins new s' c whole (with_child s'.pipework a (slot_by own.due) c) (subst IsNamedStart it mail).0 (follows 0 (child_done s a own c whole (subst (Allowed s) it may))))
 
 -- An event of the sender
 
@@ -417,33 +417,42 @@ quiet_books child b a (RemoteSpawner start) past read ready due came runs sends 
 quiet_books child b a (Delivery start args) past read ready (needs.File c) (got.Answered told) runs sends = refl
 quiet_books child b a (Delivery start args) past read ready due came runs sends = refl
 
-pub follows_member : (f : Following) (s : State) (a : List ℕ) (own : Own) (wrote : ℕ) → AreNamed s → a ≢ codes "sender" → Contains members a → Follows f s → Follows f (acted s a own wrote (s.actors a))
-follows_member f s a own wrote named apart member h = by (s.actors a) refl where
+follows_quiet : (f : Following) (s : State) (a : List ℕ) (own : Own) (wrote : ℕ) → a ≢ codes "sender" → ((x : Actor) → s.actors a ≡ Some x → MayRun x.program → ⊥)
+    → ((x : Actor) → s.actors a ≡ Some x → IsSender x.program → ⊥) → Follows f s → Follows f (acted s a own wrote (s.actors a))
+follows_quiet f s a own wrote apart runs sends h = by (s.actors a) refl where
   by : (o : Option Actor) → s.actors a ≡ o → Follows f (acted s a own wrote o)
   by None is = h
   by (Some x) is = record {
-    fates = subst (AreFates f.fates) (sym (quiet_books (bouncer_of s a) s.books a x.program x.past own.read own.ready own.due own.came (named.member a x is member) (λ sends. apart (named.sender a x is sends)))) h.fates;
+    fates = subst (AreFates f.fates) (sym (quiet_books (bouncer_of s a) s.books a x.program x.past own.read own.ready own.due own.came (runs x is) (sends x is))) h.fates;
     heard = heard_apart f.sender s a own wrote (Some x) apart h.heard;
   }
 
 pub apart_by : (a : List ℕ) → bytes_eq a (codes "sender") ≡ false → a ≢ codes "sender"
 apart_by a differs e = let same : true ≡ false = ap (λ (b : List ℕ). bytes_eq b (codes "sender")) (sym e) ∙ differs in absurd (cc)
 
-mail_is : (program : Program) → IsMail program → (args : Arguments) × (program ≡ Injector args)
-mail_is (Injector args) mail = (args, refl)
-mail_is (Cleaner start) mail = absurd mail
-mail_is (Sender start) mail = absurd mail
-mail_is (LocalSpawner start) mail = absurd mail
-mail_is (RemoteSpawner start) mail = absurd mail
-mail_is (Delivery start args) mail = absurd mail
+pub follows_member : (f : Following) (s : State) (a : List ℕ) (own : Own) (wrote : ℕ) → AreNamed s → a ≢ codes "sender" → Contains members a → Follows f s → Follows f (acted s a own wrote (s.actors a))
+follows_member f s a own wrote named apart member h = follows_quiet f s a own wrote apart (λ x is. named.member a x is member) (λ x is sends. apart (named.sender a x is sends)) h
 
-pub follows_mail : (old new : Following) (s : State) (a : List ℕ) (own : Own) (wrote : ℕ) → AreNamed s → ¬ (Contains members a) → new.sender ≡ old.sender
+pub follows_delivery : (f : Following) (s : State) (a : List ℕ) (own : Own) (wrote : ℕ) → AreNamed s → a ≢ codes "sender" → ¬ (Contains members a) → is_delivery_name a ≡ true
+    → Follows f s → Follows f (acted s a own wrote (s.actors a))
+follows_delivery f s a own wrote named apart alone delivers h =
+    follows_quiet f s a own wrote apart (λ x is. no_delivery_runs a x.program delivers (named.alone a x is alone)) (λ x is sends. apart (named.sender a x is sends)) h
+
+mail_is : (a : List ℕ) (program : Program) → is_delivery_name a ≡ false → IsNamedSo a program → (args : Arguments) × (program ≡ Injector args)
+mail_is a (Injector args) none named = (args, refl)
+mail_is a (Cleaner start) none named = absurd named
+mail_is a (Sender start) none named = absurd named
+mail_is a (LocalSpawner start) none named = absurd named
+mail_is a (RemoteSpawner start) none named = absurd named
+mail_is a (Delivery start args) none named = let both : true ≡ false = sym named ∙ none in absurd (cc)
+
+pub follows_mail : (old new : Following) (s : State) (a : List ℕ) (own : Own) (wrote : ℕ) → AreNamed s → ¬ (Contains members a) → is_delivery_name a ≡ false → new.sender ≡ old.sender
     → ((child : Option Bouncer) (books : Books) (args : Arguments) (past : List Own) → AreFates old.fates books → AreFates new.fates (books_after child books a (Injector args) past own.read own.ready own.due own.came))
     → HasDone s a own → Follows old s → Follows new (acted s a own wrote (s.actors a))
-follows_mail old new s a own wrote named mail sender link does h =
+follows_mail old new s a own wrote named mail injects sender link does h =
     let x = does.actor in
     let is = does.reads.is in
-    let it = mail_is x.program (named.mail a x is mail) in
+    let it = mail_is a x.program injects (named.alone a x is mail) in
     rw is (record {
       fates = subst (λ (p : Program). AreFates new.fates (books_after (bouncer_of s a) s.books a p x.past own.read own.ready own.due own.came)) (sym it.1) (link (bouncer_of s a) s.books it.0 x.past h.fates);
       heard = subst (λ (m : Option Machine). IsHeard m ((acted s a own wrote (Some x)).actors (codes "sender"))) (sym sender)
@@ -454,11 +463,11 @@ follows_mail old new s a own wrote named mail sender link does h =
 
 -- what is kept follows each history that these events tell, the newest first
 abbrev pub FollowsAll : Following → List Kept → Type 0
-FollowsAll f ks = (d : Disk) (h : List Event) → Legal d h → AllZip TellsRead ks h → AreMailStarts h → Follows f (after d h)
+FollowsAll f ks = (d : Disk) (h : List Event) → Legal d h → AllZip TellsRead ks h → AreNamedStarts h → Follows f (after d h)
 
 -- so it does after one event more
 abbrev pub Notes : Following → Following → Kept → Type 0
-Notes old new k = (s : State) (e : Event) → AreNamed s → IsMoment s.now → IsMailStart e → Allowed s e → TellsRead k e → Follows old s → Follows new (happens s e)
+Notes old new k = (s : State) (e : Event) → AreNamed s → IsMoment s.now → IsNamedStart e → Allowed s e → TellsRead k e → Follows old s → Follows new (happens s e)
 
 one_more : (old new : Following) (k : Kept) (ks : List Kept) → Notes old new k → FollowsAll old ks → FollowsAll new (k ∷ ks)
 one_more old new k ks notes before d [] legal told mails = absurd told

@@ -1,5 +1,6 @@
 -- `sender` and `report`.
 use Rattle.std.proofs.Common.{◌≡◌, ◌≢◌, ℕ, List, [], ◌∷◌, ◌++◌, reverse, All, Contains, Bool, true, false, ◌&&◌, if◌then◌else◌, Option, Some, None, refl, sym, ap, ◌∙◌, subst, arith}
+use Rattle.std.proofs.lemmas.Bool.{and_parts}
 use Rattle.std.specs.Prelude.{codes}
 use Rattle.std.proofs.lemmas.List.{append-nil}
 use Rattle.std.proofs.lemmas.List.Elements.{All-nil, All-cons, All-head, All-tail, Contains-append_right}
@@ -26,7 +27,7 @@ use Rattle.scenario.specs.Steps.{Refusal, outcome_events, printed, refusal_line}
 use Rattle.scenario.specs.Steps.Outcome.{Happens, Is}
 use Rattle.scenario.specs.Turns.{first_alive, generation_at, generation_events, generation_text, awaits_report, report_comes}
 use Rattle.scenario.specs.Playing.{IsPlaying, HasPlayed}
-use Rattle.scenario.proofs.Carried.{lives_actor, dead_actor, both_true, living_in, unreported_is}
+use Rattle.scenario.proofs.Carried.{lives_actor, dead_actor, living_in, unreported_is}
 use Rattle.scenario.proofs.Deeds.{tells, plain_on, playing_push}
 use Rattle.scenario.proofs.KeptEvents.{generation_told, report_told}
 use Rattle.scenario.proofs.Knowing.{actors_told, pipework_told, may_report_same}
@@ -97,7 +98,7 @@ generation_played d old new plan text h playing started goes =
       events = Came (generation_at s.now) ∷ [];
       own = [];
       plays = (ap (generation_events s.now) (sym none), ap generation_text (sym none));
-      playing = playing_push d old new plan plan k (Came (generation_at s.now)) h playing events now (subst (Tells k) told next.2) (ap crash_plan disk ∙ playing.planned) tt tt;
+      playing = playing_push d old new plan plan k (Came (generation_at s.now)) h playing events now (subst (Tells k) told next.2) (ap crash_plan disk ∙ playing.planned) tt tt tt;
       text = sym (append-nil text);
     }
 
@@ -123,7 +124,7 @@ awaits s slot may =
 
 pub may_report : (s : State) (slot : ℕ) → awaits_report s slot ≡ true → MayReport s slot
 may_report s slot is =
-    let tests = both_true (lives_in (s.actors (codes "rspawn"))) (is_unreported (s.pipework.programs (codes "rspawn") slot)) is in
+    let tests = and_parts (lives_in (s.actors (codes "rspawn"))) (is_unreported (s.pipework.programs (codes "rspawn") slot)) is in
     record {
       lives = living_in s (codes "rspawn") (s.actors (codes "rspawn")) refl tests.0;
       runs = unreported_is (s.pipework.programs (codes "rspawn") slot) tests.1;
@@ -140,7 +141,7 @@ reported d old new plan slot letter text h playing did goes =
     let next = plain_on d old new plan k h playing goes tt events in
     let now : IsHistory d (crash_disk new.disk) new.events new.present (e ∷ history_of h) =
     subst (λ (e : Event). IsHistory d (crash_disk new.disk) new.events new.present (e ∷ history_of h)) (report_told slot letter text next.0 next.2) next.1 in
-    playing_push d old new plan plan k (Came e) h playing events now refl (ap crash_plan disk ∙ playing.planned) tt tt
+    playing_push d old new plan plan k (Came e) h playing events now refl (ap crash_plan disk ∙ playing.planned) tt tt tt
 
 pub report_comes_to : (s : State) (slot : ℕ) (letter : Letter) (text : List ℕ) → MayReport s slot → report_comes s slot letter text ≡ Happens (Came (Report slot (letter_byte letter) text))
 report_comes_to s slot letter text may = ap (λ t. if t then Happens (Came (Report slot (letter_byte letter) text)) else Is Refusal.NotWaiting) (awaits s slot may)

@@ -1,11 +1,11 @@
--- A legal history of a play, and what it keeps with each deed.
-use Rattle.std.proofs.Common.{◌≡◌, ◌≢◌, ⊎_elim, ℕ, ◌+◌, ◌<◌, ◌≤◌, List, [], ◌∷◌, ◌++◌, Bool, true, false, ◌&&◌, if◌then◌else◌, bytes_eq, codes, Option, Some, None, refl, sym, ap, ◌∙◌, subst, arith}
-use Rattle.std.specs.Prelude.{◌==◌, cond}
+-- A play goes on with each deed: its history is legal, and what it keeps is kept.
+use Rattle.std.proofs.Common.{◌≡◌, ◌≢◌, ⊎_elim, ℕ, ◌≤◌, List, [], ◌∷◌, ◌++◌, Bool, true, false, ◌&&◌, if◌then◌else◌, bytes_eq, codes, Option, Some, None, refl, sym, ap, ◌∙◌, subst, arith}
+use Rattle.std.specs.Prelude.{◌==◌}
 use Rattle.std.proofs.Math.Bool.{and-false}
-use Rattle.std.proofs.lemmas.Bool.{false≢true}
+use Rattle.std.proofs.lemmas.Bool.{and_parts, eqb-true, false≢true}
 use Rattle.std.proofs.lemmas.List.Elements.{All-contains}
-use Rattle.std.proofs.lemmas.List.Sums.{sum_by-cons}
 use Rattle.call_fs.specs.declared.crash_file_system.Survival.{Survival}
+use Rattle.call_fs.specs.declared.past.ChildData.{ChildData}
 use Rattle.call_fs.specs.declared.past.ChildData.TheVariants as child
 use Rattle.call_fs.specs.declared.past.GotData.{GotData}
 use Rattle.call_fs.specs.declared.past.GotData.TheVariants.{Answered, Gave, Started}
@@ -13,68 +13,54 @@ use Rattle.call_fs.specs.declared.past.NeedData.{NeedData}
 use Rattle.call_fs.specs.declared.past.NeedData.TheVariants as needs
 use Rattle.call_fs.specs.declared.past.Own.{Own}
 use Rattle.call_fs.specs.declared.program.Port.TheVariants as port
-use Rattle.call_fs.specs.declared.program.Ready.{Ready}
 use Rattle.call_fs.specs.Choices.{contents_by}
 use Rattle.call_fs.specs.Disk.{Disk}
 use Rattle.call_fs.specs.Maps.{put_at}
 use Rattle.call_fs.proofs.Maps.{put_at_same, put_at_other}
-use Rattle.call_fs.specs.Past.{IsRunBy}
 use Rattle.call_fs.specs.Plan.{Plan}
 use Rattle.mail_bytes.specs.Moments.{IsMoment}
-use Rattle.actor_names.specs.ChildNames.{bounce_name}
+use Rattle.actor_names.specs.ChildNames.{bounce_name, delivery_name, forward_of}
 use Rattle.actor_names.specs.MailNames.{IsMailName, members}
-use Rattle.world_events.specs.Inputs.{bounce, with_texts}
+use Rattle.actor_names.proofs.Children.{no_mail}
+use Rattle.local_deliver.specs.Deeds.{starts}
+use Rattle.queue_inject.specs.declared.injection.Arguments.{Arguments}
+use Rattle.world_events.specs.Children.{child_of}
+use Rattle.world_events.specs.Inputs.{with_texts}
 use Rattle.world_events.specs.declared.event.Program.{Program}
-use Rattle.world_events.specs.declared.event.Program.TheVariants.{Injector, Sender, Cleaner, LocalSpawner, RemoteSpawner}
-use Rattle.mail_world.specs.Anew.{AreAlikeBut}
-use Rattle.mail_world.specs.ByKind.{IsMail}
+use Rattle.world_events.specs.declared.event.Program.TheVariants.{Injector, Sender, Cleaner, LocalSpawner, RemoteSpawner, Delivery}
+use Rattle.mail_world.specs.Anew.{AreAlikeBut, idle}
+use Rattle.mail_world.specs.ByKind.{BearsIn, IsMail}
 use Rattle.mail_world.specs.Generations.{lives_in, is_unreported}
-use Rattle.mail_world.specs.History.{Event, Actor, State, Legal, MayRead, MayFind, ComesOf, IsInputOf, IsSender, acted, bears, finished, netstring, newborn, next_of, start_of}
+use Rattle.mail_world.specs.History.{Event, Actor, State, Legal, MayRead, MayFind, ComesOf, IsInputOf, acted, bears, finished, netstring, newborn, next_of, program_of, start_of, stopped}
 use Rattle.mail_world.specs.History.{after as after_events}
 use Rattle.mail_world.specs.History.Event.{Start, Act, Child, Report, End, Stop, Moment, Halt}
 use Rattle.mail_world.specs.History.Life.{Alive, Over, Stopped}
-use Rattle.mail_world.specs.Inside.{RunsAt, IsBirth}
-use Rattle.mail_world.specs.Pipework.{Pipework, Tenant, fresh, given, closed, is_member, input_of, put_pipe, with_child}
+use Rattle.mail_world.specs.Inside.{RunsAt, IsBirth, HasBorneLast}
+use Rattle.mail_world.specs.Pipework.{Pipework, Slot, Tenant, fresh, is_member, pipework_after, slot_of, with_child}
 use Rattle.mail_world.specs.Pipework.Tenant.{Runs}
 use Rattle.mail_world.specs.Readiness.{found_at, found_in}
 use Rattle.mail_world.specs.World.{begun_with}
-use Rattle.mail_world.proofs.Anew.{none_put, none_some, with_actors, other_state}
-use Rattle.mail_world.proofs.Awaiting.{GivesToNone, input_still}
-use Rattle.mail_world.proofs.Bounces.{mail_no_bounce, bounce_other}
+use Rattle.mail_world.proofs.Anew.{none_put, none_some, some_is, with_actors, other_state}
+use Rattle.mail_world.proofs.Feeders.{IsFeeder, Starts, feeder_gives, starter}
 use Rattle.mail_world.proofs.Histories.{is_fed}
-use Rattle.mail_world.proofs.Members.{mail_is_none}
+use Rattle.mail_world.proofs.Looks.{mapped_some}
+use Rattle.mail_world.proofs.Members.{four_other, mail_is_none}
 use Rattle.mail_world.proofs.Programs.{mail_runs, found_finds}
-use Rattle.mail_world.proofs.ReturnSteps.{IsGiving, gives_texts}
 use Rattle.mail_world.proofs.Seats.{seat_none}
-use Rattle.queue_law.proofs.Tests.{text_cases, other_text}
-use Rattle.scenario.specs.Deeds.{Deed, history_of, after, next_pid, is_birth, bounces_in}
+use Rattle.queue_law.proofs.Tests.{text_cases}
+use Rattle.scenario.specs.Deeds.{Deed, history_of, after, next_pid, is_bounce_birth, is_delivery_birth, counts_in}
 use Rattle.scenario.specs.Deeds.Deed.{Came, Fed}
 use Rattle.scenario.specs.Steps.{StepsTo, comes, own_by}
 use Rattle.scenario.specs.Steps.Outcome.{Happens}
 use Rattle.scenario.specs.Turns.{first_alive, generation_at, awaits_report}
+use Rattle.scenario.proofs.Births.{still_none, HasBegun, BegunIf, apart_children, begins_so, texts_same, not_child, acted_begun, fed_begun, finished_begun, started_begun, borne_begun, generation_begun, report_begun, moment_begun, halted_begun}
+use Rattle.scenario.proofs.Carried.{AreTenants, Carries, IsTenant, called_carries, fed_by, finished_carries, begins_carries, starts_carries, other_carries, comes_may, passed_carries, moment_carries, halted_carries, generation_carries, report_carries, mail_alone, mail_no_delivery, member_apart, lives_actor, none_alive, living_in, tenants_far, unknown_far, unreported_is}
+use Rattle.scenario.proofs.StepKinds.{GivesNoMail, HasDone, has_stepped, no_birth}
 use Rattle.scenario.proofs.Deeds.{texts_mail}
-use Rattle.scenario.proofs.Births.{StartsNot, still_none, HasBegun, BegunIf, begins_so, texts_same, not_child, acted_begun, fed_begun, finished_begun, started_begun, borne_begun, generation_begun, report_begun, moment_begun, halted_begun}
-use Rattle.scenario.proofs.Carried.{Carries, HasDone, has_stepped, called_carries, finished_carries, begins_carries, starts_carries, other_carries, comes_may, passed_carries, moment_carries, halted_carries, generation_carries, report_carries, member_apart, sender_named, lives_actor, none_alive, living_in, unreported_is, both_true}
-use Rattle.scenario.proofs.Carried.HasDone.{Calls, Finishes, Passes, Bears, Feeds}
+use Rattle.scenario.proofs.GivenInputs.{GivesNot, input_not}
+use Rattle.scenario.proofs.StepKinds.HasDone.{Calls, Finishes, Passes, Bears, Feeds}
 use Rattle.scenario.proofs.LastingFiles.{halt_survives}
-
--- no actor has the name of a later bounce
-pub record Goes (d : Disk) (h : List Deed) : Type 0 where
-  pub legal : Legal d (history_of h)
-  pub carries : Carries (after d h)
-  pub unborn : (n : ℕ) → bounces_in h < n → (after d h).actors (bounce_name n) ≡ None
-  pub begun : BegunIf (after d h) (history_of h)
-
--- Bounces, as deeds come
-
-no_fewer : (x : Deed) (h : List Deed) → bounces_in h ≤ bounces_in (x ∷ h)
-no_fewer x h = let one = sum_by-cons (λ (y : Deed). cond (is_birth y) 1 0) x h in omega (arith, one)
-
-still_unborn : (d : Disk) (h : List Deed) (e : Event) → Goes d h → ((n : ℕ) → bounces_in (Came e ∷ h) < n → StartsNot (bounce_name n) e)
-    → (n : ℕ) → bounces_in (Came e ∷ h) < n → (after d (Came e ∷ h)).actors (bounce_name n) ≡ None
-still_unborn d h e so starts n later =
-    let fewer = no_fewer (Came e) h in
-    still_none (after d h) e (bounce_name n) (starts n later) (so.unborn n (omega (arith, fewer, later)))
+use Rattle.scenario.proofs.FreeNames.{Goes, no_fewer, acted_started, finished_started, still_unborn, starts_none, IsBornAs, born_as, borne_unborn, delivery_single}
 
 -- What an actor may do
 
@@ -90,11 +76,19 @@ may_read s a x carries is alive = record {
 may_find : (s t : State) (a : List ℕ) (x : Actor) → s.actors a ≡ Some x → t.pipework ≡ s.pipework → MayFind t a x.program x.past (found_in s a)
 may_find s t a x is same = subst (MayFind t a x.program x.past) (sym (ap (found_at s a) is)) (found_finds s t a x.program x.past same)
 
+-- what is given to no injector isn't given to who awaits its input
+gives_not_to : (d : Disk) (h : List Event) (a : List ℕ) (due : NeedData) → Legal d h → GivesNoMail (after_events d h) a due → (p : List ℕ) (b : HasBegun (after_events d h) h p)
+    → GivesNot (after_events d h).pipework a due b.child
+gives_not_to d h a (needs.Give (port.Program slot) bytes) legal never p b = λ runs.
+    let alike = (begins_so d h p [] [] legal b).1 in
+    never b.child (idle b.program alike.life) runs alike.was b.mail
+gives_not_to d h a due legal never p b = tt
+
 -- an event of an actor that starts no injector, and gives nothing to one
 goes_acted : (d : Disk) (h : List Deed) (a : List ℕ) (x : Actor) (due : NeedData) (came : GotData) → Goes d h → (after d h).actors a ≡ Some x → x.life ≡ Alive
-    → next_of x.program x.past (after d h).now (found_in (after d h) a) ≡ due → due ≢ needs.Wait → (IsBirth due came → ⊥) → GivesToNone (after d h).pipework a due → ComesOf (after d h) a due came 0
+    → next_of x.program x.past (after d h).now (found_in (after d h) a) ≡ due → due ≢ needs.Wait → (IsBirth due came → ⊥) → GivesNoMail (after d h) a due → ComesOf (after d h) a due came 0
     → Carries (acted (after d h) a (own_by (after d h) a due came) 0 (Some x)) → Goes d (Came (Act a (own_by (after d h) a due came) 0) ∷ h)
-goes_acted d h a x due came so is alive next busy unborn none of carries =
+goes_acted d h a x due came so is alive next busy unborn no_mail of carries =
     let s = after d h in
     let own = own_by s a due came in
     record {
@@ -109,9 +103,12 @@ goes_acted d h a x due came so is alive next busy unborn none of carries =
         },
       );
       carries = subst (λ (o : Option Actor). Carries (acted s a own 0 o)) (sym is) carries;
-      unborn = still_unborn d h (Act a own 0) so (λ n later. tt);
+      unborn = still_unborn d h (Act a own 0) so (starts_none (Act a own 0) (λ b. tt)) (acted_started s a own 0 (s.actors a) refl);
       begun = subst (λ (o : Option Actor). BegunIf (acted s a own 0 o) (Act a own 0 ∷ history_of h)) (sym is)
-          (acted_begun s (history_of h) a x own so.begun is unborn none (not_child d (history_of h) a x so.legal is (λ wait. busy (sym next ∙ wait))));
+          (acted_begun s (history_of h) a x own so.begun is unborn (λ p b. (
+            not_child d (history_of h) a x so.legal is (λ wait. busy (sym next ∙ wait)) p b,
+            gives_not_to d (history_of h) a due so.legal no_mail p b,
+          )));
     }
 
 -- an end or a stop
@@ -131,7 +128,7 @@ goes_ended d h a x status so is alive next =
         },
       );
       carries = subst (λ (o : Option Actor). Carries (finished s a (Over status) o)) (sym is) (finished_carries s a x (Over status) (λ e. absurd (cc)) so.carries is);
-      unborn = still_unborn d h e so (λ n later. tt);
+      unborn = still_unborn d h e so (starts_none e (λ b. tt)) (finished_started s a (Over status) (s.actors a) refl);
       begun = subst (λ (o : Option Actor). BegunIf (finished s a (Over status) o) (e ∷ history_of h)) (sym is)
           (finished_begun s (history_of h) a x (Over status) e (λ e. absurd (cc)) so.begun
           (not_child d (history_of h) a x so.legal is (λ wait. let both : needs.Ended status ≡ needs.Wait = sym next ∙ wait in absurd (cc))));
@@ -144,97 +141,133 @@ goes_stopped d h a x so is alive =
     record {
       legal = (so.legal, record { actor = x; is = is; alive = alive });
       carries = subst (λ (o : Option Actor). Carries (finished s a Stopped o)) (sym is) (finished_carries s a x Stopped (λ e. absurd (cc)) so.carries is);
-      unborn = still_unborn d h (Stop a) so (λ n later. tt);
+      unborn = still_unborn d h (Stop a) so (starts_none (Stop a) (λ b. tt)) (finished_started s a Stopped (s.actors a) refl);
       begun = subst (λ (o : Option Actor). BegunIf (finished s a Stopped o) (Stop a ∷ history_of h)) (sym is)
-          (finished_begun s (history_of h) a x Stopped (Stop a) (λ e. absurd (cc)) so.begun (λ b. tt));
+          (finished_begun s (history_of h) a x Stopped (Stop a) (λ e. absurd (cc)) so.begun (λ p b. tt));
     }
 
--- A sender starts the injector of a bounce
+-- The start of a child
 
-module _ (d : Disk) (h : List Deed) (x : Actor) (room pid : ℕ) (so : Goes d h) (is : (after d h).actors (codes "sender") ≡ Some x) (alive : x.life ≡ Alive)
-    (next : next_of x.program x.past (after d h).now (found_in (after d h) (codes "sender")) ≡ needs.Start (child.Bounce room)) where
+module _ (d : Disk) (h : List Deed) (a : List ℕ) (x : Actor) (asked : ChildData) (pid : ℕ) (c : List ℕ × Program) (so : Goes d h) (is : (after d h).actors a ≡ Some x) (alive : x.life ≡ Alive)
+    (next : next_of x.program x.past (after d h).now (found_in (after d h) a) ≡ needs.Start asked) (of : child_of (counts_in h) a asked pid (after d h).now ≡ Some c) where
   abbrev birth : State
   birth = after d h
 
-  abbrev next_number : ℕ
-  next_number = bounces_in h + 1
-
   abbrev birth_own : Own
-  birth_own = own_by birth (codes "sender") (needs.Start (child.Bounce room)) (Started pid)
-
-  abbrev birth_program : Program
-  birth_program = Injector (bounce pid birth.now)
+  birth_own = own_by birth a (needs.Start asked) (Started pid)
 
   -- the state after its parent's event
   abbrev born_of : State
-  born_of = acted birth (codes "sender") birth_own 0 (Some x)
+  born_of = acted birth a birth_own 0 (Some x)
 
   abbrev birth_pipes : Pipework
-  birth_pipes = with_child born_of.pipework (codes "sender") 0 (bounce_name next_number)
+  birth_pipes = with_child born_of.pipework a (slot_of asked) c.0
 
-  birth_new : birth.actors (bounce_name next_number) ≡ None
-  birth_new = so.unborn next_number (omega arith)
+  starts_so : Starts x.program asked
+  starts_so = starter x.program x.past birth.now (found_in birth a) asked (so.carries.runs a x is) next
+
+  kind : IsBornAs birth.actors x.program asked a pid birth.now c
+  kind = born_as birth.actors (counts_in h) a x pid birth.now so.unborn is (so.carries.names a x is)
+      (delivery_single x.program x.past birth.now (found_in birth a) asked (so.carries.runs a x is) next) asked c starts_so of
+
+  birth_slot : birth.pipework.slots c.0 ≡ None
+  birth_slot = (so.carries.new c.0 kind.new kind.named).0
 
   born_carries : Carries born_of
-  born_carries = passed_carries birth (codes "sender") x (found_in birth (codes "sender")) (needs.Start (child.Bounce room)) (Started pid) tt so.carries is alive next tt (λ b none named. refl)
+  born_carries = passed_carries birth a x (found_in birth a) (needs.Start asked) (Started pid) tt so.carries is alive next tt
+      (λ b none named. ap (λ (w : Pipework). w.pipes b port.Input) (kind.still birth.pipework))
 
-  borne_carries : Carries (bears born_of (codes "sender") birth_own (bounce_name next_number) birth_program)
+  born_new : born_of.actors c.0 ≡ None
+  born_new = put_at_other birth.actors a (Some (record { program = x.program; past = birth_own ∷ x.past; life = x.life })) c.0 (λ e. none_some (birth.actors c.0) x kind.new (ap birth.actors e ∙ is)) ∙ kind.new
+
+  -- it runs in its parent's slot
+  born_tenants : AreTenants (put_at born_of.actors c.0 (Some (newborn c.1))) birth_pipes.programs
+  born_tenants b e f runs = by (bytes_eq b a && (e == slot_of asked)) refl runs
+    where
+      known : AreTenants (put_at born_of.actors c.0 (Some (newborn c.1))) born_of.pipework.programs
+      known = tenants_far born_of.actors born_of.pipework.programs c.0 (newborn c.1) (unknown_far born_of.actors born_of.pipework.programs c.0 born_new born_carries.children) born_carries.children
+
+      parent : Actor
+      parent = record { program = x.program; past = birth_own ∷ x.past; life = x.life }
+
+      mine : IsTenant (put_at born_of.actors c.0 (Some (newborn c.1))) a (slot_of asked) c.0
+      mine = record {
+        child = newborn c.1;
+        is = put_at_same born_of.actors c.0 (Some (newborn c.1));
+        named = kind.named;
+        parent = parent;
+        there = put_at_other born_of.actors c.0 (Some (newborn c.1)) a (λ e. none_some (birth.actors c.0) x kind.new (ap birth.actors (sym e) ∙ is)) ∙ put_at_same birth.actors a (Some parent);
+        bears = kind.bears;
+      }
+
+      by : (t : Bool) → (bytes_eq b a && (e == slot_of asked)) ≡ t → (if t then Some (Runs c.0) else born_of.pipework.programs b e) ≡ Some (Runs f)
+          → IsTenant (put_at born_of.actors c.0 (Some (newborn c.1))) b e f
+      by true tests runs =
+          let both = and_parts (bytes_eq b a) (e == slot_of asked) tests in
+          let same : b ≡ a = ⊎_elim (λ (g : (b ≡ a) × (bytes_eq b a ≡ true)). g.0) (λ (g : (b ≢ a) × (bytes_eq b a ≡ false)). absurd (false≢true (sym g.1 ∙ both.0))) (text_cases b a) in
+          let slot : e ≡ slot_of asked = eqb-true e (slot_of asked) both.1 in
+          let name : c.0 ≡ f = cc in
+          subst (λ (b : List ℕ). IsTenant (put_at born_of.actors c.0 (Some (newborn c.1))) b e f) (sym same)
+          (subst (λ (e : ℕ). IsTenant (put_at born_of.actors c.0 (Some (newborn c.1))) a e f) (sym slot)
+          (subst (IsTenant (put_at born_of.actors c.0 (Some (newborn c.1))) a (slot_of asked)) name mine))
+      by false tests runs = known b e f runs
+
+  borne_carries : Carries (bears born_of a birth_own c.0 c.1)
   borne_carries =
-      begins_carries born_of (bounce_name next_number) birth_program birth_pipes (omega arith) (subst (λ (o : Option ℕ). RunsAt o birth_program) (sym (seat_none (bounce_name next_number) refl)) tt)
-      (λ a slot c runs. ⊎_elim
-      (λ (f : (a ≡ codes "sender") × (bytes_eq a (codes "sender") ≡ true)). f.0)
-      (λ (f : (a ≢ codes "sender") × (bytes_eq a (codes "sender") ≡ false)).
-      born_carries.children a slot c (sym (ap (λ (t : Bool). if t && (slot == 0) then Some (Runs (bounce_name next_number)) else born_of.pipework.programs a slot) f.1) ∙ runs))
-      (text_cases a (codes "sender")))
+      let at = kind.begun in
+      begins_carries born_of c.0 c.1 birth_pipes (omega (arith, at)) (subst (λ (o : Option ℕ). RunsAt o c.1) (sym (seat_none c.0 kind.named)) kind.alone) kind.called born_tenants
       (λ b none named.
-      let old = born_carries.new b (none_put born_of.actors (bounce_name next_number) (newborn birth_program) b none) named in
-      let far : b ≢ bounce_name next_number = λ e.
-      none_some (put_at born_of.actors (bounce_name next_number) (Some (newborn birth_program)) b) (newborn birth_program) none
-      (ap (put_at born_of.actors (bounce_name next_number) (Some (newborn birth_program))) e ∙ put_at_same born_of.actors (bounce_name next_number) (Some (newborn birth_program))) in (
-        put_at_other born_of.pipework.slots (bounce_name next_number) (Some (record { parent = codes "sender"; number = 0 })) b far ∙ old.0,
-        ap (λ (t : Bool). if t then fresh else born_of.pipework.pipes b port.Input) (and-false (bytes_eq b (codes "sender"))) ∙ old.1,
+      let old = born_carries.new b (none_put born_of.actors c.0 (newborn c.1) b none) named in
+      let far : b ≢ c.0 = λ e.
+      none_some (put_at born_of.actors c.0 (Some (newborn c.1)) b) (newborn c.1) none
+      (ap (put_at born_of.actors c.0 (Some (newborn c.1))) e ∙ put_at_same born_of.actors c.0 (Some (newborn c.1))) in (
+        put_at_other born_of.pipework.slots c.0 (Some (record { parent = a; number = slot_of asked })) b far ∙ old.0,
+        ap (λ (t : Bool). if t then fresh else born_of.pipework.pipes b port.Input) (and-false (bytes_eq b a)) ∙ old.1,
       ))
       born_carries
 
-  pub goes_borne : Goes d (Came (Child (codes "sender") birth_own (bounce_name next_number) birth_program) ∷ h)
+  pub goes_borne : Goes d (Came (Child a birth_own c.0 c.1) ∷ h)
   goes_borne =
-      let e : Event = Child (codes "sender") birth_own (bounce_name next_number) birth_program in
+      let at = kind.begun in
+      let e : Event = Child a birth_own c.0 c.1 in
       record {
         legal = (
           so.legal,
           record {
             actor = x;
-            reads = may_read birth (codes "sender") x so.carries is alive;
-            finds = may_find birth birth (codes "sender") x is refl;
+            reads = may_read birth a x so.carries is alive;
+            finds = may_find birth birth a x is refl;
             due = next;
-            asked = child.Bounce room;
+            asked = asked;
             starts = refl;
             pid = pid;
             came = refl;
-            new = birth_new;
-            is = (refl, refl, refl);
-            no_earlier = omega arith;
-            no_later = omega arith;
+            new = kind.new;
+            is = kind.of;
+            no_earlier = omega (arith, at);
+            no_later = omega (arith, at);
           },
         );
-        carries = subst (λ (o : Option Actor). Carries (bears (acted birth (codes "sender") birth_own 0 o) (codes "sender") birth_own (bounce_name next_number) birth_program)) (sym is) borne_carries;
-        unborn = still_unborn d h e so (λ k later same.
-            let more : bounces_in (Came e ∷ h) ≡ 1 + bounces_in h = sum_by-cons (λ (y : Deed). cond (is_birth y) 1 0) (Came e) h in
-            let one = bounce_other k next_number same in
-            absurd (omega (arith, more, one, later)));
-        begun = subst (λ (o : Option Actor). BegunIf (bears (acted birth (codes "sender") birth_own 0 o) (codes "sender") birth_own (bounce_name next_number) birth_program) (e ∷ history_of h)) (sym is)
-            (borne_begun birth (history_of h) x birth.now (found_in birth (codes "sender")) room pid next_number birth.now (so.carries.new (bounce_name next_number) birth_new refl).1);
+        carries = subst (λ (o : Option Actor). Carries (bears (acted birth a birth_own 0 o) a birth_own c.0 c.1)) (sym is) borne_carries;
+        unborn = borne_unborn d h a x so is (so.carries.names a x is) asked birth_own pid birth.now c refl refl starts_so of;
+        begun = subst (λ (o : Option Actor). BegunIf (bears (acted birth a birth_own 0 o) a birth_own c.0 c.1) (e ∷ history_of h)) (sym is)
+            (borne_begun birth (history_of h) a x birth_own c.0 c.1 so.begun kind.named (so.carries.new c.0 kind.new kind.named).1 kind.fed
+            (λ p b. (
+              not_child d (history_of h) a x so.legal is (λ wait. let both : needs.Start asked ≡ needs.Wait = sym next ∙ wait in absurd (cc)) p b,
+              λ e. let both : ◌≡◌ {A = Option Slot} None (Some (record { parent = p; number = 0 })) = sym birth_slot ∙ ap birth.pipework.slots e ∙ b.slot in absurd (cc),
+            ))
+            (kind.still birth.pipework));
       }
 
--- A sender gives its child its input
+-- A parent gives its child its input
 
 texts_input : (message envelope : List ℕ) (program : Program) → IsMail program → IsInputOf (with_texts message envelope program) (netstring message ++ netstring envelope)
 texts_input message envelope (Injector args) mail = (refl, refl, refl)
 texts_input message envelope other mail = absurd mail
 
-module _ (d : Disk) (h : List Deed) (x : Actor) (message envelope : List ℕ) (so : Goes d h) (is : (after d h).actors (codes "sender") ≡ Some x) (alive : x.life ≡ Alive)
-    (b : HasBegun (after d h) (history_of h))
-    (next : next_of x.program x.past (after d h).now (found_in (after d h) (codes "sender")) ≡ needs.Give (port.Program 0) (netstring message ++ netstring envelope)) where
+module _ (d : Disk) (h : List Deed) (a : List ℕ) (x : Actor) (message envelope : List ℕ) (so : Goes d h) (is : (after d h).actors a ≡ Some x) (alive : x.life ≡ Alive)
+    (b : HasBegun (after d h) (history_of h) a) (borne : HasBorneLast x.past)
+    (next : next_of x.program x.past (after d h).now (found_in (after d h) a) ≡ needs.Give (port.Program 0) (netstring message ++ netstring envelope)) where
   abbrev fed_before : State
   fed_before = after d h
 
@@ -248,7 +281,7 @@ module _ (d : Disk) (h : List Deed) (x : Actor) (message envelope : List ℕ) (s
   fed_due = needs.Give (port.Program 0) fed_bytes
 
   abbrev fed_own : Own
-  fed_own = own_by fed_before (codes "sender") fed_due Gave
+  fed_own = own_by fed_before a fed_due Gave
 
   -- the history with that input, and the state after it
   abbrev fed_history : List Event
@@ -261,93 +294,148 @@ module _ (d : Disk) (h : List Deed) (x : Actor) (message envelope : List ℕ) (s
   fed_program = with_texts message envelope b.program
 
   fed_alike : AreAlikeBut fed_child b.program fed_program fed_before anew
-  fed_alike = (begins_so d (history_of h) message envelope so.legal b).1
+  fed_alike = (begins_so d (history_of h) a message envelope so.legal b).1
 
-  fed_apart : codes "sender" ≢ fed_child
-  fed_apart e = let both : true ≡ false = ap is_member e ∙ b.named in absurd (cc)
+  fed_apart : a ≢ fed_child
+  fed_apart e =
+      let one : x ≡ idle b.program fed_alike.life = some_is x (idle b.program fed_alike.life) (sym is ∙ ap fed_before.actors e ∙ fed_alike.was) in
+      subst (λ (z : Actor). HasBorneLast z.past) one borne
 
-  fed_there : anew.actors (codes "sender") ≡ Some x
-  fed_there = fed_alike.others (codes "sender") fed_apart ∙ is
+  fed_there : anew.actors a ≡ Some x
+  fed_there = fed_alike.others a fed_apart ∙ is
 
   -- who isn't there is another one
-  fed_far : (a : List ℕ) → anew.actors a ≡ None → a ≢ fed_child
-  fed_far a none e = none_some (anew.actors a) (record { program = fed_program; past = []; life = fed_alike.life }) none (ap anew.actors e ∙ fed_alike.is)
+  fed_far : (q : List ℕ) → anew.actors q ≡ None → q ≢ fed_child
+  fed_far q none e = none_some (anew.actors q) (record { program = fed_program; past = []; life = fed_alike.life }) none (ap anew.actors e ∙ fed_alike.is)
 
   -- the same state with the other actors
   abbrev anew_with : State
   anew_with = with_actors fed_before anew.actors
 
   anew_is : anew ≡ anew_with
-  anew_is = other_state (codes "sender") fed_child b.program fed_program (texts_same message envelope b.program b.mail) fed_before anew fed_alike
+  anew_is = other_state a fed_child b.program fed_program (texts_same message envelope b.program b.mail) fed_before anew fed_alike
 
   anew_carries : Carries anew_with
   anew_carries =
       other_carries fed_before anew.actors fed_child b.program fed_program fed_alike.life (texts_same message envelope b.program b.mail) (texts_mail message envelope b.program b.mail) b.named fed_alike.others fed_alike.was fed_alike.is so.carries
 
-  fed_still : (a : List ℕ) → anew.actors a ≡ None → is_member a ≡ false
-      → put_pipe fed_before.pipework.pipes (input_of (fed_before.pipework.programs (codes "sender") 0)) (λ pipe. closed (given fed_bytes pipe)) a port.Input ≡ fed_before.pipework.pipes a port.Input
-  fed_still a none named =
-      ap (λ (o : Option Tenant). put_pipe fed_before.pipework.pipes (input_of o) (λ pipe. closed (given fed_bytes pipe)) a port.Input) b.runs
-      ∙ ap (λ (q : Bool). if q && true then closed (given fed_bytes (fed_before.pipework.pipes a port.Input)) else fed_before.pipework.pipes a port.Input) (other_text a fed_child (fed_far a none))
+  fed_not : (q : List ℕ) → q ≢ fed_child → GivesNot fed_before.pipework a fed_due q
+  fed_not q far runs = let one : ◌≡◌ {A = Option Tenant} (Some (Runs fed_child)) (Some (Runs q)) = sym b.runs ∙ runs in far (cc)
 
-  fed_carries : Carries (acted anew (codes "sender") fed_own 0 (Some x))
+  fed_still : (q : List ℕ) → anew.actors q ≡ None → is_member q ≡ false → (pipework_after fed_before.pipework a fed_due Gave 0).pipes q port.Input ≡ fed_before.pipework.pipes q port.Input
+  fed_still q none named =
+      input_not fed_before.pipework a q fed_due Gave named (λ e. none_some (anew.actors q) x none (ap anew.actors e ∙ fed_there)) (fed_not q (fed_far q none))
+
+  -- a later child isn't this one, and has no actor still
+  fed_none : (q : List ℕ) → fed_before.actors q ≡ None → (acted anew a fed_own 0 (anew.actors a)).actors q ≡ None
+  fed_none q none =
+      let unlike : q ≢ fed_child = λ e. none_some (fed_before.actors q) (idle b.program fed_alike.life) none (ap fed_before.actors e ∙ fed_alike.was) in
+      still_none anew (Act a fed_own 0) q tt (fed_alike.others q unlike ∙ none)
+
+  fed_unforwarded : (k : ℕ) (y : Actor) → (acted anew a fed_own 0 (anew.actors a)).actors (delivery_name k) ≡ Some y → starts y.past ≡ []
+      → (acted anew a fed_own 0 (anew.actors a)).actors (forward_of (delivery_name k)) ≡ None
+  fed_unforwarded k y here none =
+      let w = acted_started anew a fed_own 0 (anew.actors a) refl k y here none in
+      ⊎_elim
+      (λ (f : (delivery_name k ≡ fed_child) × (bytes_eq (delivery_name k) fed_child ≡ true)).
+      fed_none (forward_of (delivery_name k)) (so.unborn.unforwarded k (idle b.program fed_alike.life) (ap fed_before.actors f.0 ∙ fed_alike.was) refl))
+      (λ (f : (delivery_name k ≢ fed_child) × (bytes_eq (delivery_name k) fed_child ≡ false)).
+      fed_none (forward_of (delivery_name k)) (so.unborn.unforwarded k w.0 (sym (fed_alike.others (delivery_name k) f.0) ∙ w.1) w.2))
+      (text_cases (delivery_name k) fed_child)
+
+  fed_carries : Carries (acted anew a fed_own 0 (Some x))
   fed_carries =
-      subst (λ (v : State). Carries (acted v (codes "sender") fed_own 0 (Some x))) (sym anew_is)
-      (passed_carries anew_with (codes "sender") x (found_in fed_before (codes "sender")) fed_due Gave tt anew_carries fed_there alive next tt fed_still)
+      subst (λ (v : State). Carries (acted v a fed_own 0 (Some x))) (sym anew_is)
+      (passed_carries anew_with a x (found_in fed_before a) fed_due Gave tt anew_carries fed_there alive next tt fed_still)
 
-  pub goes_fed : Goes d (Fed (codes "sender") fed_own fed_child message envelope ∷ h)
+  pub goes_fed : Goes d (Fed a fed_own fed_child message envelope ∷ h)
   goes_fed =
       let now = fed_alike.now in
-      let order = so.carries.in_order (codes "sender") x is in
+      let order = so.carries.in_order a x is in
       record {
         legal = (
-          (begins_so d (history_of h) message envelope so.legal b).0,
+          (begins_so d (history_of h) a message envelope so.legal b).0,
           record {
             actor = x;
             reads = record { is = fed_there; alive = alive; no_earlier = order; no_later = omega (arith, now); no_stall = omega (arith, now) };
-            finds = may_find fed_before anew (codes "sender") x is fed_alike.pipework;
+            finds = may_find fed_before anew a x is fed_alike.pipework;
             due = next;
-            came = is_fed anew fed_child fed_program fed_alike.life fed_bytes (anew.pipework.programs (codes "sender") 0) (ap (λ (w : Pipework). w.programs (codes "sender") 0) fed_alike.pipework ∙ b.runs) fed_alike.is
+            came = is_fed anew fed_child fed_program fed_alike.life fed_bytes (anew.pipework.programs a 0) (ap (λ (w : Pipework). w.programs a 0) fed_alike.pipework ∙ b.runs) fed_alike.is
                 (texts_input message envelope b.program b.mail);
           },
         );
-        carries = subst (λ (o : Option Actor). Carries (acted anew (codes "sender") fed_own 0 o)) (sym fed_there) fed_carries;
-        unborn = λ n later.
-            let fewer = no_fewer (Fed (codes "sender") fed_own fed_child message envelope) h in
-            let none = so.unborn n (omega (arith, fewer, later)) in
-            let unlike : bounce_name n ≢ fed_child = λ e. none_some (fed_before.actors (bounce_name n)) (record { program = b.program; past = []; life = fed_alike.life }) none (ap fed_before.actors e ∙ fed_alike.was) in
-            still_none anew (Act (codes "sender") fed_own 0) (bounce_name n) tt (fed_alike.others (bounce_name n) unlike ∙ none);
-        begun = subst (λ (o : Option Actor). BegunIf (acted anew (codes "sender") fed_own 0 o) (Act (codes "sender") fed_own 0 ∷ fed_history)) (sym fed_there)
-            (fed_begun anew (Act (codes "sender") fed_own 0 ∷ fed_history) x fed_own (λ w. w));
+        carries = subst (λ (o : Option Actor). Carries (acted anew a fed_own 0 o)) (sym fed_there) fed_carries;
+        unborn =
+            let bounces = no_fewer is_bounce_birth (Fed a fed_own fed_child message envelope) h in
+            let deliveries = no_fewer is_delivery_birth (Fed a fed_own fed_child message envelope) h in
+            record {
+              bounces = λ k later. fed_none (bounce_name k) (so.unborn.bounces k (omega (arith, bounces, later)));
+              deliveries = λ k later. fed_none (delivery_name k) (so.unborn.deliveries k (omega (arith, deliveries, later)));
+              forwards = λ k later. fed_none (forward_of (delivery_name k)) (so.unborn.forwards k (omega (arith, deliveries, later)));
+              unforwarded = fed_unforwarded;
+            };
+        begun = subst (λ (o : Option Actor). BegunIf (acted anew a fed_own 0 o) (Act a fed_own 0 ∷ fed_history)) (sym fed_there)
+            (fed_begun fed_before anew (history_of h) a x fed_own fed_child message envelope so.begun fed_alike.pipework (λ p far. fed_alike.others p far)
+            (λ y there born.
+            let one : y ≡ idle fed_program fed_alike.life = some_is y (idle fed_program fed_alike.life) (sym there ∙ fed_alike.is) in
+            subst (λ (z : Actor). HasBorneLast z.past) one born)
+            (λ w. w)
+            (λ p e far.
+            let apart = apart_children fed_before (history_of h) a p b e far in (
+              not_child d (history_of h) a x so.legal is (λ wait. let both : fed_due ≡ needs.Wait = sym next ∙ wait in absurd (cc)) p e,
+              (apart, fed_not e.child apart),
+            )));
       }
 
 -- Each step
 
--- what a sender gives to a program are two texts, for its child
-pub sender_gives : (program : Program) → IsSender program → (s : State) (x : Actor) (ready : Ready) (slot : ℕ) (bytes : List ℕ) → x.program ≡ program → IsRunBy (next_of x.program) x.past
-    → next_of x.program x.past s.now ready ≡ needs.Give (port.Program slot) bytes → IsGiving x.past slot bytes
-sender_gives (Sender start) sends s x ready slot bytes is run next =
-    gives_texts start x.past s.now ready slot bytes (subst (λ (p : Program). IsRunBy (next_of p) x.past) is run) (ap (λ (p : Program). next_of p x.past s.now ready) (sym is) ∙ next)
-sender_gives other sends s x ready slot bytes is run next = absurd sends
+-- who runs in a slot and is fed has a parent that feeds
+mail_fed : (parent : Program) (d : ℕ) (child : Program) → BearsIn parent d child → IsMail child → IsFeeder parent
+mail_fed (Sender start) d child bears mail = tt
+mail_fed (Delivery start args) d child bears mail = tt
+mail_fed (LocalSpawner start) d (Injector args) bears mail = bears
+mail_fed (LocalSpawner start) d other bears mail = absurd mail
+mail_fed (Injector args) d child bears mail = absurd bears
+mail_fed (Cleaner start) d child bears mail = absurd bears
+mail_fed (RemoteSpawner start) d child bears mail = absurd bears
 
--- that of a sender
-fed_step : (d : Disk) (h : List Deed) (x : Actor) (slot : ℕ) (c message envelope : List ℕ) → Goes d h → (after d h).actors (codes "sender") ≡ Some x → x.life ≡ Alive
-    → next_of x.program x.past (after d h).now (found_in (after d h) (codes "sender")) ≡ needs.Give (port.Program slot) (netstring message ++ netstring envelope)
-    → (after d h).pipework.programs (codes "sender") slot ≡ Some (Runs c)
-    → Goes d (Fed (codes "sender") (own_by (after d h) (codes "sender") (needs.Give (port.Program slot) (netstring message ++ netstring envelope)) Gave) c message envelope ∷ h)
-fed_step d h x slot c message envelope so is alive next runs =
+of_program : (o : Option Actor) (x : Actor) (args : Arguments) → o ≡ Some x → program_of o ≡ Some (Injector args) → IsMail x.program
+of_program o x args is of =
+    let both : ◌≡◌ {A = Option Program} (Some x.program) (Some (Injector args)) = sym (ap program_of is) ∙ of in
+    let one : x.program ≡ Injector args = cc in
+    subst IsMail (sym one) tt
+
+-- so its parent feeds
+pub feeds_so : (s : State) (a : List ℕ) (x : Actor) (slot : ℕ) (c : List ℕ) (args : Arguments) → Carries s → s.actors a ≡ Some x → s.pipework.programs a slot ≡ Some (Runs c)
+    → program_of (s.actors c) ≡ Some (Injector args) → IsFeeder x.program
+feeds_so s a x slot c args carries is runs mail =
+    let t = carries.children a slot c runs in
+    let one : t.parent ≡ x = some_is t.parent x (sym t.there ∙ is) in
+    subst (λ (z : Actor). IsFeeder z.program) one (mail_fed t.parent.program slot t.child.program t.bears (of_program (s.actors c) t.child args t.is mail))
+
+-- a giving of the whole input
+fed_step : (d : Disk) (h : List Deed) (a : List ℕ) (x : Actor) (slot : ℕ) (c message envelope : List ℕ) (args : Arguments) → Goes d h → (after d h).actors a ≡ Some x → x.life ≡ Alive
+    → next_of x.program x.past (after d h).now (found_in (after d h) a) ≡ needs.Give (port.Program slot) (netstring message ++ netstring envelope)
+    → (after d h).pipework.programs a slot ≡ Some (Runs c) → program_of ((after d h).actors c) ≡ Some (Injector args)
+    → Goes d (Fed a (own_by (after d h) a (needs.Give (port.Program slot) (netstring message ++ netstring envelope)) Gave) c message envelope ∷ h)
+fed_step d h a x slot c message envelope args so is alive next runs mail =
     let s = after d h in
     let bytes = netstring message ++ netstring envelope in
-    let gives = sender_gives x.program (so.carries.kinds (codes "sender") x is) s x (found_in s (codes "sender")) slot bytes refl (so.carries.runs (codes "sender") x is) next in
-    let b = so.begun x is alive gives.borne in
-    let one : ◌≡◌ {A = Option Tenant} (Some (Runs b.child)) (Some (Runs c)) = sym b.runs ∙ (ap (s.pipework.programs (codes "sender")) (sym gives.first) ∙ runs) in
+    let gives = feeder_gives x.program x.past s.now (found_in s a) slot bytes (feeds_so s a x slot c args so.carries is runs mail) (so.carries.runs a x is) next in
+    let b = so.begun a x is alive gives.borne in
+    let one : ◌≡◌ {A = Option Tenant} (Some (Runs b.child)) (Some (Runs c)) = sym b.runs ∙ (ap (s.pipework.programs a) (sym gives.first) ∙ runs) in
     let same : b.child ≡ c = cc in
-    subst (λ (k : ℕ). Goes d (Fed (codes "sender") (own_by s (codes "sender") (needs.Give (port.Program k) bytes) Gave) c message envelope ∷ h)) (sym gives.first)
-    (subst (λ (c : List ℕ). Goes d (Fed (codes "sender") (own_by s (codes "sender") (needs.Give (port.Program 0) bytes) Gave) c message envelope ∷ h)) same
-    (goes_fed d h x message envelope so is alive b (next ∙ ap (λ (k : ℕ). needs.Give (port.Program k) bytes) gives.first)))
+    subst (λ (k : ℕ). Goes d (Fed a (own_by s a (needs.Give (port.Program k) bytes) Gave) c message envelope ∷ h)) (sym gives.first)
+    (subst (λ (c : List ℕ). Goes d (Fed a (own_by s a (needs.Give (port.Program 0) bytes) Gave) c message envelope ∷ h)) same
+    (goes_fed d h a x message envelope so is alive b gives.borne (next ∙ ap (λ (k : ℕ). needs.Give (port.Program k) bytes) gives.first)))
+
+-- who isn't known isn't given anything
+unknown_not : (s : State) (a b : List ℕ) (due : NeedData) → Carries s → s.actors b ≡ None → GivesNot s.pipework a due b
+unknown_not s a b (needs.Give (port.Program d) bytes) carries none = λ runs. let t = carries.children a d b runs in none_some (s.actors b) t.child none t.is
+unknown_not s a b due carries none = tt
 
 goes_step : (d : Disk) (h : List Deed) (plan : Plan) (a : List ℕ) (deed : Deed) (x : Actor) → Goes d h
-    → (after d h).actors a ≡ Some x → x.life ≡ Alive → HasDone plan (after d h) (next_pid h) (bounces_in h) a x deed → Goes d (deed ∷ h)
+    → (after d h).actors a ≡ Some x → x.life ≡ Alive → HasDone plan (after d h) (next_pid h) (counts_in h) a x deed → Goes d (deed ∷ h)
 goes_step d h plan a deed x so is alive (Calls (c, got, due, given, same)) =
     subst (λ (deed : Deed). Goes d (deed ∷ h)) (sym same)
     (goes_acted d h a x (needs.File c) (Answered got) so is alive due (λ e. absurd (cc)) (λ w. w) tt (given.fits, given.bytes)
@@ -356,27 +444,17 @@ goes_step d h plan a deed x so is alive (Finishes (status, due, same)) =
     subst (λ (deed : Deed). Goes d (deed ∷ h)) (sym same) (goes_ended d h a x status so is alive due)
 goes_step d h plan a deed x so is alive (Passes p) =
     let s = after d h in
-    let may = comes_may s (next_pid h) a x.program p.due p.came p.comes_so p.no_birth p.to_none in
+    let may = comes_may s (next_pid h) a x.program p.due p.came p.comes_so p.none (fed_by s a p.due so.carries p.no_mail) in
     subst (λ (deed : Deed). Goes d (deed ∷ h)) (sym p.is)
     (goes_acted d h a x p.due p.came so is alive p.next
     (λ e. let none : ◌≡◌ {A = Option GotData} None (Some p.came) = subst (λ (due : NeedData). comes s (next_pid h) a x.program due ≡ Some p.came) e p.comes_so in absurd (cc))
-    p.no_birth p.to_none may.of
+    (no_birth p.due p.came p.none) p.no_mail may.of
     (passed_carries s a x (found_in s a) p.due p.came p.no_file so.carries is alive p.next may.may
-    (λ b none named. input_still s.pipework a b p.due p.came named (λ e. none_some (s.actors b) x none (ap s.actors e ∙ is)) p.to_none)))
+    (λ b none named. input_not s.pipework a b p.due p.came named (λ e. none_some (s.actors b) x none (ap s.actors e ∙ is)) (unknown_not s a b p.due so.carries none))))
 goes_step d h plan a deed x so is alive (Bears p) =
-    let s = after d h in
-    let sender = sender_named a x.program (so.carries.kinds a x is) p.sends in
-    subst (λ (deed : Deed). Goes d (deed ∷ h)) (sym p.is)
-    (subst (λ (a : List ℕ). s.actors a ≡ Some x → next_of x.program x.past s.now (found_in s a) ≡ needs.Start (child.Bounce p.room)
-    → Goes d (Came (Child a (own_by s a (needs.Start (child.Bounce p.room)) (Started (next_pid h))) (bounce_name (bounces_in h + 1)) (Injector (bounce (next_pid h) s.now))) ∷ h)) (sym sender)
-    (λ is next. goes_borne d h x p.room (next_pid h) so is alive next) is p.next)
+    subst (λ (deed : Deed). Goes d (deed ∷ h)) (sym p.is) (goes_borne d h a x p.asked (next_pid h) p.child so is alive p.next p.of)
 goes_step d h plan a deed x so is alive (Feeds p) =
-    let s = after d h in
-    let due = needs.Give (port.Program p.slot) (netstring p.message ++ netstring p.envelope) in
-    subst (λ (deed : Deed). Goes d (deed ∷ h)) (sym p.is)
-    (subst (λ (a : List ℕ). s.actors a ≡ Some x → next_of x.program x.past s.now (found_in s a) ≡ due → s.pipework.programs a p.slot ≡ Some (Runs p.child)
-    → Goes d (Fed a (own_by s a due Gave) p.child p.message p.envelope ∷ h)) (sym (so.carries.children a p.slot p.child p.runs))
-    (λ is next runs. fed_step d h x p.slot p.child p.message p.envelope so is alive next runs) is p.next p.runs)
+    subst (λ (deed : Deed). Goes d (deed ∷ h)) (sym p.is) (fed_step d h a x p.slot p.child p.message p.envelope p.args so is alive p.next p.runs p.mail)
 
 pub goes_on : (d : Disk) (h : List Deed) (plan : Plan) (a : List ℕ) (deed : Deed) → Goes d h → StepsTo d h plan a (Happens deed)
     → Goes d (deed ∷ h)
@@ -391,9 +469,11 @@ goes_started d h a program mail named so new begun =
     let other = mail_is_none a named in
     record {
       legal = (so.legal, record { new = new; runs = mail_runs program mail });
-      carries = starts_carries (after d h) a program begun (subst (λ (o : Option ℕ). RunsAt o program) (sym (seat_none a other)) mail) so.carries;
-      unborn = still_unborn d h (Start a program) so (λ n later. mail_no_bounce a n named);
-      begun = started_begun (after d h) (history_of h) a program other so.begun;
+      carries = starts_carries (after d h) a program begun (subst (λ (o : Option ℕ). RunsAt o program) (sym (seat_none a other)) (mail_alone program mail)) (λ delivers. absurd (mail_no_delivery program mail delivers))
+          (unknown_far (after d h).actors (after d h).pipework.programs a new so.carries.children) so.carries;
+      unborn = still_unborn d h (Start a program) so (λ k. record { bounce = no_mail 98 k a named; delivery = no_mail 108 k a named; forward = no_mail 102 k a named })
+          (λ k x here none. (x, sym (put_at_other (after d h).actors a (Some (newborn program)) (delivery_name k) (no_mail 108 k a named)) ∙ here, none));
+      begun = started_begun (after d h) (history_of h) a program so.begun;
     }
 
 -- and each moment
@@ -401,7 +481,7 @@ pub goes_moment : (d : Disk) (h : List Deed) (m : ℕ) → Goes d h → IsMoment
 goes_moment d h m so moment later = record {
   legal = (so.legal, record { moment = moment; no_earlier = later });
   carries = moment_carries (after d h) m later so.carries;
-  unborn = still_unborn d h (Moment m) so (λ n later. tt);
+  unborn = still_unborn d h (Moment m) so (starts_none (Moment m) (λ b. tt)) (λ k x here none. (x, here, none));
   begun = moment_begun (after d h) (history_of h) m so.begun;
 }
 
@@ -413,7 +493,8 @@ goes_halted d h how named so =
     record {
       legal = (so.legal, halt_survives s.disk how named so.carries.lasting);
       carries = halted_carries s how named so.carries;
-      unborn = still_unborn d h (Halt how contents) so (λ n later. tt);
+      unborn = still_unborn d h (Halt how contents) so (starts_none (Halt how contents) (λ b. tt))
+          (λ k x here none. let w = mapped_some stopped (s.actors (delivery_name k)) x here in (w.0, w.1, subst (λ (z : Actor). starts z.past ≡ []) (sym w.2) none));
       begun = halted_begun s (history_of h) how contents;
     }
 
@@ -433,15 +514,16 @@ goes_generation d h so none =
         },
       );
       carries = generation_carries s so.carries;
-      unborn = still_unborn d h (generation_at s.now) so (λ n later. refl);
-      begun = generation_begun s (history_of h) (Sender s.now) (Cleaner s.now) (LocalSpawner s.now) (RemoteSpawner s.now);
+      unborn = still_unborn d h (generation_at s.now) so (λ k. record { bounce = refl; delivery = refl; forward = refl })
+          (λ k x here none. (x, sym (four_other s.actors (Sender s.now) (Cleaner s.now) (LocalSpawner s.now) (RemoteSpawner s.now) (delivery_name k) refl) ∙ here, none));
+      begun = generation_begun s (history_of h) (Sender s.now) (Cleaner s.now) (LocalSpawner s.now) (RemoteSpawner s.now) so.begun;
     }
 
 -- and a report
 pub goes_report : (d : Disk) (h : List Deed) (slot letter : ℕ) (text : List ℕ) → Goes d h → awaits_report (after d h) slot ≡ true → Goes d (Came (Report slot letter text) ∷ h)
 goes_report d h slot letter text so awaits =
     let s = after d h in
-    let tests = both_true (lives_in (s.actors (codes "rspawn"))) (is_unreported (s.pipework.programs (codes "rspawn") slot)) awaits in
+    let tests = and_parts (lives_in (s.actors (codes "rspawn"))) (is_unreported (s.pipework.programs (codes "rspawn") slot)) awaits in
     record {
       legal = (
         so.legal,
@@ -451,6 +533,6 @@ goes_report d h slot letter text so awaits =
         },
       );
       carries = report_carries s slot letter text so.carries;
-      unborn = still_unborn d h (Report slot letter text) so (λ n later. tt);
-      begun = report_begun s (history_of h) slot letter text so.begun;
+      unborn = still_unborn d h (Report slot letter text) so (starts_none (Report slot letter text) (λ b. tt)) (λ k x here none. (x, here, none));
+      begun = report_begun s (history_of h) slot letter text (unreported_is (s.pipework.programs (codes "rspawn") slot) tests.1) so.begun;
     }

@@ -4,7 +4,6 @@ use Rattle.std.proofs.Math.Path.{fun_ext}
 use Rattle.std.specs.Prelude.{codes, nat_lt, position, is_some, if◌then◌else◌}
 use Rattle.std.specs.List.{AllZip, range_with_len}
 use Rattle.call_fs.specs.Disk.{Disk}
-use Rattle.call_fs.specs.declared.past.ChildData.TheVariants as child
 use Rattle.call_fs.specs.declared.past.GotData.{GotData}
 use Rattle.call_fs.specs.declared.past.GotData.TheVariants.{Gave, Started}
 use Rattle.call_fs.specs.declared.past.NeedData.{NeedData}
@@ -19,13 +18,13 @@ use Rattle.world_events.specs.declared.event.Program.{Program}
 use Rattle.world_events.specs.declared.event.Program.TheVariants.{Injector, Cleaner, Sender, LocalSpawner, RemoteSpawner, Delivery}
 use Rattle.world_pipes.specs.Pipes.{offered}
 use Rattle.mail_world.specs.Generations.{CanNot, Waits, idled_by, is_unreported, lives_in, lowest_unreported}
-use Rattle.mail_world.specs.History.{Event, Actor, State, MayReport, TenantEnds, after, next_of}
+use Rattle.mail_world.specs.History.{Event, Actor, State, MayReport, TenantEnds, after, next_of, program_of}
 use Rattle.mail_world.specs.Known.{known}
 use Rattle.mail_world.specs.Pipework.{Pipework, Tenant, is_ready}
 use Rattle.mail_world.specs.Pipework.Tenant.{Runs, Remote}
 use Rattle.mail_world.specs.Readiness.{found_at, found_by, found_in, has_ended, input_alone, input_or_child, is_awaiting, is_gone, lies_ready, lowest_ended}
 use Rattle.mail_world.specs.Wired.{AreWholeGivings}
-use Rattle.mail_world.specs.World.{ComesWhole, IsKeptBy, IsKeptGiving, Tells, most_of, with_inputs}
+use Rattle.mail_world.specs.World.{ComesWhole, Counts, IsKeptBy, IsKeptGiving, IsKeptTo, Tells, most_of, with_inputs}
 use Rattle.mail_world.proofs.Known.{after_known, known_pipework}
 
 module _ (s t : State) (actors : s.actors ≡ t.actors) (pipework : s.pipework ≡ t.pipework) where
@@ -93,19 +92,22 @@ module _ (s t : State) (actors : s.actors ≡ t.actors) (pipework : s.pipework �
   comes_same pid a program (needs.Take port.Todo) came h = offers_same a program port.Todo came h
   comes_same pid a program (needs.Take (port.Program d)) came h = offers_same a program (port.Program d) came h
   comes_same pid a program (needs.Give port bytes) came h = h
-  comes_same pid a program (needs.Start (child.Remote slot domain sender recipient)) came h = h
-  comes_same pid a program (needs.Start (child.Bounce room)) came h = h
-  comes_same pid a program (needs.Start (child.Forward uid room)) came h = h
-  comes_same pid a program (needs.Start (child.Local slot words uid)) came h = h
+  comes_same pid a program (needs.Start asked) came h = h
   comes_same pid a program (needs.Command bytes) came h = h
   comes_same pid a program needs.Wait came h = h
   comes_same pid a program (needs.Ended status) came h = h
 
   -- as what it is kept
-  pub kept_same : (bounces : ℕ) (a : List ℕ) (own : Own) (due : NeedData) (came : GotData) (k : Kept) → IsKeptBy t bounces a own due came k → IsKeptBy s bounces a own due came k
-  kept_same bounces a own (needs.Start (child.Bounce room)) (Started pid) k h = h
-  kept_same bounces a own (needs.Give (port.Program d) bytes) Gave k h = subst (λ (w : Pipework). IsKeptGiving (w.programs a d) a own bytes k) (sym pipework) h
-  kept_same bounces a own due came k h = h
+  giving_same : (o : Option Tenant) (a : List ℕ) (own : Own) (bytes : List ℕ) (k : Kept) → IsKeptGiving t o a own bytes k → IsKeptGiving s o a own bytes k
+  giving_same None a own bytes k h = h
+  giving_same (Some (Remote reported)) a own bytes k h = h
+  giving_same (Some (Runs c)) a own bytes k h = subst (λ (m : List ℕ → Option Actor). IsKeptTo (program_of (m c)) c a own bytes k) (sym actors) h
+
+  pub kept_same : (n : Counts) (a : List ℕ) (own : Own) (due : NeedData) (came : GotData) (k : Kept) → IsKeptBy t n a own due came k → IsKeptBy s n a own due came k
+  kept_same n a own (needs.Start asked) (Started pid) k h = h
+  kept_same n a own (needs.Give (port.Program d) bytes) Gave k h =
+      giving_same (s.pipework.programs a d) a own bytes k (subst (λ (w : Pipework). IsKeptGiving t (w.programs a d) a own bytes k) (sym pipework) h)
+  kept_same n a own due came k h = h
 
   -- what can't be done yet
   pub cannot_same : (a : List ℕ) (due : NeedData) → CanNot t a due → CanNot s a due

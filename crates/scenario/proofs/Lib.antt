@@ -4,6 +4,10 @@ pub mod Dirs
 pub mod MadeDirs
 -- what a world keeps tells deeds, and those the history
 pub mod Deeds
+-- which names a delivery may have
+pub mod DeliveryNames
+-- whose input an event leaves as it was
+pub mod GivenInputs
 -- which event a kept one tells
 pub mod KeptEvents
 -- what is known of a world is so after each history
@@ -66,11 +70,15 @@ pub mod HalfWritten
 pub mod LastingFiles
 -- the names of a directory and the numbers in use, listed
 pub mod Listings
+-- what a step of a living actor is
+pub mod StepKinds
 -- what a script's history keeps beside being legal
 pub mod Carried
 -- a sender that has just started the injector of a bounce
 pub mod Births
--- a legal history of a play
+-- the names of later children, and what a play keeps
+pub mod FreeNames
+-- a play goes on with each deed
 pub mod Going
 -- entries make a disk
 pub mod FirstDisks

@@ -11,14 +11,16 @@ use Rattle.call_fs.specs.declared.past.NeedData.{NeedData}
 use Rattle.call_fs.specs.declared.past.NeedData.TheVariants as needs
 use Rattle.queue_inject.specs.declared.injection.Arguments.{Arguments}
 use Rattle.world_events.specs.declared.event.Program.{Program}
-use Rattle.mail_world.specs.History.{Life, State, Actor, call_act, next_of}
+use Rattle.world_events.specs.declared.event.Program.TheVariants.{Injector, Cleaner, Sender, LocalSpawner, RemoteSpawner, Delivery}
+use Rattle.mail_world.specs.History.{Life, State, Actor, call_act, next_of, program_of}
 use Rattle.mail_world.specs.History.Life.{Alive, Over, Stopped}
 use Rattle.mail_world.specs.Pipework.{Tenant}
 use Rattle.mail_world.specs.Pipework.Tenant.{Runs, Remote}
 use Rattle.mail_world.specs.Readiness.{found_in}
-use Rattle.scenario.specs.Deeds.{Deed, after, bounces_in}
+use Rattle.mail_world.specs.World.{Counts}
+use Rattle.scenario.specs.Deeds.{Deed, after, counts_in}
 use Rattle.scenario.specs.Deeds.Deed.{Came, Fed}
-use Rattle.scenario.specs.Steps.{Refusal, Outcome, Gives, own_by, DoesNext, DoesAlive, DoesStep, StepsTo, RunsOn, next_pid, plan_through, Stops, IsRunOf, stop_text}
+use Rattle.scenario.specs.Steps.{Refusal, Outcome, Gives, GivesTo, own_by, DoesNext, DoesAlive, DoesStep, StepsTo, RunsOn, next_pid, plan_through, Stops, IsRunOf, stop_text}
 use Rattle.scenario.specs.Steps.Stops.{Idles, Refused, Full}
 use Rattle.scenario.specs.Steps.Outcome.{Happens, Is}
 use Rattle.scenario.specs.Played.{MailComesTo}
@@ -29,33 +31,42 @@ use Rattle.crash_fs.proofs.OneAnswer.{one_answer}
 -- Steps
 
 -- a giving to the program in a slot, of one message and one envelope at most
+to_one : (program : Option Program) (c a : List ℕ) (own : Own) (bytes : List ℕ) (o p : Outcome) → GivesTo program c a own bytes o → GivesTo program c a own bytes p → o ≡ p
+to_one (Some (Injector args)) c a own bytes o p h k =
+    let same = one_giving h.0 k.0 h.1 k.1 (sym h.2 ∙ k.2) in
+    h.3 ∙ ap (λ (m : List ℕ). Happens (Fed a own c m h.1)) same.0 ∙ ap (λ (e : List ℕ). Happens (Fed a own c k.0 e)) same.1 ∙ sym k.3
+to_one (Some (Cleaner start)) c a own bytes o p h k = h ∙ sym k
+to_one (Some (Sender start)) c a own bytes o p h k = h ∙ sym k
+to_one (Some (LocalSpawner start)) c a own bytes o p h k = h ∙ sym k
+to_one (Some (RemoteSpawner start)) c a own bytes o p h k = h ∙ sym k
+to_one (Some (Delivery start args)) c a own bytes o p h k = h ∙ sym k
+to_one None c a own bytes o p h k = h ∙ sym k
+
 gives_one : (s : State) (a : List ℕ) (own : Own) (bytes : List ℕ) (tenant : Option Tenant) (o p : Outcome) → Gives s a own bytes tenant o → Gives s a own bytes tenant p → o ≡ p
 gives_one s a own bytes None o p h k = h ∙ sym k
 gives_one s a own bytes (Some (Remote reported)) o p h k = h ∙ sym k
-gives_one s a own bytes (Some (Runs c)) o p h k =
-    let same = one_giving h.0 k.0 h.1 k.1 (sym h.2 ∙ k.2) in
-    h.3 ∙ ap (λ (m : List ℕ). Happens (Fed a own c m h.1)) same.0 ∙ ap (λ (e : List ℕ). Happens (Fed a own c k.0 e)) same.1 ∙ sym k.3
+gives_one s a own bytes (Some (Runs c)) o p h k = to_one (program_of (s.actors c)) c a own bytes o p h k
 
-does_one : (plan : Plan) (s : State) (pid bounces : ℕ) (a : List ℕ) (program : Program) (due : NeedData) (o p : Outcome)
-    → DoesNext plan s pid bounces a program due o → DoesNext plan s pid bounces a program due p → o ≡ p
-does_one plan s pid bounces a program (needs.File call) o p h k =
+does_one : (plan : Plan) (s : State) (pid : ℕ) (n : Counts) (a : List ℕ) (program : Program) (due : NeedData) (o p : Outcome)
+    → DoesNext plan s pid n a program due o → DoesNext plan s pid n a program due p → o ≡ p
+does_one plan s pid n a program (needs.File call) o p h k =
     h.2 ∙ ap (λ (t : Told). Happens (Came (call_act a s.now (found_in s a) call t 0))) (one_answer plan s.disk call h.0 k.0 h.1 k.1) ∙ sym k.2
-does_one plan s pid bounces a program (needs.Ended status) o p h k = h ∙ sym k
-does_one plan s pid bounces a program (needs.Give (port.Program d) bytes) o p h k =
+does_one plan s pid n a program (needs.Ended status) o p h k = h ∙ sym k
+does_one plan s pid n a program (needs.Give (port.Program d) bytes) o p h k =
     gives_one s a (own_by s a (needs.Give (port.Program d) bytes) Gave) bytes (s.pipework.programs a d) o p h k
-does_one plan s pid bounces a program due o p h k = h ∙ sym k
+does_one plan s pid n a program due o p h k = h ∙ sym k
 
-alive_one : (plan : Plan) (s : State) (pid bounces : ℕ) (a : List ℕ) (x : Actor) (life : Life) (o p : Outcome) → DoesAlive plan s pid bounces a x life o → DoesAlive plan s pid bounces a x life p → o ≡ p
-alive_one plan s pid bounces a x Alive o p h k = does_one plan s pid bounces a x.program (next_of x.program x.past s.now (found_in s a)) o p h k
-alive_one plan s pid bounces a x (Over status) o p h k = h ∙ sym k
-alive_one plan s pid bounces a x Stopped o p h k = h ∙ sym k
+alive_one : (plan : Plan) (s : State) (pid : ℕ) (n : Counts) (a : List ℕ) (x : Actor) (life : Life) (o p : Outcome) → DoesAlive plan s pid n a x life o → DoesAlive plan s pid n a x life p → o ≡ p
+alive_one plan s pid n a x Alive o p h k = does_one plan s pid n a x.program (next_of x.program x.past s.now (found_in s a)) o p h k
+alive_one plan s pid n a x (Over status) o p h k = h ∙ sym k
+alive_one plan s pid n a x Stopped o p h k = h ∙ sym k
 
-actor_one : (plan : Plan) (s : State) (pid bounces : ℕ) (a : List ℕ) (m : Option Actor) (o p : Outcome) → DoesStep plan s pid bounces a m o → DoesStep plan s pid bounces a m p → o ≡ p
-actor_one plan s pid bounces a None o p h k = h ∙ sym k
-actor_one plan s pid bounces a (Some x) o p h k = alive_one plan s pid bounces a x x.life o p h k
+actor_one : (plan : Plan) (s : State) (pid : ℕ) (n : Counts) (a : List ℕ) (m : Option Actor) (o p : Outcome) → DoesStep plan s pid n a m o → DoesStep plan s pid n a m p → o ≡ p
+actor_one plan s pid n a None o p h k = h ∙ sym k
+actor_one plan s pid n a (Some x) o p h k = alive_one plan s pid n a x x.life o p h k
 
 pub one_step : (d : Disk) (h : List Deed) (plan : Plan) (a : List ℕ) (o p : Outcome) → StepsTo d h plan a o → StepsTo d h plan a p → o ≡ p
-one_step d h plan a o p first second = actor_one plan (after d h) (next_pid h) (bounces_in h) a ((after d h).actors a) o p first second
+one_step d h plan a o p first second = actor_one plan (after d h) (next_pid h) (counts_in h) a ((after d h).actors a) o p first second
 
 no-actor : (m : Option Actor) → m ≡ None → IsSome m → ⊥
 no-actor None e h = absurd (cc)

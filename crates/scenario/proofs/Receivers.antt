@@ -12,12 +12,12 @@ use Rattle.world_events.specs.declared.event.Event.TheVariants as kept
 use Rattle.world_events.specs.declared.event.Program.{Program}
 use Rattle.world_events.specs.declared.event.Program.TheVariants.{Injector, Cleaner, Sender, LocalSpawner, RemoteSpawner, Delivery}
 use Rattle.mail_world.specs.Books.{mail_by, mails_of}
-use Rattle.mail_world.specs.ByKind.{IsMail}
+use Rattle.queue_law.proofs.Tests.{other_text}
 use Rattle.mail_world.specs.History.{Event}
 use Rattle.mail_world.specs.History.Event.{Start, Act, Child, Generation, Report, End, Stop, Moment, Halt}
 use Rattle.mail_world.specs.World.{Tells}
 use Rattle.scenario.specs.declared.showing.Given.{Given}
-use Rattle.scenario.specs.Fates.{AreMailStarts, IsMailStart, Receiver, given_to, is_given, received_by, receiver, receivers_in}
+use Rattle.scenario.specs.Fates.{AreNamedStarts, IsFedSo, IsNamedStart, IsNamedSo, Receiver, given_to, is_delivery_name, is_given, received_by, receiver, receivers_in}
 
 -- The newest of some injectors that is that child
 
@@ -176,13 +176,13 @@ all_told [] (e ∷ h) told = absurd told
 all_told (k ∷ ks) [] told = absurd told
 all_told (k ∷ ks) (e ∷ h) told = one_told k e ks h told.0 (all_told ks h told.1)
 
--- An event that a history of mails tells is no giving to a child, and each child is an injector.
+-- An event that a history tells is no giving to a child, and each child is an injector, or a delivery, by its name.
 abbrev IsWhole : Kept → Type 0
-IsWhole (kept.Child a own c program) = IsMail program
+IsWhole (kept.Child a own c program) = IsNamedSo c program
 IsWhole (kept.Feed a own c message envelope) = ⊥
 IsWhole k = Unit {0}
 
-whole_event : (k : Kept) (e : Event) → Tells k e → IsMailStart e → IsWhole k
+whole_event : (k : Kept) (e : Event) → Tells k e → IsNamedStart e → IsWhole k
 whole_event k (Start a program) told mail = subst IsWhole (sym told) tt
 whole_event k (Act a own wrote) told mail = subst IsWhole (sym told) tt
 whole_event k (Child parent own a program) told mail = subst IsWhole (sym told) mail.1
@@ -193,20 +193,20 @@ whole_event k (Stop a) told mail = subst IsWhole (sym told) tt
 whole_event k (Moment m) told mail = subst IsWhole (sym told) tt
 whole_event k (Halt how contents) told mail = subst IsWhole (sym told) tt
 
-whole_all : (ks : List Kept) (h : List Event) → AreMailStarts h → AllZip Tells ks h → AllByRecursion IsWhole ks
+whole_all : (ks : List Kept) (h : List Event) → AreNamedStarts h → AllZip Tells ks h → AllByRecursion IsWhole ks
 whole_all [] [] mails told = tt
 whole_all [] (e ∷ h) mails told = absurd told
 whole_all (k ∷ ks) [] mails told = absurd told
 whole_all (k ∷ ks) (e ∷ h) mails told = (whole_event k e told.0 mails.0, whole_all ks h mails.1 told.1)
 
 -- so it was before a child was given its input
-mail_before : (message envelope : List ℕ) (program : Program) → IsMail (with_texts message envelope program) → IsMail program
-mail_before message envelope (Injector args) is = tt
-mail_before message envelope (Cleaner start) is = is
-mail_before message envelope (Sender start) is = is
-mail_before message envelope (LocalSpawner start) is = is
-mail_before message envelope (RemoteSpawner start) is = is
-mail_before message envelope (Delivery start args) is = is
+named_before : (a message envelope : List ℕ) (program : Program) → IsNamedSo a (with_texts message envelope program) → IsNamedSo a program
+named_before a message envelope (Injector args) is = is
+named_before a message envelope (Cleaner start) is = is
+named_before a message envelope (Sender start) is = is
+named_before a message envelope (LocalSpawner start) is = is
+named_before a message envelope (RemoteSpawner start) is = is
+named_before a message envelope (Delivery start args) is = is
 
 whole_before : (c message envelope : List ℕ) (ks : List Kept) → AllByRecursion IsWhole (start_with c message envelope ks) → AllByRecursion IsWhole ks
 whole_before c message envelope [] whole = tt
@@ -214,7 +214,7 @@ whole_before c message envelope ((kept.Child a own b program) ∷ ks) whole = by
   by_name : (t : Bool) → (AllByRecursion IsWhole (start_with c message envelope ks) → AllByRecursion IsWhole ks)
       → AllByRecursion IsWhole (if t then (kept.Child a own b (with_texts message envelope program)) ∷ ks else (kept.Child a own b program ∷ start_with c message envelope ks))
       → AllByRecursion IsWhole (kept.Child a own b program ∷ ks)
-  by_name true rest whole = (mail_before message envelope program whole.0, whole.1)
+  by_name true rest whole = (named_before b message envelope program whole.0, whole.1)
   by_name false rest whole = (whole.0, rest whole.1)
 whole_before c message envelope ((kept.Feed a own b text more) ∷ ks) whole = absurd whole.0
 whole_before c message envelope ((kept.Start a program) ∷ ks) whole = (tt, whole_before c message envelope ks whole.1)
@@ -226,10 +226,10 @@ whole_before c message envelope ((kept.Stop a) ∷ ks) whole = (tt, whole_before
 whole_before c message envelope ((kept.Moment m) ∷ ks) whole = (tt, whole_before c message envelope ks whole.1)
 whole_before c message envelope ((kept.Halt how) ∷ ks) whole = (tt, whole_before c message envelope ks whole.1)
 
--- who is given an envelope starts with it
-started_with : (c message envelope : List ℕ) (ks : List Kept) → AllByRecursion IsWhole ks → receivers_in (start_with c message envelope ks) ≡ given_to c envelope (receivers_in ks)
-started_with c message envelope [] whole = refl
-started_with c message envelope ((kept.Child a own b program) ∷ ks) whole = by_program program whole.0 (started_with c message envelope ks whole.1) where
+-- who is given an envelope starts with it, and is no delivery
+started_with : (c message envelope : List ℕ) (ks : List Kept) → is_delivery_name c ≡ false → AllByRecursion IsWhole ks → receivers_in (start_with c message envelope ks) ≡ given_to c envelope (receivers_in ks)
+started_with c message envelope [] injects whole = refl
+started_with c message envelope ((kept.Child a own b program) ∷ ks) injects whole = by_program program whole.0 (started_with c message envelope ks injects whole.1) where
   one : Arguments → Receiver
   one args = record { actor = b; is_child = true; envelope = args.envelope }
 
@@ -239,42 +239,44 @@ started_with c message envelope ((kept.Child a own b program) ∷ ks) whole = by
   by_name args true same = refl
   by_name args false same = ap (λ (l : List Receiver). one args ∷ l) same
 
-  by_program : (program : Program) → IsMail program → receivers_in (start_with c message envelope ks) ≡ given_to c envelope (receivers_in ks)
+  by_program : (program : Program) → IsNamedSo b program → receivers_in (start_with c message envelope ks) ≡ given_to c envelope (receivers_in ks)
       → receivers_in (start_with c message envelope (kept.Child a own b program ∷ ks)) ≡ given_to c envelope (receivers_in (kept.Child a own b program ∷ ks))
   by_program (Injector args) mail same = by_name args (bytes_eq b c) same
   by_program (Cleaner start) mail same = absurd mail
   by_program (Sender start) mail same = absurd mail
   by_program (LocalSpawner start) mail same = absurd mail
   by_program (RemoteSpawner start) mail same = absurd mail
-  by_program (Delivery start args) mail same = absurd mail
-started_with c message envelope ((kept.Feed a own b text more) ∷ ks) whole = absurd whole.0
-started_with c message envelope ((kept.Start a program) ∷ ks) whole = by_kind (injection_of program) (started_with c message envelope ks whole.1) where
+  by_program (Delivery start args) mail same =
+      let far : b ≢ c = λ e. let both : true ≡ false = sym mail ∙ ap is_delivery_name e ∙ injects in absurd (cc) in
+      ap (λ (t : Bool). receivers_in (if t then (kept.Child a own b (Delivery start args)) ∷ ks else (kept.Child a own b (Delivery start args) ∷ start_with c message envelope ks))) (other_text b c far) ∙ same
+started_with c message envelope ((kept.Feed a own b text more) ∷ ks) injects whole = absurd whole.0
+started_with c message envelope ((kept.Start a program) ∷ ks) injects whole = by_kind (injection_of program) (started_with c message envelope ks injects whole.1) where
   by_kind : (o : Option Arguments) → receivers_in (start_with c message envelope ks) ≡ given_to c envelope (receivers_in ks)
       → received_by a false o ++ receivers_in (start_with c message envelope ks) ≡ given_to c envelope (received_by a false o ++ receivers_in ks)
   by_kind None same = same
   by_kind (Some args) same = ap (λ (l : List Receiver). record { actor = a; is_child = false; envelope = args.envelope } ∷ l) same
-started_with c message envelope ((kept.Act a own) ∷ ks) whole = started_with c message envelope ks whole.1
-started_with c message envelope ((kept.Generation start) ∷ ks) whole = started_with c message envelope ks whole.1
-started_with c message envelope ((kept.Report slot letter text) ∷ ks) whole = started_with c message envelope ks whole.1
-started_with c message envelope ((kept.End a read ready status) ∷ ks) whole = started_with c message envelope ks whole.1
-started_with c message envelope ((kept.Stop a) ∷ ks) whole = started_with c message envelope ks whole.1
-started_with c message envelope ((kept.Moment m) ∷ ks) whole = started_with c message envelope ks whole.1
-started_with c message envelope ((kept.Halt how) ∷ ks) whole = started_with c message envelope ks whole.1
+started_with c message envelope ((kept.Act a own) ∷ ks) injects whole = started_with c message envelope ks injects whole.1
+started_with c message envelope ((kept.Generation start) ∷ ks) injects whole = started_with c message envelope ks injects whole.1
+started_with c message envelope ((kept.Report slot letter text) ∷ ks) injects whole = started_with c message envelope ks injects whole.1
+started_with c message envelope ((kept.End a read ready status) ∷ ks) injects whole = started_with c message envelope ks injects whole.1
+started_with c message envelope ((kept.Stop a) ∷ ks) injects whole = started_with c message envelope ks injects whole.1
+started_with c message envelope ((kept.Moment m) ∷ ks) injects whole = started_with c message envelope ks injects whole.1
+started_with c message envelope ((kept.Halt how) ∷ ks) injects whole = started_with c message envelope ks injects whole.1
 
-with_received : (ks : List Kept) → AllByRecursion IsWhole (with_inputs ks) → receivers_in ks ≡ receivers_in (with_inputs ks)
-with_received [] whole = refl
-with_received ((kept.Feed a own c message envelope) ∷ ks) whole =
+with_received : (ks : List Kept) → AllByRecursion IsFedSo ks → AllByRecursion IsWhole (with_inputs ks) → receivers_in ks ≡ receivers_in (with_inputs ks)
+with_received [] fed whole = refl
+with_received ((kept.Feed a own c message envelope) ∷ ks) fed whole =
     let before = whole_before c message envelope (with_inputs ks) whole.1 in
-    ap (given_to c envelope) (with_received ks before) ∙ sym (started_with c message envelope (with_inputs ks) before)
-with_received ((kept.Child a own c program) ∷ ks) whole = ap (λ (l : List Receiver). received_by c true (injection_of program) ++ l) (with_received ks whole.1)
-with_received ((kept.Start a program) ∷ ks) whole = ap (λ (l : List Receiver). received_by a false (injection_of program) ++ l) (with_received ks whole.1)
-with_received ((kept.Act a own) ∷ ks) whole = with_received ks whole.1
-with_received ((kept.Generation start) ∷ ks) whole = with_received ks whole.1
-with_received ((kept.Report slot letter text) ∷ ks) whole = with_received ks whole.1
-with_received ((kept.End a read ready status) ∷ ks) whole = with_received ks whole.1
-with_received ((kept.Stop a) ∷ ks) whole = with_received ks whole.1
-with_received ((kept.Moment m) ∷ ks) whole = with_received ks whole.1
-with_received ((kept.Halt how) ∷ ks) whole = with_received ks whole.1
+    ap (given_to c envelope) (with_received ks fed.1 before) ∙ sym (started_with c message envelope (with_inputs ks) fed.0 before)
+with_received ((kept.Child a own c program) ∷ ks) fed whole = ap (λ (l : List Receiver). received_by c true (injection_of program) ++ l) (with_received ks fed.1 whole.1)
+with_received ((kept.Start a program) ∷ ks) fed whole = ap (λ (l : List Receiver). received_by a false (injection_of program) ++ l) (with_received ks fed.1 whole.1)
+with_received ((kept.Act a own) ∷ ks) fed whole = with_received ks fed.1 whole.1
+with_received ((kept.Generation start) ∷ ks) fed whole = with_received ks fed.1 whole.1
+with_received ((kept.Report slot letter text) ∷ ks) fed whole = with_received ks fed.1 whole.1
+with_received ((kept.End a read ready status) ∷ ks) fed whole = with_received ks fed.1 whole.1
+with_received ((kept.Stop a) ∷ ks) fed whole = with_received ks fed.1 whole.1
+with_received ((kept.Moment m) ∷ ks) fed whole = with_received ks fed.1 whole.1
+with_received ((kept.Halt how) ∷ ks) fed whole = with_received ks fed.1 whole.1
 
 -- what each mail was given is the envelope that it has in a history
 abbrev pub envelope_at : Given → List ℕ
@@ -288,10 +290,10 @@ turned_envelopes (g ∷ given) =
     ∙ ap (λ (l : List (List ℕ)). l ++ envelope_at g ∷ []) (turned_envelopes given)
     ∙ sym (reverse-append (envelope_at g ∷ []) (map envelope_at given))
 
-pub envelopes_told : (ks : List Kept) (h : List Event) (given : List Given) → AreMailStarts h → AllZip Tells (with_inputs ks) h → turned given ≡ receivers_in ks → map envelope_at given ≡ map envelope_in (mails_of h)
-envelopes_told ks h given mails told is =
+pub envelopes_told : (ks : List Kept) (h : List Event) (given : List Given) → AllByRecursion IsFedSo ks → AreNamedStarts h → AllZip Tells (with_inputs ks) h → turned given ≡ receivers_in ks → map envelope_at given ≡ map envelope_in (mails_of h)
+envelopes_told ks h given fed mails told is =
     let same : reverse (map envelope_at given) ≡ reverse (map envelope_in (mails_of h)) =
     sym (turned_envelopes given)
-    ∙ ap (map received) (is ∙ with_received ks (whole_all (with_inputs ks) h mails told))
+    ∙ ap (map received) (is ∙ with_received ks fed (whole_all (with_inputs ks) h mails told))
     ∙ all_told (with_inputs ks) h told in
     sym (reverse-reverse (map envelope_at given)) ∙ ap reverse same ∙ reverse-reverse (map envelope_in (mails_of h))

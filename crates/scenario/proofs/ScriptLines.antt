@@ -38,6 +38,7 @@ use Rattle.scenario.specs.Text.{IsPlayed, IsBegun}
 use Rattle.scenario.specs.Traced.{traced_after, traced_text}
 use Rattle.scenario.proofs.FirstDisks.{first_disk}
 use Rattle.scenario.proofs.Openings.{first_opens}
+use Rattle.scenario.proofs.DeliveryNames.{mail_no_delivery}
 use Rattle.scenario.proofs.Deeds.{tells, plain_on, playing_push, pid_told}
 use Rattle.scenario.proofs.KeptEvents.{start_told}
 use Rattle.scenario.proofs.ScriptRuns.{refused_with}
@@ -115,7 +116,7 @@ mail_started d old new plan name message envelope text h playing good started go
       events = Came e ∷ [];
       own = [];
       plays = (Happens (Came e), inl (good, now.legal.1.new, ap (λ args. Happens (Came (Start name (Injector args)))) same), refl, refl);
-      playing = playing_push d old new plan plan k (Came e) h playing events now refl (ap crash_plan disk ∙ playing.planned) tt (not_member name good);
+      playing = playing_push d old new plan plan k (Came e) h playing events now refl (ap crash_plan disk ∙ playing.planned) tt (not_member name good, mail_no_delivery name good) tt;
       text = sym (append-nil text);
     }
 

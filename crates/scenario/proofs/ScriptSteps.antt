@@ -1,7 +1,9 @@
 -- A step of a world is a step of the script's history.
-use Rattle.std.proofs.Common.{◌≡◌, ◌≢◌, ⊎_elim, ℕ, ◌+◌, List, [], ◌∷◌, ◌++◌, reverse, Bool, true, false, is_some, Option, Some, None, refl, sym, ap, ◌∙◌, subst, Result, Err}
+use Rattle.std.proofs.Common.{◌≡◌, ◌≢◌, ⊎_elim, ℕ, ◌+◌, List, [], ◌∷◌, ◌++◌, reverse, Bool, true, false, is_some, Contains, Option, Some, None, refl, sym, ap, ◌∙◌, subst, Result, Err}
+use Rattle.std.proofs.lemmas.Bool.{false≢true}
 use Rattle.std.specs.List.{AllZip}
-use Rattle.actor_names.specs.ChildNames.{bounce_name}
+use Rattle.actor_names.specs.ChildNames.{bounce_name, delivery_name, forward_of}
+use Rattle.actor_names.specs.MailNames.{members}
 use Rattle.call_fs.specs.declared.calls.CallData.{CallData}
 use Rattle.call_fs.specs.declared.calls.Answer.{Answer}
 use Rattle.call_fs.specs.declared.calls.Answer.TheVariants.{Refused}
@@ -10,8 +12,9 @@ use Rattle.call_fs.specs.declared.calls.Told.{Told}
 use Rattle.call_fs.specs.declared.program.Ready.{Ready}
 use Rattle.call_fs.specs.Disk.{Disk}
 use Rattle.call_fs.specs.declared.past.GotData.{GotData}
-use Rattle.call_fs.specs.declared.past.GotData.TheVariants.{Answered, Failed}
+use Rattle.call_fs.specs.declared.past.GotData.TheVariants.{Answered}
 use Rattle.call_fs.specs.declared.past.GotData.TheVariants as got
+use Rattle.call_fs.specs.declared.past.ChildData.{ChildData}
 use Rattle.call_fs.specs.declared.past.ChildData.TheVariants as child
 use Rattle.call_fs.specs.declared.program.Port.{Port}
 use Rattle.call_fs.specs.declared.program.Port.TheVariants as port
@@ -22,36 +25,43 @@ use Rattle.call_fs.specs.Plan.{Plan, Takes, CallKeepsPlan}
 use Rattle.call_fs.specs.Apply.{effect}
 use Rattle.crash_fs.specs.Crash.{Crash, crash_disk, crash_plan}
 use Rattle.call_fs.proofs.Maps.{put_at_same, put_at_other}
-use Rattle.world_events.specs.Inputs.{bounce, with_inputs}
+use Rattle.local_steps.specs.Arguments.{local_args}
+use Rattle.queue_inject.specs.declared.injection.Arguments.{Arguments}
+use Rattle.world_events.specs.Children.{Counts, child_of, counts_in as kept_counts}
+use Rattle.world_events.specs.Inputs.{bounce, forward, with_inputs}
 use Rattle.world_events.specs.declared.event.Program.{Program}
-use Rattle.world_events.specs.declared.event.Program.TheVariants.{Injector}
+use Rattle.world_events.specs.declared.event.Program.TheVariants.{Injector, Cleaner, Sender, LocalSpawner, RemoteSpawner, Delivery}
 use Rattle.world_events.specs.declared.event.Event.{Event as Kept}
 use Rattle.world_events.specs.declared.event.Event.TheVariants as kept
 use Rattle.mail_world.specs.Generations.{Waits, CanNot, has_idled, idled_by}
-use Rattle.mail_world.specs.History.{Event, call_act, Actor, Life, State, Allowed, MayDo, ComesOf, netstring, next_of, IsLiving, acted, called, finished, happens, own_call}
+use Rattle.mail_world.specs.History.{Event, call_act, Actor, Life, State, Allowed, MayDo, MayRun, ComesOf, netstring, next_of, program_of, IsLiving, acted, called, finished, happens, own_call}
 use Rattle.mail_world.specs.History.{after as after_events}
 use Rattle.mail_world.specs.Known.{known}
-use Rattle.mail_world.specs.Pipework.{Pipe, Pipework, Tenant, pipes_after, pipework_after}
+use Rattle.mail_world.specs.Pipework.{Pipe, Pipework, Tenant, is_member, pipes_after, pipework_after}
 use Rattle.mail_world.specs.Pipework.Tenant.{Runs, Remote}
 use Rattle.mail_world.specs.Wired.{GivesWhole}
 use Rattle.mail_world.specs.History.Event.{Act, Child, End}
 use Rattle.mail_world.specs.History.Life.{Alive, Over}
 use Rattle.mail_world.specs.Readiness.{found_in}
-use Rattle.mail_world.specs.World.{kept_call, next_pid as kept_pid, bounces_in as kept_bounces, begun_with, Seen, Tells, IsHistory, GoesOn, GoesByPlan, IsStep, IsOwnOf, IsKeptBy, IsKeptGiving, ComesWhole, IsPlannedOwn, EndsAt, was_started}
-use Rattle.mail_world.proofs.Bounces.{bounce_mail}
+use Rattle.mail_world.specs.World.{next_pid as kept_pid, begun_with, Seen, Tells, IsHistory, GoesOn, GoesByPlan, IsStep, IsOwnOf, IsKeptBy, IsKeptGiving, IsKeptStart, IsKeptTo, ComesWhole, IsPlannedOwn, EndsAt, was_started}
+use Rattle.mail_world.proofs.Histories.{kept_call}
 use Rattle.mail_world.proofs.Lives.{started_is, ended_is, lives_or_ended}
-use Rattle.mail_world.proofs.Members.{contained_member}
+use Rattle.mail_world.proofs.Members.{contained_member, member_contained, whether}
 use Rattle.mail_world.proofs.Spans.{span_stays}
 use Rattle.crash_fs.proofs.CountedCalls.{done_by}
 use Rattle.scenario.proofs.HalfWritten.{call_wrote_none}
-use Rattle.scenario.specs.Deeds.{Deed, event_in, history_of, after, bounces_in}
+use Rattle.scenario.specs.Deeds.{Deed, event_in, history_of, after, counts_in}
 use Rattle.scenario.specs.Deeds.Deed.{Came, Fed}
 use Rattle.scenario.specs.Steps.{plan_by, plan_left_of, DoesNext, DoesStep, StepsTo, Outcome, next_pid, comes, idles, own_by}
 use Rattle.scenario.specs.Steps.Outcome.{Happens, Is}
 use Rattle.scenario.specs.Steps.Refusal.{Gone, Unknown, NotWaiting}
+use Rattle.scenario.specs.Fates.{AreNamed, IsNamedSo, is_delivery_name}
 use Rattle.scenario.specs.Playing.{HasStepped, IsLeftBy, IsPlaying, IsRefusedAs, is_memory, lacked_memory, stepped_by}
-use Rattle.scenario.proofs.Carried.{IsNoFile, no_file_disk}
-use Rattle.scenario.proofs.Deeds.{tells, plain_on, fed_on, playing_push, pid_told, bounces_told}
+use Rattle.scenario.proofs.Carried.{no_file_disk}
+use Rattle.scenario.proofs.StepKinds.{IsNoFile}
+use Rattle.scenario.proofs.Deeds.{tells, plain_on, fed_on, playing_push, pid_told, counts_told}
+use Rattle.scenario.proofs.Followed.{orderly}
+use Rattle.scenario.proofs.ReadEvents.{inputs_read}
 use Rattle.scenario.proofs.KeptEvents.{act_told, child_told, end_told}
 use Rattle.scenario.proofs.Knowing.{actors_told, pipework_told, found_same, comes_same, kept_same, idled_same, waits_same}
 use Rattle.scenario.proofs.Outcomes.{does_next, over_gone}
@@ -69,7 +79,7 @@ pub never_started : (o d : Disk) (events : List Kept) (p : ℕ) (h : List Deed) 
 never_started o d events p h a was new = none_of ((after o h).actors a) (sym (started_is o (history_of h) events a was.told) ∙ new)
 
 unknown_steps : (plan : Plan) (o d : Disk) (events : List Kept) (p : ℕ) (h : List Deed) (a : List ℕ) → IsHistory o d events p (history_of h) → was_started events a ≡ false → StepsTo o h plan a (Is Unknown)
-unknown_steps plan o d events p h a was new = subst (λ (m : Option Actor). DoesStep plan (after o h) (next_pid h) (bounces_in h) a m (Is Unknown)) (sym (never_started o d events p h a was new)) refl
+unknown_steps plan o d events p h a was new = subst (λ (m : Option Actor). DoesStep plan (after o h) (next_pid h) (counts_in h) a m (Is Unknown)) (sym (never_started o d events p h a was new)) refl
 
 gone_steps : (plan : Plan) (o d : Disk) (events : List Kept) (p : ℕ) (h : List Deed) (a : List ℕ) (at : ℕ) → IsHistory o d events p (history_of h) → EndsAt events a at → StepsTo o h plan a (Is Gone)
 gone_steps plan o d events p h a at was ends =
@@ -386,30 +396,76 @@ bears_on s a own c program x is apart =
     let lives = acted_actor s a own 0 x is in
     (lives.0, put_at_other (acted s a own 0 (s.actors a)).actors c _ a apart ∙ lives.1, lives.2)
 
+-- A child has no member's name, and an injector none of a delivery.
+unlike_members : (b : List ℕ) → is_member b ≡ false → ¬ (Contains members b)
+unlike_members b named inside = false≢true (sym named ∙ contained_member b inside)
+
+forward_named : (a : List ℕ) → (is_member (forward_of a) ≡ false) × (is_delivery_name (forward_of a) ≡ false)
+forward_named [] = (refl, refl)
+forward_named (letter ∷ rest) = (refl, refl)
+
+same_born : (x y : List ℕ × Program) → ◌≡◌ {A = Option (List ℕ × Program)} (Some x) (Some y) → x ≡ y
+same_born x y e = cc
+
+abbrev IsNamedBirth : List ℕ × Program → Type 0
+IsNamedBirth born = (¬ (Contains members born.0)) × IsNamedSo born.0 born.1
+
+born_named : (n : Counts) (a : List ℕ) (asked : ChildData) (pid now : ℕ) (born : List ℕ × Program) → child_of n a asked pid now ≡ Some born → IsNamedBirth born
+born_named n a (child.Bounce room) pid now born of =
+    subst IsNamedBirth (same_born (bounce_name (n.bounces + 1), Injector (bounce pid now)) born of) (unlike_members (bounce_name (n.bounces + 1)) refl, refl)
+born_named n a (child.Forward uid room) pid now born of =
+    let named = forward_named a in
+    subst IsNamedBirth (same_born (forward_of a, Injector (forward uid pid now)) born of) (unlike_members (forward_of a) named.0, named.1)
+born_named n a (child.Local slot words uid) pid now born of =
+    subst IsNamedBirth (same_born (delivery_name (n.deliveries + 1), Delivery now (local_args words uid pid)) born of) (unlike_members (delivery_name (n.deliveries + 1)) refl, refl)
+born_named n a (child.Remote slot domain sender recipient) pid now born of = absurd (cc)
+
 -- What an event of an actor is kept as
-data IsKeptAs (s : State) (bounces : ℕ) (a : List ℕ) (own : Own) (due : NeedData) (came : GotData) (k : Kept) : Type 0 where
-  Acts : IsKeptBy s bounces a own due came (kept.Act a own) → k ≡ kept.Act a own → IsKeptAs s bounces a own due came k
-  Bears : (room pid : ℕ) → due ≡ needs.Start (child.Bounce room) → came ≡ got.Started pid → k ≡ kept.Child a own (bounce_name (bounces + 1)) (Injector (bounce pid own.read))
-      → IsKeptAs s bounces a own due came k
-  Feeds : (slot : ℕ) (c message envelope : List ℕ) → due ≡ needs.Give (port.Program slot) (netstring message ++ netstring envelope) → came ≡ got.Gave → s.pipework.programs a slot ≡ Some (Runs c)
-      → k ≡ kept.Feed a own c message envelope → IsKeptAs s bounces a own due came k
+data IsKeptAs (s : State) (n : Counts) (a : List ℕ) (own : Own) (due : NeedData) (came : GotData) (k : Kept) : Type 0 where
+  Acts : IsKeptBy s n a own due came (kept.Act a own) → k ≡ kept.Act a own → IsKeptAs s n a own due came k
+  Bears : (asked : ChildData) (pid : ℕ) (born : List ℕ × Program) → due ≡ needs.Start asked → came ≡ got.Started pid → child_of n a asked pid own.read ≡ Some born → k ≡ kept.Child a own born.0 born.1
+      → IsKeptAs s n a own due came k
+  Feeds : (slot : ℕ) (c message envelope : List ℕ) (args : Arguments) → due ≡ needs.Give (port.Program slot) (netstring message ++ netstring envelope) → came ≡ got.Gave → s.pipework.programs a slot ≡ Some (Runs c)
+      → program_of (s.actors c) ≡ Some (Injector args) → k ≡ kept.Feed a own c message envelope → IsKeptAs s n a own due came k
 
-given_as : (s : State) (bounces : ℕ) (a : List ℕ) (own : Own) (slot : ℕ) (bytes : List ℕ) (k : Kept) (o : Option Tenant) → s.pipework.programs a slot ≡ o → IsKeptGiving o a own bytes k
-    → IsKeptAs s bounces a own (needs.Give (port.Program slot) bytes) got.Gave k
-given_as s bounces a own slot bytes k None is kept_as = Acts (subst (λ (o : Option Tenant). IsKeptGiving o a own bytes (kept.Act a own)) (sym is) refl) kept_as
-given_as s bounces a own slot bytes k (Some (Runs c)) is kept_as =
-    Feeds slot c kept_as.0 kept_as.1 (ap (λ (b : List ℕ). needs.Give (port.Program slot) b) kept_as.2) refl is kept_as.3
-given_as s bounces a own slot bytes k (Some (Remote reported)) is kept_as = Acts (subst (λ (o : Option Tenant). IsKeptGiving o a own bytes (kept.Act a own)) (sym is) refl) kept_as
+acts_so : (s : State) (a : List ℕ) (own : Own) (slot : ℕ) (bytes c : List ℕ) (o : Option Program) → s.pipework.programs a slot ≡ Some (Runs c) → program_of (s.actors c) ≡ o
+    → IsKeptTo o c a own bytes (kept.Act a own) → IsKeptGiving s (s.pipework.programs a slot) a own bytes (kept.Act a own)
+acts_so s a own slot bytes c o is of acts =
+    subst (λ (o : Option Tenant). IsKeptGiving s o a own bytes (kept.Act a own)) (sym is) (subst (λ (o : Option Program). IsKeptTo o c a own bytes (kept.Act a own)) (sym of) acts)
 
-kept_so : (s : State) (bounces : ℕ) (a : List ℕ) (own : Own) (due : NeedData) (came : GotData) (k : Kept) → IsKeptBy s bounces a own due came k → IsKeptAs s bounces a own due came k
-kept_so s bounces a own (needs.Start (child.Bounce room)) (got.Started pid) k is = Bears room pid refl refl is
-kept_so s bounces a own (needs.Give (port.Program slot) bytes) got.Gave k is = given_as s bounces a own slot bytes k (s.pipework.programs a slot) refl is
-kept_so s bounces a own due came k is = Acts refl is
+-- in that slot runs who has this program
+to_as : (s : State) (n : Counts) (a : List ℕ) (own : Own) (slot : ℕ) (bytes c : List ℕ) (k : Kept) (o : Option Program) → s.pipework.programs a slot ≡ Some (Runs c) → program_of (s.actors c) ≡ o
+    → (k ≡ kept.Act a own → IsKeptTo o c a own bytes (kept.Act a own)) → IsKeptTo o c a own bytes k → IsKeptAs s n a own (needs.Give (port.Program slot) bytes) got.Gave k
+to_as s n a own slot bytes c k (Some (Injector args)) is of acts kept_as =
+    Feeds slot c kept_as.0 kept_as.1 args (ap (λ (b : List ℕ). needs.Give (port.Program slot) b) kept_as.2) refl is of kept_as.3
+to_as s n a own slot bytes c k (Some (Cleaner start)) is of acts kept_as = Acts (acts_so s a own slot bytes c (Some (Cleaner start)) is of (acts kept_as)) kept_as
+to_as s n a own slot bytes c k (Some (Sender start)) is of acts kept_as = Acts (acts_so s a own slot bytes c (Some (Sender start)) is of (acts kept_as)) kept_as
+to_as s n a own slot bytes c k (Some (LocalSpawner start)) is of acts kept_as = Acts (acts_so s a own slot bytes c (Some (LocalSpawner start)) is of (acts kept_as)) kept_as
+to_as s n a own slot bytes c k (Some (RemoteSpawner start)) is of acts kept_as = Acts (acts_so s a own slot bytes c (Some (RemoteSpawner start)) is of (acts kept_as)) kept_as
+to_as s n a own slot bytes c k (Some (Delivery start args)) is of acts kept_as = Acts (acts_so s a own slot bytes c (Some (Delivery start args)) is of (acts kept_as)) kept_as
+to_as s n a own slot bytes c k None is of acts kept_as = Acts (acts_so s a own slot bytes c None is of (acts kept_as)) kept_as
 
-kept_idled : (s : State) (bounces : ℕ) (a : List ℕ) (own : Own) (due : NeedData) (came : GotData) (k : Kept) → IsKeptAs s bounces a own due came k → has_idled s k ≡ idled_by (s.actors a) own
-kept_idled s bounces a own due came k (Acts plain is) = ap (has_idled s) is
-kept_idled s bounces a own due came k (Bears room pid asked started is) = ap (has_idled s) is
-kept_idled s bounces a own due came k (Feeds slot c message envelope gives gave runs is) = ap (has_idled s) is
+given_as : (s : State) (n : Counts) (a : List ℕ) (own : Own) (slot : ℕ) (bytes : List ℕ) (k : Kept) (o : Option Tenant) → s.pipework.programs a slot ≡ o → IsKeptGiving s o a own bytes k
+    → IsKeptAs s n a own (needs.Give (port.Program slot) bytes) got.Gave k
+given_as s n a own slot bytes k None is kept_as = Acts (subst (λ (o : Option Tenant). IsKeptGiving s o a own bytes (kept.Act a own)) (sym is) refl) kept_as
+given_as s n a own slot bytes k (Some (Runs c)) is kept_as =
+    to_as s n a own slot bytes c k (program_of (s.actors c)) is refl (λ e. subst (IsKeptTo (program_of (s.actors c)) c a own bytes) e kept_as) kept_as
+given_as s n a own slot bytes k (Some (Remote reported)) is kept_as = Acts (subst (λ (o : Option Tenant). IsKeptGiving s o a own bytes (kept.Act a own)) (sym is) refl) kept_as
+
+start_as : (s : State) (n : Counts) (a : List ℕ) (own : Own) (asked : ChildData) (pid : ℕ) (k : Kept) (o : Option (List ℕ × Program)) → child_of n a asked pid own.read ≡ o → IsKeptStart o a own k
+    → IsKeptAs s n a own (needs.Start asked) (got.Started pid) k
+start_as s n a own asked pid k None of is = Acts (subst (λ (o : Option (List ℕ × Program)). IsKeptStart o a own (kept.Act a own)) (sym of) refl) is
+start_as s n a own asked pid k (Some born) of is = Bears asked pid born refl refl of is
+
+kept_so : (s : State) (n : Counts) (a : List ℕ) (own : Own) (due : NeedData) (came : GotData) (k : Kept) → IsKeptBy s n a own due came k → IsKeptAs s n a own due came k
+kept_so s n a own (needs.Start asked) (got.Started pid) k is = start_as s n a own asked pid k (child_of n a asked pid own.read) refl is
+kept_so s n a own (needs.Give (port.Program slot) bytes) got.Gave k is = given_as s n a own slot bytes k (s.pipework.programs a slot) refl is
+kept_so s n a own due came k is = Acts refl is
+
+kept_idled : (s : State) (n : Counts) (a : List ℕ) (own : Own) (due : NeedData) (came : GotData) (k : Kept) → IsKeptAs s n a own due came k → has_idled s k ≡ idled_by (s.actors a) own
+kept_idled s n a own due came k (Acts plain is) = ap (has_idled s) is
+kept_idled s n a own due came k (Bears asked pid born starts started of is) = ap (has_idled s) is
+kept_idled s n a own due came k (Feeds slot c message envelope args gives gave runs mail is) = ap (has_idled s) is
 
 -- what a step of the world that is no end leaves
 pub record GoesBy (o : Disk) (new : Seen Crash) (plan : Plan) (a : List ℕ) (own : Own) (h : List Deed) : Type 0 where
@@ -453,7 +509,7 @@ module _ (o : Disk) (old new : Seen Crash) (plan : Plan) (a : List ℕ) (own : O
       (subst (λ (pid : ℕ). ComesWhole (after o h) pid a did.actor.program own.due own.came) (pid_told old.events h playing.told)
       (comes_same (after o h) (known old.events) actors pipework (kept_pid old.events) a did.actor.program own.due own.came did.came))
 
-  steps_by : (outcome : Outcome) → did.actor.life ≡ Alive → DoesNext plan (after o h) (next_pid h) (bounces_in h) a did.actor.program own.due outcome → StepsTo o h plan a outcome
+  steps_by : (outcome : Outcome) → did.actor.life ≡ Alive → DoesNext plan (after o h) (next_pid h) (counts_in h) a did.actor.program own.due outcome → StepsTo o h plan a outcome
   steps_by outcome alive does = does_next o h plan a old.present did.actor own.due outcome actor_is alive playing.is.moment due_is does
 
   -- the actor that may do it now is that one
@@ -470,7 +526,7 @@ module _ (o : Disk) (old new : Seen Crash) (plan : Plan) (a : List ℕ) (own : O
     deed = Came (Act a own_now 0);
     steps = steps;
     playing = playing_push o old new plan (plan_by (Act a own_now 0) plan) (kept.Act a own_now) (Came (Act a own_now 0)) h playing
-        (event ∙ ap (λ (k : Kept). old.events ++ k ∷ []) (kept_is ∙ ap (kept.Act a) is)) now refl planned (subst (λ (own : Own). GivesWhole own.due own.came) is whole) tt;
+        (event ∙ ap (λ (k : Kept). old.events ++ k ∷ []) (kept_is ∙ ap (kept.Act a) is)) now refl planned (subst (λ (own : Own). GivesWhole own.due own.came) is whole) tt tt;
     living = lives_on o (crash_disk new.disk) new.events new.present a own_now (history_of h) now;
     idle = ap (idled_by ((after o h).actors a)) (sym is);
   }
@@ -482,7 +538,7 @@ module _ (o : Disk) (old new : Seen Crash) (plan : Plan) (a : List ℕ) (own : O
       let told = act_told a own on.0 on.2 in
       (told.0, subst (λ (e : Event). IsNow (e ∷ history_of h)) told.1 on.1)
 
-  passes : k ≡ kept.Act a own → IsKeptBy (after o h) (kept_bounces old.events) a own own.due own.came (kept.Act a own) → IsNoFile own.due → GoesBy o new plan a own h
+  passes : k ≡ kept.Act a own → IsKeptBy (after o h) (counts_in h) a own own.due own.came (kept.Act a own) → IsNoFile own.due → GoesBy o new plan a own h
   passes kept_is plain unfiled =
       let at_w = acted_now kept_is in
       let now = zero_passed o (crash_disk new.disk) new.events new.present a own at_w.0 (history_of h) unfiled whole at_w.1 in
@@ -491,7 +547,7 @@ module _ (o : Disk) (old new : Seen Crash) (plan : Plan) (a : List ℕ) (own : O
       let alive : did.actor.life ≡ Alive = subst (λ (x : Actor). x.life ≡ Alive) (same_actor made.actor made.reads.is) made.reads.alive in
       acted_so own refl kept_is
       (steps_by (Happens (Came (Act a own 0))) alive
-      (acts_next plan (after o h) (next_pid h) (bounces_in h) (kept_bounces old.events) a did.actor.program own own.due own.came unfiled (comes_now unfiled) plain mine))
+      (acts_next plan (after o h) (next_pid h) (counts_in h) a did.actor.program own own.due own.came unfiled (comes_now unfiled) plain mine))
       (unplanned unfiled left)
       now
 
@@ -513,7 +569,7 @@ module _ (o : Disk) (old new : Seen Crash) (plan : Plan) (a : List ℕ) (own : O
       let done = call_steps o old new plan h a call got at_w.0 playing (subst (λ (own : Own). IsNow (Act a own at_w.0 ∷ history_of h)) is at_w.1) (not_memory got.answer (sym (memory old.events k_now events))) keeps in
       acted_so own_now is kept_is done.0 done.1 done.2
 
-  acts : k ≡ kept.Act a own → IsKeptBy (after o h) (kept_bounces old.events) a own own.due own.came (kept.Act a own) → GoesBy o new plan a own h
+  acts : k ≡ kept.Act a own → IsKeptBy (after o h) (counts_in h) a own own.due own.came (kept.Act a own) → GoesBy o new plan a own h
   acts kept_is plain = by_due own.due refl
     where
       by_due : (due : NeedData) → own.due ≡ due → GoesBy o new plan a own h
@@ -526,12 +582,12 @@ module _ (o : Disk) (old new : Seen Crash) (plan : Plan) (a : List ℕ) (own : O
       by_due (needs.Ended status) due = passes kept_is plain (no_file own.due (λ call e. let both = sym due ∙ e in absurd (cc)))
 
   -- the start of a child
-  bears : (room pid : ℕ) → own.due ≡ needs.Start (child.Bounce room) → own.came ≡ got.Started pid
-      → k ≡ kept.Child a own (bounce_name (kept_bounces old.events + 1)) (Injector (bounce pid own.read)) → GoesBy o new plan a own h
-  bears room pid due came kept_is =
+  bears : (asked : ChildData) (pid : ℕ) (born : List ℕ × Program) → own.due ≡ needs.Start asked → own.came ≡ got.Started pid → child_of (counts_in h) a asked pid own.read ≡ Some born
+      → k ≡ kept.Child a own born.0 born.1 → GoesBy o new plan a own h
+  bears asked pid born due came of kept_is =
       let s = after o h in
-      let c = bounce_name (kept_bounces old.events + 1) in
-      let program = Injector (bounce pid own.read) in
+      let c = born.0 in
+      let program = born.1 in
       let e : Event = Child a own c program in
       let events : new.events ≡ old.events ++ kept.Child a own c program ∷ [] = event ∙ ap (λ (k : Kept). old.events ++ k ∷ []) kept_is in
       let on = plain_on o old new plan (kept.Child a own c program) h playing goes tt events in
@@ -539,20 +595,17 @@ module _ (o : Disk) (old new : Seen Crash) (plan : Plan) (a : List ℕ) (own : O
       let made = now.legal.1 in
       let alive : did.actor.life ≡ Alive = subst (λ (x : Actor). x.life ≡ Alive) (same_actor made.actor made.reads.is) made.reads.alive in
       let unfiled : IsNoFile own.due = subst IsNoFile (sym due) tt in
-      let comes_so : comes s (next_pid h) a did.actor.program (needs.Start (child.Bounce room)) ≡ Some (got.Started pid) =
+      let comes_so : comes s (next_pid h) a did.actor.program (needs.Start asked) ≡ Some (got.Started pid) =
       subst (λ (d : NeedData). comes s (next_pid h) a did.actor.program d ≡ Some (got.Started pid)) due (comes_now unfiled ∙ ap (λ (g : GotData). Some g) came) in
-      let own_so : own ≡ own_by s a (needs.Start (child.Bounce room)) (got.Started pid) =
-      mine ∙ ap (λ (d : NeedData). own_by s a d own.came) due ∙ ap (own_by s a (needs.Start (child.Bounce room))) came in
-      let does : DoesNext plan s (next_pid h) (bounces_in h) a did.actor.program (needs.Start (child.Bounce room)) (Happens (Came e)) =
-      subst (λ (n : ℕ). DoesNext plan s (next_pid h) (bounces_in h) a did.actor.program (needs.Start (child.Bounce room)) (Happens (Came (Child a own (bounce_name (n + 1)) program)))) (sym (bounces_told old.events h playing.told))
-      (bears_next plan s (next_pid h) (bounces_in h) a did.actor.program own room pid comes_so own_so) in
+      let own_so : own ≡ own_by s a (needs.Start asked) (got.Started pid) = mine ∙ ap (λ (d : NeedData). own_by s a d own.came) due ∙ ap (own_by s a (needs.Start asked)) came in
+      let does = bears_next plan s (next_pid h) (counts_in h) a did.actor.program own asked pid born comes_so of own_so in
       let apart : a ≢ c = λ same_name. let both : Some made.actor ≡ None = sym (ap s.actors (sym same_name) ∙ made.reads.is) ∙ made.new in absurd (cc) in
       let lives = bears_on s a own c program made.actor made.reads.is apart in
       record {
         deed = Came e;
-        steps = steps_by (Happens (Came e)) alive (subst (λ (d : NeedData). DoesNext plan s (next_pid h) (bounces_in h) a did.actor.program d (Happens (Came e))) (sym due) does);
+        steps = steps_by (Happens (Came e)) alive (subst (λ (d : NeedData). DoesNext plan s (next_pid h) (counts_in h) a did.actor.program d (Happens (Came e))) (sym due) does);
         playing = playing_push o old new plan plan (kept.Child a own c program) (Came e) h playing events now refl (by (kept.Child a own c program) events ∙ playing.planned) whole
-            (λ member. let no : true ≡ false = sym (contained_member c member) ∙ bounce_mail (kept_bounces old.events + 1) in absurd (cc), tt);
+            (born_named (counts_in h) a asked pid own.read born of) tt;
         living = record { actor = lives.0; is = lives.1; alive = lives.2 ∙ made.reads.alive };
         idle = refl;
       }
@@ -570,9 +623,25 @@ module _ (o : Disk) (old new : Seen Crash) (plan : Plan) (a : List ℕ) (own : O
       absurd (dead.2 (ap (λ (y : Actor). y.life) (sym one) ∙ alive)))
       (lives_or_ended o (history_of h) old.events a did.actor playing.is.legal playing.is.told actor_is)
 
-  feeds : (slot : ℕ) (c message envelope : List ℕ) → own.due ≡ needs.Give (port.Program slot) (netstring message ++ netstring envelope) → own.came ≡ got.Gave
-      → (after o h).pipework.programs a slot ≡ Some (Runs c) → k ≡ kept.Feed a own c message envelope → GoesBy o new plan a own h
-  feeds slot c message envelope due came runs kept_is =
+  -- who is given it is no delivery
+  fed_so : (c : List ℕ) (args : Arguments) → program_of ((after o h).actors c) ≡ Some (Injector args) → is_delivery_name c ≡ false
+  fed_so c args mail = by_actor ((after o h).actors c) refl mail
+    where
+      named : AreNamed (after o h)
+      named = (orderly o (reverse old.events) (history_of h) playing.is.legal (inputs_read (reverse old.events) (history_of h) playing.is.told) playing.starts).named
+
+      by_actor : (m : Option Actor) → (after o h).actors c ≡ m → program_of m ≡ Some (Injector args) → is_delivery_name c ≡ false
+      by_actor None is mail = absurd (cc)
+      by_actor (Some x) is mail =
+          let one : x.program ≡ Injector args = cc in
+          ⊎_elim
+          (λ member. absurd (subst (λ (p : Program). MayRun p → ⊥) one (named.member c x is (member_contained c member)) tt))
+          (λ alone. subst (IsNamedSo c) one (named.alone c x is (λ inside. false≢true (sym alone ∙ contained_member c inside))))
+          (whether (is_member c))
+
+  feeds : (slot : ℕ) (c message envelope : List ℕ) (args : Arguments) → own.due ≡ needs.Give (port.Program slot) (netstring message ++ netstring envelope) → own.came ≡ got.Gave
+      → (after o h).pipework.programs a slot ≡ Some (Runs c) → program_of ((after o h).actors c) ≡ Some (Injector args) → k ≡ kept.Feed a own c message envelope → GoesBy o new plan a own h
+  feeds slot c message envelope args due came runs mail kept_is =
       let s = after o h in
       let bytes = netstring message ++ netstring envelope in
       let x : Deed = Fed a own c message envelope in
@@ -588,22 +657,25 @@ module _ (o : Disk) (old new : Seen Crash) (plan : Plan) (a : List ℕ) (own : O
       let alive = lived living.actor (Act a own 0) g now living.is living.alive c message envelope events in
       let own_so : own ≡ own_by s a (needs.Give (port.Program slot) bytes) got.Gave =
       mine ∙ ap (λ (d : NeedData). own_by s a d own.came) due ∙ ap (own_by s a (needs.Give (port.Program slot) bytes)) came in
-      let does = feeds_next plan s (next_pid h) (bounces_in h) a did.actor.program own slot c message envelope runs own_so in
+      let does = feeds_next plan s (next_pid h) (counts_in h) a did.actor.program own slot c message envelope args runs mail own_so in
       record {
         deed = x;
-        steps = steps_by (Happens x) alive (subst (λ (d : NeedData). DoesNext plan s (next_pid h) (bounces_in h) a did.actor.program d (Happens x)) (sym due) does);
-        playing = playing_push o old new plan (plan_left_of own.due own.came plan) kf x h playing events now refl (unplanned unfiled (by kf events)) whole tt;
+        steps = steps_by (Happens x) alive (subst (λ (d : NeedData). DoesNext plan s (next_pid h) (counts_in h) a did.actor.program d (Happens x)) (sym due) does);
+        playing = playing_push o old new plan (plan_left_of own.due own.came plan) kf x h playing events now refl (unplanned unfiled (by kf events)) whole tt (fed_so c args mail);
         living = living;
         idle = refl;
       }
 
-  pub goes_by : IsKeptBy (known old.events) (kept_bounces old.events) a own own.due own.came k → GoesBy o new plan a own h
-  goes_by kept_as = by_case (kept_so (after o h) (kept_bounces old.events) a own own.due own.came k (kept_same (after o h) (known old.events) actors pipework (kept_bounces old.events) a own own.due own.came k kept_as))
+  pub goes_by : IsKeptBy (known old.events) (kept_counts old.events) a own own.due own.came k → GoesBy o new plan a own h
+  goes_by kept_as =
+      by_case (kept_so (after o h) (counts_in h) a own own.due own.came k
+      (subst (λ (n : Counts). IsKeptBy (after o h) n a own own.due own.came k) (counts_told old.events h playing.told)
+      (kept_same (after o h) (known old.events) actors pipework (kept_counts old.events) a own own.due own.came k kept_as)))
     where
-      by_case : IsKeptAs (after o h) (kept_bounces old.events) a own own.due own.came k → GoesBy o new plan a own h
+      by_case : IsKeptAs (after o h) (counts_in h) a own own.due own.came k → GoesBy o new plan a own h
       by_case (Acts plain is) = acts is plain
-      by_case (Bears room pid asked started is) = bears room pid asked started is
-      by_case (Feeds slot c message envelope gives gave runs is) = feeds slot c message envelope gives gave runs is
+      by_case (Bears asked pid born starts started of is) = bears asked pid born starts started of is
+      by_case (Feeds slot c message envelope args gives gave runs mail is) = feeds slot c message envelope args gives gave runs mail is
 
 left_as : (d : Disk) (plan : Plan) (a : List ℕ) (x : Deed) (h : List Deed) (idle : Bool) → idle ≡ idles (after d h) (event_in x) → IsLiving (after d (x ∷ h)) a → IsLeftBy (stepped_by None idle) d plan a x h
 left_as d plan a x h true is living = sym is
@@ -628,14 +700,14 @@ stepped o old new plan a None idle h playing step same turn goes by memory =
     let k = step.1 in
     let before = known old.events in
     let done = goes_by o old new plan a own h playing step.2 k step.4 same goes by memory step.3 in
-    let kept_as = kept_so before (kept_bounces old.events) a own own.due own.came k step.3 in
+    let kept_as = kept_so before (kept_counts old.events) a own own.due own.came k step.3 in
     let idled = idled_same (after o h) before (actors_told o old.events (history_of h) playing.is.told) (pipework_told o old.events (history_of h) playing.is.told playing.whole) a own in
     record {
       deed = done.deed;
       steps = done.steps;
       playing = done.playing;
       over = left_as o (plan_by (event_in done.deed) plan) a done.deed h idle
-          (turn k step.4 ∙ kept_idled before (kept_bounces old.events) a own own.due own.came k kept_as ∙ sym idled ∙ sym done.idle)
+          (turn k step.4 ∙ kept_idled before (kept_counts old.events) a own own.due own.came k kept_as ∙ sym idled ∙ sym done.idle)
           done.living;
     }
 stepped o old new plan a (Some status) idle h playing step same turn goes by memory =
@@ -644,7 +716,7 @@ stepped o old new plan a (Some status) idle h playing step same turn goes by mem
     let k : Kept = kept.End a p (found_in s a) status in
     let f : Event = End a p (found_in s a) status in
     let found = found_same s (known old.events) (actors_told o old.events (history_of h) playing.is.told) (pipework_told o old.events (history_of h) playing.is.told playing.whole) a in
-    let event : new.events ≡ old.events ++ k ∷ [] = step ∙ ap (λ ready. old.events ++ kept.End a p ready status ∷ []) (sym found) in
+    let event : new.events ≡ old.events ++ k ∷ [] = step.1 ∙ ap (λ ready. old.events ++ kept.End a p ready status ∷ []) (sym found) in
     let on = plain_on o old new plan k h playing goes tt event in
     let now : IsHistory o (crash_disk new.disk) new.events new.present (f ∷ history_of h) =
     subst (λ (e : Event). IsHistory o (crash_disk new.disk) new.events new.present (e ∷ history_of h)) (end_told a p (found_in s a) status on.0 on.2) on.1 in
@@ -654,6 +726,6 @@ stepped o old new plan a (Some status) idle h playing step same turn goes by mem
       deed = Came f;
       steps = does_next o h plan a p may.actor (needs.Ended status) (Happens (Came f)) may.reads.is may.reads.alive playing.is.moment may.due
           (ap (λ q. Happens (Came (End a q (found_in s a) status))) (sym playing.is.moment));
-      playing = playing_push o old new plan plan k (Came f) h playing event now refl (by k event ∙ playing.planned) tt tt;
+      playing = playing_push o old new plan plan k (Came f) h playing event now refl (by k event ∙ playing.planned) tt tt tt;
       over = (over_gone o (Came f ∷ h) plan a over.0 over.1 (λ e. let both = sym over.2 ∙ e in absurd (cc)), refl);
     }

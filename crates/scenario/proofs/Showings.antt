@@ -2,7 +2,7 @@
 use Rattle.std.proofs.Common.{◌≡◌, ℕ, List, [], ◌∷◌, ◌++◌, All, map, reverse, bytes_eq, Bool, true, false, Option, Some, None, refl, sym, ap, ◌∙◌, subst, append_assoc}
 use Rattle.std.proofs.lemmas.List.Elements.{All-append, All-cons, All-map, All-nil, All-weaker}
 use Rattle.std.specs.Prelude.{flat_map, codes, if◌then◌else◌}
-use Rattle.std.specs.List.{zip}
+use Rattle.std.specs.List.{AllByRecursion, zip}
 use Rattle.address_rules.specs.declared.controls.Controls.{Controls}
 use Rattle.call_fs.specs.declared.calls.Answer.{Answer}
 use Rattle.call_fs.specs.declared.calls.Answer.TheVariants.{Done}
@@ -32,7 +32,7 @@ use Rattle.mail_world.specs.World.{IsHistory}
 use Rattle.mail_world.specs.Books.{books_in, entry_in, mails_of}
 use Rattle.scenario.specs.declared.overview.Overview.{Overview}
 use Rattle.scenario.specs.declared.showing.Given.{Given}
-use Rattle.scenario.specs.Fates.{AreMailStarts, IsUsed, receiver, receivers_in}
+use Rattle.scenario.specs.Fates.{AreNamedStarts, IsFedSo, IsUsed, receiver, receivers_in}
 use Rattle.scenario.specs.Shown.{AreNamesIn, AreNumbersIn, pid_line, number_line, all_mail_lines, IsShown, View, entry_lines, view_of}
 use Rattle.scenario.specs.Viewed.{given_lines, view_at}
 use Rattle.scenario.proofs.EachMail.{by_envelope}
@@ -61,10 +61,10 @@ is_shown d h now present events pids numbers own history are_pids are_numbers ma
 }
 
 -- what is put of each mail
-pub mails_shown : (d : Disk) (h : List Event) (now : Disk) (present : ℕ) (events : List Kept) (o : Overview) (entries : List Entry) (given : List Given) → IsHistory d now events present h → AreMailStarts h
-    → crash_disk o.disk.now ≡ now → o.controls.now ≡ controls_on now → entries ≡ books_in d h → reverse (map receiver given) ≡ receivers_in (reverse events)
+pub mails_shown : (d : Disk) (h : List Event) (now : Disk) (present : ℕ) (events : List Kept) (o : Overview) (entries : List Entry) (given : List Given) → IsHistory d now events present h → AreNamedStarts h
+    → AllByRecursion IsFedSo (reverse events) → crash_disk o.disk.now ≡ now → o.controls.now ≡ controls_on now → entries ≡ books_in d h → reverse (map receiver given) ≡ receivers_in (reverse events)
     → flat_map (given_lines (view_at o (after d h).books)) (zip entries given) ≡ all_mail_lines d h
-mails_shown d h now present events o entries given history mails disk controls are received =
+mails_shown d h now present events o entries given history mails fed disk controls are received =
     let view : ◌≡◌ {A = View} (view_at o (after d h).books) (view_of d h) =
     ap (λ (m : Disk). record { disk = m; controls = o.controls.now; books = (after d h).books }) (disk ∙ sym history.disk)
     ∙ ap (λ (c : Option Controls). record { disk = (after d h).disk; controls = c; books = (after d h).books }) (controls ∙ ap controls_on (sym history.disk)) in
@@ -72,7 +72,7 @@ mails_shown d h now present events o entries given history mails disk controls a
     ap (λ (v : View). flat_map (given_lines v) (zip entries given)) view
     ∙ by_envelope (view_of d h) entries given
     ∙ ap (λ (es : List Entry). flat_map lines (zip es (map envelope_at given))) are
-    ∙ ap (λ (texts : List (List ℕ)). flat_map lines (zip (books_in d h) texts)) (envelopes_told (reverse events) h given mails history.told received)
+    ∙ ap (λ (texts : List (List ℕ)). flat_map lines (zip (books_in d h) texts)) (envelopes_told (reverse events) h given fed mails history.told received)
     ∙ zipped (entry_in (after d h) h) envelope_in lines (mails_of h)
 
 -- The numbers of mails are numbers of messages

@@ -1,6 +1,6 @@
 -- `stop` and `moment`.
 use Rattle.std.proofs.Common.{◌≡◌, ◌≢◌, ◌⊎◌, inl, inr, ℕ, ◌<◌, List, [], ◌∷◌, ◌++◌, reverse, false, Option, Some, None, refl, sym, ap, ◌∙◌, subst}
-use Rattle.std.specs.List.{AllZip}
+use Rattle.std.specs.List.{AllByRecursion, AllZip}
 use Rattle.std.proofs.lemmas.List.{append-nil}
 use Rattle.mail_bytes.specs.Decimal.{digits}
 use Rattle.call_fs.specs.declared.crash_file_system.Survival.{Survival}
@@ -28,21 +28,21 @@ use Rattle.scenario.specs.Deeds.{Deed, TellsDeed, history_of, after}
 use Rattle.scenario.specs.Deeds.Deed.{Came}
 use Rattle.scenario.specs.Played.{Refusal, IsRefusalOf, StopsAlive, StopComesTo, refusal_line}
 use Rattle.scenario.specs.Steps.Outcome.{Happens, Is}
-use Rattle.scenario.specs.Fates.{IsMailStart}
+use Rattle.scenario.specs.Fates.{IsFedSo, IsNamedStart}
 use Rattle.scenario.specs.Playing.{IsPlaying, HasPlayed}
-use Rattle.scenario.proofs.Deeds.{tells, plain_on, playing_push}
+use Rattle.scenario.proofs.Deeds.{tells, plain_fed, plain_on, playing_push}
 use Rattle.scenario.proofs.KeptEvents.{stop_told, moment_told}
 use Rattle.scenario.proofs.ScriptSteps.{moved, never_started}
 
 -- one event more in the world, told by the one that was kept
 abbrev pub one_more : (d : Disk) (old new : Seen Crash) (plan : Plan) (k : Kept) (e : Event) (h : List Deed) → IsPlaying d old plan h → GoesOn tells old new
     → crash_plan new.disk ≡ crash_plan old.disk → new.events ≡ old.events ++ k ∷ [] → IsPlain k
-    → ((f : Event) → Tells k f → f ≡ e) → IsWholeGiving k → IsMailStart e → IsPlaying d new plan (Came e ∷ h)
+    → ((f : Event) → Tells k f → f ≡ e) → IsWholeGiving k → IsNamedStart e → IsPlaying d new plan (Came e ∷ h)
 one_more d old new plan k e h playing goes same_plan events plain told gives start =
     let next = plain_on d old new plan k h playing goes plain events in
     let same : next.0 ≡ e = told next.0 next.2 in
     playing_push d old new plan plan k (Came e) h playing events (subst (λ (e : Event). IsHistory d (crash_disk new.disk) new.events new.present (e ∷ history_of h)) same next.1)
-    (subst (Tells k) same next.2) (same_plan ∙ playing.planned) gives start
+    (subst (Tells k) same next.2) (same_plan ∙ playing.planned) gives start (plain_fed k plain)
 
 -- no event, but another plan
 replanned : (d : Disk) (old new : Seen Crash) (plan left : Plan) (h : List Deed) → IsPlaying d old plan h → tells new.disk ≡ tells old.disk
@@ -56,6 +56,7 @@ replanned d old new plan left h playing disk events present planned =
       planned = planned;
       whole = subst (λ (l : List Kept). AreWholeGivings (reverse l)) (sym events) playing.whole;
       starts = playing.starts;
+      fed = subst (λ (l : List Kept). AllByRecursion IsFedSo (reverse l)) (sym events) playing.fed;
     }
 
 left_by : (o n : Option Plan) (plan : Plan) (change : Plan → Plan) → Meets o n (λ before after. after ≡ change before) → o ≡ Some plan → n ≡ Some (change plan)
@@ -127,7 +128,7 @@ halt_played d old new plan how text h playing halt goes by =
       events = Came e ∷ [];
       own = [];
       plays = (named.0, named.1, ap (λ (contents : ℕ → List ℕ). Came (Halt how contents) ∷ []) named.2, refl);
-      playing = playing_push d old new plan plan (kept.Halt how) (Came e) h playing halt.0 next.1 refl (by (kept.Halt how) halt.0 ∙ playing.planned) tt tt;
+      playing = playing_push d old new plan plan (kept.Halt how) (Came e) h playing halt.0 next.1 refl (by (kept.Halt how) halt.0 ∙ playing.planned) tt tt tt;
       text = sym (append-nil text);
     }
 

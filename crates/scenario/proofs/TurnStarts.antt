@@ -3,11 +3,10 @@ use Rattle.std.proofs.Common.{◌≡◌, ⊎_elim, ◌⊎◌, inl, inr, ℕ, zer
 use Rattle.std.specs.Prelude.{nat_lt, if◌then◌else◌}
 use Rattle.std.specs.List.{list_any}
 use Rattle.std.specs.Prelude.{bytes_eq}
-use Rattle.std.proofs.lemmas.Bool.{lt-ltb}
+use Rattle.std.proofs.lemmas.Bool.{and_parts, lt-ltb}
 use Rattle.world_events.specs.declared.event.Event.{Event as Kept}
 use Rattle.mail_world.specs.Generations.{starts_of, is_lasting, is_next, next_among, next_living}
 use Rattle.mail_world.specs.World.{span_of}
-use Rattle.scenario.proofs.Carried.{both_true}
 
 -- The next living actor started at this place or a later one
 
@@ -38,7 +37,7 @@ among from at (b ∷ later) newest a place is = by (is_next from at b later newe
         let found : ◌≡◌ {A = Option (List ℕ × ℕ)} (Some (b, at)) (Some (a, place)) =
         sym (ap (λ t. if t then Some (b, at) else next_among from (at + 1) later newest) here_is) ∙ is in
         let here : at ≡ place = ap place_told found in
-        let low = not_before at from (both_true (not (nat_lt at from)) (not (list_any (bytes_eq b) later) && is_lasting (span_of b newest)) here_is).0 in
+        let low = not_before at from (and_parts (not (nat_lt at from)) (not (list_any (bytes_eq b) later) && is_lasting (span_of b newest)) here_is).0 in
         omega arith
     by false other later_on = later_on (sym (ap (λ t. if t then Some (b, at) else next_among from (at + 1) later newest) other) ∙ is)
 

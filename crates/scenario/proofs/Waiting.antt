@@ -1,35 +1,34 @@
 -- What a world does is what comes of what is due, and who waits in it waits.
-use Rattle.std.proofs.Common.{◌≡◌, ℕ, ◌+◌, ◌==◌, List, ◌++◌, length, take, Bool, true, false, not, ◌||◌, if◌then◌else◌, Option, Some, None, refl, sym, ap, ◌∙◌, subst}
+use Rattle.std.proofs.Common.{◌≡◌, ℕ, ◌==◌, List, ◌++◌, length, take, Bool, true, false, not, ◌||◌, if◌then◌else◌, Option, Some, None, refl, sym, ap, ◌∙◌, subst}
 use Rattle.call_fs.specs.Disk.{Disk}
 use Rattle.call_fs.specs.Plan.{Plan}
-use Rattle.actor_names.specs.ChildNames.{bounce_name}
 use Rattle.call_fs.specs.declared.past.ChildData.{ChildData}
-use Rattle.call_fs.specs.declared.past.ChildData.TheVariants as child
 use Rattle.call_fs.specs.declared.past.GotData.{GotData}
 use Rattle.call_fs.specs.declared.past.GotData.TheVariants.{Took, Gave, Started}
 use Rattle.call_fs.specs.declared.past.NeedData.{NeedData}
 use Rattle.call_fs.specs.declared.past.NeedData.TheVariants as needs
 use Rattle.call_fs.specs.declared.past.Own.{Own}
 use Rattle.call_fs.specs.declared.program.Port.TheVariants as port
-use Rattle.world_events.specs.Inputs.{bounce}
+use Rattle.queue_inject.specs.declared.injection.Arguments.{Arguments}
+use Rattle.world_events.specs.Children.{Counts, child_of}
 use Rattle.world_events.specs.declared.event.Event.TheVariants as kept
 use Rattle.world_events.specs.declared.event.Program.{Program}
 use Rattle.world_events.specs.declared.event.Program.TheVariants.{Injector, Cleaner, Sender, LocalSpawner, RemoteSpawner, Delivery}
 use Rattle.world_pipes.specs.Pipes.{offered, end_of}
 use Rattle.mail_world.specs.Generations.{CanNot}
-use Rattle.mail_world.specs.History.{Actor, Life, State, TenantEnds, IsStatusOf, netstring, next_of}
+use Rattle.mail_world.specs.History.{Event, Actor, Life, State, TenantEnds, IsStatusOf, netstring, next_of, program_of}
 use Rattle.mail_world.specs.History.Event.{Act, Child}
 use Rattle.mail_world.specs.History.Life.{Alive, Over, Stopped}
 use Rattle.mail_world.specs.Pipework.{Pipe, Tenant, is_ready}
 use Rattle.mail_world.specs.Pipework.Tenant.{Runs, Remote}
 use Rattle.mail_world.specs.Readiness.{has_ended, found_in, is_over}
-use Rattle.mail_world.specs.World.{ComesWhole, StartsWhole, IsKeptBy, IsKeptGiving, most_of}
-use Rattle.scenario.specs.Deeds.{Deed, after, bounces_in}
+use Rattle.mail_world.specs.World.{ComesWhole, IsKeptBy, IsKeptGiving, IsKeptStart, IsKeptTo, most_of}
+use Rattle.scenario.specs.Deeds.{Deed, after, counts_in}
 use Rattle.scenario.specs.Deeds.Deed.{Came, Fed}
-use Rattle.scenario.specs.Steps.{DoesNext, StepsTo, Gives, next_pid, comes, does, own_by, starts_as, status_in, status_of, status_told}
+use Rattle.scenario.specs.Steps.{DoesNext, StepsTo, Gives, GivesTo, next_pid, comes, does, event_by, own_by, start_event, status_in, status_of, status_told}
 use Rattle.scenario.specs.Steps.Outcome.{Happens, Is}
 use Rattle.scenario.specs.Steps.Refusal.{NotWaiting}
-use Rattle.scenario.proofs.Carried.{IsNoFile}
+use Rattle.scenario.proofs.StepKinds.{IsNoFile}
 use Rattle.scenario.proofs.Outcomes.{does_next}
 
 -- Who waits
@@ -82,11 +81,11 @@ cannot_none s pid a program (needs.File call) not_yet = absurd not_yet
 cannot_none s pid a program (needs.Command bytes) not_yet = absurd not_yet
 cannot_none s pid a program (needs.Ended status) not_yet = absurd not_yet
 
-waits_next : (plan : Plan) (s : State) (pid bounces : ℕ) (a : List ℕ) (program : Program) (due : NeedData) → CanNot s a due → comes s pid a program due ≡ None → DoesNext plan s pid bounces a program due (Is NotWaiting)
-waits_next plan s pid bounces a program (needs.File call) not_yet none = absurd not_yet
-waits_next plan s pid bounces a program (needs.Ended status) not_yet none = absurd not_yet
-waits_next plan s pid bounces a program (needs.Give to bytes) not_yet none = absurd not_yet
-waits_next plan s pid bounces a program due not_yet none = sym (ap (does s bounces a due) none)
+waits_next : (plan : Plan) (s : State) (pid : ℕ) (n : Counts) (a : List ℕ) (program : Program) (due : NeedData) → CanNot s a due → comes s pid a program due ≡ None → DoesNext plan s pid n a program due (Is NotWaiting)
+waits_next plan s pid n a program (needs.File call) not_yet none = absurd not_yet
+waits_next plan s pid n a program (needs.Ended status) not_yet none = absurd not_yet
+waits_next plan s pid n a program (needs.Give to bytes) not_yet none = absurd not_yet
+waits_next plan s pid n a program due not_yet none = sym (ap (does s n a due) none)
 
 -- a living actor that can't do yet what is due is refused so
 pub waits_steps : (d : Disk) (h : List Deed) (plan : Plan) (a : List ℕ) (x : Actor) → (after d h).actors a ≡ Some x → x.life ≡ Alive
@@ -95,7 +94,7 @@ waits_steps d h plan a x is alive not_yet =
     let s = after d h in
     let due = next_of x.program x.past s.now (found_in s a) in
     does_next d h plan a s.now x due (Is NotWaiting) is alive refl refl
-    (waits_next plan s (next_pid h) (bounces_in h) a x.program due not_yet (cannot_none s (next_pid h) a x.program due not_yet))
+    (waits_next plan s (next_pid h) (counts_in h) a x.program due not_yet (cannot_none s (next_pid h) a x.program due not_yet))
 
 -- What is done
 
@@ -110,17 +109,6 @@ tenant_some s (Some (Runs a)) came ends = ap status_of ends.1 ∙ status_some en
 tenant_some s (Some (Remote true)) came ends = ap (λ (g : GotData). Some g) (sym ends)
 tenant_some s (Some (Remote false)) came ends = absurd ends
 
-start_comes : (pid : ℕ) (program : Program) (asked : ChildData) (came : GotData) → StartsWhole program pid asked came → starts_as pid program asked ≡ came
-start_comes pid program (child.Remote slot domain sender recipient) came is = sym is
-start_comes pid (Injector args) (child.Bounce room) came is = sym is
-start_comes pid (Cleaner start) (child.Bounce room) came is = sym is
-start_comes pid (Sender start) (child.Bounce room) came is = sym is
-start_comes pid (LocalSpawner start) (child.Bounce room) came is = sym is
-start_comes pid (RemoteSpawner start) (child.Bounce room) came is = sym is
-start_comes pid (Delivery start args) (child.Bounce room) came is = sym is
-start_comes pid program (child.Forward uid room) came is = sym is
-start_comes pid program (child.Local slot words uid) came is = sym is
-
 -- of what comes in a world
 pub all_comes : (s : State) (pid : ℕ) (a : List ℕ) (program : Program) (due : NeedData) (came : GotData) → IsNoFile due → ComesWhole s pid a program due came
     → comes s pid a program due ≡ Some came
@@ -134,46 +122,67 @@ all_comes s pid a program (needs.Take port.Rspawn) came unfiled all = all
 all_comes s pid a program (needs.Take port.Todo) came unfiled all = all
 all_comes s pid a program (needs.Take (port.Program d)) came unfiled all = all
 all_comes s pid a program (needs.Give port bytes) came unfiled all = ap (λ (g : GotData). Some g) (sym all)
-all_comes s pid a program (needs.Start asked) came unfiled all = ap (λ (g : GotData). Some g) (start_comes pid program asked came all)
+all_comes s pid a program (needs.Start asked) came unfiled all = ap (λ (g : GotData). Some g) (sym all)
 all_comes s pid a program (needs.Command bytes) came unfiled all = ap (λ (g : GotData). Some g) (sym all)
 all_comes s pid a program needs.Wait came unfiled all = absurd all
 all_comes s pid a program (needs.Ended status) came unfiled all = absurd all
 
 -- So it is what the step comes to
 
-gives_as : (s : State) (a : List ℕ) (own mine : Own) (bytes : List ℕ) (o : Option Tenant) → IsKeptGiving o a own bytes (kept.Act a own) → own ≡ mine → Gives s a mine bytes o (Happens (Came (Act a own 0)))
+to_as : (o : Option Program) (c a : List ℕ) (own mine : Own) (bytes : List ℕ) → IsKeptTo o c a own bytes (kept.Act a own) → own ≡ mine → GivesTo o c a mine bytes (Happens (Came (Act a own 0)))
+to_as (Some (Injector args)) c a own mine bytes is same = let no = is.3 in absurd (cc)
+to_as (Some (Cleaner start)) c a own mine bytes is same = ap (λ (own : Own). Happens (Came (Act a own 0))) same
+to_as (Some (Sender start)) c a own mine bytes is same = ap (λ (own : Own). Happens (Came (Act a own 0))) same
+to_as (Some (LocalSpawner start)) c a own mine bytes is same = ap (λ (own : Own). Happens (Came (Act a own 0))) same
+to_as (Some (RemoteSpawner start)) c a own mine bytes is same = ap (λ (own : Own). Happens (Came (Act a own 0))) same
+to_as (Some (Delivery start args)) c a own mine bytes is same = ap (λ (own : Own). Happens (Came (Act a own 0))) same
+to_as None c a own mine bytes is same = ap (λ (own : Own). Happens (Came (Act a own 0))) same
+
+gives_as : (s : State) (a : List ℕ) (own mine : Own) (bytes : List ℕ) (o : Option Tenant) → IsKeptGiving s o a own bytes (kept.Act a own) → own ≡ mine → Gives s a mine bytes o (Happens (Came (Act a own 0)))
 gives_as s a own mine bytes None is same = ap (λ (own : Own). Happens (Came (Act a own 0))) same
-gives_as s a own mine bytes (Some (Runs c)) is same = let no = is.3 in absurd (cc)
+gives_as s a own mine bytes (Some (Runs c)) is same = to_as (program_of (s.actors c)) c a own mine bytes is same
 gives_as s a own mine bytes (Some (Remote reported)) is same = ap (λ (own : Own). Happens (Came (Act a own 0))) same
 
+-- what is kept as no start of a child is none
+start_acts : (a : List ℕ) (own : Own) (o : Option (List ℕ × Program)) → IsKeptStart o a own (kept.Act a own) → start_event a own o ≡ Act a own 0
+start_acts a own None is = refl
+start_acts a own (Some child) is = absurd (cc)
+
+event_acts : (s : State) (n : Counts) (a : List ℕ) (own : Own) (due : NeedData) (came : GotData) → IsKeptBy s n a own due came (kept.Act a own) → event_by n a own due came ≡ Act a own 0
+event_acts s n a own (needs.Start asked) (Started number) is = start_acts a own (child_of n a asked number own.read) is
+event_acts s n a own due came is = refl
+
+does_so : (s : State) (pid : ℕ) (n : Counts) (a : List ℕ) (program : Program) (own : Own) (due : NeedData) (came : GotData) (event : Event) → comes s pid a program due ≡ Some came
+    → event_by n a own due came ≡ event → own ≡ own_by s a due came → Happens (Came event) ≡ does s n a due (comes s pid a program due)
+does_so s pid n a program own due came event is of same =
+    ap (λ (e : Event). Happens (Came e)) (sym of) ∙ ap (λ (own : Own). Happens (Came (event_by n a own due came))) same ∙ sym (ap (does s n a due) is)
+
 -- what is kept as an event that started no child, and gave none its input
-pub acts_next : (plan : Plan) (s : State) (pid bounces before : ℕ) (a : List ℕ) (program : Program) (own : Own) (due : NeedData) (came : GotData) → IsNoFile due → comes s pid a program due ≡ Some came
-    → IsKeptBy s before a own due came (kept.Act a own) → own ≡ own_by s a due came → DoesNext plan s pid bounces a program due (Happens (Came (Act a own 0)))
-acts_next plan s pid bounces before a program own (needs.File call) came unfiled is kept_as same = absurd unfiled
-acts_next plan s pid bounces before a program own (needs.Ended status) came unfiled is kept_as same = absurd (cc)
-acts_next plan s pid bounces before a program own (needs.Give (port.Program d) bytes) came unfiled is kept_as same =
+pub acts_next : (plan : Plan) (s : State) (pid : ℕ) (n : Counts) (a : List ℕ) (program : Program) (own : Own) (due : NeedData) (came : GotData) → IsNoFile due → comes s pid a program due ≡ Some came
+    → IsKeptBy s n a own due came (kept.Act a own) → own ≡ own_by s a due came → DoesNext plan s pid n a program due (Happens (Came (Act a own 0)))
+acts_next plan s pid n a program own (needs.File call) came unfiled is kept_as same = absurd unfiled
+acts_next plan s pid n a program own (needs.Ended status) came unfiled is kept_as same = absurd (cc)
+acts_next plan s pid n a program own (needs.Give (port.Program d) bytes) came unfiled is kept_as same =
     let gave : came ≡ Gave = cc in
     gives_as s a own (own_by s a (needs.Give (port.Program d) bytes) Gave) bytes (s.pipework.programs a d)
-    (subst (λ (g : GotData). IsKeptBy s before a own (needs.Give (port.Program d) bytes) g (kept.Act a own)) gave kept_as)
+    (subst (λ (g : GotData). IsKeptBy s n a own (needs.Give (port.Program d) bytes) g (kept.Act a own)) gave kept_as)
     (same ∙ ap (own_by s a (needs.Give (port.Program d) bytes)) gave)
-acts_next plan s pid bounces before a program own (needs.Start (child.Bounce room)) (Started number) unfiled is kept_as same = absurd (cc)
-acts_next plan s pid bounces before a program own (needs.Start (child.Bounce room)) came unfiled is kept_as same =
-    ap (λ (own : Own). Happens (Came (Act a own 0))) same ∙ sym (ap (does s bounces a (needs.Start (child.Bounce room))) is)
-acts_next plan s pid bounces before a program own due came unfiled is kept_as same =
-    ap (λ (own : Own). Happens (Came (Act a own 0))) same ∙ sym (ap (does s bounces a due) is)
+acts_next plan s pid n a program own due came unfiled is kept_as same = does_so s pid n a program own due came (Act a own 0) is (event_acts s n a own due came kept_as) same
 
 -- the start of a child
-pub bears_next : (plan : Plan) (s : State) (pid bounces : ℕ) (a : List ℕ) (program : Program) (own : Own) (room number : ℕ) → comes s pid a program (needs.Start (child.Bounce room)) ≡ Some (Started number)
-    → own ≡ own_by s a (needs.Start (child.Bounce room)) (Started number)
-    → DoesNext plan s pid bounces a program (needs.Start (child.Bounce room)) (Happens (Came (Child a own (bounce_name (bounces + 1)) (Injector (bounce number own.read)))))
-bears_next plan s pid bounces a program own room number is same =
-    ap (λ (own : Own). Happens (Came (Child a own (bounce_name (bounces + 1)) (Injector (bounce number own.read))))) same ∙ sym (ap (does s bounces a (needs.Start (child.Bounce room))) is)
+pub bears_next : (plan : Plan) (s : State) (pid : ℕ) (n : Counts) (a : List ℕ) (program : Program) (own : Own) (asked : ChildData) (number : ℕ) (child : List ℕ × Program)
+    → comes s pid a program (needs.Start asked) ≡ Some (Started number) → child_of n a asked number own.read ≡ Some child → own ≡ own_by s a (needs.Start asked) (Started number)
+    → DoesNext plan s pid n a program (needs.Start asked) (Happens (Came (Child a own child.0 child.1)))
+bears_next plan s pid n a program own asked number child is of same =
+    does_so s pid n a program own (needs.Start asked) (Started number) (Child a own child.0 child.1) is (ap (start_event a own) of) same
 
 -- a giving of its whole input
-pub feeds_next : (plan : Plan) (s : State) (pid bounces : ℕ) (a : List ℕ) (program : Program) (own : Own) (slot : ℕ) (c message envelope : List ℕ) → s.pipework.programs a slot ≡ Some (Runs c)
-    → own ≡ own_by s a (needs.Give (port.Program slot) (netstring message ++ netstring envelope)) Gave
-    → DoesNext plan s pid bounces a program (needs.Give (port.Program slot) (netstring message ++ netstring envelope)) (Happens (Fed a own c message envelope))
-feeds_next plan s pid bounces a program own slot c message envelope runs same =
+pub feeds_next : (plan : Plan) (s : State) (pid : ℕ) (n : Counts) (a : List ℕ) (program : Program) (own : Own) (slot : ℕ) (c message envelope : List ℕ) (args : Arguments) → s.pipework.programs a slot ≡ Some (Runs c)
+    → program_of (s.actors c) ≡ Some (Injector args) → own ≡ own_by s a (needs.Give (port.Program slot) (netstring message ++ netstring envelope)) Gave
+    → DoesNext plan s pid n a program (needs.Give (port.Program slot) (netstring message ++ netstring envelope)) (Happens (Fed a own c message envelope))
+feeds_next plan s pid n a program own slot c message envelope args runs mail same =
     let bytes = netstring message ++ netstring envelope in
-    subst (λ (o : Option Tenant). Gives s a (own_by s a (needs.Give (port.Program slot) bytes) Gave) bytes o (Happens (Fed a own c message envelope))) (sym runs)
-    (message, envelope, refl, ap (λ (own : Own). Happens (Fed a own c message envelope)) same)
+    let mine = own_by s a (needs.Give (port.Program slot) bytes) Gave in
+    subst (λ (o : Option Tenant). Gives s a mine bytes o (Happens (Fed a own c message envelope))) (sym runs)
+    (subst (λ (o : Option Program). GivesTo o c a mine bytes (Happens (Fed a own c message envelope))) (sym mail)
+    (message, envelope, refl, ap (λ (own : Own). Happens (Fed a own c message envelope)) same))

@@ -37,7 +37,8 @@ use Rattle.scenario.specs.Steps.Refusal.{Unknown, Gone, NotWaiting, Taken, Past}
 use Rattle.scenario.specs.Shown.{IsShown, pid_line, number_line, all_mail_lines}
 use Rattle.scenario.specs.Traced.{traced_after, traced_text}
 use Rattle.scenario.specs.Text.{IsPlayed, IsBegun, Prints, BeginsToPrint, BeginsAtMost, IsPrefix, IsPrefixAtMost}
-use Rattle.scenario.proofs.Going.{Goes, goes_on, goes_started, goes_stopped, goes_moment, goes_halted, goes_generation, goes_report}
+use Rattle.scenario.proofs.FreeNames.{Goes}
+use Rattle.scenario.proofs.Going.{goes_on, goes_started, goes_stopped, goes_moment, goes_halted, goes_generation, goes_report}
 use Rattle.scenario.proofs.Endings.{step_comes, runs, steps_kept, turns, turn_kept, settles, rounds_kept}
 use Rattle.crash_fs.specs.Answers.{IsFinite}
 use Rattle.scenario.proofs.FirstDisks.{first_disk}
@@ -326,11 +327,17 @@ goes_first opening d paths first =
         runs = λ a x is. absurd (cc);
         in_order = λ a x is. absurd (cc);
         kinds = λ a x is. absurd (cc);
+        names = λ a x is. absurd (cc);
         children = λ a d c is. absurd (cc);
         new = λ b none named. (refl, refl);
       };
-      unborn = λ n later. refl;
-      begun = λ x is. absurd (cc);
+      unborn = record {
+        bounces = λ k later. refl;
+        deliveries = λ k later. refl;
+        forwards = λ k later. refl;
+        unforwarded = λ k x is none. refl;
+      };
+      begun = λ p x is. absurd (cc);
     }
 
 is_played : (opening : List Entry) (d : Disk) (lines : List Line) (end : List Deed) (left : Plan) (text : List ℕ) → IsFirstDisk opening d

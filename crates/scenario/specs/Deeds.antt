@@ -1,15 +1,16 @@
 -- What happens in a play, deed by deed. In a history the whole input of a child stands in its start; a play is told of that input when
 -- the child is given it, and what was before is then told anew.
-use Rattle.std.specs.Prelude.{◌≡◌, ℕ, List, [], ◌∷◌, Bool, true, false, count_by}
+use Rattle.std.specs.Prelude.{◌≡◌, ℕ, List, [], ◌∷◌, Bool, false, count_by}
 use Rattle.std.specs.List.{sum_by}
 use Rattle.call_fs.specs.declared.past.Own.{Own}
 use Rattle.call_fs.specs.Disk.{Disk}
 use Rattle.mail_world.specs.History.{Event, State, started_by}
 use Rattle.mail_world.specs.History.Event.{Act, Child}
 use Rattle.mail_world.specs.History.{after as after_events}
-use Rattle.mail_world.specs.World.{Tells, begun_with, pid_after}
+use Rattle.mail_world.specs.World.{Counts, Tells, begun_with, is_bounce, is_delivery, pid_after}
 use Rattle.world_events.specs.declared.event.Event.{Event as Kept}
 use Rattle.world_events.specs.declared.event.Event.TheVariants as kept
+use Rattle.world_events.specs.declared.event.Program.{Program}
 
 -- An event; or an event of an actor that gives a child its whole input, a message and an envelope.
 pub data Deed : Type 0 where
@@ -43,13 +44,16 @@ started deed = started_by (event_in deed)
 abbrev pub next_pid : List Deed → ℕ
 next_pid deeds = pid_after (sum_by started deeds)
 
--- how many injectors of bounces they started
-abbrev pub is_child : Event → Bool
-is_child (Child parent own a program) = true
-is_child event = false
+-- how many bounces and how many deliveries they started
+abbrev pub bears_such : (Program → Bool) → Event → Bool
+bears_such is_such (Child parent own a program) = is_such program
+bears_such is_such event = false
 
-abbrev pub is_birth : Deed → Bool
-is_birth deed = is_child (event_in deed)
+abbrev pub is_bounce_birth : Deed → Bool
+is_bounce_birth deed = bears_such is_bounce (event_in deed)
 
-abbrev pub bounces_in : List Deed → ℕ
-bounces_in deeds = count_by is_birth deeds
+abbrev pub is_delivery_birth : Deed → Bool
+is_delivery_birth deed = bears_such is_delivery (event_in deed)
+
+abbrev pub counts_in : List Deed → Counts
+counts_in deeds = record { bounces = count_by is_bounce_birth deeds; deliveries = count_by is_delivery_birth deeds }

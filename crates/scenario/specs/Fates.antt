@@ -1,6 +1,6 @@
 -- The lives of messages, as `show` reads them off the events of a world, stand for the books of the history.
-use Rattle.std.specs.Prelude.{◌≡◌, ℕ, List, [], ◌∷◌, ◌++◌, map, reverse, Bool, true, false, ◌&&◌, bytes_eq, if◌then◌else◌, Option, Some, None, Contains, codes, is_none}
-use Rattle.std.specs.List.{AllZip, filter}
+use Rattle.std.specs.Prelude.{◌≡◌, ℕ, List, [], ◌∷◌, ◌++◌, map, reverse, Bool, true, false, ◌&&◌, bytes_eq, if◌then◌else◌, Option, Some, None, Contains, codes, is_none, nat_eq}
+use Rattle.std.specs.List.{AllZip, filter, starts_with}
 use Rattle.std.specs.Ordering.{nat_cmp}
 use Rattle.std.specs.BTreeMap.{get}
 use Rattle.queue_inject.specs.declared.injection.Arguments.{Arguments}
@@ -19,7 +19,6 @@ use Rattle.call_fs.specs.Program.{MayCome}
 use Rattle.mail_bytes.specs.Moments.{IsMoment}
 use Rattle.send_jobs.specs.declared.attempts.Mark.{Mark}
 use Rattle.send_jobs.specs.declared.channels.Channel.{Channel}
-use Rattle.mail_world.specs.ByKind.{IsMail}
 use Rattle.mail_world.specs.History.{Event, Actor, State, IsSender, MayRead, MayRun, books_after, next_of}
 use Rattle.mail_world.specs.History.Event.{Start, Child}
 use Rattle.mail_world.specs.World.{Tells}
@@ -68,20 +67,30 @@ pub record Follows (f : Following) (s : State) : Type 0 where
   pub fates : AreFates f.fates s.books
   pub heard : IsHeard f.sender (s.actors (codes "sender"))
 
--- Who starts alone, or as a child, has no member's name, and a child is the injector of a mail.
-abbrev pub IsMailStart : Event → Type 0
-IsMailStart (Start a program) = ¬ (Contains members a)
-IsMailStart (Child parent own a program) = (¬ (Contains members a)) × IsMail program
-IsMailStart other = Unit {0}
+-- a name as each delivery has one: it begins with `l.`
+abbrev pub is_delivery_name : List ℕ → Bool
+is_delivery_name a = starts_with nat_eq a (codes "l.")
 
-abbrev pub AreMailStarts : List Event → Type 0
-AreMailStarts [] = Unit {0}
-AreMailStarts (event ∷ before) = IsMailStart event × AreMailStarts before
+-- Each delivery has such a name, no injector has, and there is no other program.
+abbrev pub IsNamedSo : List ℕ → Program → Type 0
+IsNamedSo a (kinds.Injector args) = is_delivery_name a ≡ false
+IsNamedSo a (kinds.Delivery start args) = is_delivery_name a ≡ true
+IsNamedSo a other = ⊥
 
--- so who has a member's name is no mail, and who hasn't is one; and a sender has its own name
+-- Who starts alone, or as a child, has no member's name: it is an injector or a delivery.
+abbrev pub IsNamedStart : Event → Type 0
+IsNamedStart (Start a program) = (¬ (Contains members a)) × IsNamedSo a program
+IsNamedStart (Child parent own a program) = (¬ (Contains members a)) × IsNamedSo a program
+IsNamedStart other = Unit {0}
+
+abbrev pub AreNamedStarts : List Event → Type 0
+AreNamedStarts [] = Unit {0}
+AreNamedStarts (event ∷ before) = IsNamedStart event × AreNamedStarts before
+
+-- so who has a member's name doesn't start alone, who hasn't is an injector or a delivery, and a sender has its own name
 pub record AreNamed (s : State) : Type 0 where
   pub member : (a : List ℕ) (x : Actor) → s.actors a ≡ Some x → Contains members a → MayRun x.program → ⊥
-  pub mail : (a : List ℕ) (x : Actor) → s.actors a ≡ Some x → ¬ (Contains members a) → IsMail x.program
+  pub alone : (a : List ℕ) (x : Actor) → s.actors a ≡ Some x → ¬ (Contains members a) → IsNamedSo a x.program
   pub sender : (a : List ℕ) (x : Actor) → s.actors a ≡ Some x → IsSender x.program → a ≡ codes "sender"
 
 -- The books when the recipient of a mark of a channel is reported: it was delivered to if nothing is to be noted of it, and failed for good
@@ -119,6 +128,11 @@ IsReadAs event read = read ≡ event
 -- so it tells that event
 abbrev pub TellsRead : Kept → Event → Type 0
 TellsRead k event = (read : Kept) × IsReadAs k read × Tells read event
+
+-- who is given a whole input is no delivery, by its name
+abbrev pub IsFedSo : Kept → Type 0
+IsFedSo (kept.Feed a own c message envelope) = is_delivery_name c ≡ false
+IsFedSo event = Unit {0}
 
 -- an injector that was started: its name, whether it is a child, and the envelope that it was given so far
 pub record Receiver : Type 0 where

@@ -1,6 +1,6 @@
 -- A world in which a script is played.
 use Rattle.std.specs.Prelude.{◌≡◌, ◌≢◌, ◌⊎◌, ℕ, List, [], ◌∷◌, ◌++◌, Bool, true, false, ◌||◌, ◌&&◌, Option, Some, None, bytes_eq, codes, reverse}
-use Rattle.std.specs.List.{AllZip}
+use Rattle.std.specs.List.{AllByRecursion, AllZip}
 use Rattle.call_fs.specs.declared.calls.Answer.{Answer}
 use Rattle.call_fs.specs.declared.past.GotData.{GotData}
 use Rattle.call_fs.specs.declared.past.GotData.TheVariants.{Answered}
@@ -21,7 +21,7 @@ use Rattle.script_words.specs.declared.letter.Letter.{Letter}
 use Rattle.scenario.specs.declared.stepping.Stepped.{Stepped}
 use Rattle.scenario.specs.declared.stepping.Stepped.TheVariants as how
 use Rattle.scenario.specs.Deeds.{Deed, TellsDeed, event_in, history_of, after}
-use Rattle.scenario.specs.Fates.{AreMailStarts}
+use Rattle.scenario.specs.Fates.{AreNamedStarts, IsFedSo}
 use Rattle.scenario.specs.Played.{Plays, plan_after}
 use Rattle.scenario.specs.Steps.{Refusal, IsRefusalOf, StepsTo, plan_by, plan_through, idles, has_idled, IsRunOf}
 use Rattle.scenario.specs.Steps.Outcome.{Happens, Is}
@@ -52,14 +52,15 @@ lacked_memory (kept.Report slot letter text) = false
 lacked_memory (kept.Moment m) = false
 lacked_memory (kept.Halt how) = false
 
--- The world began with this disk, this happened in it, of which it kept each deed, and its disk tells this plan. No giving failed, and no
--- mail has a member's name.
+-- The world began with this disk, this happened in it, of which it kept each deed, and its disk tells this plan. No giving failed, no
+-- injector and no delivery has a member's name, and no delivery is given its input at once.
 pub record IsPlaying (d : Disk) (w : Seen Crash) (plan : Plan) (h : List Deed) : Type 0 where
   pub is : IsHistory d (crash_disk w.disk) w.events w.present (history_of h)
   pub told : AllZip TellsDeed (reverse w.events) h
   pub planned : crash_plan w.disk ≡ Some plan
   pub whole : AreWholeGivings (reverse w.events)
-  pub starts : AreMailStarts (history_of h)
+  pub starts : AreNamedStarts (history_of h)
+  pub fed : AllByRecursion IsFedSo (reverse w.events)
 
 -- what a step of the world did, as what it left of its actor
 abbrev pub stepped_by : Option ℕ → Bool → Stepped

@@ -1,35 +1,31 @@
 -- A step and a run of an actor: what each comes to, and what is printed of it. A file call fails if the script says so, and
 -- only then, and nothing else fails.
-use Rattle.std.specs.Prelude.{◌≡◌, ◌⊎◌, ℕ, zero, suc, ◌+◌, ◌<◌, List, [], ◌∷◌, ◌++◌, length, Bool, true, false, if◌then◌else◌, Option, Some, None, codes}
+use Rattle.std.specs.Prelude.{◌≡◌, ◌⊎◌, ℕ, zero, suc, ◌<◌, List, [], ◌∷◌, ◌++◌, length, Bool, true, false, if◌then◌else◌, Option, Some, None, codes}
 use Rattle.call_fs.specs.declared.calls.Told.{Told}
 use Rattle.call_fs.specs.Disk.{Disk}
 use Rattle.call_fs.specs.Plan.{Plan}
 use Rattle.call_fs.specs.declared.program.Port.TheVariants as port
-use Rattle.call_fs.specs.declared.past.ChildData.{ChildData}
-use Rattle.call_fs.specs.declared.past.ChildData.TheVariants as child
 use Rattle.call_fs.specs.declared.past.NeedData.{NeedData}
 use Rattle.call_fs.specs.declared.past.NeedData.TheVariants as needs
 use Rattle.call_fs.specs.declared.past.GotData.{GotData}
-use Rattle.call_fs.specs.declared.past.GotData.TheVariants.{Answered, Gave, Started, Ended, Crashed, Failed}
+use Rattle.call_fs.specs.declared.past.GotData.TheVariants.{Answered, Gave, Started, Ended, Crashed}
 use Rattle.call_fs.specs.declared.past.Own.{Own}
 use Rattle.crash_fs.specs.Answers.{Answers, plan_left_by}
-use Rattle.actor_names.specs.ChildNames.{bounce_name}
 use Rattle.world_events.specs.declared.event.Program.{Program}
-use Rattle.world_events.specs.declared.event.Program.TheVariants.{Injector, Sender}
-use Rattle.world_events.specs.Inputs.{bounce}
+use Rattle.world_events.specs.declared.event.Program.TheVariants.{Injector}
 use Rattle.world_pipes.specs.Pipes.{offered}
 use Rattle.mail_world.specs.declared.error.WorldError.{WorldError}
 use Rattle.mail_world.specs.declared.error.WorldError.TheVariants as error
 use Rattle.mail_world.specs.Pipework.{Tenant}
 use Rattle.mail_world.specs.Pipework.Tenant.{Runs, Remote}
-use Rattle.mail_world.specs.History.{Event, Life, State, Actor, call_act, netstring, next_of}
+use Rattle.mail_world.specs.History.{Event, Life, State, Actor, call_act, netstring, next_of, program_of}
 use Rattle.mail_world.specs.History.Event.{Start, Act, Child, Generation, Report, End, Stop, Moment, Halt}
 use Rattle.mail_world.specs.History.Life.{Alive as Living, Over, Stopped}
 use Rattle.mail_world.specs.Readiness.{found_in}
 use Rattle.mail_world.specs.Generations.{idled_by}
-use Rattle.mail_world.specs.World.{command_exits, most_of}
+use Rattle.mail_world.specs.World.{Counts, child_of, command_exits, most_of}
 use Rattle.scenario.specs.Shown.{line_of}
-use Rattle.scenario.specs.Deeds.{Deed, event_in, after, bounces_in}
+use Rattle.scenario.specs.Deeds.{Deed, event_in, after, counts_in}
 use Rattle.scenario.specs.Deeds.Deed.{Came, Fed}
 use Rattle.scenario.specs.Chains.{EachFollows}
 pub use Rattle.scenario.specs.Deeds.{next_pid}
@@ -101,21 +97,14 @@ status_in s None = None
 status_in s (Some (Runs a)) = status_of (s.actors a)
 status_in s (Some (Remote reported)) = if reported then Some (Ended 0) else None
 
--- What comes of the start of a program, if the next process number is this one: a remote program starts, and so does the injector of a
--- bounce that a sender asks for. No other program is started yet.
-abbrev pub starts_as : ℕ → Program → ChildData → GotData
-starts_as pid program (child.Remote slot domain sender recipient) = Started pid
-starts_as pid (Sender start) (child.Bounce room) = Started pid
-starts_as pid program asked = Failed
-
 -- What comes of what is due to an actor, which runs this program, other than a file call or its end, if the next process
--- number is this one; None if the actor waits. A taking takes all that lies there, a giving goes well, and a command exits as its text
--- says.
+-- number is this one; None if the actor waits. A taking takes all that lies there, a giving goes well, a program starts, and a command
+-- exits as its text says.
 abbrev pub comes : State → ℕ → List ℕ → Program → NeedData → Option GotData
 comes s pid a program (needs.Take (port.Status slot)) = status_in s (s.pipework.programs a slot)
 comes s pid a program (needs.Take port) = offered (most_of program) (s.pipework.pipes a port)
 comes s pid a program (needs.Give port bytes) = Some Gave
-comes s pid a program (needs.Start asked) = Some (starts_as pid program asked)
+comes s pid a program (needs.Start asked) = Some (Started pid)
 comes s pid a program (needs.Command bytes) = Some (Ended (command_exits bytes))
 comes s pid a program due = None
 
@@ -123,43 +112,51 @@ comes s pid a program due = None
 abbrev pub own_by : State → List ℕ → NeedData → GotData → Own
 own_by s a due came = record { read = s.now; ready = found_in s a; due = due; came = came }
 
--- what an actor did, as an event: if so many bounces were injected before, the injector of the next one starts under its name, with no
--- input
-abbrev pub event_by : ℕ → List ℕ → Own → NeedData → GotData → Event
-event_by bounces a own (needs.Start (child.Bounce room)) (Started pid) = Child a own (bounce_name (bounces + 1)) (Injector (bounce pid own.read))
-event_by bounces a own due came = Act a own 0
+-- what an actor did, as an event: if so many children were started before, a child starts under its name, with no input; a remote program
+-- is none
+abbrev pub start_event : List ℕ → Own → Option (List ℕ × Program) → Event
+start_event a own None = Act a own 0
+start_event a own (Some child) = Child a own child.0 child.1
 
-abbrev pub does : State → ℕ → List ℕ → NeedData → Option GotData → Outcome
-does s bounces a due None = Is NotWaiting
-does s bounces a due (Some came) = Happens (Came (event_by bounces a (own_by s a due came) due came))
+abbrev pub event_by : Counts → List ℕ → Own → NeedData → GotData → Event
+event_by before a own (needs.Start asked) (Started pid) = start_event a own (child_of before a asked pid own.read)
+event_by before a own due came = Act a own 0
+
+abbrev pub does : State → Counts → List ℕ → NeedData → Option GotData → Outcome
+does s before a due None = Is NotWaiting
+does s before a due (Some came) = Happens (Came (event_by before a (own_by s a due came) due came))
 
 -- What a giving to the program in a slot comes to: an injector is given its whole input, a message and an envelope.
-abbrev pub Gives : State → List ℕ → Own → List ℕ → Option Tenant → Outcome → Type 0
-Gives s a own bytes (Some (Runs c)) outcome =
+abbrev pub GivesTo : Option Program → List ℕ → List ℕ → Own → List ℕ → Outcome → Type 0
+GivesTo (Some (Injector args)) c a own bytes outcome =
     (message envelope : List ℕ) × (bytes ≡ netstring message ++ netstring envelope) × (outcome ≡ Happens (Fed a own c message envelope))
+GivesTo other c a own bytes outcome = outcome ≡ Happens (Came (Act a own 0))
+
+abbrev pub Gives : State → List ℕ → Own → List ℕ → Option Tenant → Outcome → Type 0
+Gives s a own bytes (Some (Runs c)) outcome = GivesTo (program_of (s.actors c)) c a own bytes outcome
 Gives s a own bytes other outcome = outcome ≡ Happens (Came (Act a own 0))
 
--- by what the actor must do next, whether it lives, and whether it was started; so many bounces were injected before
-abbrev pub DoesNext : Plan → State → ℕ → ℕ → List ℕ → Program → NeedData → Outcome → Type 0
-DoesNext plan s pid bounces a program (needs.File call) outcome =
+-- by what the actor must do next, whether it lives, and whether it was started; so many children were started before
+abbrev pub DoesNext : Plan → State → ℕ → Counts → List ℕ → Program → NeedData → Outcome → Type 0
+DoesNext plan s pid before a program (needs.File call) outcome =
     (told : Told) × Answers plan s.disk call told × (outcome ≡ Happens (Came (call_act a s.now (found_in s a) call told 0)))
-DoesNext plan s pid bounces a program (needs.Ended status) outcome = outcome ≡ Happens (Came (End a s.now (found_in s a) status))
-DoesNext plan s pid bounces a program (needs.Give (port.Program d) bytes) outcome =
+DoesNext plan s pid before a program (needs.Ended status) outcome = outcome ≡ Happens (Came (End a s.now (found_in s a) status))
+DoesNext plan s pid before a program (needs.Give (port.Program d) bytes) outcome =
     Gives s a (own_by s a (needs.Give (port.Program d) bytes) Gave) bytes (s.pipework.programs a d) outcome
-DoesNext plan s pid bounces a program due outcome = outcome ≡ does s bounces a due (comes s pid a program due)
+DoesNext plan s pid before a program due outcome = outcome ≡ does s before a due (comes s pid a program due)
 
-abbrev pub DoesAlive : Plan → State → ℕ → ℕ → List ℕ → Actor → Life → Outcome → Type 0
-DoesAlive plan s pid bounces a x Living outcome =
-    DoesNext plan s pid bounces a x.program (next_of x.program x.past s.now (found_in s a)) outcome
-DoesAlive plan s pid bounces a x other outcome = outcome ≡ Is Gone
+abbrev pub DoesAlive : Plan → State → ℕ → Counts → List ℕ → Actor → Life → Outcome → Type 0
+DoesAlive plan s pid before a x Living outcome =
+    DoesNext plan s pid before a x.program (next_of x.program x.past s.now (found_in s a)) outcome
+DoesAlive plan s pid before a x other outcome = outcome ≡ Is Gone
 
-abbrev pub DoesStep : Plan → State → ℕ → ℕ → List ℕ → Option Actor → Outcome → Type 0
-DoesStep plan s pid bounces a None outcome = outcome ≡ Is Unknown
-DoesStep plan s pid bounces a (Some x) outcome = DoesAlive plan s pid bounces a x x.life outcome
+abbrev pub DoesStep : Plan → State → ℕ → Counts → List ℕ → Option Actor → Outcome → Type 0
+DoesStep plan s pid before a None outcome = outcome ≡ Is Unknown
+DoesStep plan s pid before a (Some x) outcome = DoesAlive plan s pid before a x x.life outcome
 
 -- what a step of the actor of this name comes to, after these deeds, of which the first found this disk, by what is chosen of the disk
 abbrev pub StepsTo : Disk → List Deed → Plan → List ℕ → Outcome → Type 0
-StepsTo d h plan a outcome = DoesStep plan (after d h) (next_pid h) (bounces_in h) a ((after d h).actors a) outcome
+StepsTo d h plan a outcome = DoesStep plan (after d h) (next_pid h) (counts_in h) a ((after d h).actors a) outcome
 
 -- Plans
 

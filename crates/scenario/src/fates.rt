@@ -13,7 +13,7 @@ ghost use Rattle.queue_inject.specs.declared.injection.Arguments.{Arguments};
 ghost use Rattle.world_events.specs.declared.event.Program.TheVariants.{Injector};
 ghost use Rattle.mail_world.specs.History.{Event as Happening, State, Allowed, acted, after, books_after, happens};
 ghost use Rattle.mail_world.specs.World.{IsHistory};
-ghost use Rattle.scenario.specs.Fates.{AreFates, AreMailStarts, AreNamed, IsMailStart, Follows, HasDone, HasDue, TellsRead, entered_of, heard_by, spot_of};
+ghost use Rattle.scenario.specs.Fates.{AreFates, AreNamedStarts, AreNamed, IsNamedStart, Follows, HasDone, HasDue, TellsRead, entered_of, heard_by, is_delivery_name, spot_of};
 ghost use Rattle.scenario.specs.Shown.{lasts, is_channel, is_delivered, is_entered_so, is_spot};
 
 use actor_names::{ActorName, is_member};
@@ -70,7 +70,7 @@ struct Following {
 impl Fates {
     /// By these events, the oldest first.
     pub fn of(alloc: Global, events: &[Event]) -> Result<Fates, Memory>
-        ensures { IfOk result (λ fates. (d now : Disk) (present : ℕ) (h : List Happening) → IsHistory d now events.now present h → AreMailStarts h
+        ensures { IfOk result (λ fates. (d now : Disk) (present : ℕ) (h : List Happening) → IsHistory d now events.now present h → AreNamedStarts h
             → AreFates fates (after d h).books) }
     {
         let Following { fates, sender } = Following::of(alloc, events)?;
@@ -193,7 +193,7 @@ impl Fates {
 impl Following {
     /// By these events, the oldest first.
     fn of(alloc: Global, events: &[Event]) -> Result<Following, Memory>
-        ensures { IfOk result (λ following. (d now : Disk) (present : ℕ) (h : List Happening) → IsHistory d now events.now present h → AreMailStarts h
+        ensures { IfOk result (λ following. (d now : Disk) (present : ℕ) (h : List Happening) → IsHistory d now events.now present h → AreNamedStarts h
             → Follows following (after d h)) }
     {
         let mut following = Following {
@@ -211,7 +211,7 @@ impl Following {
 
     /// Takes one event more into account.
     fn note(&mut self, alloc: Global, event: &Event) -> Result<(), Memory>
-        ensures { OnOk result ((s : State) (happening : Happening) → AreNamed s → IsMoment s.now → IsMailStart happening → Allowed s happening
+        ensures { OnOk result ((s : State) (happening : Happening) → AreNamed s → IsMoment s.now → IsNamedStart happening → Allowed s happening
             → TellsRead event.now happening → Follows self.old s → Follows self.new (happens s happening)) }
     {
         match event {
@@ -234,7 +234,7 @@ impl Following {
         let name = actor.as_slice();
         if name == b"sender".as_slice() {
             self.hear(alloc, own)
-        } else if is_member(name) {
+        } else if is_member(name) || is_delivery(name) {
             Ok(())
         } else {
             self.fates.link(alloc, actor, own)
@@ -268,6 +268,13 @@ impl Tenure {
         self.delivered.iter().any(|one| is_same(one.channel, spot.channel)
             && one.place == spot.place)
     }
+}
+
+/// Whether this begins as the name of a delivery does, which links no name of a message.
+fn is_delivery(name: &[u8]) -> bool
+    ensures { result ≡ is_delivery_name name.now }
+{
+    name.starts_with(b"l.")
 }
 
 /// Whether these are the same channel.

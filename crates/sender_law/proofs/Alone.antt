@@ -1,5 +1,5 @@
 -- What others leave of a finish and of the sweep.
-use Rattle.std.proofs.Common.{◌≡◌, ◌≢◌, ℕ, ◌≤◌, List, Option, Some, refl, sym, ap, ◌∙◌, subst}
+use Rattle.std.proofs.Common.{◌≡◌, ◌≢◌, ℕ, ◌≤◌, List, Option, Some, refl, sym, ap, ◌∙◌, subst, arith}
 use Rattle.address_rules.specs.declared.controls.Controls.{Controls}
 use Rattle.bounce_record.specs.declared.return_row.ReturnRow.{ReturnRow}
 use Rattle.bounce_record.specs.declared.return_row.ReturnRow.TheVariants as back
@@ -24,7 +24,7 @@ use Rattle.queue_law.specs.Ready.{IsSpent}
 use Rattle.queue_law.specs.Rests.{RestsAs, Spares}
 use Rattle.queue_law.specs.Steps.{Elsewhere}
 use Rattle.queue_law.proofs.Rests.{closed_later}
-use Rattle.sender_law.specs.Rows.{FinishStands, HasMade, HasNotesRead, HasText, IsReadIn, ReturnHolds, SweepStands}
+use Rattle.sender_law.specs.Rows.{FinishStands, IsAged, HasMade, HasNotesRead, HasText, IsReadIn, ReturnHolds, SweepStands}
 use Rattle.sender_law.specs.Points.{PointsAreLeftAlone, Spared, number_in}
 
 spent_spared : (now : ℕ) (k : Option ℕ) (q r : Queue) → Spares now k q r → (n : ℕ) → k ≢ Some n → RestsAs now q n IsSpent → RestsAs now r n IsSpent
@@ -32,6 +32,12 @@ spent_spared now k q r S n far h = record { closed = S.closed n far h.closed; re
 
 spent_later : (now later : ℕ) → now ≤ later → (q : Queue) (n : ℕ) → RestsAs now q n IsSpent → RestsAs later q n IsSpent
 spent_later now later soon q n h = record { closed = closed_later now later soon q n h.closed; rest = h.rest }
+
+aged_spared : (now : ℕ) (q r : Queue) (n : ℕ) → about r n ≡ about q n → IsAged now q n → IsAged now r n
+aged_spared now q r n same h = record { mess = h.mess; there = ap (λ (w : About). w.parts Mess) same ∙ h.there; old = h.old }
+
+aged_later : (now later : ℕ) → now ≤ later → (q : Queue) (n : ℕ) → IsAged now q n → IsAged later q n
+aged_later now later soon q n h = let old = h.old in record { mess = h.mess; there = h.there; old = omega (arith, old, soon) }
 
 -- A return rests on all that concerns its number, and on what is held open
 module _ (controls : Controls) (a : List ℕ) (q r : Queue) (n : ℕ) (same : about r n ≡ about q n)
@@ -87,10 +93,11 @@ module _ (now : ℕ) (a : List ℕ) (q r : Queue) where
   sweeps : (k : Option ℕ) → Spares now k q r → (row : SweepRow) (known : List Known) → ((n : ℕ) → number_in row ≡ Some n → k ≢ Some n)
       → SweepStands now q a row known → SweepStands now r a row known
   sweeps k S (sweep.StatMess split n) known far h = h
-  sweeps k S (sweep.StatInfo split n) known far h = (h.0, S.closed n (far n refl) h.1)
+  sweeps k S (sweep.StatInfo split n) known far h = (h.0, (S.closed n (far n refl) h.1.0, aged_spared now q r n (S.abouts n (far n refl) h.1.0) h.1.1))
   sweeps k S (sweep.StatTodo split n info) known far h =
-      (h.0, (S.closed n (far n refl) h.1.0, λ none. ap (λ (w : About). w.parts Info) (S.abouts n (far n refl) h.1.0) ∙ h.1.1 none))
-  sweeps k S (sweep.Give split n) known far h = (h.0, spent_spared now k q r S n (far n refl) h.1)
+      let same = S.abouts n (far n refl) h.1.0.0 in
+      (h.0, ((S.closed n (far n refl) h.1.0.0, aged_spared now q r n same h.1.0.1), λ none. ap (λ (w : About). w.parts Info) same ∙ h.1.1 none))
+  sweeps k S (sweep.Give split n) known far h = (h.0, (spent_spared now k q r S n (far n refl) h.1.0, aged_spared now q r n (S.abouts n (far n refl) h.1.0.closed) h.1.1))
   sweeps k S sweep.First known far h = tt
   sweeps k S (sweep.Next split) known far h = tt
   sweeps k S (sweep.Take split n) known far h = tt
@@ -111,9 +118,9 @@ module _ (now later : ℕ) (soon : now ≤ later) (q : Queue) (a : List ℕ) whe
 
   sweeps_later : (row : SweepRow) (known : List Known) → SweepStands now q a row known → SweepStands later q a row known
   sweeps_later (sweep.StatMess split n) known h = h
-  sweeps_later (sweep.StatInfo split n) known h = (h.0, closed_later now later soon q n h.1)
-  sweeps_later (sweep.StatTodo split n info) known h = (h.0, (closed_later now later soon q n h.1.0, h.1.1))
-  sweeps_later (sweep.Give split n) known h = (h.0, spent_later now later soon q n h.1)
+  sweeps_later (sweep.StatInfo split n) known h = (h.0, (closed_later now later soon q n h.1.0, aged_later now later soon q n h.1.1))
+  sweeps_later (sweep.StatTodo split n info) known h = (h.0, ((closed_later now later soon q n h.1.0.0, aged_later now later soon q n h.1.0.1), h.1.1))
+  sweeps_later (sweep.Give split n) known h = (h.0, (spent_later now later soon q n h.1.0, aged_later now later soon q n h.1.1))
   sweeps_later sweep.First known h = tt
   sweeps_later (sweep.Next split) known h = tt
   sweeps_later (sweep.Take split n) known h = tt

@@ -43,7 +43,7 @@ use Rattle.queue_law.proofs.Looks.{find_none, find_some}
 use Rattle.queue_law.proofs.Sends.{reads_keep, ends_keep}
 use Rattle.sender_law.specs.Knows.{IsKnown, IsLeaving, Knows}
 use Rattle.sender_law.specs.Knows.Knows.{Stays, Leaves}
-use Rattle.sender_law.specs.Rows.{FinishStands, IsIdle, SweepStands}
+use Rattle.sender_law.specs.Rows.{FinishStands, IsAged, IsIdle, SweepStands}
 use Rattle.sender_law.specs.Points.{KnowsEach, FinishLeads, SweepLeads, SweepsLead, ChoresStand}
 use Rattle.sender_law.proofs.Closes.{one_closed}
 
@@ -92,7 +92,7 @@ module _ (controls : Controls) (now : ℕ) (q : Queue) (a : List ℕ) (read wrot
     searches split dir words told bytes fits = absurd fits
 
     -- what is old at the moment of its stat is old
-    old_stands : (split n moment : ℕ) (old : Bool) → nat_lt (moment + 129600) read ≡ old → is_known n known ≡ false → (moment + 129600 < now → IsClosed now q n)
+    old_stands : (split n moment : ℕ) (old : Bool) → nat_lt (moment + 129600) read ≡ old → is_known n known ≡ false → (moment + 129600 < now → IsClosed now q n × IsAged now q n)
         → SweepStands now q a (if old then sweep.StatInfo split n else sweep.Next split) known
     old_stands split n moment true is h closed =
         let lt : moment + 129600 < read = ltb-true (moment + 129600) read is in
@@ -105,8 +105,9 @@ module _ (controls : Controls) (now : ℕ) (q : Queue) (a : List ℕ) (read wrot
       leads = reads (call.Stat (path (Of Mess n))) (answer.Stat stat) tt fits;
       stands = old_stands split n stat.moment (nat_lt (stat.moment + 129600) read) refl h
           (λ old.
-          rests_begin.old controls now q n (entry q.disk.files stat.number) G (find_some q.disk.names q.disk.files (Of Mess n) stat.number fits.number)
-          (subst (λ m. m + 129600 < now) fits.moment_is old));
+          let mess = entry q.disk.files stat.number in
+          let there = find_some q.disk.names q.disk.files (Of Mess n) stat.number fits.number in
+          let aged = subst (λ m. m + 129600 < now) fits.moment_is old in (rests_begin.old controls now q n mess G there aged, record { mess = mess; there = there; old = aged }));
     }
     stat_mess split n h (answer.Refused why.NotThere) bytes fits =
         record { leads = reads (call.Stat (path (Of Mess n))) (answer.Refused why.NotThere) tt fits; stands = tt }
@@ -114,7 +115,7 @@ module _ (controls : Controls) (now : ℕ) (q : Queue) (a : List ℕ) (read wrot
         record { leads = reads (call.Stat (path (Of Mess n))) (answer.Refused why.Fault) tt fits; stands = tt }
     stat_mess split n h told bytes fits = absurd fits
 
-    stat_info : (split n : ℕ) → (is_known n known ≡ false) × IsClosed now q n → Steps (sweep.StatInfo split n) (call.Stat (path (Of Info n)))
+    stat_info : (split n : ℕ) → (is_known n known ≡ false) × (IsClosed now q n × IsAged now q n) → Steps (sweep.StatInfo split n) (call.Stat (path (Of Info n)))
     stat_info split n h (answer.Stat stat) bytes fits =
         record { leads = reads (call.Stat (path (Of Info n))) (answer.Stat stat) tt fits; stands = (h.0, (h.1, λ e. absurd (cc))) }
     stat_info split n h (answer.Refused why.NotThere) bytes fits = record {
@@ -132,7 +133,7 @@ module _ (controls : Controls) (now : ℕ) (q : Queue) (a : List ℕ) (read wrot
         record { leads = reads (call.Stat (path (Of Todo n))) (answer.Refused why.NotThere) tt fits; stands = tt }
     stat_todo split n false h (answer.Refused why.NotThere) bytes fits = record {
       leads = reads (call.Stat (path (Of Todo n))) (answer.Refused why.NotThere) tt fits;
-      stands = (h.0, rests_begin.spent controls now q n G h.1.0 (find_none q.disk.names q.disk.files (Of Todo n) fits) (h.1.1 refl));
+      stands = (h.0, (rests_begin.spent controls now q n G h.1.0.0 (find_none q.disk.names q.disk.files (Of Todo n) fits) (h.1.1 refl), h.1.0.1));
     }
     stat_todo split n info h (answer.Refused why.Fault) bytes fits =
         record { leads = reads (call.Stat (path (Of Todo n))) (answer.Refused why.Fault) tt fits; stands = tt }
@@ -267,6 +268,6 @@ forgets q rest n (k ∷ known) each =
 pub chores_stand : ChoresStand
 chores_stand = record {
   finish_gives = λ controls now q a n known back h. h.1;
-  sweep_gives = λ controls now q a split n known h. h.1;
+  sweep_gives = λ controls now q a split n known h. h.1.0;
   forgets = λ q row rest n known is each. forgets q rest n known (subst (λ z. KnowsEach q z known) is each);
 }

@@ -1,5 +1,5 @@
 -- What a sender rests on at each row of its table, besides what it knows and keeps.
-use Rattle.std.specs.Prelude.{◌≡◌, ◌≢◌, ℕ, ◌-◌, ◌<◌, List, [], ◌++◌, length, drop, min, take, false, Some, None, IsSome, Contains, slice_get}
+use Rattle.std.specs.Prelude.{◌≡◌, ◌≢◌, ℕ, ◌+◌, ◌-◌, ◌<◌, List, [], ◌++◌, length, drop, min, take, false, Some, None, IsSome, Contains, slice_get}
 use Rattle.address_rules.specs.declared.controls.Controls.{Controls}
 use Rattle.address_rules.specs.Names.{stripped}
 use Rattle.bounce_record.specs.declared.bounces.Bounce.{Bounce as Bouncing}
@@ -285,14 +285,20 @@ FinishStands controls now q a finish.Give n known r = IsIdle n known × RestsAs 
 FinishStands controls now q a finish.Take n known r = IsIdle n known
 FinishStands controls now q a row n known r = Unit {0}
 
+-- its message file was written last more than 36 hours ago
+pub record IsAged (now : ℕ) (q : Queue) (n : ℕ) : Type 0 where
+  pub mess : Entry
+  pub there : look q (Of Mess n) ≡ Some mess
+  pub old : mess.file.moment + 129600 < now
+
 -- A message file that isn't known, and that at the moment of its stat was last written over 36 hours ago, is one that no injector
--- touches.
+-- touches, so that it stays so old.
 abbrev pub SweepStands : ℕ → Queue → List ℕ → SweepRow → List Known → Type 0
 SweepStands now q a (sweep.StatMess split n) known = is_known n known ≡ false
-SweepStands now q a (sweep.StatInfo split n) known = (is_known n known ≡ false) × IsClosed now q n
+SweepStands now q a (sweep.StatInfo split n) known = (is_known n known ≡ false) × (IsClosed now q n × IsAged now q n)
 SweepStands now q a (sweep.StatTodo split n info) known =
-    (is_known n known ≡ false) × (IsClosed now q n × (info ≡ false → look q (Of Info n) ≡ None))
-SweepStands now q a (sweep.Give split n) known = (is_known n known ≡ false) × RestsAs now q n IsSpent
+    (is_known n known ≡ false) × ((IsClosed now q n × IsAged now q n) × (info ≡ false → look q (Of Info n) ≡ None))
+SweepStands now q a (sweep.Give split n) known = (is_known n known ≡ false) × (RestsAs now q n IsSpent × IsAged now q n)
 SweepStands now q a row known = Unit {0}
 
 -- Each row

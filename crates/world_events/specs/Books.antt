@@ -1,5 +1,5 @@
 -- The books: what became of each injection, by the events that were kept.
-use Rattle.std.specs.Prelude.{ℕ, List, [], ◌∷◌, ◌++◌, length, map, take, Bool, true, false, ◌||◌, codes, bytes_eq, if◌then◌else◌, Option, Some, None, vec_len, vec_capacity, ◌<◌}
+use Rattle.std.specs.Prelude.{ℕ, List, [], ◌∷◌, ◌++◌, length, map, take, Bool, false, ◌||◌, codes, bytes_eq, if◌then◌else◌, Option, Some, None, vec_len, vec_capacity, ◌<◌}
 use Rattle.call_fs.specs.declared.calls.CallData.{CallData}
 use Rattle.call_fs.specs.declared.calls.CallData.TheVariants.{Link}
 use Rattle.call_fs.specs.declared.calls.Answer.{Answer}

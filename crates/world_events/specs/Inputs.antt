@@ -3,7 +3,8 @@ use Rattle.std.specs.Prelude.{ℕ, List, [], ◌∷◌, bytes_eq, if◌then◌el
 use Rattle.call_fs.specs.declared.past.Own.{Own}
 use Rattle.queue_inject.specs.declared.injection.Arguments.{Arguments}
 use Rattle.queue_inject.specs.declared.injection.InputEnd.TheVariants.{Whole, Unread}
-use Rattle.received_line.specs.declared.line.Invoked.TheVariants.{Bounce}
+use Rattle.received_line.specs.declared.line.Invoked.{Invoked}
+use Rattle.received_line.specs.declared.line.Invoked.TheVariants.{Uid, Bounce}
 use Rattle.world_events.specs.declared.event.Event.{Event as Kept}
 use Rattle.world_events.specs.declared.event.Event.TheVariants as kept
 use Rattle.world_events.specs.declared.event.Program.{Program}
@@ -16,18 +17,26 @@ own_in (kept.Child a own c program) = Some own
 own_in (kept.Feed a own c message envelope) = Some own
 own_in event = None
 
--- what the injector of a bounce is started with: it was given nothing, so its input has ended before its first byte
-abbrev pub bounce : ℕ → ℕ → Arguments
-bounce pid start = record {
-  uid = 0;
+-- what an injector is started with that is a child: it was given nothing, so its input has ended before its first byte
+abbrev pub unfed : ℕ → Invoked → ℕ → ℕ → Arguments
+unfed uid invoked pid start = record {
+  uid = uid;
   pid = pid;
-  invoked = Bounce;
+  invoked = invoked;
   start = start;
   message = [];
   message_end = Unread;
   envelope = [];
   envelope_end = Unread;
 }
+
+-- that of a bounce
+abbrev pub bounce : ℕ → ℕ → Arguments
+bounce pid start = unfed 0 Bounce pid start
+
+-- that of what a delivery of this user forwards
+abbrev pub forward : ℕ → ℕ → ℕ → Arguments
+forward uid pid start = unfed uid (Uid uid) pid start
 
 -- an injector with this message and this envelope, both whole
 abbrev pub with_texts : List ℕ → List ℕ → Program → Program

@@ -10,7 +10,11 @@ pub mod Reads
 pub mod Starting
 -- mails of a world
 pub mod Mails
--- where each mail stands
+-- where each actor stands that is no member
 pub mod Places
+-- who started, in order
+pub mod Starts
 -- the input of children, which is given after their starts
 pub mod Inputs
+-- the children that actors start, and how many there are
+pub mod Children

@@ -4,10 +4,12 @@ ghost use Rattle.std.specs.List.{slice_get};
 ghost use Rattle.call_fs.specs.declared.past.NeedData.TheVariants.{File};
 ghost use Rattle.queue_inject.specs.Texts.{recipients_of};
 ghost use Rattle.queue_inject.specs.declared.injection.Arguments.{Arguments as Given};
-ghost use Rattle.world_events.specs.Books.{entries_of, HasPlace, new_entry, fed_entry, queues, queues_by, mess_number, linked_number, number_by, acted_on, left_as, cut_off, noted};
+ghost use Rattle.world_events.specs.Children.{entry_after};
+ghost use Rattle.world_events.specs.Programs.{injection_of};
+ghost use Rattle.world_events.specs.Books.{entries_of, HasPlace, new_entry, entry_by, fed_entry, queues, queues_by, mess_number, linked_number, number_by, acted_on, left_as, cut_off, noted};
 ghost use Rattle.queue_paths.specs.Names.{name_of};
 
-use crate::Event;
+use crate::{Event, Program};
 use actor_names::ActorName;
 use call_fs::{Answer, CallData, GotData, NeedData, Own, Told};
 use envelope_records::{EnvStep, EnvelopeReader};
@@ -126,7 +128,7 @@ impl Entry {
     }
 }
 
-/// The books of a world: an entry for each injection, the oldest first, each at the place of its actor.
+/// The books of a world: an entry for each injection, the oldest first. Each injector keeps the place of its own.
 #[derive(Drop)]
 pub struct Books {
     entries: Vec<Entry>,
@@ -164,6 +166,19 @@ impl Books {
     {
         let entry = Entry::new(actor.copy(), arguments);
         self.entries.push(entry).unwrap();
+    }
+
+    /// Adds the entry of an actor that starts with this program, if that is an injector, and tells its place. Takes no memory. The
+    /// condition: there is room.
+    pub fn enter(&mut self, actor: &ActorName, program: &Program) -> Option<usize>
+        requires { HasPlace self.old }
+        ensures place { result ≡ entry_after (length (entries_of self.old)) program.now }
+        ensures entered { entries_of self.new ≡ entries_of self.old ++ entry_by actor.now (injection_of program.now) }
+    {
+        let arguments = program.injection()?;
+        let entry = self.entries.len();
+        self.add(actor, arguments);
+        Some(entry)
     }
 
     /// The injector that has this place is given its input, with this envelope. Takes no memory. The condition: one has.

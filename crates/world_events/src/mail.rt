@@ -1,6 +1,6 @@
-// What the injectors of mails and of bounces are started with.
+// What injectors are started with.
 ghost use Rattle.std.specs.Prelude.{◌≡◌, IfOk};
-ghost use Rattle.world_events.specs.Inputs.{bounce};
+ghost use Rattle.world_events.specs.Inputs.{unfed};
 ghost use Rattle.world_events.specs.Mails.{mail};
 
 use mail_bytes::{ByteText, Memory};
@@ -11,7 +11,7 @@ use std::alloc::Global;
 /// The user whose mails a script starts.
 pub const MAIL_USER: u32 = 1000;
 
-/// What the injectors of mails and of bounces are started with.
+/// What the injector of a mail is started with.
 pub fn mail_of(
     alloc: Global,
     pid: u32,
@@ -35,14 +35,14 @@ pub fn mail_of(
     })
 }
 
-/// What the injector of a bounce is started with, which is given its input later. Takes no memory.
-pub fn bounce_of(alloc: Global, pid: u32, start: u64) -> Arguments
-    ensures { result ≡ bounce pid start }
+/// What an injector is started with that is a child, and is given its input later. Takes no memory.
+pub fn unfed(alloc: Global, uid: u32, invoked: Invoked, pid: u32, start: u64) -> Arguments
+    ensures { result ≡ unfed uid invoked pid start }
 {
     Arguments {
-        uid: 0,
+        uid,
         pid,
-        invoked: Invoked::Bounce,
+        invoked,
         start,
         message: ByteText::new(alloc),
         message_end: InputEnd::Unread,

@@ -100,7 +100,7 @@ worlds_are_safe controls opening w h has happened = happened_safe controls openi
 
 -- Attempts
 
-sender_fares : (controls : Controls) (now : ℕ) (q : Queue) (a : List ℕ) (program : Program) (past : List Own) (life : Life) (start : ℕ) → program ≡ Sender start → life ≡ Alive
+pub sender_fares : (controls : Controls) (now : ℕ) (q : Queue) (a : List ℕ) (program : Program) (past : List Own) (life : Life) (start : ℕ) → program ≡ Sender start → life ≡ Alive
     → FaresBy controls now q a program past life → SenderFares controls now q a (desk_after None past)
 sender_fares controls now q a (Sender began) past Alive start is alive F = F
 sender_fares controls now q a (Sender began) past life start is alive F = absurd (cc)

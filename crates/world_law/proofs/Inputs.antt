@@ -16,7 +16,7 @@ headed text rest =
     ∙ append_assoc (digits (length text)) (58 ∷ []) ((text ++ 44 ∷ []) ++ rest)
     ∙ ap (λ (t : List ℕ). digits (length text) ++ 58 ∷ t) (append_assoc text (44 ∷ []) rest)
 
-one_text : (m k rest more : List ℕ) → netstring m ++ rest ≡ netstring k ++ more → (m ≡ k) × (rest ≡ more)
+pub one_text : (m k rest more : List ℕ) → netstring m ++ rest ≡ netstring k ++ more → (m ≡ k) × (rest ≡ more)
 one_text m k rest more e =
     let w = ends_alike IsDigit 58 no_colon (digits (length m)) (digits (length k)) (m ++ 44 ∷ rest) (k ++ 44 ∷ more) (digits_only (length m)) (digits_only (length k))
     (sym (headed m rest) ∙ e ∙ headed k more) in

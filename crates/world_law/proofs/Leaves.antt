@@ -297,7 +297,7 @@ child_leaves s parent own a program may =
     (ap (λ (z : NeedData). holder_after s.holder parent z own.came) may.starts)
     (ap (λ (z : NeedData). books_after (bouncer_of s parent) s.books parent x.program x.past own.read own.ready z own.came) may.starts))
 
-leaves : (controls : Controls) (s : State) (I : Inv controls s) (e : Event) → Allowed s e → LeavesMost s e
+pub leaves : (controls : Controls) (s : State) (I : Inv controls s) (e : Event) → Allowed s e → LeavesMost s e
 leaves controls s I (Start a program) may = of_none s (Start a program) refl refl refl refl
 leaves controls s I (Act a own wrote) may = of_actor s (Act a own wrote) a (λ o other. other) (act_leaves controls s I a own wrote may)
 leaves controls s I (Child parent own a program) may = of_actor s (Child parent own a program) parent (λ o other. other) (child_leaves s parent own a program may)

@@ -92,6 +92,8 @@ pub mod PostEvents
 pub mod PostSends
 -- those of the local spawner
 pub mod PostServes
+-- the pasts of actors
+pub mod Ran
 -- each event
 pub mod PostKept
 -- what the sender hears
@@ -102,9 +104,62 @@ pub mod DeliveredBooks
 pub mod Delivered
 -- what a sender has in hand, channel files, and injectors at work
 pub mod Standing
+pub mod Sweeps
 -- what a sender had in flight
 pub mod Flights
+-- what a spawner has at work
+pub mod AtWork
 -- what the local spawner holds
 pub mod Holding
+-- what is remembered of deliveries that ended, and may be forgotten
+pub mod Forgets
+-- what holds of the messages that the local spawner holds and gives
+pub mod EnteredStands
+-- what becomes of a message that a local spawner reads
+pub mod MessageSteps
+-- what was entered, by the books
+pub mod EnteredBooks
+-- of which attempts it is
+pub mod EnteredFlights
+-- what is held and given of it, from one state to another
+pub mod EnteredKept
+-- what a delivery has received
+pub mod Received
+-- what an event of others leaves of it
+pub mod EnteredLeft
+-- what lies in the input of one who was never there
+pub mod Newcomers
+-- what an event of the sender keeps of it
+pub mod EnteredSender
+-- where the local spawner goes from each row
+pub mod SpawnerLeads
+-- what it gives to deliveries
+pub mod SpawnerGives
+-- an event of it
+pub mod SpawnerWorks
+-- what that keeps of the message
+pub mod EnteredSpawner
+-- and what those of others and ends do
+pub mod EnteredOthers
+-- and the start of a child
+pub mod EnteredChild
+-- the message that a local delivery took
+pub mod Entered
 -- the names in `pid` that the cleaner takes away
 pub mod PidNames
+-- what an event of a spawner does to what runs in its slots
+pub mod SpawnedRuns
+-- a spawner that goes no more
+pub mod SpawnedRests
+-- what an event of the sender does to its slots
+pub mod SpawnedSlots
+-- what a spawner has in hand
+pub mod SpawnedHand
+-- what stands between the sender and a spawner
+pub mod SpawnedViews
+-- the pipes between the sender and the remote spawner
+pub mod RemotePipes
+-- events of actors
+pub mod SpawnedEvents
+-- what a spawner has in hand is of messages in S5
+pub mod Spawned

@@ -38,7 +38,7 @@ use Rattle.world_law.specs.Inv.{Inv}
 use Rattle.world_law.specs.Posts.{PostsStand, View, desk_in, place_in, post_of, sends_by, sends_in, serves_by, serves_in, view_of}
 use Rattle.world_law.proofs.Deliveries.{IsDelivering, row_delivers}
 use Rattle.world_law.proofs.PostPipes.{IsCalm, asked_left, names_apart, programs_left, told_left}
-use Rattle.world_law.proofs.PostViews.{KeepsDone, halves, posts_left, put_keeps_done, put_seen, task_kept, view_same, was_kept}
+use Rattle.world_law.proofs.PostViews.{KeepsDone, Leaves, halves, posts_left, put_keeps_done, put_seen, task_kept, view_same, was_kept}
 
 -- a program that is neither side
 abbrev pub IsNeither : Program → Type 0
@@ -136,23 +136,27 @@ neither_aside controls s I a (LocalSpawner since) it named past read ready came 
 
 -- An event of it
 
-pub neither_acts : (controls : Controls) (s : State) → Inv controls s → PostsStand s → (a : List ℕ) (own : Own) (wrote : ℕ) (x : Actor) → s.actors a ≡ Some x → IsNeither x.program
-    → next_of x.program x.past own.read own.ready ≡ own.due → PostsStand (acted s a own wrote (Some x))
-neither_acts controls s I P a own wrote x is it due =
+pub neither_leaves : (controls : Controls) (s : State) → Inv controls s → (a : List ℕ) (own : Own) (wrote : ℕ) (x : Actor) → s.actors a ≡ Some x → IsNeither x.program
+    → next_of x.program x.past own.read own.ready ≡ own.due → Leaves s (acted s a own wrote (Some x))
+neither_leaves controls s I a own wrote x is it due =
     let y : Actor = record { program = x.program; past = own ∷ x.past; life = x.life } in
     let aside : IsAside s a own.due own.came wrote =
     subst (λ (d : NeedData). IsAside s a d own.came wrote) due (neither_aside controls s I a x.program it (I.crew a x is) x.past own.read own.ready own.came wrote) in
     let seen : halves (Some y) ≡ halves (s.actors a) = neither_seen x.program it (own ∷ x.past) x.life ∙ sym (neither_seen x.program it x.past x.life) ∙ ap halves (sym is) in
-    posts_left s (acted s a own wrote (Some x)) (record {
+    record {
       view = view_same s.actors (put_at s.actors a (Some y)) s.pipework (acted s a own wrote (Some x)).pipework
           (put_seen halves s.actors a y (codes "sender") seen) (put_seen halves s.actors a y (codes "lspawn") seen) aside.told aside.asked;
       keeps = put_keeps_done s.actors a x y is refl (λ h. h);
       slots = aside.slots;
-    }) P
+    }
+
+pub neither_acts : (controls : Controls) (s : State) → Inv controls s → PostsStand s → (a : List ℕ) (own : Own) (wrote : ℕ) (x : Actor) → s.actors a ≡ Some x → IsNeither x.program
+    → next_of x.program x.past own.read own.ready ≡ own.due → PostsStand (acted s a own wrote (Some x))
+neither_acts controls s I P a own wrote x is it due = posts_left s (acted s a own wrote (Some x)) (neither_leaves controls s I a own wrote x is it due) P
 
 -- An end or a stop
 
-bytes_shut : (t : Bool) (p : Pipe) → (if t then closed p else p).bytes ≡ p.bytes
+pub bytes_shut : (t : Bool) (p : Pipe) → (if t then closed p else p).bytes ≡ p.bytes
 bytes_shut true p = refl
 bytes_shut false p = refl
 
@@ -163,18 +167,18 @@ module _ (s : State) (P : PostsStand s) (a : List ℕ) (x : Actor) (is : s.actor
   abbrev over : State
   over = finished s a life (Some x)
 
-  told_shut : (over.pipework.pipes (codes "sender") port.Lspawn).bytes ≡ (s.pipework.pipes (codes "sender") port.Lspawn).bytes
+  pub told_shut : (over.pipework.pipes (codes "sender") port.Lspawn).bytes ≡ (s.pipework.pipes (codes "sender") port.Lspawn).bytes
   told_shut = bytes_shut (is_writer a (writer s.pipework (codes "sender") port.Lspawn)) (s.pipework.pipes (codes "sender") port.Lspawn)
 
-  asked_shut : (over.pipework.pipes (codes "lspawn") port.Input).bytes ≡ (s.pipework.pipes (codes "lspawn") port.Input).bytes
+  pub asked_shut : (over.pipework.pipes (codes "lspawn") port.Input).bytes ≡ (s.pipework.pipes (codes "lspawn") port.Input).bytes
   asked_shut = bytes_shut (is_writer a (writer s.pipework (codes "lspawn") port.Input)) (s.pipework.pipes (codes "lspawn") port.Input)
 
   -- it had not ended with 0
-  keeps_over : KeepsDone s.actors over.actors
+  pub keeps_over : KeepsDone s.actors over.actors
   keeps_over = put_keeps_done s.actors a x gone is refl (λ h. let w : Alive ≡ Over 0 = sym alive ∙ h in absurd (cc))
 
   -- with another view
-  seen_over : (v : View) → view_of over.actors over.pipework ≡ v → Posted (post_of v P.tasks P.last P.done) → IsFirst v.desk.row v.desk → PostsStand over
+  unfoldable pub seen_over : (v : View) → view_of over.actors over.pipework ≡ v → Posted (post_of v P.tasks P.last P.done) → IsFirst v.desk.row v.desk → PostsStand over
   seen_over v same posted first = record {
     tasks = P.tasks;
     last = P.last;
@@ -185,18 +189,21 @@ module _ (s : State) (P : PostsStand s) (a : List ℕ) (x : Actor) (is : s.actor
     was = λ d among. was_kept s over keeps_over d (P.was d among);
   }
 
-  neither_over : IsNeither x.program → PostsStand over
-  neither_over it =
+  pub neither_ends : IsNeither x.program → Leaves s over
+  neither_ends it =
       let seen : halves (Some gone) ≡ halves (s.actors a) = neither_seen x.program it x.past life ∙ sym (neither_seen x.program it x.past x.life) ∙ ap halves (sym is) in
-      posts_left s over (record {
+      record {
         view = view_same s.actors over.actors s.pipework over.pipework
             (put_seen halves s.actors a gone (codes "sender") seen) (put_seen halves s.actors a gone (codes "lspawn") seen) told_shut asked_shut;
         keeps = keeps_over;
         slots = λ slot. refl;
-      }) P
+      }
+
+  neither_over : IsNeither x.program → PostsStand over
+  neither_over it = posts_left s over (neither_ends it) P
 
   -- the sender is lost
-  sender_over : (began : ℕ) → x.program ≡ Sender began → a ≡ codes "sender" → PostsStand over
+  pub sender_over : (began : ℕ) → x.program ≡ Sender began → a ≡ codes "sender" → PostsStand over
   sender_over began runs name =
       let here : over.actors (codes "sender") ≡ Some gone = ap over.actors (sym name) ∙ put_at_same s.actors a (Some gone) in
       let there : over.actors (codes "lspawn") ≡ s.actors (codes "lspawn") = put_at_other s.actors a (Some gone) (codes "lspawn") (λ same. apart (same ∙ name)) in
@@ -211,7 +218,8 @@ module _ (s : State) (P : PostsStand s) (a : List ℕ) (x : Actor) (is : s.actor
       apart = names_apart (codes "lspawn") (codes "sender") refl
 
   -- or the local spawner is
-  spawner_over : (began : ℕ) → x.program ≡ LocalSpawner began → a ≡ codes "lspawn" → PostsStand over
+  unfoldable pub spawner_over : (began : ℕ) → x.program ≡ LocalSpawner began → a ≡ codes "lspawn" → PostsStand over
+  unfolding seen_over
   spawner_over began runs name =
       let here : over.actors (codes "lspawn") ≡ Some gone = ap over.actors (sym name) ∙ put_at_same s.actors a (Some gone) in
       let there : over.actors (codes "sender") ≡ s.actors (codes "sender") = put_at_other s.actors a (Some gone) (codes "sender") (λ same. apart (same ∙ name)) in

@@ -53,7 +53,7 @@ start_takes (start.Control f reading) d due = absurd (subst IsAway due (control_
 start_takes (start.GreetRemote limit) d due = absurd (cc)
 start_takes row d due = absurd (subst IsAway due (start_away row d refl))
 
-takes_at : (row : Row) (d : Desk) → due_at row d ≡ needs.Take port.Lspawn → (row ≡ at.TakeLink Local) ⊎ (row ≡ at.Start start.GreetLocal)
+pub takes_at : (row : Row) (d : Desk) → due_at row d ≡ needs.Take port.Lspawn → (row ≡ at.TakeLink Local) ⊎ (row ≡ at.Start start.GreetLocal)
 takes_at (at.TakeLink Local) d due = inl refl
 takes_at (at.TakeLink Remote) d due = absurd (cc)
 takes_at (at.Start row) d due = inr (start_takes row d due)
@@ -68,7 +68,7 @@ link_heard : (row : Row) (d : Desk) (read : ℕ) (ready : Ready) (reader : Reade
 link_heard (at.Start row) d read ready reader is = absurd (cc)
 link_heard row d read ready reader is = refl
 
-link_on : (row : Row) (d : Desk) (read : ℕ) (ready : Ready) → arrive row d read ready ≡ at.TakeLink Local → is_on row ≡ true
+pub link_on : (row : Row) (d : Desk) (read : ℕ) (ready : Ready) → arrive row d read ready ≡ at.TakeLink Local → is_on row ≡ true
 link_on (at.Ended status) d read ready is = absurd (cc)
 link_on row d read ready is = refl
 
@@ -81,7 +81,7 @@ greet_row row d read ready is = absurd (cc)
 -- What was done
 
 module _ (controls : Controls) (s : State) (I : Inv controls s) (P : PostsStand s) where
-  pub was_delivered : (x : Done) (address : List ℕ) → WasDone s x → x.task.recipient ≡ address → IsDeliveredTo s address
+  unfoldable pub was_delivered : (x : Done) (address : List ℕ) → WasDone s x → x.task.recipient ≡ address → IsDeliveredTo s address
   was_delivered x address was recipient =
       let it : EndsWell s.books x.task.name was.is_for.delivery.program was.is_for.delivery.past =
       (inv_is_safe controls s I).ends x.task.name was.is_for.delivery was.is_for.is was.over in
@@ -135,13 +135,15 @@ module _ (controls : Controls) (s : State) (I : Inv controls s) (P : PostsStand 
       of_link row = let it = read_on reader bytes in hears_well it.0 (lane Local d.slots).slots (with_reader Local it.1 d) refl (link_hears row)
 
       -- or the first byte, which ends none
-      of_greeting : row_now d own.read own.ready ≡ at.Start start.GreetLocal → Hears bytes
-      of_greeting row =
+      pub greeting_none : row_now d own.read own.ready ≡ at.Start start.GreetLocal → (read_on reader bytes).0 ≡ []
+      greeting_none row =
           let at_row : d.row ≡ at.Start start.GreetLocal = greet_row d.row d own.read own.ready row in
           let quiet : IsQuiet d = subst (λ (z : Row). IsFirst z d) at_row (sender_first s P began past is) refl in
           let byte = (greets_keep bytes rest post (sender_posted s P began past is) (ap is_on at_row) (ap (λ (z : Row). heard_at z Local reader) at_row) lies some).byte in
-          let none : (read_on reader bytes).0 ≡ [] = λ i. (read_on (quiet.unread Local i) (byte i)).0 in
-          subst (λ (rs : List Report). HearsWell s rs (with_reader Local (read_on reader bytes).1 d)) (sym none) tt
+          λ i. (read_on (quiet.unread Local i) (byte i)).0
+
+      of_greeting : row_now d own.read own.ready ≡ at.Start start.GreetLocal → Hears bytes
+      of_greeting row = subst (λ (rs : List Report). HearsWell s rs (with_reader Local (read_on reader bytes).1 d)) (sym (greeting_none row)) tt
 
       of_taking : due_at (row_now d own.read own.ready) d ≡ needs.Take port.Lspawn → Hears bytes
       of_taking due = ⊎_elim of_link of_greeting (takes_at (row_now d own.read own.ready) d due)

@@ -4,13 +4,10 @@ use Rattle.std.proofs.Common.{◌≡◌, ◌≢◌, ⊎_elim, ℕ, List, [], ◌
 use Rattle.address_rules.specs.declared.controls.Controls.{Controls}
 use Rattle.call_fs.specs.Disk.{Disk}
 use Rattle.call_fs.specs.Maps.{put_at}
-use Rattle.call_fs.specs.Program.{MayCome}
 use Rattle.call_fs.proofs.Maps.{put_at_other}
 use Rattle.call_fs.specs.declared.crash_file_system.Survival.{Survival}
 use Rattle.call_fs.specs.declared.past.ChildData.{ChildData}
 use Rattle.call_fs.specs.declared.past.ChildData.TheVariants as child
-use Rattle.call_fs.specs.declared.past.GotData.{GotData}
-use Rattle.call_fs.specs.declared.past.NeedData.{NeedData}
 use Rattle.call_fs.specs.declared.past.NeedData.TheVariants as needs
 use Rattle.call_fs.specs.declared.past.Own.{Own}
 use Rattle.call_fs.specs.declared.program.Port.TheVariants as port
@@ -40,7 +37,8 @@ use Rattle.world_law.proofs.PostEvents.{IsNeither, ends_leave, neither_acts, nei
 use Rattle.world_law.proofs.PostPipes.{asked_output, child_left, names_apart, told_output}
 use Rattle.world_law.proofs.PostSends.{sender_acts, sender_moves}
 use Rattle.world_law.proofs.PostServes.{spawner_acts, spawner_bears}
-use Rattle.world_law.proofs.PostViews.{halves, new_keeps_done, posts_left, put_seen, view_same}
+use Rattle.world_law.proofs.PostViews.{Leaves, halves, new_keeps_done, posts_left, put_seen, view_same}
+use Rattle.world_law.proofs.Ran.{born_comes}
 use Rattle.world_law.proofs.Starts.{is_cleaner, is_local, is_remote, is_sender}
 
 -- At the start nobody is there
@@ -74,24 +72,23 @@ starts_stand s P a other new runs = absurd runs
 
 -- Or as a child of another one than the local spawner
 
-child_neither : (asked : ChildData) (pid : ℕ) (program : Program) → IsProgramOf asked pid program → IsNeither program
+pub child_neither : (asked : ChildData) (pid : ℕ) (program : Program) → IsProgramOf asked pid program → IsNeither program
 child_neither (child.Bounce room) pid (Injector args) it = tt
 child_neither (child.Forward uid room) pid (Injector args) it = tt
 child_neither (child.Local slot words uid) pid (Delivery start args) it = tt
 child_neither asked pid program it = absurd it
 
-bears_left : (s : State) → PostsStand s → (parent : List ℕ) → parent ≢ codes "lspawn" → (own : Own) (a : List ℕ) (program : Program) → IsNeither program → s.actors a ≡ None
-    → PostsStand (bears s parent own a program)
-bears_left s P parent apart own a program it new =
+pub bears_leaves : (s : State) (parent : List ℕ) → parent ≢ codes "lspawn" → (own : Own) (a : List ℕ) (program : Program) → IsNeither program → s.actors a ≡ None → Leaves s (bears s parent own a program)
+bears_leaves s parent apart own a program it new =
     let y : Actor = newborn program in
     let seen : halves (Some y) ≡ halves (s.actors a) = neither_seen program it [] Alive ∙ sym (ap halves new) in
-    posts_left s (bears s parent own a program) (record {
+    record {
       view = view_same s.actors (put_at s.actors a (Some y)) s.pipework (with_child s.pipework parent (slot_by own.due) a)
           (put_seen halves s.actors a y (codes "sender") seen) (put_seen halves s.actors a y (codes "lspawn") seen)
           (told_output s.pipework parent (slot_by own.due)) (asked_output s.pipework parent (slot_by own.due));
       keeps = new_keeps_done s.actors a y new;
       slots = λ slot. child_left s.pipework.programs parent (slot_by own.due) (Some (Runs a)) slot apart;
-    }) P
+    }
 
 module _ (controls : Controls) (s : State) (I : Inv controls s) (P : PostsStand s) (parent : List ℕ) (own : Own) (a : List ℕ) (program : Program) (may : MayBear s parent own a program) where
   abbrev x : Actor
@@ -101,7 +98,7 @@ module _ (controls : Controls) (s : State) (I : Inv controls s) (P : PostsStand 
   moved = acted s parent own 0 (Some x)
 
   -- the child is new then too
-  still_new : moved.actors a ≡ None
+  pub still_new : moved.actors a ≡ None
   still_new =
       let y : Actor = record { program = x.program; past = own ∷ x.past; life = x.life } in
       put_at_other s.actors parent (Some y) a apart ∙ may.new
@@ -110,18 +107,15 @@ module _ (controls : Controls) (s : State) (I : Inv controls s) (P : PostsStand 
       apart same = let both : ◌≡◌ {A = Option Actor} None (Some x) = sym may.new ∙ ap s.actors same ∙ may.reads.is in absurd (cc)
 
   borne_left : PostsStand moved → parent ≢ codes "lspawn" → PostsStand (bears moved parent own a program)
-  borne_left Q apart = bears_left moved Q parent apart own a program (child_neither may.asked may.pid program may.is) still_new
+  borne_left Q apart = posts_left moved (bears moved parent own a program) (bears_leaves moved parent apart own a program (child_neither may.asked may.pid program may.is) still_new) Q
 
   by_neither : IsNeither x.program → parent ≢ codes "lspawn" → PostsStand (bears moved parent own a program)
   by_neither it apart = borne_left (neither_acts controls s I P parent own 0 x may.reads.is it may.due) apart
 
-  started : MayCome own.due own.came
-  started = subst (λ (n : NeedData). MayCome n own.came) (sym may.starts) (subst (λ (c : GotData). MayCome (needs.Start may.asked) c) (sym may.came) tt)
-
   bears_by : (z : Program) → x.program ≡ z → IsNamed parent z → PostsStand (bears moved parent own a program)
   bears_by (Sender began) e named =
       borne_left
-      (sender_moves controls s I P parent own 0 x may.reads.is may.reads.alive (subst IsSender (sym e) tt) may.reads.no_later may.due started
+      (sender_moves controls s I P parent own 0 x may.reads.is may.reads.alive (subst IsSender (sym e) tt) may.reads.no_later may.due (born_comes s parent own a program may)
       (λ taken. let both : needs.Start may.asked ≡ needs.Take port.Lspawn = sym may.starts ∙ taken in absurd (cc)))
       (λ same. names_apart (codes "sender") (codes "lspawn") refl (sym named ∙ same))
   bears_by (LocalSpawner began) e named =
@@ -164,19 +158,19 @@ generation_done controls s I sender clean lspawn rspawn x h =
     }
 
 module _ (controls : Controls) (s : State) (I : Inv controls s) (P : PostsStand s) (first second third last : ℕ) where
-  abbrev four_begun : State
+  abbrev pub four_begun : State
   four_begun = happens s (Generation (Sender first) (Cleaner second) (LocalSpawner third) (RemoteSpawner last))
 
-  abbrev begun_view : View
+  abbrev pub begun_view : View
   begun_view = record { desk = begun None; sends = true; place = spawner_begun; serves = true; told = []; asked = [] }
 
   sender_is : four_begun.actors (codes "sender") ≡ Some (newborn (Sender first))
   sender_is = four_sender s.actors (Sender first) (Cleaner second) (LocalSpawner third) (RemoteSpawner last)
 
-  lspawn_is : four_begun.actors (codes "lspawn") ≡ Some (newborn (LocalSpawner third))
+  pub lspawn_is : four_begun.actors (codes "lspawn") ≡ Some (newborn (LocalSpawner third))
   lspawn_is = four_lspawn s.actors (Sender first) (Cleaner second) (LocalSpawner third) (RemoteSpawner last)
 
-  seen_begun : view_of four_begun.actors four_begun.pipework ≡ begun_view
+  pub seen_begun : view_of four_begun.actors four_begun.pipework ≡ begun_view
   seen_begun = λ i. record {
     desk = desk_in (sender_is i);
     sends = sends_in (sender_is i);
@@ -225,7 +219,7 @@ dead_serves : (program : Program) (life : Life) → is_alive life ≡ false → 
 dead_serves (LocalSpawner since) life dead = dead
 dead_serves program life dead = refl
 
-sends_halted : (o : Option Actor) → sends_in (option_map stopped o) ≡ false
+pub sends_halted : (o : Option Actor) → sends_in (option_map stopped o) ≡ false
 sends_halted None = refl
 sends_halted (Some x) = dead_sends x.program (cut_off x.life) (dead_cut x.life)
 
@@ -251,7 +245,7 @@ halted_done s how contents x h = record {
   over = ap cut_off h.over;
 }
 
-halts_stand : (s : State) → PostsStand s → (how : Survival) (contents : ℕ → List ℕ) → PostsStand (happens s (Halt how contents))
+pub halts_stand : (s : State) → PostsStand s → (how : Survival) (contents : ℕ → List ℕ) → PostsStand (happens s (Halt how contents))
 halts_stand s P how contents = record {
   tasks = λ slot. None;
   last = P.last;

@@ -33,10 +33,10 @@ else_pipe : (t u : Bool) (x y : Pipe) → t ≡ false → (if t && u then x else
 else_pipe true u x y e = absurd (cc)
 else_pipe false u x y e = refl
 
-other_pipe : (pipes : List ℕ → Port → Pipe) (to : Mouth) (change : Pipe → Pipe) (a : List ℕ) (p : Port) → a ≢ to.actor → put_pipe pipes (Some to) change a p ≡ pipes a p
+pub other_pipe : (pipes : List ℕ → Port → Pipe) (to : Mouth) (change : Pipe → Pipe) (a : List ℕ) (p : Port) → a ≢ to.actor → put_pipe pipes (Some to) change a p ≡ pipes a p
 other_pipe pipes to change a p apart = else_pipe (bytes_eq a to.actor) (is_port p to.port) (change (pipes a p)) (pipes a p) (other_text a to.actor apart)
 
-bytes_of : (x y : Pipe) → x ≡ y → x.bytes ≡ y.bytes
+pub bytes_of : (x y : Pipe) → x ≡ y → x.bytes ≡ y.bytes
 bytes_of x y e = ap (λ (p : Pipe). p.bytes) e
 
 module _ (w : Pipework) (a : List ℕ) where
@@ -54,7 +54,7 @@ module _ (w : Pipework) (a : List ℕ) where
   asked_away to change away = bytes_of _ _ (away_same w.pipes to change (codes "lspawn") port.Input away)
 
   -- what somebody prints is no input
-  output_away : IsAway (output w a) port.Input
+  pub output_away : IsAway (output w a) port.Input
   output_away =
       let by_rspawn = if bytes_eq a (codes "rspawn") then Some (mouth (codes "sender") port.Rspawn) else child_output w a (w.slots a) in
       let by_lspawn = if bytes_eq a (codes "lspawn") then Some (mouth (codes "sender") port.Lspawn) else by_rspawn in
@@ -152,11 +152,11 @@ programs_left w a due came slot apart = refl
 
 -- The sender
 
-abbrev IsNoTook : GotData → Type 0
+abbrev pub IsNoTook : GotData → Type 0
 IsNoTook (got.Took bytes) = ⊥
 IsNoTook came = Unit {0}
 
-abbrev IsNoGiving : GotData → Type 0
+abbrev pub IsNoGiving : GotData → Type 0
 IsNoGiving got.Gave = ⊥
 IsNoGiving got.Failed = ⊥
 IsNoGiving came = Unit {0}
@@ -166,7 +166,7 @@ gave_whole_by : (p : Port) (bytes asked : List ℕ) (wrote : ℕ) → asked_on L
 gave_whole_by port.Lspawn bytes asked wrote = refl
 gave_whole_by p bytes asked wrote = refl
 
-told_whole_by : (p : Port) (bytes told : List ℕ) (wrote : ℕ) → told_by (needs.Give p bytes) got.Gave 0 told ≡ told_by (needs.Give p bytes) got.Gave wrote told
+pub told_whole_by : (p : Port) (bytes told : List ℕ) (wrote : ℕ) → told_by (needs.Give p bytes) got.Gave 0 told ≡ told_by (needs.Give p bytes) got.Gave wrote told
 told_whole_by port.Output bytes told wrote = refl
 told_whole_by p bytes told wrote = refl
 

@@ -70,7 +70,7 @@ begins_late (at.Finish finish.OpenBounce n) h = tt
 begins_late (at.Sweep sweep.First) h = tt
 begins_late row h = absurd h
 
-stays_late : (row : Row) (d : Desk) (event : Own) → IsLate row → IsLate (arrive row d event.read event.ready)
+pub stays_late : (row : Row) (d : Desk) (event : Own) → IsLate row → IsLate (arrive row d event.read event.ready)
 stays_late (at.Turn p) d event late = begins_late (from_point p d event.read event.ready) (point_begins d event.read event.ready p)
 stays_late row d event late = late
 
@@ -120,7 +120,7 @@ from_plain args valid = whole_from (take limit args.envelope) (read_envelope (ta
     (read_sound (take limit args.envelope)) valid.envelope
 
 -- a request is that of an attempt
-asks_for : (controls : Controls) (q : Queue) (d : Desk) (ch : Channel) (text : List ℕ) → ((n : ℕ) → Phase controls (about q n)) → IsRequestFor q ch d text → AsksFor ch d text
+pub asks_for : (controls : Controls) (q : Queue) (d : Desk) (ch : Channel) (text : List ℕ) → ((n : ℕ) → Phase controls (about q n)) → IsRequestFor q ch d text → AsksFor ch d text
 asks_for controls q d ch text fine w =
     let it = is_record q ch w.attempt w.reads in
     record {
@@ -135,7 +135,7 @@ asks_for controls q d ch text fine w =
     }
 
 -- what comes of a taking
-some_of : (pipe : Pipe) (came : GotData) → Yields pipe came → IsSome came pipe.bytes
+pub some_of : (pipe : Pipe) (came : GotData) → Yields pipe came → IsSome came pipe.bytes
 some_of pipe (got.Took bytes) y = y
 some_of pipe came y = tt
 
@@ -152,7 +152,7 @@ module _ (s : State) (P : PostsStand s) (began : ℕ) (past : List Own) (is : s.
     asked = (s.pipework.pipes (codes "lspawn") port.Input).bytes;
   }
 
-  seen_so : view_of s.actors s.pipework ≡ sender_view
+  pub seen_so : view_of s.actors s.pipework ≡ sender_view
   seen_so = λ i. record {
     desk = desk_in (is i);
     sends = sends_in (is i);
@@ -208,7 +208,7 @@ module _ (controls : Controls) (s : State) (I : Inv controls s) (P : PostsStand 
   gives text e = asks_for controls q d Local text I.sound.fine
       (requests_are_texts controls s.now q name d own.read own.ready Local text soon moment fares.stands fares.texts (due ∙ e))
 
-  sent : Sends Local d own wrote post
+  pub sent : Sends Local d own wrote post
   sent = senders_keep.goes_on Local d own wrote post posted first (record {
     due = sym due;
     may = may;
@@ -234,7 +234,7 @@ module _ (controls : Controls) (s : State) (I : Inv controls s) (P : PostsStand 
   here : then_state.actors name ≡ Some (sender began (own ∷ past))
   here = put_at_same s.actors name (Some (sender began (own ∷ past)))
 
-  not_lspawn : codes "sender" ≢ codes "lspawn"
+  pub not_lspawn : codes "sender" ≢ codes "lspawn"
   not_lspawn = names_apart (codes "sender") (codes "lspawn") refl
 
   no_sender : codes "lspawn" ≢ codes "sender"
@@ -249,7 +249,7 @@ module _ (controls : Controls) (s : State) (I : Inv controls s) (P : PostsStand 
   asked_then : (then_state.pipework.pipes (codes "lspawn") port.Input).bytes ≡ asked_on Local own.due own.came wrote before.asked
   asked_then = asked_sent s.pipework (tenant_not controls s I name) own.due own.came wrote
 
-  seen_then : view_of then_state.actors then_state.pipework ≡ afterwards
+  pub seen_then : view_of then_state.actors then_state.pipework ≡ afterwards
   seen_then = λ i. record {
     desk = desk_in (here i);
     sends = sends_in (here i);
@@ -259,10 +259,10 @@ module _ (controls : Controls) (s : State) (I : Inv controls s) (P : PostsStand 
     asked = asked_then i;
   }
 
-  keeps : KeepsDone s.actors then_state.actors
+  pub keeps : KeepsDone s.actors then_state.actors
   keeps = put_keeps_done s.actors name (sender began past) (sender began (own ∷ past)) is refl (λ h. h)
 
-  sender_event : PostsStand then_state
+  unfoldable pub sender_event : PostsStand then_state
   sender_event = record {
     tasks = P.tasks;
     last = sent.last;

@@ -42,7 +42,7 @@ use Rattle.world_law.proofs.Tenants.{some_actor}
 
 -- What is due: it gives nothing to itself, and starts deliveries alone
 
-abbrev IsLocalDue : NeedData → Type 0
+abbrev pub IsLocalDue : NeedData → Type 0
 IsLocalDue (needs.Give port.Lspawn bytes) = ⊥
 IsLocalDue (needs.Start (child.Local slot words uid)) = Unit {0}
 IsLocalDue (needs.Start asked) = ⊥
@@ -52,7 +52,7 @@ serves_due : (row : WorkRow) (p : Place) → IsLocalDue (due_from row p)
 serves_due work_at.Start p = tt
 serves_due row p = tt
 
-local_due : (row : Row) (ready : Ready) (p : Place) → IsLocalDue (due_at row ready p)
+pub local_due : (row : Row) (ready : Ready) (p : Place) → IsLocalDue (due_at row ready p)
 local_due at.OpenUsers ready p = tt
 local_due (at.ReadUsers fd) ready p = tt
 local_due (at.CloseUsers fd whole) ready p = tt
@@ -64,11 +64,11 @@ due_calm (needs.Give port.Lspawn bytes) it = it
 due_calm due it = tt
 
 -- an event that starts nothing
-abbrev StartsNone : NeedData → GotData → Type 0
+abbrev pub StartsNone : NeedData → GotData → Type 0
 StartsNone (needs.Start asked) (got.Started pid) = ⊥
 StartsNone due came = Unit {0}
 
-starts_none : (s : State) (a : List ℕ) (due : NeedData) (came : GotData) (wrote : ℕ) → IsLocalDue due → ComesOf s a due came wrote → StartsNone due came
+pub starts_none : (s : State) (a : List ℕ) (due : NeedData) (came : GotData) (wrote : ℕ) → IsLocalDue due → ComesOf s a due came wrote → StartsNone due came
 starts_none s a (needs.Start (child.Local slot words uid)) (got.Started pid) wrote it comes = comes
 starts_none s a (needs.Start asked) (got.Started pid) wrote it comes = absurd it
 starts_none s a due came wrote it comes = tt
@@ -83,7 +83,7 @@ freed_stays w d tasks slot k is = ⊎_elim
     (put_cases tasks d None slot)
 
 -- one that runs still ran before, in a slot that is as it was
-task_stays : (w : Pipework) (due : NeedData) (came : GotData) (tasks : ℕ → Option Task) → StartsNone due came → (slot : ℕ) (k : Task) → tasks_by due came [] tasks slot ≡ Some k
+pub task_stays : (w : Pipework) (due : NeedData) (came : GotData) (tasks : ℕ → Option Task) → StartsNone due came → (slot : ℕ) (k : Task) → tasks_by due came [] tasks slot ≡ Some k
     → (tasks slot ≡ Some k) × (programs_after w.programs (codes "lspawn") due came (codes "lspawn") slot ≡ w.programs (codes "lspawn") slot)
 task_stays w (needs.Take (port.Status d)) (got.Ended status) tasks none slot k is = freed_stays w d tasks slot k is
 task_stays w (needs.Take (port.Status d)) got.Crashed tasks none slot k is = freed_stays w d tasks slot k is
@@ -96,10 +96,10 @@ task_stays w due came tasks none slot k is = (is, refl)
 
 -- and those that ended with 0
 
-record IsDoneNow (due : NeedData) (came : GotData) (tasks : ℕ → Option Task) (x : Done) : Type 0 where
-  due_is : due ≡ needs.Take (port.Status x.slot)
-  came_is : came ≡ got.Ended 0
-  ran : tasks x.slot ≡ Some x.task
+pub record IsDoneNow (due : NeedData) (came : GotData) (tasks : ℕ → Option Task) (x : Done) : Type 0 where
+  pub due_is : due ≡ needs.Take (port.Status x.slot)
+  pub came_is : came ≡ got.Ended 0
+  pub ran : tasks x.slot ≡ Some x.task
 
 entered_cases : (slot : ℕ) (o : Option Task) (done : List Done) (x : Done) → Among x (entered slot o done) → Among x done ⊎ ((x.slot ≡ slot) × (o ≡ Some x.task))
 entered_cases slot None done x h = inl h
@@ -108,7 +108,7 @@ entered_cases slot (Some t) done x h = ⊎_elim
     (λ (older : Among x done). inl older)
     h
 
-done_cases : (due : NeedData) (came : GotData) (tasks : ℕ → Option Task) (done : List Done) (x : Done) → Among x (done_by due came tasks done) → Among x done ⊎ IsDoneNow due came tasks x
+pub done_cases : (due : NeedData) (came : GotData) (tasks : ℕ → Option Task) (done : List Done) (x : Done) → Among x (done_by due came tasks done) → Among x done ⊎ IsDoneNow due came tasks x
 done_cases (needs.Take (port.Status slot)) (got.Ended status) tasks done x h = by (status == 0) refl h where
   by : (zero : Bool) → (status == 0) ≡ zero → Among x (if zero then entered slot (tasks slot) done else done) → Among x done ⊎ IsDoneNow (needs.Take (port.Status slot)) (got.Ended status) tasks x
   by true e h = ⊎_elim
@@ -124,7 +124,7 @@ over_now Alive came h e = absurd h
 over_now (Over status) came h e = let both : got.Ended status ≡ got.Ended 0 = sym h ∙ e in let same : status ≡ 0 = cc in ap Over same
 over_now Stopped came h e = let both : got.Crashed ≡ got.Ended 0 = sym h ∙ e in absurd (cc)
 
-was_now : (s : State) (due : NeedData) (came : GotData) (wrote : ℕ) (tasks : ℕ → Option Task) (x : Done) → IsDoneNow due came tasks x → ComesOf s (codes "lspawn") due came wrote
+pub was_now : (s : State) (due : NeedData) (came : GotData) (wrote : ℕ) (tasks : ℕ → Option Task) (x : Done) → IsDoneNow due came tasks x → ComesOf s (codes "lspawn") due came wrote
     → IsTaskIn s x.slot x.task → WasDone s x
 was_now s due came wrote tasks x now comes runs = ⊎_elim
     (λ (failed : came ≡ got.Failed). let both : got.Failed ≡ got.Ended 0 = sym failed ∙ now.came_is in absurd (cc))
@@ -179,13 +179,13 @@ module _ (controls : Controls) (s : State) (I : Inv controls s) (P : PostsStand 
   abbrev post : Post
   post = post_of before P.tasks P.last P.done
 
-  posted : Posted post
+  pub posted : Posted post
   posted = subst (λ (v : View). Posted (post_of v P.tasks P.last P.done)) seen_before P.posted
 
-  worked : (starts : List ℕ) → (own.due ≡ needs.Take port.Input → IsOffered before.asked own.came) → Posted (works own wrote starts post)
+  pub worked : (starts : List ℕ) → (own.due ≡ needs.Take port.Input → IsOffered before.asked own.came) → Posted (works own wrote starts post)
   worked starts offered = spawners_keep own wrote starts post posted refl (sym due) offered
 
-  it_is : IsLocalDue own.due
+  pub it_is : IsLocalDue own.due
   it_is = subst IsLocalDue due (local_due p.row own.ready p)
 
   -- after it
@@ -217,7 +217,7 @@ module _ (controls : Controls) (s : State) (I : Inv controls s) (P : PostsStand 
   asked_then : (then_state.pipework.pipes name port.Input).bytes ≡ asked_by own.due own.came before.asked
   asked_then = asked_spawned s.pipework (tenant_not controls s I name) own.due own.came wrote (due_calm own.due it_is)
 
-  seen_then : view_of then_state.actors then_state.pipework ≡ afterwards
+  pub seen_then : view_of then_state.actors then_state.pipework ≡ afterwards
   seen_then = λ i. record {
     desk = desk_in (there i);
     sends = sends_in (there i);
@@ -227,14 +227,14 @@ module _ (controls : Controls) (s : State) (I : Inv controls s) (P : PostsStand 
     asked = asked_then i;
   }
 
-  keeps : KeepsDone s.actors then_state.actors
+  pub keeps : KeepsDone s.actors then_state.actors
   keeps = put_keeps_done s.actors name (spawner began past) (spawner began (own ∷ past)) is refl (λ h. h)
 
-  offered : ComesOf s name own.due own.came wrote → own.due ≡ needs.Take port.Input → IsOffered before.asked own.came
+  pub offered : ComesOf s name own.due own.came wrote → own.due ≡ needs.Take port.Input → IsOffered before.asked own.came
   offered comes e = offered_by (s.pipework.pipes name port.Input) own.came (subst (λ (n : NeedData). ComesOf s name n own.came wrote) e comes)
 
   -- one that starts no delivery
-  spawner_event : ComesOf s name own.due own.came wrote → PostsStand then_state
+  unfoldable pub spawner_event : ComesOf s name own.due own.came wrote → PostsStand then_state
   spawner_event comes = record {
     tasks = tasks_by own.due own.came [] P.tasks;
     last = P.last;
@@ -265,18 +265,18 @@ module _ (controls : Controls) (s : State) (I : Inv controls s) (P : PostsStand 
     apart : a ≢ name
     apart same = let both : ◌≡◌ {A = Option Actor} None (Some (spawner began past)) = sym new ∙ ap s.actors same ∙ is in absurd (cc)
 
-    gone : then_state.actors a ≡ None
+    pub gone : then_state.actors a ≡ None
     gone = put_at_other s.actors name (Some (spawner began (own ∷ past))) a apart ∙ new
 
     seen_delivery : halves (Some delivery) ≡ halves (then_state.actors a)
     seen_delivery = neither_seen (Delivery start (local_args words uid pid)) tt [] Alive ∙ sym (ap halves gone)
 
-    seen_borne : view_of borne.actors borne.pipework ≡ afterwards
+    pub seen_borne : view_of borne.actors borne.pipework ≡ afterwards
     seen_borne = view_same then_state.actors borne.actors then_state.pipework borne.pipework
         (put_seen halves then_state.actors a delivery (codes "sender") seen_delivery) (put_seen halves then_state.actors a delivery name seen_delivery)
         (told_output then_state.pipework name (slot_by own.due)) (asked_output then_state.pipework name (slot_by own.due)) ∙ seen_then
 
-    keeps_borne : KeepsDone s.actors borne.actors
+    pub keeps_borne : KeepsDone s.actors borne.actors
     keeps_borne = then_done s.actors then_state.actors borne.actors keeps (new_keeps_done then_state.actors a delivery gone)
 
     tasks_are : tasks_by own.due own.came a P.tasks ≡ tasks
@@ -285,7 +285,7 @@ module _ (controls : Controls) (s : State) (I : Inv controls s) (P : PostsStand 
     done_is : done_by own.due own.came P.tasks P.done ≡ P.done
     done_is = λ i. done_by (starts i) (came i) P.tasks P.done
 
-    borne_posted : Posted (post_of afterwards tasks P.last P.done)
+    pub borne_posted : Posted (post_of afterwards tasks P.last P.done)
     borne_posted =
         subst (λ (done : List Done). Posted (post_of afterwards tasks P.last done)) done_is
         (subst (λ (t : ℕ → Option Task). Posted (post_of afterwards t P.last (done_by own.due own.came P.tasks P.done))) tasks_are
@@ -298,10 +298,10 @@ module _ (controls : Controls) (s : State) (I : Inv controls s) (P : PostsStand 
     slot_is : slot_by own.due ≡ slot
     slot_is = ap slot_by starts
 
-    runs_by : (d : ℕ) (t : Bool) → (d == slot) ≡ t → borne.pipework.programs name d ≡ (if t then Some (Runs a) else beside d)
+    pub runs_by : (d : ℕ) (t : Bool) → (d == slot) ≡ t → borne.pipework.programs name d ≡ (if t then Some (Runs a) else beside d)
     runs_by d t e = ap (λ (n : ℕ). if d == n then Some (Runs a) else beside d) slot_is ∙ ap (λ (u : Bool). if u then Some (Runs a) else beside d) e
 
-    beside_is : (d : ℕ) → beside d ≡ s.pipework.programs name d
+    pub beside_is : (d : ℕ) → beside d ≡ s.pipework.programs name d
     beside_is d = λ i. programs_after s.pipework.programs name (starts i) (came i) name d
 
     started : IsTaskIn borne slot (task_of a words)
@@ -318,7 +318,7 @@ module _ (controls : Controls) (s : State) (I : Inv controls s) (P : PostsStand 
       };
     }
 
-    run_in : (d : ℕ) (k : Task) → tasks d ≡ Some k → IsTaskIn borne d k
+    pub run_in : (d : ℕ) (k : Task) → tasks d ≡ Some k → IsTaskIn borne d k
     run_in d k h = ⊎_elim
         (λ (c : (d ≡ slot) × (tasks d ≡ Some (task_of a words))).
         let both : ◌≡◌ {A = Option Task} (Some (task_of a words)) (Some k) = sym c.1 ∙ h in
@@ -328,7 +328,7 @@ module _ (controls : Controls) (s : State) (I : Inv controls s) (P : PostsStand 
         task_kept s borne keeps_borne d k (runs_by d false (ne_eqb d slot c.0) ∙ beside_is d) (P.run d k (sym c.1 ∙ h)))
         (put_cases P.tasks slot (Some (task_of a words)) d)
 
-    spawner_starts : PostsStand borne
+    unfoldable pub spawner_starts : PostsStand borne
     spawner_starts = record {
       tasks = tasks;
       last = P.last;
@@ -356,11 +356,11 @@ pub spawner_acts : (controls : Controls) (s : State) → Inv controls s → Post
 spawner_acts controls s I P a own wrote x is alive it due comes = acts_by controls s I P a wrote x.program x.past x.life own it (I.crew a x is) alive is due comes
 
 -- what it starts is a delivery
-local_asked : (asked : ChildData) → IsLocalDue (needs.Start asked) → (slot : ℕ) × (words : DeliveryWordsData) × (uid : ℕ) × (asked ≡ child.Local slot words uid)
+pub local_asked : (asked : ChildData) → IsLocalDue (needs.Start asked) → (slot : ℕ) × (words : DeliveryWordsData) × (uid : ℕ) × (asked ≡ child.Local slot words uid)
 local_asked (child.Local slot words uid) it = (slot, words, uid, refl)
 local_asked asked it = absurd it
 
-delivery_is : (slot : ℕ) (words : DeliveryWordsData) (uid pid : ℕ) (program : Program) → IsProgramOf (child.Local slot words uid) pid program → (start : ℕ) × (program ≡ Delivery start (local_args words uid pid))
+pub delivery_is : (slot : ℕ) (words : DeliveryWordsData) (uid pid : ℕ) (program : Program) → IsProgramOf (child.Local slot words uid) pid program → (start : ℕ) × (program ≡ Delivery start (local_args words uid pid))
 delivery_is slot words uid pid (Delivery start args) it = (start, ap (Delivery start) it)
 delivery_is slot words uid pid program it = absurd it
 

@@ -20,3 +20,7 @@ pub mod UnderWay
 pub mod Posts
 -- what else holds in each state
 pub mod Standing
+-- what a spawner has in hand
+pub mod Spawned
+-- the message that a local delivery took is the one entered
+pub mod Entered

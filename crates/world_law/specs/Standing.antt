@@ -30,14 +30,17 @@ use Rattle.queue_states.specs.declared.state.State.TheVariants.{S5}
 use Rattle.queue_states.specs.States.{state_of}
 use Rattle.send_core.specs.declared.desk.Desk.{Desk}
 use Rattle.send_core.specs.Desk.{due_on}
-use Rattle.send_core.specs.Table.{desk_after}
+use Rattle.send_core.specs.Table.{desk_after, row_now}
+use Rattle.send_core.specs.declared.row.Row.TheVariants.{Sweep}
 use Rattle.send_jobs.specs.declared.attempts.Attempt.{Attempt}
 use Rattle.send_jobs.specs.declared.channels.Channel.{Channel}
 use Rattle.send_jobs.specs.declared.channels.Channel.TheVariants as channel
 use Rattle.send_jobs.specs.Sending.{lane}
 use Rattle.send_jobs.specs.Slots.{attempt_in}
 use Rattle.send_steps.specs.Files.{records_of}
+use Rattle.send_steps.specs.declared.rows.SweepRow.TheVariants.{Give}
 use Rattle.sender_law.specs.Control.{AreControls}
+use Rattle.sender_law.specs.Rows.{IsAged}
 use Rattle.spawn_protocol.specs.declared.inbox.Intake.TheVariants as intake
 use Rattle.spawn_protocol.specs.declared.request.Request.{Request}
 use Rattle.spawn_protocol.specs.Request.{request_text}
@@ -191,3 +194,11 @@ abbrev pub PidsAreOld : Type 0
 PidsAreOld = (controls : Controls) (d : Disk) (a : List ℕ) (own : Own) (wrote : ℕ) (before : List Event) → AreControls controls d → Legal d (Act a own wrote ∷ before)
     → (x : Actor) → (after d before).actors a ≡ Some x → (since : ℕ) → x.program ≡ Cleaner since
     → (pid start seq : ℕ) → own.due ≡ needs.File (Unlink (path (Pid pid start seq))) → IsOutOfTime (after d before) pid start seq
+
+-- The sweep
+
+-- A sweep gives the cleaner a message to remove only if its file was written last more than 36 hours ago.
+abbrev pub SweepsAreOld : Type 0
+SweepsAreOld = (controls : Controls) (d : Disk) (a : List ℕ) (own : Own) (wrote : ℕ) (before : List Event) → AreControls controls d → Legal d (Act a own wrote ∷ before)
+    → (x : Actor) → (after d before).actors a ≡ Some x → (start : ℕ) → x.program ≡ Sender start
+    → (split n : ℕ) → row_now (desk_after None x.past) own.read own.ready ≡ Sweep (Give split n) → IsAged (after d before).now (queue (after d before) (λ i. AsOld)) n

@@ -1,11 +1,13 @@
 // Laws of the whole system. Each is the contract of a function that does nothing.
 ghost use Rattle.world_law.specs.Bounces.{BouncesAreAccepted, BouncesAreReadLast, ReturnedRecipientsAreNamed};
 ghost use Rattle.world_law.specs.Deliveries.{DropsAreWhole, ForwardsAreAddressed};
+ghost use Rattle.world_law.specs.Entered.{KReportsAreEntered};
 ghost use Rattle.world_law.specs.Headline.{AttemptsAreSound, Headline, SafeWithoutGenerations, WorldsAreSafe};
 ghost use Rattle.world_law.specs.Leaves.{EventsLeave};
 ghost use Rattle.world_law.specs.Laws.{Always, ChildrenKeep, CleanersKeep, DeliveriesKeep, EndsKeep, GenerationsKeep, HaltsKeep, InjectorsKeep, InvBegins, InvIsSafe, LocalsKeep, MomentsKeep, RemotesKeep, ReportsKeep, SendersKeep, StartsKeep, StopsKeep};
 ghost use Rattle.world_law.specs.Posts.{DeliveredAreCarried, KReportsAreCarried};
-ghost use Rattle.world_law.specs.Standing.{FlightsStand, HandsAlwaysStand, InjectionsAreApart, InjectionsAreInTime, LinksAreOfWholeFiles, PidsAreOld, RecordsAreRouted, RequestsAreOfFlights};
+ghost use Rattle.world_law.specs.Spawned.{RequestsStand};
+ghost use Rattle.world_law.specs.Standing.{FlightsStand, HandsAlwaysStand, InjectionsAreApart, InjectionsAreInTime, LinksAreOfWholeFiles, PidsAreOld, RecordsAreRouted, RequestsAreOfFlights, SweepsAreOld};
 ghost use Rattle.world_law.specs.UnderWay.{CommandsRest};
 
 /// What holds of the whole system holds at the start.
@@ -194,8 +196,25 @@ pub fn requests_are_of_flights()
     ensures { RequestsAreOfFlights }
 {}
 
+/// While a spawner lives, the local or the remote one, each request that it hasn't read or taken up, the one at work, and what runs in each
+/// slot is of a message in S5. So it is also once the sender has ended or was stopped, until a new generation starts.
+pub fn requests_stand()
+    ensures { RequestsStand }
+{}
+
 /// A cleaner takes a name in `pid` away only once more than 36 hours have gone since the start that it tells, or if its file was there at
 /// the beginning.
 pub fn pids_are_old()
     ensures { PidsAreOld }
+{}
+
+/// A sweep gives the cleaner a message to remove only if its file was written last more than 36 hours ago.
+pub fn sweeps_are_old()
+    ensures { SweepsAreOld }
+{}
+
+/// Each K report that the sender takes of the local spawner comes of a delivery that took the message of the attempt in flight, as the
+/// accepted injection of its number entered it.
+pub fn k_reports_are_entered()
+    ensures { KReportsAreEntered }
 {}

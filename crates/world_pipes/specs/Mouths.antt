@@ -10,6 +10,8 @@ use Rattle.world_pipes.specs.declared.mouths.Tenant.TheVariants as kept
 use Rattle.world_pipes.specs.Pipework.{Pipe, Tenant, fresh, given, closed, is_port}
 use Rattle.world_pipes.specs.Pipework.Tenant.{Runs, Remote}
 use Rattle.world_pipes.specs.Pipes.{lies, HasRoom}
+-- the actor that runs in a slot
+pub use Rattle.world_pipes.specs.Pipework.{actor_of}
 
 -- a slot without a program, into whose output nothing was given
 pub record IsVacant (slot : Slot) : Type 0 where
@@ -54,11 +56,6 @@ ended_in (Some slot) = is_ended slot.tenant
 
 abbrev pub ended_of : Mouths → ℕ → Bool
 ended_of m d = ended_in (slice_get m.slots.items d)
-
--- the actor that runs there, if one does
-abbrev pub actor_of : Option Tenant → Option (List ℕ)
-actor_of (Some (Runs a)) = Some a
-actor_of other = None
 
 -- a remote program with its report, or one without
 abbrev pub is_remote : Bool → Option Tenant → Bool

@@ -134,9 +134,10 @@ far_end pipework a other = None
 abbrev pub feeder : Pipework → List ℕ → Option (List ℕ)
 feeder pipework b = if is_member b then Some (codes "sender") else option_map (λ slot. slot.parent) (pipework.slots b)
 
-abbrev pub runner : Option Tenant → Option (List ℕ)
-runner (Some (Runs a)) = Some a
-runner other = None
+-- the actor that runs in a slot, if one does
+abbrev pub actor_of : Option Tenant → Option (List ℕ)
+actor_of (Some (Runs a)) = Some a
+actor_of other = None
 
 -- who gives what an actor takes by a port
 abbrev pub writer : Pipework → List ℕ → Port → Option (List ℕ)
@@ -144,7 +145,7 @@ writer pipework b port.Input = feeder pipework b
 writer pipework b port.Clean = Some (codes "clean")
 writer pipework b port.Lspawn = Some (codes "lspawn")
 writer pipework b port.Rspawn = Some (codes "rspawn")
-writer pipework b (port.Program d) = runner (pipework.programs b d)
+writer pipework b (port.Program d) = actor_of (pipework.programs b d)
 writer pipework b other = None
 
 abbrev pub is_writer : List ℕ → Option (List ℕ) → Bool

@@ -83,6 +83,8 @@ pub fn push_line(script: &mut String, event: &str) -> Result<(), Memory> {
         "b start" => script.push_str("mail b c@x d@y : ho\n"),
         "sender start" => script.push_str("sender\n"),
         "b.1 start" | "b.2 start" => script.push_str("step sender\n"),
+        "l.1 start" => script.push_str("step lspawn\n"),
+        "f.1 start" => script.push_str("step l.1\n"),
         "rspawn report 0 K" => script.push_str("report 0 K settled\n"),
         "rspawn report 0 Z" => script.push_str("report 0 Z settled\n"),
         "rspawn report 0 D" => script.push_str("report 0 D settled\n"),

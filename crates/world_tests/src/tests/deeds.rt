@@ -1,7 +1,7 @@
 // What is done with a world, as data.
 
 use super::running::{report, run, settle, to_child, turn};
-use super::seen::{put, put_names, put_refusal};
+use super::seen::{put, put_names, put_names_in, put_refusal};
 use mail_bytes::Memory;
 use mail_world::{ActorName, World, WorldError};
 use mem_fs::MemFs;
@@ -23,6 +23,8 @@ pub enum Deed {
     Stop(&'static [u8]),
     /// The sender makes steps until it has started a child.
     ToChild,
+    /// This actor makes steps until it has started a child.
+    Bear(&'static [u8]),
     /// Each living actor runs.
     Turn,
     /// The remote program in this slot reports success.
@@ -33,6 +35,8 @@ pub enum Deed {
     Settle,
     /// The names in the queue are told.
     Show,
+    /// The names in this directory are told.
+    Names(&'static str),
 }
 
 /// Puts down why a world refused what was asked of this actor, if it did.
@@ -63,7 +67,15 @@ fn act_by(
             run(alloc, world, name, seen);
         }
         Deed::Stop(_) => tell(seen, name.as_slice(), world.stop(name)),
+        Deed::Bear(_) => to_child(alloc, world, name, seen),
         _ => put(seen, &[b"no name\n"]),
+    }
+}
+
+/// The sender makes steps until it has started a child.
+fn sender_to_child(alloc: Global, world: &mut World<MemFs>, seen: &mut Vec<u8>) {
+    if let Some(sender) = ActorName::of(b"sender") {
+        to_child(alloc, world, &sender, seen);
     }
 }
 
@@ -76,9 +88,10 @@ fn act_on_all(alloc: Global, world: &mut World<MemFs>, deed: &Deed, seen: &mut V
         }
         Deed::Report(slot) => report(alloc, world, *slot, b'K', b"ok", seen),
         Deed::Fail(slot) => report(alloc, world, *slot, b'D', b"no such user", seen),
-        Deed::ToChild => to_child(alloc, world, seen),
+        Deed::ToChild => sender_to_child(alloc, world, seen),
         Deed::Settle => settle(alloc, world, seen),
         Deed::Show => put_names(alloc, seen, world.disk()),
+        Deed::Names(dir) => put_names_in(seen, world.disk(), dir.as_bytes()),
         _ => put(seen, &[b"a name\n"]),
     }
 }
@@ -86,9 +99,11 @@ fn act_on_all(alloc: Global, world: &mut World<MemFs>, deed: &Deed, seen: &mut V
 /// The actor that it is done with; none if it is done with all.
 fn actor_of(deed: &Deed) -> Option<ActorName> {
     match deed {
-        Deed::Mail(name, _, _) | Deed::Step(name) | Deed::Run(name) | Deed::Stop(name) => {
-            ActorName::of(name)
-        }
+        Deed::Mail(name, _, _)
+        | Deed::Step(name)
+        | Deed::Run(name)
+        | Deed::Stop(name)
+        | Deed::Bear(name) => ActorName::of(name),
         _ => None,
     }
 }
@@ -101,8 +116,11 @@ fn act(alloc: Global, world: &mut World<MemFs>, deed: &Deed, seen: &mut Vec<u8>)
     }
 }
 
-/// A disk with the directories of a queue and no file.
-fn queue_disk(alloc: Global) -> Result<MemFs, Memory> {
+/// What a disk holds at first beside the directories of a queue: a directory, or a file with these bytes.
+pub type Entry = (&'static str, Option<&'static str>);
+
+/// A disk with the directories of a queue and these entries.
+fn queue_disk(alloc: Global, entries: &[Entry]) -> Result<MemFs, Memory> {
     let dirs = queue_dirs(alloc)?;
     let mut disk = MemFs::new(alloc, Vec::new(alloc), Vec::new(alloc))?;
     let _ = disk.dir(alloc, b"control");
@@ -110,7 +128,22 @@ fn queue_disk(alloc: Global) -> Result<MemFs, Memory> {
     for dir in &dirs {
         let _ = disk.dir(alloc, dir.as_slice());
     }
+    for entry in entries {
+        put_entry(alloc, &mut disk, entry);
+    }
     Ok(disk)
+}
+
+/// Puts an entry on a disk.
+fn put_entry(alloc: Global, disk: &mut MemFs, entry: &Entry) {
+    match entry.1 {
+        Some(bytes) => {
+            let _ = disk.place(alloc, entry.0.as_bytes(), bytes.as_bytes());
+        }
+        None => {
+            let _ = disk.dir(alloc, entry.0.as_bytes());
+        }
+    }
 }
 
 /// What is seen when all this is done with a world, in order.
@@ -124,7 +157,12 @@ fn act_all(alloc: Global, mut world: World<MemFs>, deeds: &[Deed]) -> Vec<u8> {
 
 /// The same, with a new world.
 pub fn seen_of(alloc: Global, deeds: &[Deed]) -> Result<Vec<u8>, Memory> {
-    let disk = queue_disk(alloc)?;
+    seen_with(alloc, &[], deeds)
+}
+
+/// The same, over a disk with these entries.
+pub fn seen_with(alloc: Global, entries: &[Entry], deeds: &[Deed]) -> Result<Vec<u8>, Memory> {
+    let disk = queue_disk(alloc, entries)?;
     let world = World::new(alloc, disk)?;
     Ok(act_all(alloc, world, deeds))
 }

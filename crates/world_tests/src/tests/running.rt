@@ -67,13 +67,15 @@ fn has_started<D: CallFs>(world: &World<D>) -> bool {
     matches!(world.history().events().last(), Some(Event::Child { .. }))
 }
 
-/// Steps of the sender, until it has started a child.
-pub fn to_child<D: CallFs>(alloc: Global, world: &mut World<D>, seen: &mut Vec<u8>) {
-    let Some(sender) = ActorName::of(b"sender") else {
-        return;
-    };
+/// Steps of this actor, until it has started a child.
+pub fn to_child<D: CallFs>(
+    alloc: Global,
+    world: &mut World<D>,
+    actor: &ActorName,
+    seen: &mut Vec<u8>,
+) {
     for _ in 0..MOST_STEPS {
-        let led = step(alloc, world, &sender);
+        let led = step(alloc, world, actor);
         if has_started(world) {
             return;
         }

@@ -51,6 +51,12 @@ pub fn put_names(alloc: Global, seen: &mut Vec<u8>, disk: &MemFs) {
     }
 }
 
+/// Puts down the names in this directory, and a line of `-`.
+pub fn put_names_in(seen: &mut Vec<u8>, disk: &MemFs, dir: &[u8]) {
+    put_names_of(seen, disk, dir);
+    put(seen, &[b"-\n"]);
+}
+
 /// Puts down the names in this directory.
 fn put_names_of(seen: &mut Vec<u8>, disk: &MemFs, dir: &[u8]) {
     let mut after: &[u8] = b"";

@@ -1,5 +1,5 @@
 use Rattle.std.proofs.Common.{◌≡◌, ◌+◌, ◌<◌, ◌^◌, length, ◌++◌, ◌∷◌, [], List, reverse, take, drop, refl, sym, ap, ◌∙◌, subst, append_assoc}
-use Rattle.std.specs.List.{AllZip}
+use Rattle.std.specs.List.{AllByRecursion, AllZip}
 use Rattle.std.proofs.lemmas.List.{append-nil, take-append-drop, take_all}
 use Rattle.std.proofs.lemmas.Result.{err_from_is_err_and}
 use Rattle.crash_fs.specs.Crash.{Crash, crash_disk, crash_plan}
@@ -13,6 +13,7 @@ use Rattle.script_words.specs.declared.entry.Entry.{Entry}
 use Rattle.play_lines.specs.declared.line.Line.{Line}
 use Rattle.play_lines.specs.Contents.{HaveEntryPaths}
 use Rattle.scenario.specs.Deeds.{TellsDeed}
+use Rattle.scenario.specs.Fates.{IsFedSo}
 use Rattle.scenario.specs.FirstDisk.{IsFirstDisk}
 use Rattle.scenario.specs.Text.{IsPlayed}
 use Rattle.scenario.specs.Traced.{traced_after}
@@ -42,6 +43,7 @@ loop-line-init g c =
       planned = ap (λ (w : Seen Crash). crash_plan w.disk) world ∙ c.in_ok-first_disk.ensures.plan;
       whole = subst (λ (l : List Kept). AreWholeGivings (reverse l)) (sym (ap (λ (w : Seen Crash). w.events) world)) tt;
       starts = tt;
+      fed = subst (λ (l : List Kept). AllByRecursion IsFedSo (reverse l)) (sym (ap (λ (w : Seen Crash). w.events) world)) tt;
     } in (
       refl,
       nothing_played c.args.script.opening d c.in_ok-world.world first playing,

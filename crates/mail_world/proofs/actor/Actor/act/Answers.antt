@@ -198,6 +198,6 @@ returns-in-Ended-clause-acted g c =
         descriptors = c.end.ensures.descriptors;
         ended = c.end.ensures.ended ∙ ap Some c.len-index.ensures;
         status_is = c.end.ensures.status;
-        entry = c.end.ensures.stays.entry ∙ asked.stays.entry;
+        stays = record { wire = c.end.ensures.stays.wire ∙ asked.stays.wire; slot = c.end.ensures.stays.slot ∙ asked.stays.slot; entry = c.end.ensures.stays.entry ∙ asked.stays.entry };
       };
     })

@@ -21,5 +21,5 @@ returns-clause-stopped g c =
       descriptors = c.end.ensures.descriptors;
       ended = c.end.ensures.ended ∙ ap Some c.len-index.ensures;
       status_is = c.end.ensures.status;
-      entry = c.end.ensures.stays.entry;
+      stays = c.end.ensures.stays;
     }

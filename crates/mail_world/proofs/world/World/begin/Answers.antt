@@ -17,7 +17,7 @@ use Rattle.fed_injector.specs.Inputs.{FedStands, with_input}
 use Rattle.queue_inject.specs.declared.injection.InputEnd.TheVariants.{Unread}
 use Rattle.received_line.specs.declared.line.Invoked.TheVariants.{Uid}
 use Rattle.mail_world.specs.Readiness.{is_awaiting}
-use Rattle.mail_world.specs.World.{mail, Seen, was_started}
+use Rattle.mail_world.specs.World.{mail, Seen, was_started, counted}
 use Rattle.mail_world.specs.Inside.{IsWorld, among_all, known, living}
 use Rattle.mail_world.proofs.Histories.{goes_on}
 use Rattle.mail_world.proofs.Borne.{stranger_awaits}
@@ -104,7 +104,7 @@ invariant_of-self-in_err-add g c =
     let i = c.self.inside in
     let items = c.in_ok-reserve-2.ensures.items in
     let places : ◌≡◌ {A = List ℕ → Option ℕ} (place_of i.places) (place_of c.add.new.self) = fun_ext (λ q. sym (c.in_err-add.ensures.err q)) in (
-      rw (items, c.in_ok-reserve.ensures.same) (subst (λ (f : List ℕ → Option ℕ). IsWorld (g.D.CallFs.disk i.disk) (among_all i.crew f) i.actors.items (known i.history.events.items) i.history.events.items i.present i.next_pid i.bounces) places c.self.invariant.0),
+      rw (items, c.in_ok-reserve.ensures.same) (subst (λ (f : List ℕ → Option ℕ). IsWorld (g.D.CallFs.disk i.disk) (among_all i.crew f) i.actors.items (known i.history.events.items) i.history.events.items i.present i.next_pid (counted i.bounces i.deliveries)) places c.self.invariant.0),
       rw (items) (c.in_ok-reserve.ensures.stays (living i.actors.items) c.self.invariant.1),
       rw (items, c.in_ok-reserve.ensures.same, c.in_ok-make_room.ensures.same) c.self.invariant.2,
       rw (items, c.in_ok-reserve.ensures.same) c.self.invariant.3,
@@ -133,8 +133,8 @@ invariant_of-self-2 g c =
     let placed = put_among i.crew (length i.actors.items) (place_of i.places) (place_of c.add.new.self) a (seat_none a other) within put in
     let len : c.len.result ≡ length i.actors.items = c.len.ensures ∙ i.actors.ok.0 in
     let grown : length c.push.new.self.items ≡ length i.actors.items + 1 = ap length actors ∙ length-append i.actors.items (c.new-actor.result ∷ []) in
-    let counted : c.len-3.result ≡ length c.push.new.self.items = c.len-3.ensures ∙ c.push.new.self.ok.0 in
-    let last : c.len-3.result - i.crew - 1 + 4 ≡ length i.actors.items - i.crew + 4 = omega (arith, grown, counted, within) in
+    let total : c.len-3.result ≡ length c.push.new.self.items = c.len-3.ensures ∙ c.push.new.self.ok.0 in
+    let last : c.len-3.result - i.crew - 1 + 4 ≡ length i.actors.items - i.crew + 4 = omega (arith, grown, total, within) in
     let bound = living_push i.actors.items c.new-actor.result in
     let numbered : c.new-actor.result.entry ≡ Some (length i.books.entries.items) =
     c.new-actor.ensures.entry ∙ ap Some (c.next_entry-entry.ensures ∙ ap (λ (l : List Entry). length l) c.in_ok-make_room.ensures.same) in
@@ -150,15 +150,15 @@ invariant_of-self-2 g c =
     let awaits : awaits_of c.new-actor.result.machine ≡ is_awaiting (known i.history.events.items) a =
     ap awaits_of c.new-actor.ensures.machine ∙ c.give.ensures.given
     ∙ sym (stranger_awaits i.crew i.mouths.items i.actors.items (known i.history.events.items) i.history.events.items a c.self.invariant.3 stranger.unknown) in (
-      rw (actors, event) (start_keeps (g.D.CallFs.disk i.disk) all (among_all i.crew (place_of c.add.new.self)) i.actors.items i.history.events.items i.present i.next_pid c.saturating_add-self-inside.result i.bounces
+      rw (actors, event) (start_keeps (g.D.CallFs.disk i.disk) all (among_all i.crew (place_of c.add.new.self)) i.actors.items i.history.events.items i.present i.next_pid c.saturating_add-self-inside.result (counted i.bounces i.deliveries)
           c.new-actor.result a (Injector args) tt other c.requires.named c.self.invariant.0 new placed name c.new-actor.ensures.ended c.new-actor.ensures.status c.new-actor.ensures.owed c.new-actor.ensures.descriptors machine awaits refl c.saturating_add-self-inside.ensures),
       rw (actors) (c.put.ensures.room (living (i.actors.items ++ c.new-actor.result ∷ [])) (room_less c.reserve.new.self (c.len.result + 2) (living (i.actors.items ++ c.new-actor.result ∷ []) + 1)
           (omega (arith, len, bound)) c.in_ok-reserve.ensures.room)),
       rw (actors, event, entry) (start_booked i.crew i.actors.items i.history.events.items c.new-actor.result a args i.books.entries.items within c.self.invariant.2 name numbered),
-      rw (actors, event) (start_piped i.crew i.mouths.items i.actors.items i.history.events.items c.new-actor.result a (Injector args) other stranger.unknown name c.new-actor.ensures.wire c.new-actor.ensures.slot c.self.invariant.3),
-      rw (event) (subst (AreStarts c.add_mail.new.self i.crew (place_of c.add.new.self)) (sym (starts_push i.history.events.items (kept.Start a (Injector args))))
-          (mail_starts c.make_room-2.new.self c.add_mail.new.self i.crew (length i.actors.items) (place_of i.places) (place_of c.add.new.self) (starts_of (reverse i.history.events.items)) a within
-          (c.add_mail.ensures.order ∙ ap (λ (n : ℕ). c.make_room-2.new.self.order.items ++ n ∷ []) last) c.add_mail.ensures.newest new placed
+      rw (actors, event) (start_piped i.crew i.mouths.items i.actors.items i.history.events.items c.new-actor.result a (Injector args) other stranger.unknown tt name c.new-actor.ensures.wire c.new-actor.ensures.slot c.self.invariant.3),
+      rw (event) (subst (AreStarts c.add_other.new.self i.crew (place_of c.add.new.self)) (sym (starts_push i.history.events.items (kept.Start a (Injector args))))
+          (mail_starts c.make_room-2.new.self c.add_other.new.self i.crew (length i.actors.items) (place_of i.places) (place_of c.add.new.self) (starts_of (reverse i.history.events.items)) a within
+          (c.add_other.ensures.order ∙ ap (λ (n : ℕ). c.make_room-2.new.self.order.items ++ n ∷ []) last) c.add_other.ensures.newest new placed
           (same_starts i.starts c.make_room-2.new.self i.crew (place_of i.places) (starts_of (reverse i.history.events.items)) c.in_ok-make_room-2.ensures.same c.self.invariant.4))),
     )
 
@@ -170,4 +170,4 @@ returns-clause-goes_on g c =
     let args = mail i.next_pid i.present c.args.message.now c.args.envelope.now in
     let at = (goal.at.returns-clause-goes_on g c).After-saturating_add-self-inside in
     rw (← c.self.view_is, started g at) (goes_on told told events (events ++ kept.Start c.args.name.now (Injector args) ∷ []) i.present i.present
-    (start_leads_on told (among_all i.crew (place_of i.places)) i.actors.items events i.present i.next_pid i.bounces c.args.name.now (Injector args) tt c.self.invariant.0 (new_name g at)))
+    (start_leads_on told (among_all i.crew (place_of i.places)) i.actors.items events i.present i.next_pid (counted i.bounces i.deliveries) c.args.name.now (Injector args) tt c.self.invariant.0 (new_name g at)))

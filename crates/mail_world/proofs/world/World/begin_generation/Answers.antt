@@ -1,15 +1,16 @@
-use Rattle.std.proofs.Common.{◌≡◌, ℕ, ◌+◌, ◌≤◌, List, [], ◌∷◌, ◌++◌, length, reverse, sym, ap, ◌∙◌, subst, arith}
+use Rattle.std.proofs.Common.{◌≡◌, ◌⊎◌, inl, inr, ℕ, ◌+◌, ◌≤◌, List, [], ◌∷◌, ◌++◌, length, reverse, sym, ap, ◌∙◌, subst, arith}
 use Rattle.std.specs.Prelude.{drop}
 use Rattle.std.proofs.lemmas.List.{length-append, length-drop}
 use Rattle.world_events.specs.declared.event.Event.{Event as Kept}
 use Rattle.world_events.specs.declared.event.Event.TheVariants as kept
 use Rattle.mail_world.specs.declared.actor.Actor.{Actor as Held}
 use Rattle.mail_world.specs.Books.{entries_of}
-use Rattle.mail_world.specs.Crew.{AreNew}
+use Rattle.world_pipes.specs.declared.mouths.Mouths.{Mouths}
+use Rattle.mail_world.specs.Crew.{AreNew, AreFresh}
 use Rattle.mail_world.specs.Generations.{IsNoneAlive, starts_of}
 use Rattle.mail_world.specs.Starts.{AreStarts}
 use Rattle.mail_world.specs.Places.{place_of}
-use Rattle.mail_world.specs.World.{Seen}
+use Rattle.mail_world.specs.World.{Seen, counted}
 use Rattle.mail_world.specs.Inside.{known, living}
 use Rattle.mail_world.proofs.Begun.{begun_keeps, begun_leads_on, begun_piped, members_over}
 use Rattle.mail_world.proofs.Booked.{begun_booked}
@@ -59,6 +60,20 @@ few crew four actors new =
     let many : length four ≡ 4 = ap (λ (l : List Held). length l) new.are in
     omega (arith, within, all, rest, many)
 
+-- the members have pipes, or nobody has any
+some_pipes : (crew n : ℕ) → (n ≡ 0) ⊎ ((4 ≤ n) × (crew ≡ 4)) → (n ≡ 0) ⊎ (4 ≤ n)
+some_pipes crew n (inl none) = inl none
+some_pipes crew n (inr four) = inr four.0
+
+pub renew-requires-clause-count : goal.renew-requires-clause-count
+renew-requires-clause-count g c = let i = c.self.inside in some_pipes i.crew (length i.mouths.items) c.self.invariant.3.count
+
+pub renew-requires-clause-slots : goal.renew-requires-clause-slots
+renew-requires-clause-slots g c = c.self.invariant.3.slots
+
+pub renew-requires-clause-fresh : goal.renew-requires-clause-fresh
+renew-requires-clause-fresh g c = subst (λ (l : List Mouths). length l ≡ 0 → AreFresh c.in_ok-fresh.fresh.items) c.deref.ensures.value c.in_ok-fresh.ensures.fresh
+
 pub invariant_of-self-2 : goal.invariant_of-self-2
 invariant_of-self-2 g c =
     let i = c.self.inside in
@@ -75,12 +90,12 @@ invariant_of-self-2 g c =
     pushed ∙ ap (λ (l : List Held). l ++ c.in_ok-mails.mails.items) c.in_ok-reserve.ensures.items ∙ ap (λ (l : List Held). four ++ l) c.in_ok-mails.ensures.tail in
     let len : c.len-2.result ≡ length i.actors.items = c.len-2.ensures ∙ i.actors.ok.0 in
     let bound = few i.crew four i.actors.items new in (
-      rw (actors, event) (begun_keeps told (place_of i.places) i.crew i.actors.items four events i.present i.next_pid c.saturating_add-self-inside.result i.bounces c.self.invariant.0 none c.self.invariant.3.few
+      rw (actors, event) (begun_keeps told (place_of i.places) i.crew i.actors.items four events i.present i.next_pid c.saturating_add-self-inside.result (counted i.bounces i.deliveries) c.self.invariant.0 none c.self.invariant.3.few
           c.self.invariant.3.wired.members new c.saturating_add-self-inside.ensures),
       rw (actors) (c.put.ensures.room (living (four ++ rest)) (room_less c.reserve-2.new.self (c.len-2.result + 5) (living (four ++ rest) + 1) (omega (arith, len, bound)) c.in_ok-reserve-2.ensures.room)),
       rw (actors, event) (begun_booked i.crew i.actors.items four events (entries_of i.books) new c.self.invariant.2 i.present),
-      rw (actors, event) (begun_piped i.crew i.mouths.items c.in_ok-mouths.mouths.items i.actors.items four events i.present c.self.invariant.3
-          (members_over told (place_of i.places) i.crew i.actors.items events i.present i.next_pid i.bounces c.self.invariant.0 none c.self.invariant.3.few) new c.in_ok-mouths.ensures),
+      rw (actors, event) (begun_piped i.crew i.mouths.items c.renew.new.mouths.items i.actors.items four events i.present c.self.invariant.3
+          (members_over told (place_of i.places) i.crew i.actors.items events i.present i.next_pid (counted i.bounces i.deliveries) c.self.invariant.0 none c.self.invariant.3.few) new c.renew.ensures),
       rw (event) (subst (AreStarts c.add_members.new.self 4 (place_of i.places)) (sym (starts_push events (kept.Generation i.present)))
           (members_start c.make_room.new.self c.add_members.new.self i.crew (place_of i.places) (starts_of (reverse events)) c.add_members.ensures.order c.add_members.ensures.newest
           (same_starts i.starts c.make_room.new.self i.crew (place_of i.places) (starts_of (reverse events)) c.in_ok-make_room.ensures.same c.self.invariant.4))),
@@ -95,4 +110,4 @@ returns-clause-goes_on g c =
     let event : c.put.new.self.events.items ≡ events ++ kept.Generation i.present ∷ [] =
     c.put.ensures.event ∙ ap (λ (l : List Kept). l ++ kept.Generation i.present ∷ []) c.in_ok-reserve-2.ensures.same in
     rw (← c.self.view_is, event) (goes_on told told events (events ++ kept.Generation i.present ∷ []) i.present i.present
-    (begun_leads_on told (place_of i.places) i.crew i.actors.items events i.present i.next_pid i.bounces c.self.invariant.0 none c.self.invariant.3.few))
+    (begun_leads_on told (place_of i.places) i.crew i.actors.items events i.present i.next_pid (counted i.bounces i.deliveries) c.self.invariant.0 none c.self.invariant.3.few))

@@ -6,7 +6,7 @@ use Rattle.world_events.specs.declared.event.Event.TheVariants as kept
 use Rattle.mail_world.specs.History.{MayReport}
 use Rattle.mail_world.specs.Books.{entries_of}
 use Rattle.mail_world.specs.Places.{place_of}
-use Rattle.mail_world.specs.World.{Seen}
+use Rattle.mail_world.specs.World.{Seen, counted}
 use Rattle.mail_world.specs.Inside.{among_all, known, living}
 use Rattle.mail_world.proofs.Booked.{report_booked}
 use Rattle.mail_world.proofs.Feeds.{as_before}
@@ -81,7 +81,7 @@ invariant_of-self-2 g c =
     let len : c.len.result ≡ length i.actors.items = c.len.ensures ∙ i.actors.ok.0 in
     let bound = living_within i.actors.items in
     let leads = report_told told events i.present c.args.slot c.args.letter c.args.text.now c.self.invariant.3.whole (may g at.After-reserve) in (
-      rw (came g at.After-put) (report_keeps told (among_all i.crew (place_of i.places)) i.actors.items events i.present i.next_pid i.bounces c.args.slot c.args.letter c.args.text.now c.self.invariant.0 leads),
+      rw (came g at.After-put) (report_keeps told (among_all i.crew (place_of i.places)) i.actors.items events i.present i.next_pid (counted i.bounces i.deliveries) c.args.slot c.args.letter c.args.text.now c.self.invariant.0 leads),
       c.put.ensures.room (living i.actors.items) (room_less c.reserve.new.self (c.len.result + 1) (living i.actors.items + 1) (omega (arith, len, bound)) c.in_ok-reserve.ensures.room),
       rw (came g at.After-put) (report_booked i.crew i.actors.items events c.args.slot c.args.letter c.args.text.now (entries_of i.books) c.self.invariant.2),
       rw (came g at.After-put) (report_piped i.crew i.mouths.items i.actors.items events c.index_mut.result.now c.put_report.new.mouths c.args.slot c.args.letter c.args.text.now c.self.invariant.3

@@ -1,4 +1,4 @@
-use Rattle.std.proofs.Common.{◌≡◌, ℕ, ◌+◌, ◌-◌, ◌^◌, ◌<◌, List, [], ◌∷◌, ◌++◌, length, set, Some, refl, sym, ap, ◌∙◌, subst, arith, get_or, is_some}
+use Rattle.std.proofs.Common.{◌≡◌, ℕ, ◌+◌, ◌^◌, ◌<◌, List, [], ◌∷◌, ◌++◌, length, set, Some, refl, sym, ap, ◌∙◌, subst, arith, get_or, is_some}
 use Rattle.std.specs.List.{slice_get}
 use Rattle.std.proofs.lemmas.List.{length-set}
 use Rattle.std.proofs.lemmas.Option.{slice_get_within}
@@ -15,7 +15,8 @@ use Rattle.mail_world.specs.History.{netstring}
 use Rattle.mail_world.specs.Inside.{among_all, known, living}
 use Rattle.mail_world.specs.Places.{place_of}
 use Rattle.mail_world.specs.Readiness.{found_in}
-use Rattle.mail_world.specs.World.{Seen}
+use Rattle.mail_world.specs.World.{Seen, counted}
+use Rattle.crew_pipes.specs.Seating.{due_slot}
 use Rattle.mail_world.proofs.Booked.{entry_within}
 use Rattle.mail_world.proofs.Feeding.{CanFeed, HasBeenFed, can_feed, found_at, gives_two, texts_due, been_fed, fed_by, fed_event, fed_entry_is, feed_own, feed_keeps, feed_piped, feed_booked, feed_serves}
 use Rattle.mail_world.proofs.Lists.{set_same}
@@ -24,7 +25,7 @@ use Rattle.mail_world.proofs.Serving.{HasServed, alive_lives, same_at, child_rea
 use Rattle.mail_world.proofs.Starting.{still_starts}
 use Rattle.mail_world.proofs.Worlds.{in_range}
 use Rattle.mail_world.proofs.world.World.feed_child.Goals as goal
-use Rattle.mail_world.proofs.world.World.feed_child.Goals.{After-setting-at, After-unwrap-parent_at, After-index_mut-parent, After-child_at, After-unwrap-child, In_ok-message, After-own_at-own, After-index_mut-fed, After-put}
+use Rattle.mail_world.proofs.world.World.feed_child.Goals.{After-due_slot, After-setting-at, After-unwrap-parent_at, After-index_mut-parent, After-child_at, After-unwrap-child, In_ok-message, After-own_at-own, After-index_mut-fed, After-put}
 
 pub setting-at-requires : goal.setting-at-requires
 setting-at-requires g c = alive_lives _ c.requires.due.actor c.requires.due.is c.requires.due.alive
@@ -34,14 +35,18 @@ can : (g : _) (c : After-setting-at g) →
     CanFeed c.self.inside.crew (place_of c.self.inside.places) c.self.inside.actors.items c.self.inside.mouths.items c.self.inside.history.events.items c.self.inside.present c.args.actor.now c.args.due
 can g c =
     let i = c.self.inside in
-    can_feed i.disk (g.D.CallFs.disk i.disk) i.crew (place_of i.places) i.actors.items i.mouths.items i.history.events.items i.present i.next_pid i.bounces c.args.actor.now c.args.due c.self.invariant.0 c.self.invariant.3
-    (subst (λ (w : Seen _). IsDueOfChild w c.args.actor.now c.args.due) (sym c.self.view_is) c.requires.due) c.requires.give
+    can_feed i.disk (g.D.CallFs.disk i.disk) i.crew (place_of i.places) i.actors.items i.mouths.items i.history.events.items i.present i.next_pid (counted i.bounces i.deliveries) c.args.actor.now c.args.due c.self.invariant.0 c.self.invariant.3
+    (subst (λ (w : Seen _). IsDueOfChild w c.args.actor.now c.args.due) (sym c.self.view_is) c.requires.due) c.requires.give c.requires.other
+
+-- it is the first slot
+slot_is : (g : _) (c : After-due_slot g) (bytes : List ℕ) → c.args.due ≡ needs.Give (port.Program 0) bytes → c.due_slot.result ≡ 0
+slot_is g c bytes due = c.due_slot.ensures ∙ ap due_slot due
 
 pub place_among-requires : goal.place_among-requires
 place_among-requires g c =
     let i = c.self.inside in
     λ k at.
-    let within = in_range (g.D.CallFs.disk i.disk) (among_all i.crew (place_of i.places)) i.actors.items (known i.history.events.items) i.history.events.items i.present i.next_pid i.bounces c.args.actor.now c.self.invariant.0 k at in
+    let within = in_range (g.D.CallFs.disk i.disk) (among_all i.crew (place_of i.places)) i.actors.items (known i.history.events.items) i.history.events.items i.present i.next_pid (counted i.bounces i.deliveries) c.args.actor.now c.self.invariant.0 k at in
     omega (arith, within, i.actors.ok.0)
 
 pub unwrap-parent_at-requires : goal.unwrap-parent_at-requires
@@ -82,24 +87,25 @@ child_at-requires g c =
     let w = can g at.After-setting-at in
     let here = read g at.After-index_mut-parent w in
     let within = slice_get_within i.actors.items (i.crew + w.child.at) w.child.held w.child.is in
-    subst (λ (l : List Mouths). (k : ℕ) → child_place l c.index_mut-parent.result.now.wire i.crew (place_of i.places) ≡ Some k → k < 2 ^ 64) (sym c.deref.ensures.value)
+    subst (λ (l : List Mouths). (k : ℕ) → child_place l c.index_mut-parent.result.now.wire c.due_slot.result i.crew (place_of i.places) ≡ Some k → k < 2 ^ 64) (sym c.deref.ensures.value)
     (λ k found.
-    let same = found_at i.crew (place_of i.places) i.actors.items i.mouths.items i.history.events.items i.present c.args.actor.now c.args.due w (child_place i.mouths.items c.index_mut-parent.result.now.wire i.crew (place_of i.places)) k found
-    (ap (λ (x : Held). child_place i.mouths.items x.wire i.crew (place_of i.places)) (sym here.1)) in
+    let same = found_at i.crew (place_of i.places) i.actors.items i.mouths.items i.history.events.items i.present c.args.actor.now c.args.due w (child_place i.mouths.items c.index_mut-parent.result.now.wire c.due_slot.result i.crew (place_of i.places)) k found
+    (ap (λ (d : ℕ). child_place i.mouths.items c.index_mut-parent.result.now.wire d i.crew (place_of i.places)) (slot_is g at.After-due_slot w.feeds.bytes w.feeds.due_is)
+    ∙ ap (λ (x : Held). child_place i.mouths.items x.wire 0 i.crew (place_of i.places)) (sym here.1)) in
     omega (arith, within, same, i.actors.ok.0))
 
 -- the place that is found
 placed : (g : _) (c : After-child_at g)
     (w : CanFeed c.self.inside.crew (place_of c.self.inside.places) c.self.inside.actors.items c.self.inside.mouths.items c.self.inside.history.events.items c.self.inside.present c.args.actor.now c.args.due)
-    → w.asks.here.held ≡ c.index_mut-parent.result.now → c.child_at.result ≡ child_place c.self.inside.mouths.items w.asks.here.held.wire c.self.inside.crew (place_of c.self.inside.places)
-placed g c w here =
+    → w.asks.here.held ≡ c.index_mut-parent.result.now → c.due_slot.result ≡ 0 → c.child_at.result ≡ child_place c.self.inside.mouths.items w.asks.here.held.wire 0 c.self.inside.crew (place_of c.self.inside.places)
+placed g c w here slot =
     let i = c.self.inside in
-    subst (λ (l : List Mouths). c.child_at.result ≡ child_place l c.index_mut-parent.result.now.wire i.crew (place_of i.places)) c.deref.ensures.value c.child_at.ensures
-    ∙ ap (λ (x : Held). child_place i.mouths.items x.wire i.crew (place_of i.places)) (sym here)
+    subst (λ (l : List Mouths). c.child_at.result ≡ child_place l c.index_mut-parent.result.now.wire c.due_slot.result i.crew (place_of i.places)) c.deref.ensures.value c.child_at.ensures
+    ∙ ap (λ (d : ℕ). child_place i.mouths.items c.index_mut-parent.result.now.wire d i.crew (place_of i.places)) slot ∙ ap (λ (x : Held). child_place i.mouths.items x.wire 0 i.crew (place_of i.places)) (sym here)
 
 place : (g : _) (c : After-unwrap-child g)
     (w : CanFeed c.self.inside.crew (place_of c.self.inside.places) c.self.inside.actors.items c.self.inside.mouths.items c.self.inside.history.events.items c.self.inside.present c.args.actor.now c.args.due)
-    → c.child_at.result ≡ child_place c.self.inside.mouths.items w.asks.here.held.wire c.self.inside.crew (place_of c.self.inside.places) → c.unwrap-child.result ≡ c.self.inside.crew + w.child.at
+    → c.child_at.result ≡ child_place c.self.inside.mouths.items w.asks.here.held.wire 0 c.self.inside.crew (place_of c.self.inside.places) → c.unwrap-child.result ≡ c.self.inside.crew + w.child.at
 place g c w found =
     let i = c.self.inside in
     found_at i.crew (place_of i.places) i.actors.items i.mouths.items i.history.events.items i.present c.args.actor.now c.args.due w c.child_at.result c.unwrap-child.result c.unwrap-child.ensures found
@@ -108,7 +114,7 @@ pub unwrap-child-requires : goal.unwrap-child-requires
 unwrap-child-requires g c =
     let at = goal.at.unwrap-child-requires g c in
     let w = can g at.After-setting-at in
-    ap is_some (placed g at.After-child_at w (read g at.After-index_mut-parent w).1 ∙ w.found)
+    ap is_some (placed g at.After-child_at w (read g at.After-index_mut-parent w).1 (slot_is g at.After-due_slot w.feeds.bytes w.feeds.due_is) ∙ w.found)
 
 pub ready_to_feed-requires-clause-gives : goal.ready_to_feed-requires-clause-gives
 ready_to_feed-requires-clause-gives g c =
@@ -191,7 +197,7 @@ index_mut-fed-requires g c =
     let at = goal.at.index_mut-fed-requires g c in
     let w = can g at.After-setting-at in
     let low = slice_get_within i.actors.items (i.crew + w.child.at) w.child.held w.child.is in
-    let is = place g at.After-unwrap-child w (placed g at.After-child_at w (read g at.After-index_mut-parent w).1) in
+    let is = place g at.After-unwrap-child w (placed g at.After-child_at w (read g at.After-index_mut-parent w).1 (slot_is g at.After-due_slot w.feeds.bytes w.feeds.due_is)) in
     let same = length-set i.actors.items c.unwrap-parent_at.result c.take_in-did.new.actor in
     omega (arith, low, is, same, i.actors.ok.0)
 
@@ -216,9 +222,9 @@ unwrap-entry-requires g c =
     let a = w.asks in
     let f = w.feeds in
     let read_it = read g at.After-index_mut-parent w in
-    let is = place g at.After-unwrap-child w (placed g at.After-child_at w read_it.1) in
-    let has = fed_entry_is (g.D.CallFs.disk i.disk) i.crew (place_of i.places) i.actors.items i.mouths.items i.history.events.items i.present i.next_pid i.bounces c.args.actor.now a.at a.parent c.self.invariant.0 c.self.invariant.3 a.is a.alive a.here
-    f.child f.runs w.child f.awaiting f.just c.in_ok-message.message c.in_ok-message.envelope (a.next ∙ texts g at.In_ok-message w) i.books.entries.items c.self.invariant.2 in
+    let is = place g at.After-unwrap-child w (placed g at.After-child_at w read_it.1 (slot_is g at.After-due_slot w.feeds.bytes w.feeds.due_is)) in
+    let has = fed_entry_is (g.D.CallFs.disk i.disk) i.crew (place_of i.places) i.actors.items i.mouths.items i.history.events.items i.present i.next_pid (counted i.bounces i.deliveries) c.args.actor.now a.at a.parent c.self.invariant.0 c.self.invariant.3 a.is a.alive a.here
+    f.child f.runs w.child f.awaiting f.just c.in_ok-message.message c.in_ok-message.envelope (a.next ∙ texts g at.In_ok-message w) w.feeder i.books.entries.items c.self.invariant.2 in
     ap is_some (ap (λ (x : Held). x.entry) (sym (child_is g at.After-index_mut-fed w read_it.0 is)) ∙ has.1)
 
 pub feed-requires : goal.feed-requires
@@ -227,7 +233,7 @@ feed-requires g c =
     let at = goal.at.feed-requires g c in
     let w = can g at.After-setting-at in
     let read_it = read g at.After-index_mut-parent w in
-    let is = place g at.After-unwrap-child w (placed g at.After-child_at w read_it.1) in
+    let is = place g at.After-unwrap-child w (placed g at.After-child_at w read_it.1 (slot_is g at.After-due_slot w.feeds.bytes w.feeds.due_is)) in
     entry_within i.crew i.books.entries.items i.actors.items i.history.events.items (i.crew + w.child.at) c.unwrap-entry.result w.child.held c.self.invariant.2 w.child.is
     (ap (λ (x : Held). x.entry) (child_is g at.After-index_mut-fed w read_it.0 is) ∙ c.unwrap-entry.ensures)
 
@@ -265,7 +271,7 @@ was_fed g c w read own_is place same =
     record {
       served = got_it.0;
       idle = got_it.1;
-      fed = been_fed i.crew (place_of i.places) i.actors.items (known events) events i.present f.child h c.give_input.new.actor m e f.awaiting
+      fed = been_fed i.crew (place_of i.places) i.actors.items (known events) events i.present f.child h c.give_input.new.actor m e w.mail f.awaiting
           (subst (λ (x : Held). IsFed m e x c.give_input.new.actor) (sym same) c.give_input.ensures);
       event = c.put.ensures.event ∙ ap (λ (l : List Kept). l ++ kept.Feed c.copy.result c.own_at-own.result c.copy-name.result km ke ∷ []) ok.same
           ∙ fed_event events c.copy.result c.args.actor.now c.own_at-own.result own c.copy-name.result f.child km m ke e c.copy.ensures own_is name ok.message ok.envelope;
@@ -285,7 +291,7 @@ invariant_of-self-2 g c =
     let e = c.in_ok-message.envelope in
     let y = c.take_in-did.new.actor in
     let z = c.give_input.new.actor in
-    let is = place g at.After-unwrap-child w (placed g at.After-child_at w (read g at.After-index_mut-parent w).1) in
+    let is = place g at.After-unwrap-child w (placed g at.After-child_at w (read g at.After-index_mut-parent w).1 (slot_is g at.After-due_slot w.feeds.bytes w.feeds.due_is)) in
     let due = texts g at.In_ok-message w in
     let v = was_fed g at.After-put w (read g at.After-index_mut-parent w) (own_is g at.After-own_at-own (now_is g at.After-setting-at) (ready_is g at.After-setting-at) due) is (child_is g at.After-index_mut-fed w (read g at.After-index_mut-parent w).0 is) in
     let next = a.next ∙ due in
@@ -296,14 +302,14 @@ invariant_of-self-2 g c =
     let grown = length-set i.actors.items a.at y in
     let bound = living_set (set i.actors.items a.at y) (i.crew + h.at) z in
     let entry = ap (λ (x : Held). x.entry) (child_is g at.After-index_mut-fed w here is) ∙ c.unwrap-entry.ensures in (
-      rw (is, put, here) (feed_keeps told i.crew (place_of i.places) i.actors.items i.mouths.items events i.present i.next_pid i.bounces c.args.actor.now a.at a.parent c.self.invariant.0 c.self.invariant.3 a.is a.alive a.here
-          f.child f.runs h f.awaiting f.just m e next y z v.served v.fed),
+      rw (is, put, here) (feed_keeps told i.crew (place_of i.places) i.actors.items i.mouths.items events i.present i.next_pid (counted i.bounces i.deliveries) c.args.actor.now a.at a.parent c.self.invariant.0 c.self.invariant.3 a.is a.alive a.here
+          f.child f.runs h f.awaiting f.just m e next w.feeder y z v.served v.fed),
       rw (is, here) (c.put.ensures.room (living now) (room_less c.ready_to_feed.new.history (c.len-room.result + 1) (living now + 1) (omega (arith, len, bound, grown)) c.in_ok-message.ensures.holds)),
-      rw (is, put, here) (feed_booked told i.crew (place_of i.places) i.actors.items i.mouths.items events i.present i.next_pid i.bounces c.args.actor.now a.at a.parent c.self.invariant.0 c.self.invariant.3 a.is a.alive a.here
-          f.child f.runs h f.awaiting f.just m e next y z v.served v.fed i.books.entries.items c.feed.new.self.entries.items c.unwrap-entry.result c.self.invariant.2 entry
+      rw (is, put, here) (feed_booked told i.crew (place_of i.places) i.actors.items i.mouths.items events i.present i.next_pid (counted i.bounces i.deliveries) c.args.actor.now a.at a.parent c.self.invariant.0 c.self.invariant.3 a.is a.alive a.here
+          f.child f.runs h f.awaiting f.just m e next w.feeder y z v.served v.fed i.books.entries.items c.feed.new.self.entries.items c.unwrap-entry.result c.self.invariant.2 entry
           (fed_by i.books.entries.items c.feed.new.self.entries.items c.unwrap-entry.result c.as_slice.result.now e c.as_slice.ensures c.feed.ensures)),
-      rw (is, put, here) (feed_piped told i.crew (place_of i.places) i.actors.items i.mouths.items events i.present i.next_pid i.bounces c.args.actor.now a.at a.parent c.self.invariant.0 c.self.invariant.3 a.is a.alive a.here
-          f.child f.runs h f.awaiting f.just m e next y z v.served v.fed),
+      rw (is, put, here) (feed_piped told i.crew (place_of i.places) i.actors.items i.mouths.items events i.present i.next_pid (counted i.bounces i.deliveries) c.args.actor.now a.at a.parent c.self.invariant.0 c.self.invariant.3 a.is a.alive a.here
+          f.child f.runs h f.awaiting f.just m e next w.feeder y z v.served v.fed),
       rw (put) (still_starts i.starts i.crew (place_of i.places) events (kept.Feed c.args.actor.now (feed_own events i.present c.args.actor.now m e) f.child m e) refl c.self.invariant.4),
     )
 
@@ -317,9 +323,9 @@ returns-clause-served g c =
     let a = w.asks in
     let f = w.feeds in
     let due = texts g at.In_ok-message w in
-    let is = place g at.After-unwrap-child w (placed g at.After-child_at w (read g at.After-index_mut-parent w).1) in
+    let is = place g at.After-unwrap-child w (placed g at.After-child_at w (read g at.After-index_mut-parent w).1 (slot_is g at.After-due_slot w.feeds.bytes w.feeds.due_is)) in
     let v = was_fed g at.After-put w (read g at.After-index_mut-parent w) (own_is g at.After-own_at-own (now_is g at.After-setting-at) (ready_is g at.After-setting-at) due) is (child_is g at.After-index_mut-fed w (read g at.After-index_mut-parent w).0 is) in
     let did = c.take_in-did.ensures.did in
-    rw (← c.self.view_is, v.event) (feed_serves told i.crew (place_of i.places) i.actors.items i.mouths.items events i.present i.next_pid i.bounces c.args.actor.now a.at a.parent c.self.invariant.0 c.self.invariant.3 a.is a.alive a.here
-    f.child f.runs w.child f.awaiting f.just c.in_ok-message.message c.in_ok-message.envelope (a.next ∙ due) g.D.CallFs.disk i.disk refl c.take_in-did.result
+    rw (← c.self.view_is, v.event) (feed_serves told i.crew (place_of i.places) i.actors.items i.mouths.items events i.present i.next_pid (counted i.bounces i.deliveries) c.args.actor.now a.at a.parent c.self.invariant.0 c.self.invariant.3 a.is a.alive a.here
+    f.child f.runs w.child f.awaiting f.just c.in_ok-message.message c.in_ok-message.envelope (a.next ∙ due) w.feeder g.D.CallFs.disk i.disk refl c.take_in-did.result
     (did.0 ∙ c.len.ensures ∙ ap (λ (l : List Kept). length l) c.in_ok-message.ensures.same) did.1 v.idle)

@@ -5,6 +5,7 @@ use Rattle.mail_world.specs.declared.actor.Actor.{Actor as Held}
 use Rattle.world_events.specs.declared.event.Event.{Event as Kept}
 use Rattle.world_events.specs.declared.event.Event.TheVariants as kept
 use Rattle.mail_world.specs.Places.{place_of}
+use Rattle.mail_world.specs.World.{counted}
 use Rattle.mail_world.specs.Inside.{among_all, known, living}
 use Rattle.mail_world.specs.Acting.{AreCutOff}
 use Rattle.mail_world.proofs.Histories.{halt_goes_with}
@@ -50,7 +51,7 @@ invariant_of-self-2 g c =
     let len : c.len.result ≡ length i.actors.items = c.len.ensures ∙ i.actors.ok.0 in
     let many = over.many in
     let bound = living_within c.cut_off_all.new.actors in (
-      rw (items, halted g at) (halt_keeps (g.D.CallFs.disk i.disk) (g.D.CallFs.disk c.halt.new.self) (among_all i.crew (place_of i.places)) i.actors.items c.cut_off_all.new.actors i.history.events.items i.present i.next_pid i.bounces c.args.how
+      rw (items, halted g at) (halt_keeps (g.D.CallFs.disk i.disk) (g.D.CallFs.disk c.halt.new.self) (among_all i.crew (place_of i.places)) i.actors.items c.cut_off_all.new.actors i.history.events.items i.present i.next_pid (counted i.bounces i.deliveries) c.args.how
           c.self.invariant.0 over (stopped g at)),
       rw (items) (c.put.ensures.room (living c.cut_off_all.new.actors) (room_less c.reserve.new.self (c.len.result + 1) (living c.cut_off_all.new.actors + 1)
           (omega (arith, len, bound, many)) c.in_ok-reserve.ensures.room)),

@@ -2,6 +2,7 @@ use Rattle.std.proofs.Common.{◌≡◌, ◌+◌, ◌≤◌, List, [], ◌∷◌
 use Rattle.world_events.specs.declared.event.Event.{Event as Kept}
 use Rattle.world_events.specs.declared.event.Event.TheVariants as kept
 use Rattle.mail_world.specs.Places.{place_of}
+use Rattle.mail_world.specs.World.{counted}
 use Rattle.mail_world.specs.Inside.{among_all, living}
 use Rattle.mail_world.proofs.Histories.{moment_told, goes_on}
 use Rattle.mail_world.proofs.Living.{living_within, room_less}
@@ -35,7 +36,7 @@ invariant_of-self-2 g c =
     let at = (goal.at.invariant_of-self-2 g c).After-put in
     let len : c.len.result ≡ length i.actors.items = c.len.ensures ∙ i.actors.ok.0 in
     let bound = living_within i.actors.items in (
-      rw (came g at) (moment_keeps (g.D.CallFs.disk i.disk) (among_all i.crew (place_of i.places)) i.actors.items i.history.events.items i.present c.args.moment i.next_pid i.bounces c.requires (later g at) c.self.invariant.0),
+      rw (came g at) (moment_keeps (g.D.CallFs.disk i.disk) (among_all i.crew (place_of i.places)) i.actors.items i.history.events.items i.present c.args.moment i.next_pid (counted i.bounces i.deliveries) c.requires (later g at) c.self.invariant.0),
       c.put.ensures.room (living i.actors.items) (room_less c.reserve.new.self (c.len.result + 1) (living i.actors.items + 1) (omega (arith, len, bound)) c.in_ok-reserve.ensures.room),
       rw (came g at) (moment_booked i.crew i.actors.items i.history.events.items c.args.moment i.books.entries.items c.self.invariant.2),
       rw (came g at) (moment_piped i.crew i.mouths.items i.actors.items i.history.events.items c.args.moment c.self.invariant.3),

@@ -1,4 +1,5 @@
 use Rattle.std.proofs.Common.{◌≡◌, ℕ, List, sym, ap, ◌∙◌, subst}
+use Rattle.std.proofs.lemmas.Bool.{false≢true}
 use Rattle.call_fs.specs.declared.past.ChildData.{ChildData}
 use Rattle.call_fs.specs.declared.past.NeedData.{NeedData}
 use Rattle.call_fs.specs.declared.past.NeedData.TheVariants as needs
@@ -23,8 +24,17 @@ gives w a due to bytes is d =
 pub start_child-requires-clause-start : goal.start_child-requires-clause-start
 start_child-requires-clause-start g c = starts _ c.args.actor.now c.args.due _ c.in-Start.is c.requires
 
+pub fill_child-requires-clause-give : goal.fill_child-requires-clause-give
+fill_child-requires-clause-give g c = gives _ c.args.actor.now c.args.due _ _ c.in-Give.is c.requires
+
+pub fill_child-requires-clause-spawner : goal.fill_child-requires-clause-spawner
+fill_child-requires-clause-spawner g c = c.is.ensures.0 c.if-is.true
+
 pub feed_child-requires-clause-give : goal.feed_child-requires-clause-give
-feed_child-requires-clause-give g c = gives _ c.args.actor.now c.args.due _ _ c.in-Give.is c.requires
+feed_child-requires-clause-give g c = gives _ c.args.actor.now c.args.due _ _ c.in-Give-2.is c.requires
+
+pub feed_child-requires-clause-other : goal.feed_child-requires-clause-other
+feed_child-requires-clause-other g c = λ same. false≢true (sym c.if-is.false ∙ c.is.ensures.1 same)
 
 pub take_status-requires-clause-take : goal.take_status-requires-clause-take
 take_status-requires-clause-take g c = take_due _ c.args.due c.requires.of_child c.in_default.not-Start c.in_default.not-Give

@@ -11,7 +11,7 @@ use Rattle.mail_world.specs.History.Life.{Alive}
 use Rattle.mail_world.specs.Inside.{among_all, known}
 use Rattle.mail_world.specs.Places.{place_of}
 use Rattle.mail_world.specs.Readiness.{found_in}
-use Rattle.mail_world.specs.World.{Seen}
+use Rattle.mail_world.specs.World.{Seen, counted}
 use Rattle.mail_world.proofs.Serving.{HasParent, has_parent, lives_parent, parent_at, parent_is, parent_ready, pipes_within, same_at}
 use Rattle.mail_world.proofs.Worlds.{in_range}
 use Rattle.mail_world.proofs.world.World.setting.Goals as goal
@@ -40,7 +40,7 @@ pub place_among-requires : goal.place_among-requires
 place_among-requires g c =
     let i = c.self.inside in
     λ k at.
-    let within = in_range (g.D.CallFs.disk i.disk) (among_all i.crew (place_of i.places)) i.actors.items (known i.history.events.items) i.history.events.items i.present i.next_pid i.bounces c.args.actor.now c.self.invariant.0 k at in
+    let within = in_range (g.D.CallFs.disk i.disk) (among_all i.crew (place_of i.places)) i.actors.items (known i.history.events.items) i.history.events.items i.present i.next_pid (counted i.bounces i.deliveries) c.args.actor.now c.self.invariant.0 k at in
     omega (arith, within, i.actors.ok.0)
 
 pub unwrap-place-requires : goal.unwrap-place-requires

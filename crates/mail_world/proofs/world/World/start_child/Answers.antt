@@ -1,57 +1,52 @@
 use Rattle.std.proofs.Common.{◌≡◌, ℕ, ◌+◌, ◌-◌, List, [], ◌∷◌, ◌++◌, length, reverse, set, Option, Some, get_or, refl, sym, ap, ◌∙◌, subst, arith}
 use Rattle.std.proofs.Math.Path.{fun_ext}
-use Rattle.std.specs.Prelude.{true, ◌<◌, ◌==◌, if◌then◌else◌, IsSome}
+use Rattle.std.specs.Prelude.{◌<◌, IsSome}
 use Rattle.std.specs.List.{slice_get}
 use Rattle.std.proofs.lemmas.List.{length-set}
 use Rattle.std.proofs.lemmas.Option.{slice_get_read, slice_get_within, get_or_from_slice_get}
-use Rattle.actor_names.specs.ChildNames.{bounce_name}
 use Rattle.call_fs.specs.Maps.{put_at}
-use Rattle.call_fs.specs.declared.past.ChildData.TheVariants as child
+use Rattle.call_fs.specs.declared.past.ChildData.{ChildData}
 use Rattle.call_fs.specs.declared.past.GotData.TheVariants as got
+use Rattle.call_fs.specs.declared.past.NeedData.{NeedData}
 use Rattle.call_fs.specs.declared.past.NeedData.TheVariants as needs
 use Rattle.call_fs.specs.declared.past.Own.{Own}
-use Rattle.mail_bytes.specs.Moments.{IsMoment}
-use Rattle.queue_inject.specs.declared.injection.Arguments.{Arguments}
-use Rattle.fed_injector.specs.declared.fed.FedInjector.{FedInjector}
-use Rattle.fed_injector.specs.Inputs.{FedStands, IsNoInput}
-use Rattle.queue_inject.specs.Stands.{IsStartedBy}
-use Rattle.received_line.specs.declared.line.Invoked.TheVariants.{Bounce}
-use Rattle.world_events.specs.Inputs.{bounce}
+use Rattle.world_events.specs.Books.{entry_by}
+use Rattle.world_events.specs.Children.{counts_with, entry_after}
+use Rattle.world_events.specs.Programs.{injection_of}
 use Rattle.world_events.specs.declared.books.Entry.{Entry}
 use Rattle.world_events.specs.declared.event.Event.{Event as Kept}
 use Rattle.world_events.specs.declared.event.Event.TheVariants as kept
-use Rattle.world_events.specs.declared.event.Program.TheVariants.{Injector}
-use Rattle.world_pipes.specs.Mouths.{tenant_of}
-use Rattle.world_pipes.specs.Pipework.Tenant.{Runs}
+use Rattle.world_pipes.specs.declared.mouths.Mouths.{Mouths}
+use Rattle.world_pipes.specs.Pipework.{slot_of}
+use Rattle.crew_pipes.specs.Seating.{HasPipesFor, HasPlaceAfter, due_slot}
+use Rattle.crew_pipes.specs.Wired.{MayRunIn}
 use Rattle.mail_world.specs.declared.actor.Actor.{Actor as Held}
 use Rattle.mail_world.specs.declared.any_machine.AnyMachine.{AnyMachine}
-use Rattle.mail_world.specs.declared.any_machine.AnyMachine.TheVariants.{Mail}
-use Rattle.mail_world.specs.Books.{entries_of, new_entry}
-use Rattle.mail_world.specs.ByKind.{Follows, awaits_of}
-use Rattle.mail_world.specs.Children.{IsDueOfChild, IsPaid}
+use Rattle.mail_world.specs.Books.{entries_of}
+use Rattle.mail_world.specs.Children.{Begins, IsDueOfChild, IsMachineOf, IsPaid}
 use Rattle.mail_world.specs.Generations.{starts_of}
 use Rattle.mail_world.specs.Inside.{IsWorld, among_all, known, living}
 use Rattle.mail_world.specs.Places.{place_of}
 use Rattle.mail_world.specs.Readiness.{found_in}
 use Rattle.mail_world.specs.Starts.{AreStarts}
-use Rattle.mail_world.specs.World.{Seen, next_pid}
-use Rattle.mail_world.proofs.Bearing.{IsBearing, bearing, paid_keeps, bear_own, bear_keeps, bear_booked, bear_piped, bear_serves}
+use Rattle.mail_world.specs.World.{Seen, child_of, counted, next_pid}
+use Rattle.mail_world.proofs.Bearing.{IsBearing, HasStartedIn, bearing, machine_begins, slot_low, paid_keeps, bear_own, bear_new, bear_keeps, bear_booked, bear_piped, bear_serves}
 use Rattle.mail_world.proofs.Lists.{set_same}
 use Rattle.mail_world.proofs.Living.{living_push, living_still, room_less}
 use Rattle.mail_world.proofs.Noted.{put_among}
 use Rattle.mail_world.proofs.Seats.{seat_none}
-use Rattle.mail_world.proofs.Serving.{alive_lives, same_at, slot_at, some_slot, parent_owes, at_setting, may_take, may_at, was_served, taken_at}
+use Rattle.mail_world.proofs.Serving.{alive_lives, same_at, slot_at, parent_owes, at_setting, may_take, may_at, was_served, taken_at}
 use Rattle.mail_world.proofs.Starting.{starts_push, same_starts, mail_starts}
 use Rattle.mail_world.proofs.Worlds.{in_range}
 use Rattle.mail_world.proofs.world.World.start_child.Goals as goal
-use Rattle.mail_world.proofs.world.World.start_child.Goals.{After-setting-at, After-unwrap-parent_at, After-index_mut-parent, After-unwrap-wire, After-own_at-own, After-index_mut, After-put}
+use Rattle.mail_world.proofs.world.World.start_child.Goals.{After-setting-at, After-unwrap-parent_at, In_ok-born, After-due_slot-number, After-index_mut-parent, After-unwrap-wire, After-own_at-own, After-index_mut, After-start_actor, After-new-child, After-put}
 
 -- what is due, and where
 due_here : (g : _) (c : After-setting-at g) →
-    IsBearing c.self.inside.crew (place_of c.self.inside.places) c.self.inside.mouths.items c.self.inside.actors.items c.self.inside.history.events.items c.self.inside.present c.self.inside.bounces c.args.actor.now c.args.due
+    IsBearing c.self.inside.crew (place_of c.self.inside.places) c.self.inside.mouths.items c.self.inside.actors.items c.self.inside.history.events.items c.self.inside.present (counted c.self.inside.bounces c.self.inside.deliveries) c.args.actor.now c.args.due
 due_here g c =
     let i = c.self.inside in
-    bearing i.disk (g.D.CallFs.disk i.disk) i.crew (place_of i.places) i.actors.items i.mouths.items i.history.events.items i.present i.next_pid i.bounces c.args.actor.now c.args.due c.self.invariant.0 c.self.invariant.3
+    bearing i.disk (g.D.CallFs.disk i.disk) i.crew (place_of i.places) i.actors.items i.mouths.items i.history.events.items i.present i.next_pid (counted i.bounces i.deliveries) c.args.actor.now c.args.due c.self.invariant.0 c.self.invariant.3
     (subst (λ (w : Seen _). IsDueOfChild w c.args.actor.now c.args.due) (sym c.self.view_is) c.requires.due) c.requires.start
 
 pub setting-at-requires : goal.setting-at-requires
@@ -63,7 +58,7 @@ pub place_among-requires : goal.place_among-requires
 place_among-requires g c =
     let i = c.self.inside in
     λ k at.
-    let within = in_range (g.D.CallFs.disk i.disk) (among_all i.crew (place_of i.places)) i.actors.items (known i.history.events.items) i.history.events.items i.present i.next_pid i.bounces c.args.actor.now c.self.invariant.0 k at in
+    let within = in_range (g.D.CallFs.disk i.disk) (among_all i.crew (place_of i.places)) i.actors.items (known i.history.events.items) i.history.events.items i.present i.next_pid (counted i.bounces i.deliveries) c.args.actor.now c.self.invariant.0 k at in
     omega (arith, within, i.actors.ok.0)
 
 pub unwrap-parent_at-requires : goal.unwrap-parent_at-requires
@@ -82,13 +77,6 @@ now_is g c = c.setting-at.ensures.now ∙ ap (λ (w : Seen _). w.present) (sym c
 ready_is : (g : _) (c : After-setting-at g) → c.setting-at.result.ready ≡ found_in (known c.self.inside.history.events.items) c.args.actor.now
 ready_is g c = c.setting-at.ensures.ready ∙ ap (λ (w : Seen _). found_in (known w.events) c.args.actor.now) (sym c.self.view_is)
 
-pub overflow_add-bounces : goal.overflow_add-bounces
-overflow_add-bounces g c =
-    let k = due_here g (goal.at.overflow_add-bounces g c).After-setting-at in
-    let few = k.few in
-    let held = c.self.inside.history.events in
-    omega (arith, few, held.ok.0, held.ok.1, held.small)
-
 -- room was made
 pub invariant_of-self : goal.invariant_of-self
 invariant_of-self g c =
@@ -97,7 +85,7 @@ invariant_of-self g c =
       rw (room.actors) c.self.invariant.0,
       rw (room.actors) c.self.invariant.1,
       rw (room.actors, room.books) c.self.invariant.2,
-      rw (room.actors) c.self.invariant.3,
+      rw (room.actors, room.pipes) c.self.invariant.3,
       same_starts i.starts c.room_for_one.new.starts i.crew (place_of i.places) (starts_of (reverse i.history.events.items)) room.starts c.self.invariant.4,
     )
 
@@ -155,16 +143,13 @@ invariant_of-self-in_err-pay_with_room g c =
       rw (room.actors, still, same) c.self.invariant.0,
       rw (room.actors, still) (c.in_err-pay_with_room.ensures.stays (living l) c.self.invariant.1),
       rw (room.actors, still, same, room.books) c.self.invariant.2,
-      rw (room.actors, still, same) c.self.invariant.3,
+      rw (room.actors, room.pipes, still, same) c.self.invariant.3,
       rw (same) (same_starts i.starts c.room_for_one.new.starts i.crew (place_of i.places) (starts_of (reverse i.history.events.items)) room.starts c.self.invariant.4),
     )
 
-pub injector_at-requires : goal.injector_at-requires
-injector_at-requires g c = subst IsMoment (sym (now_is g (goal.at.injector_at-requires g c).After-setting-at)) c.self.invariant.0.moment
-
-pub invariant_of-self-in_err-injector : goal.invariant_of-self-in_err-injector
-invariant_of-self-in_err-injector g c =
-    let at = goal.at.invariant_of-self-in_err-injector g c in
+pub invariant_of-self-in_err-add : goal.invariant_of-self-in_err-add
+invariant_of-self-in_err-add g c =
+    let at = goal.at.invariant_of-self-in_err-add g c in
     let i = c.self.inside in
     let told = g.D.CallFs.disk i.disk in
     let events = i.history.events.items in
@@ -172,33 +157,26 @@ invariant_of-self-in_err-injector g c =
     let z = c.pay_with_room.new.actor in
     let read = parent_read g at.After-index_mut-parent a.at a.here.held a.place a.here.is in
     let paid = subst (λ (x : Held). IsPaid x z events) (sym read.1) c.in_ok-pay_with_room.ensures.paid in
-    let w = paid_keeps told i.crew (place_of i.places) i.actors.items i.mouths.items (entries_of i.books) events i.present i.next_pid i.bounces c.args.actor.now a.at a.parent z
+    let w = paid_keeps told i.crew (place_of i.places) i.actors.items i.mouths.items (entries_of i.books) events i.present i.next_pid (counted i.bounces i.deliveries) c.args.actor.now a.at a.parent z
     (record { world = c.self.invariant.0; booked = c.self.invariant.2; piped = c.self.invariant.3 }) a.here paid in
     let room = c.in_ok-room_for_one.ensures in
     let same = c.in_ok-pay_with_room.ensures.same in
-    let places : ◌≡◌ {A = List ℕ → Option ℕ} (place_of i.places) (place_of c.injector_at.new.places) = fun_ext (λ q. sym (c.in_err-injector.ensures.err q)) in (
-      rw (room.actors, same, read.0) (subst (λ (f : List ℕ → Option ℕ). IsWorld told (among_all i.crew f) (set i.actors.items a.at z) (known events) events i.present i.next_pid i.bounces) places w.world),
+    let places : ◌≡◌ {A = List ℕ → Option ℕ} (place_of i.places) (place_of c.add.new.self) = fun_ext (λ q. sym (c.in_err-add.ensures.err q)) in (
+      rw (room.actors, same, read.0) (subst (λ (f : List ℕ → Option ℕ). IsWorld told (among_all i.crew f) (set i.actors.items a.at z) (known events) events i.present i.next_pid (counted i.bounces i.deliveries)) places w.world),
       rw (room.actors, read.0, living_still i.actors.items a.at a.here.held z a.here.is paid.ended) (c.in_ok-pay_with_room.ensures.stays (living i.actors.items) c.self.invariant.1),
       rw (room.actors, same, room.books, read.0) w.booked,
-      rw (room.actors, same, read.0) w.piped,
+      rw (room.actors, room.pipes, same, read.0) w.piped,
       rw (same) (subst (λ (f : List ℕ → Option ℕ). AreStarts c.room_for_one.new.starts i.crew f (starts_of (reverse events))) places
           (same_starts i.starts c.room_for_one.new.starts i.crew (place_of i.places) (starts_of (reverse events)) room.starts c.self.invariant.4)),
     )
 
 -- what is due, and comes
-own_is : (g : _) (c : After-own_at-own g) → c.setting-at.result.now ≡ c.self.inside.present → c.setting-at.result.ready ≡ found_in (known c.self.inside.history.events.items) c.args.actor.now
-    → c.own_at-own.result ≡ bear_own c.self.inside.history.events.items c.self.inside.present c.args.actor.now c.setting-at.result.pid c.room_of-room.result
-own_is g c at ready =
+own_is : (g : _) (c : After-own_at-own g) (asked : ChildData) → c.args.due ≡ needs.Start asked → c.setting-at.result.now ≡ c.self.inside.present → c.setting-at.result.ready ≡ found_in (known c.self.inside.history.events.items) c.args.actor.now
+    → c.own_at-own.result ≡ bear_own c.self.inside.history.events.items c.self.inside.present c.args.actor.now c.setting-at.result.pid asked
+own_is g c asked due at ready =
     let i = c.self.inside in
-    let due = needs.Start (child.Bounce c.room_of-room.result) in
-    at_setting c.setting-at.result.now i.present c.setting-at.result.ready (found_in (known i.history.events.items) c.args.actor.now) due due (got.Started c.setting-at.result.pid) c.own_at-own.result
-    c.own_at-own.ensures at ready refl
-
-pub take_in-did-requires-clause-paid : goal.take_in-did-requires-clause-paid
-take_in-did-requires-clause-paid g c = c.in_ok-pay_with_room.ensures.paid.paid
-
-pub take_in-did-requires-clause-moment : goal.take_in-did-requires-clause-moment
-take_in-did-requires-clause-moment g c = subst IsMoment (sym (now_is g (goal.at.take_in-did-requires-clause-moment g c).After-setting-at)) c.self.invariant.0.moment
+    at_setting c.setting-at.result.now i.present c.setting-at.result.ready (found_in (known i.history.events.items) c.args.actor.now) c.args.due (needs.Start asked) (got.Started c.setting-at.result.pid) c.own_at-own.result
+    c.own_at-own.ensures at ready due
 
 pub take_in-did-requires-clause-may : goal.take_in-did-requires-clause-may
 take_in-did-requires-clause-may g c =
@@ -210,10 +188,11 @@ take_in-did-requires-clause-may g c =
     let a = k.asks in
     let x = c.index_mut-parent.result.now in
     let z = c.pay_with_room.new.actor in
-    let own = bear_own events i.present c.args.actor.now c.setting-at.result.pid c.room_of-room.result in
+    let own = bear_own events i.present c.args.actor.now c.setting-at.result.pid k.asked in
     let paid = c.in_ok-pay_with_room.ensures.paid in
-    may_at z.machine c.setting-at.result.now i.present c.setting-at.result.ready (found_in s c.args.actor.now) c.own_at-own.result own (now_is g at.After-setting-at) (ready_is g at.After-setting-at) (own_is g at.After-own_at-own (now_is g at.After-setting-at) (ready_is g at.After-setting-at))
-    (may_take i.actors.items s events i.present c.args.actor.now a.at a.parent a.here a.is x z (parent_read g at.After-index_mut-parent a.at a.here.held a.place a.here.is).1 paid.follows paid.awaits own refl refl (a.next ∙ c.room_of-room.ensures) tt (λ most. tt))
+    may_at z.machine c.setting-at.result.now i.present c.setting-at.result.ready (found_in s c.args.actor.now) c.own_at-own.result own (now_is g at.After-setting-at) (ready_is g at.After-setting-at)
+    (own_is g at.After-own_at-own k.asked k.due_is (now_is g at.After-setting-at) (ready_is g at.After-setting-at))
+    (may_take i.actors.items s events i.present c.args.actor.now a.at a.parent a.here a.is x z (parent_read g at.After-index_mut-parent a.at a.here.held a.place a.here.is).1 paid.follows paid.awaits own refl refl (a.next ∙ k.due_is) tt (λ most. tt))
 
 pub index_mut-requires : goal.index_mut-requires
 index_mut-requires g c =
@@ -222,14 +201,20 @@ index_mut-requires g c =
     let low = k.low in
     let read = parent_read g at.After-index_mut-parent k.asks.at k.asks.here.held k.asks.place k.asks.here.is in
     let wire = wire_at g at.After-unwrap-wire k.wire k.asks.here.held k.wire_is read.1 in
-    omega (arith, low, wire, c.self.inside.mouths.ok.0)
+    let same = ap (λ (l : _). length l) c.in_ok-room_for_one.ensures.pipes in
+    omega (arith, low, wire, same, c.room_for_one.new.mouths.ok.0)
 
--- its pipes and slots
+-- its slot
+slot_is : (g : _) (c : After-due_slot-number g) (asked : ChildData) → c.args.due ≡ needs.Start asked → c.due_slot-number.result ≡ slot_of asked
+slot_is g c asked due = c.due_slot-number.ensures ∙ ap due_slot due
+
+-- the pipes and slots of the parent
 mouth_is : (g : _) (c : After-index_mut g) (w : ℕ) → c.unwrap-wire.result ≡ w → w < length c.self.inside.mouths.items → slice_get c.self.inside.mouths.items w ≡ Some c.index_mut.result.now
 mouth_is g c w wire low =
     let l = c.self.inside.mouths.items in
     let y = c.index_mut.result.now in
-    slice_get_read l (length l) w y refl low (c.index_mut.ensures.value ∙ ap (λ (j : ℕ). get_or l j y) wire)
+    let value : y ≡ get_or l c.unwrap-wire.result y = subst (λ (l : List Mouths). y ≡ get_or l c.unwrap-wire.result y) c.in_ok-room_for_one.ensures.pipes c.index_mut.ensures.value in
+    slice_get_read l (length l) w y refl low (value ∙ ap (λ (j : ℕ). get_or l j y) wire)
 
 pub start_actor-requires : goal.start_actor-requires
 start_actor-requires g c =
@@ -237,98 +222,138 @@ start_actor-requires g c =
     let k = due_here g at.After-setting-at in
     let read = parent_read g at.After-index_mut-parent k.asks.at k.asks.here.held k.asks.place k.asks.here.is in
     let wire = wire_at g at.After-unwrap-wire k.wire k.asks.here.held k.wire_is read.1 in
-    let slots = c.self.invariant.3.slots k.wire c.index_mut.result.now (mouth_is g at.After-index_mut k.wire wire k.low) in
-    some_slot k.wire (length c.index_mut.result.now.slots.items) slots
+    let slot = slot_is g at.After-due_slot-number k.asked k.due_is in
+    slot_low k.wire c.due_slot-number.result (length c.index_mut.result.now.slots.items) (subst (MayRunIn k.wire) (sym slot) k.runs_in) c.due_slot-number.type_inv
+    (c.self.invariant.3.slots k.wire c.index_mut.result.now (mouth_is g at.After-index_mut k.wire wire k.low))
+
+-- What is born
+
+asked_is : (g : _) (c : In_ok-born g) (asked : ChildData) → c.args.due ≡ needs.Start asked → c.in-Start.asked ≡ asked
+asked_is g c asked due = let both : ◌≡◌ {A = NeedData} (needs.Start c.in-Start.asked) (needs.Start asked) = sym c.in-Start.is ∙ due in cc
+
+born_is : (g : _) (c : In_ok-born g) (asked : ChildData) → c.in-Start.asked ≡ asked → c.setting-at.result.now ≡ c.self.inside.present
+    → child_of (counted c.self.inside.bounces c.self.inside.deliveries) c.args.actor.now asked c.setting-at.result.pid c.self.inside.present ≡ Some (c.in_ok-born.born.name, c.in_ok-born.born.program)
+born_is g c asked same now =
+    let i = c.self.inside in
+    let before = counted i.bounces i.deliveries in
+    let pid = c.setting-at.result.pid in
+    ap (λ (asked : ChildData). child_of before c.args.actor.now asked pid i.present) (sym same) ∙ ap (child_of before c.args.actor.now c.in-Start.asked pid) (sym now)
+    ∙ c.in_ok-born.ensures before c.counts_with-counts.ensures
+
+-- its machine
+begins_is : (g : _) (c : After-new-child g) (asked : ChildData) → c.in-Start.asked ≡ asked → c.setting-at.result.now ≡ c.self.inside.present
+    → child_of (counted c.self.inside.bounces c.self.inside.deliveries) c.args.actor.now asked c.setting-at.result.pid c.self.inside.present ≡ Some (c.in_ok-born.born.name, c.in_ok-born.born.program)
+    → Begins c.new-child.result.machine c.in_ok-born.born.program
+begins_is g c asked same now born =
+    let i = c.self.inside in
+    let pid = c.setting-at.result.pid in
+    let m = c.in_ok-machine.machine in
+    subst (λ (m : AnyMachine). Begins m c.in_ok-born.born.program) (sym c.new-child.ensures.machine)
+    (machine_begins (counted i.bounces i.deliveries) c.args.actor.now asked pid i.present c.in_ok-born.born.name c.in_ok-born.born.program m born
+    (subst (λ (now : ℕ). IsMachineOf asked pid now m) now (subst (λ (asked : ChildData). IsMachineOf asked pid c.setting-at.result.now m) same c.in_ok-machine.ensures)))
+
+-- it runs in a slot of its parent
+began_is : (g : _) (c : After-start_actor g) (d : ℕ) → c.due_slot-number.result ≡ d → HasStartedIn c.index_mut.result.now c.start_actor.new.self d c.in_ok-born.born.name
+began_is g c d slot =
+    let m = c.index_mut.result.now in
+    let v = c.start_actor.new.self in
+    let e = c.start_actor.ensures in
+    subst (λ (n : List ℕ). HasStartedIn m v d n) c.copy.ensures (subst (λ (d : ℕ). HasStartedIn m v d c.copy.result) slot
+    (record { pipes = e.pipes; tenants = e.tenants; ended = e.ended; slots = e.slots }))
+
+-- and has pipes of its own, if it is a delivery
+placed_is : (g : _) (c : After-new-child g) (at : ℕ) → c.unwrap-wire.result ≡ at
+    → HasPlaceAfter (set c.self.inside.mouths.items at c.start_actor.new.self) c.add_pipes-pipes.new.mouths.items c.in_ok-own_pipes.own_pipes c.new-child.result.wire
+placed_is g c at wire =
+    let l = c.self.inside.mouths.items in
+    let v = c.start_actor.new.self in
+    let now = c.add_pipes-pipes.new.mouths.items in
+    let own = c.in_ok-own_pipes.own_pipes in
+    let same : set c.room_for_one.new.mouths.items c.unwrap-wire.result v ≡ set l at v =
+    ap (λ (l : List Mouths). set l c.unwrap-wire.result v) c.in_ok-room_for_one.ensures.pipes ∙ ap (λ (n : ℕ). set l n v) wire in
+    subst (λ (w : Option ℕ). HasPlaceAfter (set l at v) now own w) (sym c.new-child.ensures.wire)
+    (subst (λ (l : List Mouths). HasPlaceAfter l now own c.add_pipes-pipes.result) same c.add_pipes-pipes.ensures)
 
 -- the start of the child, as an event
-abbrev Born : List Kept → ℕ → List ℕ → ℕ → ℕ → ℕ → Kept
-Born events p a pid room number = kept.Child a (bear_own events p a pid room) (bounce_name number) (Injector (bounce pid p))
-
-put_is : (g : _) (c : After-put g) → c.setting-at.result.now ≡ c.self.inside.present → c.own_at-own.result ≡ bear_own c.self.inside.history.events.items c.self.inside.present c.args.actor.now c.setting-at.result.pid c.room_of-room.result
-    → c.put.new.self.events.items ≡ c.self.inside.history.events.items ++ Born c.self.inside.history.events.items c.self.inside.present c.args.actor.now c.setting-at.result.pid c.room_of-room.result (c.self.inside.bounces + 1) ∷ []
-put_is g c now own =
-    let room = c.room_of-room.result in
+put_is : (g : _) (c : After-put g) (own : Own) → c.own_at-own.result ≡ own
+    → c.put.new.self.events.items ≡ c.self.inside.history.events.items ++ kept.Child c.args.actor.now own c.in_ok-born.born.name c.in_ok-born.born.program ∷ []
+put_is g c own same =
     let events = c.self.inside.history.events.items in
-    let args = c.bounce_of-arguments.ensures ∙ ap (bounce c.setting-at.result.pid) now in
-    let name = c.bounce_name-name.ensures in
-    c.put.ensures.event ∙ ap (λ (l : List Kept). l ++ kept.Child c.copy-3.result c.own_at-own.result c.bounce_name-name.result (Injector c.bounce_of-arguments.result) ∷ []) c.in_ok-pay_with_room.ensures.same
-    ∙ ap (λ (a : List ℕ). events ++ kept.Child a c.own_at-own.result c.bounce_name-name.result (Injector c.bounce_of-arguments.result) ∷ []) c.copy-3.ensures
-    ∙ ap (λ (own : Own). events ++ kept.Child c.args.actor.now own c.bounce_name-name.result (Injector c.bounce_of-arguments.result) ∷ []) own
-    ∙ ap (λ (a : List ℕ). events ++ kept.Child c.args.actor.now (bear_own events c.self.inside.present c.args.actor.now c.setting-at.result.pid room) a (Injector c.bounce_of-arguments.result) ∷ []) name
-    ∙ ap (λ (args : Arguments). events ++ kept.Child c.args.actor.now (bear_own events c.self.inside.present c.args.actor.now c.setting-at.result.pid room) (bounce_name (c.self.inside.bounces + 1)) (Injector args) ∷ []) args
-
--- a machine that stands for the child
-stands : (pid now p : ℕ) (fed : FedInjector) (m : AnyMachine) → m ≡ Mail fed → now ≡ p
-    → ((args : Arguments) → IsStartedBy args 0 pid Bounce now → IsNoInput args → FedStands fed args []) → Follows m (Injector (bounce pid p)) []
-stands pid now p fed m is at fits =
-    subst (λ (m : AnyMachine). Follows m (Injector (bounce pid p)) []) (sym is)
-    (fits (bounce pid p) (record { uid_is = refl; pid_is = refl; invoked_is = refl; start_is = sym at }) (record { message_is = refl; message_end = refl; envelope_is = refl; envelope_end = refl }))
+    let name = c.in_ok-born.born.name in
+    let program = c.in_ok-born.born.program in
+    c.put.ensures.event ∙ ap (λ (l : List Kept). l ++ c.child_event.result ∷ []) c.in_ok-pay_with_room.ensures.same ∙ ap (λ (k : Kept). events ++ k ∷ []) c.child_event.ensures
+    ∙ ap (λ (own : Own). events ++ kept.Child c.args.actor.now own name program ∷ []) same
 
 pub invariant_of-self-2 : goal.invariant_of-self-2
 invariant_of-self-2 g c =
     let at = goal.at.invariant_of-self-2 g c in
     let i = c.self.inside in
     let told = g.D.CallFs.disk i.disk in
+    let actor = c.args.actor.now in
     let places = place_of i.places in
-    let later_places = place_of c.injector_at.new.places in
+    let next = place_of c.add.new.self in
     let events = i.history.events.items in
     let s = known events in
+    let before = counted i.bounces i.deliveries in
     let k = due_here g at.After-setting-at in
     let a = k.asks in
-    let number = i.bounces + 1 in
     let pid = c.setting-at.result.pid in
-    let room = c.room_of-room.result in
+    let name = c.in_ok-born.born.name in
+    let program = c.in_ok-born.born.program in
+    let now = now_is g at.After-setting-at in
+    let asked = asked_is g at.In_ok-born k.asked k.due_is in
+    let born = born_is g at.In_ok-born k.asked asked now in
+    let due = a.next ∙ k.due_is in
     let x = c.index_mut-parent.result.now in
     let z = c.pay_with_room.new.actor in
     let y = c.take_in-did.new.actor in
-    let read = parent_read g at.After-index_mut-parent a.at a.here.held a.place a.here.is in
     let b = c.new-child.result in
-    let own = bear_own events i.present c.args.actor.now pid room in
-    let same = own_is g at.After-own_at-own (now_is g at.After-setting-at) (ready_is g at.After-setting-at) in
+    let read = parent_read g at.After-index_mut-parent a.at a.here.held a.place a.here.is in
+    let own = bear_own events i.present actor pid k.asked in
+    let same = own_is g at.After-own_at-own k.asked k.due_is now (ready_is g at.After-setting-at) in
     let paid = c.in_ok-pay_with_room.ensures.paid in
     let index = c.len-2.ensures ∙ ap (λ (l : List Kept). length l) c.in_ok-pay_with_room.ensures.same in
-    let served = was_served i.actors.items s events i.present c.args.actor.now a.at a.parent a.here a.is x z read.1 paid.follows paid.awaits
+    let served = was_served i.actors.items s events i.present actor a.at a.parent a.here a.is x z read.1 paid.follows paid.awaits
     y own c.take_in-did.result.idle paid.name paid.descriptors paid.ended paid.status paid.stays (taken_at z y c.own_at-own.result own _ (length events) c.take_in-did.result.idle same index c.take_in-did.ensures.taken) in
-    let event = put_is g at.After-put (now_is g at.After-setting-at) same in
+    let event = put_is g at.After-put own same in
     let items = c.in_ok-room_for_one.ensures.actors in
     let pushed = rw c.unwrap.ensures at c.push.ensures.items in
     let stood = set i.actors.items a.at y in
     let actors : c.push.new.self.items ≡ stood ++ b ∷ [] = pushed ∙ ap (λ (l : List Held). set l c.unwrap-parent_at.result y ++ b ∷ []) items ∙ ap (λ (j : ℕ). set i.actors.items j y ++ b ∷ []) read.0 in
-    let wire = wire_at g at.After-unwrap-wire k.wire k.asks.here.held k.wire_is read.1 in
-    let name : b.name ≡ bounce_name number = c.new-child.ensures.name ∙ c.copy.ensures ∙ c.bounce_name-name.ensures in
-    let machine = stands pid c.setting-at.result.now i.present c.in_ok-injector.injector b.machine c.new-child.ensures.machine (now_is g at.After-setting-at) c.in_ok-injector.ensures.stands in
-    let awaits : awaits_of b.machine ≡ true = ap awaits_of c.new-child.ensures.machine ∙ c.in_ok-injector.ensures.awaits in
+    let wire = wire_at g at.After-unwrap-wire k.wire a.here.held k.wire_is read.1 in
+    let slot = slot_is g at.After-due_slot-number k.asked k.due_is in
+    let made = c.new-child.ensures in
+    let named : b.name ≡ name = made.name ∙ c.copy-2.ensures in
+    let begun = begins_is g at.After-new-child k.asked asked now born in
+    let fresh = bear_new told i.crew places next i.actors.items i.mouths.items events i.present i.next_pid before actor a.at a.parent c.self.invariant.0 c.self.invariant.3 a.is a.alive a.here k.asked k.actor k.starts name program pid born due in
+    let counts : counted c.counts_with-counts.result.0 c.counts_with-counts.result.1 ≡ counts_with before k.asked = c.counts_with-counts.ensures ∙ ap (counts_with before) asked in
     let within = k.within in
     let many : c.len.result ≡ length i.actors.items = c.len.ensures ∙ i.actors.ok.0 in
-    let put : (q : List ℕ) → later_places q ≡ put_at places (bounce_name number) (Some (length i.actors.items - i.crew)) q =
-    λ q. c.in_ok-injector.ensures.ok q ∙ ap (λ (n : ℕ). put_at places (bounce_name number) (Some (n - i.crew)) q) many in
-    let placed = put_among i.crew (length i.actors.items) places later_places (bounce_name number) (seat_none (bounce_name number) k.named) within put in
+    let put : (q : List ℕ) → next q ≡ put_at places name (Some (length i.actors.items - i.crew)) q =
+    λ q. c.in_ok-add.ensures.ok q ∙ ap (λ (n : List ℕ). put_at places n (Some (c.len.result - i.crew)) q) c.as_slice.ensures ∙ ap (λ (n : ℕ). put_at places name (Some (n - i.crew)) q) many in
+    let placed = put_among i.crew (length i.actors.items) places next name (seat_none name fresh.named) within put in
     let len : c.len-events.result ≡ length i.actors.items = c.len-events.ensures ∙ c.room_for_one.new.actors.ok.0 ∙ ap (λ (l : List Held). length l) items in
     let bound = living_push stood b in
     let wide = length-set i.actors.items a.at y in
     let last : c.len.result - i.crew + 4 ≡ length i.actors.items - i.crew + 4 = ap (λ (n : ℕ). n - i.crew + 4) many in
-    let args = c.bounce_of-arguments.ensures ∙ ap (bounce pid) (now_is g at.After-setting-at) in
-    let entry : c.add.new.self.entries.items ≡ i.books.entries.items ++ new_entry (bounce_name number) (bounce pid i.present) ∷ [] =
-    c.add.ensures ∙ ap (λ (l : List Entry). l ++ new_entry c.bounce_name-name.result c.bounce_of-arguments.result ∷ []) c.in_ok-room_for_one.ensures.books
-    ∙ ap (λ (n : List ℕ). i.books.entries.items ++ new_entry n c.bounce_of-arguments.result ∷ []) c.bounce_name-name.ensures
-    ∙ ap (λ (w : Arguments). i.books.entries.items ++ new_entry (bounce_name number) w ∷ []) args in
-    let numbered : b.entry ≡ Some (length i.books.entries.items) =
-    c.new-child.ensures.entry ∙ ap Some (c.next_entry-entry.ensures ∙ ap (λ (l : List Entry). length l) c.in_ok-room_for_one.ensures.books) in
-    let tenants : (d : ℕ) → tenant_of c.start_actor.new.self d ≡ (if d == 0 then Some (Runs (bounce_name number)) else tenant_of c.index_mut.result.now d) =
-    λ d. c.start_actor.ensures.tenants d ∙ ap (λ (n : List ℕ). if d == 0 then Some (Runs n) else tenant_of c.index_mut.result.now d) (c.copy-2.ensures ∙ c.bounce_name-name.ensures) in
-    let new = c.new-child.ensures in (
-      rw (actors, event) (bear_keeps told i.crew places later_places i.actors.items i.mouths.items events i.present i.next_pid i.bounces c.args.actor.now a.at a.parent c.self.invariant.0 c.self.invariant.3 a.is a.alive a.here k.feeds
-          (bounce_name number) k.named k.new pid room (a.next ∙ c.room_of-room.ensures) y b served.0 name new.ended new.owed new.status new.descriptors new.wire machine awaits
-          c.saturating_add-self-inside.result refl c.saturating_add-self-inside.ensures placed),
+    let entries : c.enter-entry.new.self.entries.items ≡ i.books.entries.items ++ entry_by name (injection_of program) =
+    c.enter-entry.ensures.entered ∙ ap (λ (l : List Entry). l ++ entry_by name (injection_of program)) c.in_ok-room_for_one.ensures.books in
+    let entry : b.entry ≡ entry_after (length i.books.entries.items) program =
+    made.entry ∙ c.enter-entry.ensures.place ∙ ap (λ (l : List Entry). entry_after (length l) program) c.in_ok-room_for_one.ensures.books in (
+      rw (actors, event) (subst (IsWorld told (among_all i.crew next) (stood ++ b ∷ []) (known (events ++ kept.Child actor own name program ∷ [])) (events ++ kept.Child actor own name program ∷ []) i.present c.saturating_add-self-inside.result) (sym counts)
+          (bear_keeps told i.crew places next i.actors.items i.mouths.items events i.present i.next_pid before actor a.at a.parent c.self.invariant.0 c.self.invariant.3 a.is a.alive a.here k.asked k.actor k.starts name program pid born due
+          y b served.0 named made.ended made.owed made.status made.descriptors begun.follows begun.awaits c.saturating_add-self-inside.result c.saturating_add-self-inside.ensures placed)),
       rw (actors) (c.put.ensures.room (living (stood ++ b ∷ [])) (room_less c.pay_with_room.new.history (c.len-events.result + 2) (living (stood ++ b ∷ []) + 1) (omega (arith, len, bound, wide)) c.in_ok-pay_with_room.ensures.holds)),
-      rw (actors, event, entry) (bear_booked told i.crew places later_places i.actors.items i.mouths.items events i.present i.next_pid i.bounces c.args.actor.now a.at a.parent c.self.invariant.0 c.self.invariant.3 a.is a.alive a.here k.feeds
-          (bounce_name number) k.named k.new pid room (a.next ∙ c.room_of-room.ensures) y b served.0 name new.ended new.owed new.status new.descriptors new.wire machine awaits i.books.entries.items c.self.invariant.2 numbered),
-      rw (actors, event, wire) (bear_piped told i.crew places later_places i.actors.items i.mouths.items events i.present i.next_pid i.bounces c.args.actor.now a.at a.parent c.self.invariant.0 c.self.invariant.3 a.is a.alive a.here k.feeds
-          (bounce_name number) k.named k.new pid room (a.next ∙ c.room_of-room.ensures) y b served.0 name new.ended new.owed new.status new.descriptors new.wire machine awaits
-          k.wire k.wire_is k.runs_in (slot_at c.unwrap-wire.result k.wire b.slot new.slot wire) c.index_mut.result.now c.start_actor.new.self (mouth_is g at.After-index_mut k.wire wire k.low) c.start_actor.ensures.pipes tenants c.start_actor.ensures.ended c.start_actor.ensures.slots),
-      rw (event) (subst (AreStarts c.add_mail.new.self i.crew later_places) (sym (starts_push events (Born events i.present c.args.actor.now pid room number)))
-          (mail_starts c.room_for_one.new.starts c.add_mail.new.self i.crew (length i.actors.items) places later_places (starts_of (reverse events)) (bounce_name number) within
-          (c.add_mail.ensures.order ∙ ap (λ (n : ℕ). c.room_for_one.new.starts.order.items ++ n ∷ []) last) c.add_mail.ensures.newest k.new placed
+      rw (actors, event, entries) (bear_booked told i.crew places next i.actors.items i.mouths.items events i.present i.next_pid before actor a.at a.parent c.self.invariant.0 c.self.invariant.3 a.is a.alive a.here k.asked k.actor k.starts name program pid born due
+          y b served.0 named made.ended made.owed made.status made.descriptors begun.follows begun.awaits i.books.entries.items c.self.invariant.2 entry),
+      rw (actors, event) (bear_piped told i.crew places next i.actors.items i.mouths.items events i.present i.next_pid before actor a.at a.parent c.self.invariant.0 c.self.invariant.3 a.is a.alive a.here k.asked k.actor k.starts name program pid born due
+          y b served.0 named made.ended made.owed made.status made.descriptors begun.follows begun.awaits
+          k.wire c.index_mut.result.now c.start_actor.new.self k.wire_is (mouth_is g at.After-index_mut k.wire wire k.low) k.four k.runs_in (began_is g at.After-start_actor (slot_of k.asked) slot)
+          c.in_ok-own_pipes.own_pipes c.add_pipes-pipes.new.mouths.items (subst (λ (asked : ChildData). HasPipesFor asked c.in_ok-own_pipes.own_pipes) asked c.in_ok-own_pipes.ensures)
+          (placed_is g at.After-new-child k.wire wire) (slot_at c.unwrap-wire.result k.wire c.due_slot-number.result (slot_of k.asked) b.slot made.slot wire slot)),
+      rw (event) (subst (AreStarts c.add_other.new.self i.crew next) (sym (starts_push events (kept.Child actor own name program)))
+          (mail_starts c.room_for_one.new.starts c.add_other.new.self i.crew (length i.actors.items) places next (starts_of (reverse events)) name within
+          (c.add_other.ensures.order ∙ ap (λ (n : ℕ). c.room_for_one.new.starts.order.items ++ n ∷ []) last) c.add_other.ensures.newest fresh.new placed
           (same_starts i.starts c.room_for_one.new.starts i.crew places (starts_of (reverse events)) c.in_ok-room_for_one.ensures.starts c.self.invariant.4))),
     )
 
@@ -337,25 +362,24 @@ returns-clause-served g c =
     let at = goal.at.returns-clause-served g c in
     let i = c.self.inside in
     let told = g.D.CallFs.disk i.disk in
+    let actor = c.args.actor.now in
     let places = place_of i.places in
     let events = i.history.events.items in
-    let s = known events in
     let k = due_here g at.After-setting-at in
     let a = k.asks in
-    let number = i.bounces + 1 in
     let pid = c.setting-at.result.pid in
-    let room = c.room_of-room.result in
-    let x = c.index_mut-parent.result.now in
+    let now = now_is g at.After-setting-at in
+    let born = born_is g at.In_ok-born k.asked (asked_is g at.In_ok-born k.asked k.due_is) now in
     let z = c.pay_with_room.new.actor in
     let y = c.take_in-did.new.actor in
     let read = parent_read g at.After-index_mut-parent a.at a.here.held a.place a.here.is in
-    let own = bear_own events i.present c.args.actor.now pid room in
-    let same = own_is g at.After-own_at-own (now_is g at.After-setting-at) (ready_is g at.After-setting-at) in
+    let own = bear_own events i.present actor pid k.asked in
+    let same = own_is g at.After-own_at-own k.asked k.due_is now (ready_is g at.After-setting-at) in
     let paid = c.in_ok-pay_with_room.ensures.paid in
     let index = c.len-2.ensures ∙ ap (λ (l : List Kept). length l) c.in_ok-pay_with_room.ensures.same in
-    let served = was_served i.actors.items s events i.present c.args.actor.now a.at a.parent a.here a.is x z read.1 paid.follows paid.awaits
+    let served = was_served i.actors.items (known events) events i.present actor a.at a.parent a.here a.is c.index_mut-parent.result.now z read.1 paid.follows paid.awaits
     y own c.take_in-did.result.idle paid.name paid.descriptors paid.ended paid.status paid.stays (taken_at z y c.own_at-own.result own _ (length events) c.take_in-did.result.idle same index c.take_in-did.ensures.taken) in
     let did = c.take_in-did.ensures.did in
-    let count = c.self.invariant.0.count in
-    rw (← c.self.view_is, put_is g at.After-put (now_is g at.After-setting-at) same) (bear_serves told i.crew places (place_of c.injector_at.new.places) i.actors.items i.mouths.items events i.present i.next_pid i.bounces c.args.actor.now a.at a.parent c.self.invariant.0 c.self.invariant.3 a.is a.alive a.here k.feeds
-    (bounce_name number) k.named k.new pid room (a.next ∙ c.room_of-room.ensures) g.D.CallFs.disk i.disk refl (c.setting-at.ensures.pid ∙ ap (λ (w : Seen _). next_pid w.events) (sym c.self.view_is)) (ap (λ (n : ℕ). bounce_name (n + 1)) count) c.take_in-did.result (did.0 ∙ index) did.1 served.1)
+    rw (← c.self.view_is, put_is g at.After-put own same) (bear_serves told i.crew places (place_of c.add.new.self) i.actors.items i.mouths.items events i.present i.next_pid (counted i.bounces i.deliveries) actor a.at a.parent
+    c.self.invariant.0 c.self.invariant.3 a.is a.alive a.here k.asked k.actor k.starts c.in_ok-born.born.name c.in_ok-born.born.program pid born (a.next ∙ k.due_is)
+    g.D.CallFs.disk i.disk refl (c.setting-at.ensures.pid ∙ ap (λ (w : Seen _). next_pid w.events) (sym c.self.view_is)) c.take_in-did.result (did.0 ∙ index) did.1 served.1)

@@ -6,6 +6,7 @@ use Rattle.mail_world.specs.declared.error.WorldError.{WorldError}
 use Rattle.mail_world.specs.declared.error.WorldError.TheVariants as why
 use Rattle.mail_world.specs.Crew.{IsFirst}
 use Rattle.mail_world.specs.Generations.{IsFirstAlive, IsNoneAlive}
+use Rattle.mail_world.specs.World.{counted}
 use Rattle.mail_world.specs.Inside.{known}
 use Rattle.mail_world.specs.Places.{place_of}
 use Rattle.mail_world.proofs.Begun.{none_alive}
@@ -28,7 +29,7 @@ pub begin_generation-requires : goal.begin_generation-requires
 begin_generation-requires g c =
     let i = c.self.inside in
     let over : IsFirst (take i.crew i.actors.items) None = subst (λ (l : List Held). IsFirst (take i.crew l) None) c.deref.ensures.value c.in_default.ensures in
-    rw (← c.self.view_is) (none_alive (g.D.CallFs.disk i.disk) (place_of i.places) i.crew i.actors.items i.history.events.items i.present i.next_pid i.bounces c.self.invariant.0
+    rw (← c.self.view_is) (none_alive (g.D.CallFs.disk i.disk) (place_of i.places) i.crew i.actors.items i.history.events.items i.present i.next_pid (counted i.bounces i.deliveries) c.self.invariant.0
     (none_lives i.crew i.actors.items over) c.self.invariant.3.few)
 
 pub returns-in_err-begin_generation-clause-alive : goal.returns-in_err-begin_generation-clause-alive
@@ -38,7 +39,7 @@ returns-in_err-begin_generation-clause-alive g c =
     let p = err_from_is_err_and c.from_residual.result c.from_residual.ensures.1 in
     let memory = p.1 ∙ ap (λ (why : WorldError). Err why) p.2 in
     let over : IsFirst (take i.crew i.actors.items) None = subst (λ (l : List Held). IsFirst (take i.crew l) None) c.deref.ensures.value c.in_default.ensures in
-    let none : IsNoneAlive events = none_alive (g.D.CallFs.disk i.disk) (place_of i.places) i.crew i.actors.items events i.present i.next_pid i.bounces c.self.invariant.0
+    let none : IsNoneAlive events = none_alive (g.D.CallFs.disk i.disk) (place_of i.places) i.crew i.actors.items events i.present i.next_pid (counted i.bounces i.deliveries) c.self.invariant.0
     (none_lives i.crew i.actors.items over) c.self.invariant.3.few in
     rw (← c.self.view_is) (λ name. (
       (λ e. let both = sym memory ∙ e in absurd (cc)),
@@ -50,7 +51,7 @@ returns-clause-alive g c =
     let i = c.self.inside in
     let events = i.history.events.items in
     let over : IsFirst (take i.crew i.actors.items) None = subst (λ (l : List Held). IsFirst (take i.crew l) None) c.deref.ensures.value c.in_default.ensures in
-    let none : IsNoneAlive events = none_alive (g.D.CallFs.disk i.disk) (place_of i.places) i.crew i.actors.items events i.present i.next_pid i.bounces c.self.invariant.0
+    let none : IsNoneAlive events = none_alive (g.D.CallFs.disk i.disk) (place_of i.places) i.crew i.actors.items events i.present i.next_pid (counted i.bounces i.deliveries) c.self.invariant.0
     (none_lives i.crew i.actors.items over) c.self.invariant.3.few in
     rw (← c.self.view_is) (λ name. (
       (λ e. absurd (cc)),

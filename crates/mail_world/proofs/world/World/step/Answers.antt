@@ -22,7 +22,7 @@ use Rattle.mail_world.specs.History.{next_of}
 use Rattle.mail_world.specs.Places.{place_of}
 use Rattle.mail_world.specs.Inside.{among_all, known, living, StandsFor, Owes}
 use Rattle.mail_world.specs.Acting.{IsNoLiving, HasActed, HasStepped, HasIdled, is_due_of_child, has_actor}
-use Rattle.mail_world.specs.World.{IsStep, GoesOn, GoesByPlan}
+use Rattle.mail_world.specs.World.{IsStep, GoesOn, GoesByPlan, counted}
 use Rattle.mail_world.proofs.Starting.{acted_starts}
 use Rattle.mail_world.proofs.Booked.{entry_within}
 use Rattle.mail_world.proofs.Leaving.{child_at}
@@ -40,7 +40,7 @@ use Rattle.mail_world.proofs.world.World.step.Goals.{After-index_mut-acting, Aft
 -- what the world keeps
 keeps : (g : _) (c : After-index_mut-acting g) →
     AreKept (g.D.CallFs.disk c.self.inside.disk) c.self.inside.crew (place_of c.self.inside.places) c.self.inside.actors.items c.self.inside.mouths.items c.self.inside.books.entries.items
-    c.self.inside.history.events.items c.self.inside.present c.self.inside.next_pid c.self.inside.bounces
+    c.self.inside.history.events.items c.self.inside.present c.self.inside.next_pid (counted c.self.inside.bounces c.self.inside.deliveries)
 keeps g c = record { world = c.self.invariant.0; booked = c.self.invariant.2; piped = c.self.invariant.3 }
 
 -- the actor that steps
@@ -51,33 +51,33 @@ acting g c =
     let i = c.self.inside in
     let place = c.in_ok-place.place in
     let ok = c.in_ok-place.ensures.ok in
-    stands_at (g.D.CallFs.disk i.disk) (among_all i.crew (place_of i.places)) i.actors.items (known i.history.events.items) i.history.events.items i.present i.next_pid i.bounces place c.args.actor.now c.index_mut-acting.result.now
+    stands_at (g.D.CallFs.disk i.disk) (among_all i.crew (place_of i.places)) i.actors.items (known i.history.events.items) i.history.events.items i.present i.next_pid (counted i.bounces i.deliveries) place c.args.actor.now c.index_mut-acting.result.now
     c.self.invariant.0 ok.0 (subst (λ (l : List Held). IsSomeAnd (slice_get l place) (λ x. x.ended ≡ None)) c.deref.ensures.value ok.1) c.index_mut-acting.ensures.value
 
 -- the place of its child, if there is one
-placed : (g : _) (c : After-child_at-child g) → c.child_at-child.result ≡ child_place c.self.inside.mouths.items c.index_mut-acting.result.now.wire c.self.inside.crew (place_of c.self.inside.places)
+placed : (g : _) (c : After-child_at-child g) → c.child_at-child.result ≡ child_place c.self.inside.mouths.items c.index_mut-acting.result.now.wire 0 c.self.inside.crew (place_of c.self.inside.places)
 placed g c =
     let i = c.self.inside in
-    subst (λ (l : List Mouths). c.child_at-child.result ≡ child_place l c.index_mut-acting.result.now.wire i.crew (place_of i.places)) c.deref-2.ensures.value c.child_at-child.ensures
+    subst (λ (l : List Mouths). c.child_at-child.result ≡ child_place l c.index_mut-acting.result.now.wire 0 i.crew (place_of i.places)) c.deref-2.ensures.value c.child_at-child.ensures
 
 -- it is within
 within : (g : _) (c : After-index_mut-acting g) (k : ℕ) → slice_get c.self.inside.actors.items c.in_ok-place.place ≡ Some c.index_mut-acting.result.now → c.index_mut-acting.result.now.ended ≡ None
-    → child_place c.self.inside.mouths.items c.index_mut-acting.result.now.wire c.self.inside.crew (place_of c.self.inside.places) ≡ Some k → k < length c.self.inside.actors.items
+    → child_place c.self.inside.mouths.items c.index_mut-acting.result.now.wire 0 c.self.inside.crew (place_of c.self.inside.places) ≡ Some k → k < length c.self.inside.actors.items
 within g c k is lives at =
     let i = c.self.inside in
     let x = c.index_mut-acting.result.now in
     let there = child_at i.crew (place_of i.places) i.mouths.items i.actors.items (known i.history.events.items) i.history.events.items x.name x.wire c.self.invariant.3 (c.self.invariant.3.places c.in_ok-place.place x is lives) k at in
-    in_range (g.D.CallFs.disk i.disk) (among_all i.crew (place_of i.places)) i.actors.items (known i.history.events.items) i.history.events.items i.present i.next_pid i.bounces there.name c.self.invariant.0 k there.at
+    in_range (g.D.CallFs.disk i.disk) (among_all i.crew (place_of i.places)) i.actors.items (known i.history.events.items) i.history.events.items i.present i.next_pid (counted i.bounces i.deliveries) there.name c.self.invariant.0 k there.at
 
 -- it was paid, and finds this ready
 abbrev Ready_at : (g : _) (c : After-ready_at g) → Held → Type 0
 Ready_at g c y =
-    StandsReady (g.D.CallFs.disk c.self.inside.disk) c.self.inside.crew (place_of c.self.inside.places) c.self.inside.actors.items c.self.inside.mouths.items c.self.inside.books.entries.items c.self.inside.history.events.items c.self.inside.present c.self.inside.next_pid c.self.inside.bounces
+    StandsReady (g.D.CallFs.disk c.self.inside.disk) c.self.inside.crew (place_of c.self.inside.places) c.self.inside.actors.items c.self.inside.mouths.items c.self.inside.books.entries.items c.self.inside.history.events.items c.self.inside.present c.self.inside.next_pid (counted c.self.inside.bounces c.self.inside.deliveries)
     c.in_ok-place.place c.args.actor.now y c.ready_at.result
 
 ready : (g : _) (c : After-ready_at g) →
     AreKept (g.D.CallFs.disk c.self.inside.disk) c.self.inside.crew (place_of c.self.inside.places) c.self.inside.actors.items c.self.inside.mouths.items c.self.inside.books.entries.items
-    c.self.inside.history.events.items c.self.inside.present c.self.inside.next_pid c.self.inside.bounces
+    c.self.inside.history.events.items c.self.inside.present c.self.inside.next_pid (counted c.self.inside.bounces c.self.inside.deliveries)
     → StandsAt (among_all c.self.inside.crew (place_of c.self.inside.places)) c.self.inside.actors.items (known c.self.inside.history.events.items) c.self.inside.history.events.items c.self.inside.present c.in_ok-place.place c.index_mut-acting.result.now
     × (c.index_mut-acting.result.now.name ≡ c.args.actor.now) → Ready_at g c c.pay.new.self
 ready g c w at =
@@ -93,25 +93,25 @@ ready g c w at =
     let found : IsFoundAt i.mouths.items z.wire (awaits_of z.machine) c.ready_at.result =
     subst (λ (l : List Mouths). IsFoundAt l z.wire (awaits_of z.machine) c.ready_at.result) c.deref-3.ensures.value
     (subst (λ (t : Bool). IsFoundAt c.deref-3.result.now z.wire t c.ready_at.result) c.awaits.ensures c.ready_at.ensures) in
-    paid_stands (g.D.CallFs.disk i.disk) i.crew (place_of i.places) i.actors.items i.mouths.items i.books.entries.items events i.present i.next_pid i.bounces place c.args.actor.now c.ready_at.result
+    paid_stands (g.D.CallFs.disk i.disk) i.crew (place_of i.places) i.actors.items i.mouths.items i.books.entries.items events i.present i.next_pid (counted i.bounces i.deliveries) place c.args.actor.now c.ready_at.result
     x z w at.0 at.1 turned found
 
 -- and it looked
 asked : (g : _) (c : In_ok-due g) →
-    StandsReady (g.D.CallFs.disk c.self.inside.disk) c.self.inside.crew (place_of c.self.inside.places) c.self.inside.actors.items c.self.inside.mouths.items c.self.inside.books.entries.items c.self.inside.history.events.items c.self.inside.present c.self.inside.next_pid c.self.inside.bounces
+    StandsReady (g.D.CallFs.disk c.self.inside.disk) c.self.inside.crew (place_of c.self.inside.places) c.self.inside.actors.items c.self.inside.mouths.items c.self.inside.books.entries.items c.self.inside.history.events.items c.self.inside.present c.self.inside.next_pid (counted c.self.inside.bounces c.self.inside.deliveries)
     c.in_ok-place.place c.args.actor.now c.pay.new.self c.ready_at.result
-    → StandsReady (g.D.CallFs.disk c.self.inside.disk) c.self.inside.crew (place_of c.self.inside.places) c.self.inside.actors.items c.self.inside.mouths.items c.self.inside.books.entries.items c.self.inside.history.events.items c.self.inside.present c.self.inside.next_pid c.self.inside.bounces
+    → StandsReady (g.D.CallFs.disk c.self.inside.disk) c.self.inside.crew (place_of c.self.inside.places) c.self.inside.actors.items c.self.inside.mouths.items c.self.inside.books.entries.items c.self.inside.history.events.items c.self.inside.present c.self.inside.next_pid (counted c.self.inside.bounces c.self.inside.deliveries)
     c.in_ok-place.place c.args.actor.now c.asks.new.self c.ready_at.result
 asked g c r =
     let i = c.self.inside in
-    looked_stands (g.D.CallFs.disk i.disk) i.crew (place_of i.places) i.actors.items i.mouths.items i.books.entries.items i.history.events.items i.present i.next_pid i.bounces c.in_ok-place.place c.args.actor.now c.ready_at.result
+    looked_stands (g.D.CallFs.disk i.disk) i.crew (place_of i.places) i.actors.items i.mouths.items i.books.entries.items i.history.events.items i.present i.next_pid (counted i.bounces i.deliveries) c.in_ok-place.place c.args.actor.now c.ready_at.result
     c.pay.new.self c.asks.new.self r c.in_ok-due.ensures.looked
 
 pub living-requires : goal.living-requires
 living-requires g c =
     let i = c.self.inside in
     λ k place. subst (λ (l : List Held). k < length l) (sym c.deref.ensures.value)
-    (in_range (g.D.CallFs.disk i.disk) (among_all i.crew (place_of i.places)) i.actors.items (known i.history.events.items) i.history.events.items i.present i.next_pid i.bounces c.args.actor.now c.self.invariant.0 k place)
+    (in_range (g.D.CallFs.disk i.disk) (among_all i.crew (place_of i.places)) i.actors.items (known i.history.events.items) i.history.events.items i.present i.next_pid (counted i.bounces i.deliveries) c.args.actor.now c.self.invariant.0 k place)
 
 pub returns-in_err-place-clause-gone : goal.returns-in_err-place-clause-gone
 returns-in_err-place-clause-gone g c =
@@ -153,13 +153,13 @@ child_at-child-requires g c =
     let i = c.self.inside in
     let here = (goal.at.child_at-child-requires g c).After-index_mut-acting in
     let at = acting g here in
-    subst (λ (l : List Mouths). (k : ℕ) → child_place l c.index_mut-acting.result.now.wire i.crew (place_of i.places) ≡ Some k → k < 2 ^ 64) (sym c.deref-2.ensures.value)
+    subst (λ (l : List Mouths). (k : ℕ) → child_place l c.index_mut-acting.result.now.wire 0 i.crew (place_of i.places) ≡ Some k → k < 2 ^ 64) (sym c.deref-2.ensures.value)
     (λ k found. let low = within g here k at.0.is at.0.lives found in omega (arith, low, i.actors.ok.0))
 
 pub index_mut-acting-requires : goal.index_mut-acting-requires
 index_mut-acting-requires g c =
     let i = c.self.inside in
-    let within = in_range (g.D.CallFs.disk i.disk) (among_all i.crew (place_of i.places)) i.actors.items (known i.history.events.items) i.history.events.items i.present i.next_pid i.bounces c.args.actor.now c.self.invariant.0 c.in_ok-place.place c.in_ok-place.ensures.ok.0 in
+    let within = in_range (g.D.CallFs.disk i.disk) (among_all i.crew (place_of i.places)) i.actors.items (known i.history.events.items) i.history.events.items i.present i.next_pid (counted i.bounces i.deliveries) c.args.actor.now c.self.invariant.0 c.in_ok-place.place c.in_ok-place.ensures.ok.0 in
     omega (arith, i.actors.ok.0)
 
 pub pay-requires : goal.pay-requires
@@ -210,10 +210,10 @@ invariant_of-self-in_err-due g c =
     let r = ready g (goal.at.invariant_of-self-in_err-due g c).After-ready_at (keeps g here) at in
     let v = c.asks.new.self in
     let looked = c.in_err-due.ensures.looked in
-    let q = looked_stands (g.D.CallFs.disk i.disk) i.crew (place_of i.places) i.actors.items i.mouths.items i.books.entries.items i.history.events.items i.present i.next_pid i.bounces c.in_ok-place.place c.args.actor.now c.ready_at.result
+    let q = looked_stands (g.D.CallFs.disk i.disk) i.crew (place_of i.places) i.actors.items i.mouths.items i.books.entries.items i.history.events.items i.present i.next_pid (counted i.bounces i.deliveries) c.in_ok-place.place c.args.actor.now c.ready_at.result
     c.pay.new.self c.asks.new.self r looked in
     let same = c.in_ok-reserve.ensures.same in
-    let w = subst (λ (l : List Held). AreKept told i.crew (place_of i.places) l i.mouths.items i.books.entries.items i.history.events.items i.present i.next_pid i.bounces) q.here q.world in
+    let w = subst (λ (l : List Held). AreKept told i.crew (place_of i.places) l i.mouths.items i.books.entries.items i.history.events.items i.present i.next_pid (counted i.bounces i.deliveries)) q.here q.world in
     let room = c.in_ok-reserve.ensures.stays (living i.actors.items) c.self.invariant.1 in (
       rw (same) w.world,
       rw (living_still i.actors.items place c.index_mut-acting.result.now v at.0.is (looked.ended ∙ c.in_ok-pay.ensures.ended)) room,
@@ -241,10 +241,10 @@ invariant_of-self-in-Some g c =
     let r = ready g (goal.at.invariant_of-self-in-Some g c).After-ready_at (keeps g here) at in
     let v = c.asks.new.self in
     let looked = c.in_ok-due.ensures.looked in
-    let q = looked_stands (g.D.CallFs.disk i.disk) i.crew (place_of i.places) i.actors.items i.mouths.items i.books.entries.items i.history.events.items i.present i.next_pid i.bounces c.in_ok-place.place c.args.actor.now c.ready_at.result
+    let q = looked_stands (g.D.CallFs.disk i.disk) i.crew (place_of i.places) i.actors.items i.mouths.items i.books.entries.items i.history.events.items i.present i.next_pid (counted i.bounces i.deliveries) c.in_ok-place.place c.args.actor.now c.ready_at.result
     c.pay.new.self c.asks.new.self r looked in
     let same = c.in_ok-reserve.ensures.same in
-    let w = subst (λ (l : List Held). AreKept told i.crew (place_of i.places) l i.mouths.items i.books.entries.items i.history.events.items i.present i.next_pid i.bounces) q.here q.world in
+    let w = subst (λ (l : List Held). AreKept told i.crew (place_of i.places) l i.mouths.items i.books.entries.items i.history.events.items i.present i.next_pid (counted i.bounces i.deliveries)) q.here q.world in
     let room = c.in_ok-reserve.ensures.stays (living i.actors.items) c.self.invariant.1 in (
       rw (same) w.world,
       rw (living_still i.actors.items place c.index_mut-acting.result.now v at.0.is (looked.ended ∙ c.in_ok-pay.ensures.ended)) room,
@@ -255,9 +255,9 @@ invariant_of-self-in-Some g c =
 
 -- what of its child is due
 due_of_child : (g : _) (c : In-Some g) →
-    (r : StandsReady (g.D.CallFs.disk c.self.inside.disk) c.self.inside.crew (place_of c.self.inside.places) c.self.inside.actors.items c.self.inside.mouths.items c.self.inside.books.entries.items c.self.inside.history.events.items c.self.inside.present c.self.inside.next_pid c.self.inside.bounces
+    (r : StandsReady (g.D.CallFs.disk c.self.inside.disk) c.self.inside.crew (place_of c.self.inside.places) c.self.inside.actors.items c.self.inside.mouths.items c.self.inside.books.entries.items c.self.inside.history.events.items c.self.inside.present c.self.inside.next_pid (counted c.self.inside.bounces c.self.inside.deliveries)
     c.in_ok-place.place c.args.actor.now c.pay.new.self c.ready_at.result)
-    (q : StandsReady (g.D.CallFs.disk c.self.inside.disk) c.self.inside.crew (place_of c.self.inside.places) c.self.inside.actors.items c.self.inside.mouths.items c.self.inside.books.entries.items c.self.inside.history.events.items c.self.inside.present c.self.inside.next_pid c.self.inside.bounces
+    (q : StandsReady (g.D.CallFs.disk c.self.inside.disk) c.self.inside.crew (place_of c.self.inside.places) c.self.inside.actors.items c.self.inside.mouths.items c.self.inside.books.entries.items c.self.inside.history.events.items c.self.inside.present c.self.inside.next_pid (counted c.self.inside.bounces c.self.inside.deliveries)
     c.in_ok-place.place c.args.actor.now c.asks.new.self c.ready_at.result)
     → IsDueOfChild (record { disk = c.self.inside.disk; events = c.self.inside.history.events.items; present = c.self.inside.present }) c.args.actor.now c.in-Some.due
 due_of_child g c r q =
@@ -273,9 +273,9 @@ due_of_child g c r q =
     subst (λ (o : Option ℕ). is_due_of_child (has_actor i.mouths.items o) due ≡ true) (sym c.in_ok-due.ensures.looked.stays.wire)
     (subst (λ (l : List Mouths). is_due_of_child (has_actor l z.wire) due ≡ true) c.deref-4.ensures.value mine) in
     subst (λ (a : List ℕ). IsDueOfChild (record { disk = i.disk; events = events; present = i.present }) a due) q.name
-    (asks_child i.disk (g.D.CallFs.disk i.disk) i.crew (place_of i.places) q.actors i.mouths.items i.books.entries.items events i.present i.next_pid i.bounces place v c.ready_at.result due
+    (asks_child i.disk (g.D.CallFs.disk i.disk) i.crew (place_of i.places) q.actors i.mouths.items i.books.entries.items events i.present i.next_pid (counted i.bounces i.deliveries) place v c.ready_at.result due
     q.world q.at q.finds here
-    (next_by (g.D.CallFs.disk i.disk) i.crew (place_of i.places) i.actors.items i.mouths.items i.books.entries.items events i.present i.next_pid i.bounces place c.args.actor.now c.ready_at.result
+    (next_by (g.D.CallFs.disk i.disk) i.crew (place_of i.places) i.actors.items i.mouths.items i.books.entries.items events i.present i.next_pid (counted i.bounces i.deliveries) place c.args.actor.now c.ready_at.result
     (λ d. d ≡ due) z v r q c.in_ok-due.ensures.looked.name next))
 
 pub serve-requires : goal.serve-requires
@@ -414,9 +414,9 @@ none_due (Some d) other = absurd (other d refl)
 
 -- nothing of a child is due to it
 none_asked : (g : _) (c : In_default g) →
-    (r : StandsReady (g.D.CallFs.disk c.self.inside.disk) c.self.inside.crew (place_of c.self.inside.places) c.self.inside.actors.items c.self.inside.mouths.items c.self.inside.books.entries.items c.self.inside.history.events.items c.self.inside.present c.self.inside.next_pid c.self.inside.bounces
+    (r : StandsReady (g.D.CallFs.disk c.self.inside.disk) c.self.inside.crew (place_of c.self.inside.places) c.self.inside.actors.items c.self.inside.mouths.items c.self.inside.books.entries.items c.self.inside.history.events.items c.self.inside.present c.self.inside.next_pid (counted c.self.inside.bounces c.self.inside.deliveries)
     c.in_ok-place.place c.args.actor.now c.pay.new.self c.ready_at.result)
-    (q : StandsReady (g.D.CallFs.disk c.self.inside.disk) c.self.inside.crew (place_of c.self.inside.places) c.self.inside.actors.items c.self.inside.mouths.items c.self.inside.books.entries.items c.self.inside.history.events.items c.self.inside.present c.self.inside.next_pid c.self.inside.bounces
+    (q : StandsReady (g.D.CallFs.disk c.self.inside.disk) c.self.inside.crew (place_of c.self.inside.places) c.self.inside.actors.items c.self.inside.mouths.items c.self.inside.books.entries.items c.self.inside.history.events.items c.self.inside.present c.self.inside.next_pid (counted c.self.inside.bounces c.self.inside.deliveries)
     c.in_ok-place.place c.args.actor.now c.asks.new.self c.ready_at.result)
     → is_due_of_child (has_actor c.self.inside.mouths.items c.asks.new.self.wire) (next_of q.at.member.actor.program q.at.member.actor.past c.self.inside.present c.ready_at.result) ≡ false
 none_asked g c r q =
@@ -425,7 +425,7 @@ none_asked g c r q =
     let v = c.asks.new.self in
     subst (λ (o : Option ℕ). is_due_of_child (has_actor i.mouths.items o) (next_of q.at.member.actor.program q.at.member.actor.past i.present c.ready_at.result) ≡ false) (sym c.in_ok-due.ensures.looked.stays.wire)
     (subst (λ (l : List Mouths). is_due_of_child (has_actor l z.wire) (next_of q.at.member.actor.program q.at.member.actor.past i.present c.ready_at.result) ≡ false) c.deref-4.ensures.value
-    (next_by (g.D.CallFs.disk i.disk) i.crew (place_of i.places) i.actors.items i.mouths.items i.books.entries.items i.history.events.items i.present i.next_pid i.bounces c.in_ok-place.place c.args.actor.now c.ready_at.result
+    (next_by (g.D.CallFs.disk i.disk) i.crew (place_of i.places) i.actors.items i.mouths.items i.books.entries.items i.history.events.items i.present i.next_pid (counted i.bounces i.deliveries) c.in_ok-place.place c.args.actor.now c.ready_at.result
     (λ due. is_due_of_child (has_actor c.deref-4.result.now z.wire) due ≡ false) z v r q c.in_ok-due.ensures.looked.name
     (c.in_ok-due.ensures.none (none_due c.in_ok-due.field-0 c.in_default.not-Some))))
 
@@ -440,7 +440,7 @@ act-requires-clause-may g c =
     let q = asked g (goal.at.act-requires-clause-may g c).In_ok-due r in
     let z = c.pay.new.self in
     let v = c.asks.new.self in
-    (may_step told i.crew (place_of i.places) q.actors i.mouths.items i.books.entries.items events i.present i.next_pid i.bounces place v c.ready_at.result q.world q.at q.paid q.finds
+    (may_step told i.crew (place_of i.places) q.actors i.mouths.items i.books.entries.items events i.present i.next_pid (counted i.bounces i.deliveries) place v c.ready_at.result q.world q.at q.paid q.finds
     (none_asked g (goal.at.act-requires-clause-may g c).In_default r q))
 
 pub act-requires-clause-paid : goal.act-requires-clause-paid
@@ -467,7 +467,7 @@ act-requires-clause-opens g c =
     let q = asked g (goal.at.act-requires-clause-opens g c).In_ok-due r in
     let z = c.pay.new.self in
     let v = c.asks.new.self in
-    may_end told (among_all i.crew (place_of i.places)) q.actors (known events) events i.present i.next_pid i.bounces place v q.world.world q.at
+    may_end told (among_all i.crew (place_of i.places)) q.actors (known events) events i.present i.next_pid (counted i.bounces i.deliveries) place v q.world.world q.at
 
 pub act-requires-clause-seat : goal.act-requires-clause-seat
 act-requires-clause-seat g c =
@@ -480,7 +480,7 @@ act-requires-clause-seat g c =
     let q = asked g (goal.at.act-requires-clause-seat g c).In_ok-due r in
     let z = c.pay.new.self in
     let v = c.asks.new.self in
-    is_seated told i.crew (place_of i.places) q.actors i.mouths.items i.books.entries.items events i.present i.next_pid i.bounces place v q.world q.at.is q.at.lives
+    is_seated told i.crew (place_of i.places) q.actors i.mouths.items i.books.entries.items events i.present i.next_pid (counted i.bounces i.deliveries) place v q.world q.at.is q.at.lives
 
 pub invariant_of-self-in_err-did : goal.invariant_of-self-in_err-did
 invariant_of-self-in_err-did g c =
@@ -498,8 +498,8 @@ invariant_of-self-in_err-did g c =
     let looked = c.in_err-did.ensures.looked in
     let disk = c.in_err-did.ensures.err in
     let same = ap (λ (h : History). h.events.items) c.in_err-did.ensures.same ∙ c.in_ok-reserve.ensures.same in
-    let w = subst (λ (l : List Held). AreKept told i.crew (place_of i.places) l c.act.new.mouths.items i.books.entries.items events i.present i.next_pid i.bounces) (q.same y)
-    (turned_keeps told i.crew (place_of i.places) q.actors i.mouths.items c.act.new.mouths.items i.books.entries.items events i.present i.next_pid i.bounces place v y q.world q.at
+    let w = subst (λ (l : List Held). AreKept told i.crew (place_of i.places) l c.act.new.mouths.items i.books.entries.items events i.present i.next_pid (counted i.bounces i.deliveries)) (q.same y)
+    (turned_keeps told i.crew (place_of i.places) q.actors i.mouths.items c.act.new.mouths.items i.books.entries.items events i.present i.next_pid (counted i.bounces i.deliveries) place v y q.world q.at
     (looked_turned (known events) events i.present v y q.at.member q.at.lives q.paid looked) c.in_err-did.ensures.pipes) in
     let room = c.in_ok-reserve.ensures.stays (living i.actors.items) c.self.invariant.1 in (
       rw (same, disk) w.world,
@@ -542,8 +542,8 @@ invariant_of-self-in_default-did g c =
     let at = acting g here in
     let still = c.in_ok-did.ensures.waits (no_did c.in_ok-did.did is) in
     let same = ap (λ (h : History). h.events.items) still.1 ∙ c.in_ok-reserve.ensures.same in
-    let w = subst (λ (l : List Held). AreKept told i.crew (place_of i.places) l c.act.new.mouths.items i.books.entries.items events i.present i.next_pid i.bounces) (q.same y)
-    (turned_keeps told i.crew (place_of i.places) q.actors i.mouths.items c.act.new.mouths.items i.books.entries.items events i.present i.next_pid i.bounces place v y q.world q.at
+    let w = subst (λ (l : List Held). AreKept told i.crew (place_of i.places) l c.act.new.mouths.items i.books.entries.items events i.present i.next_pid (counted i.bounces i.deliveries)) (q.same y)
+    (turned_keeps told i.crew (place_of i.places) q.actors i.mouths.items c.act.new.mouths.items i.books.entries.items events i.present i.next_pid (counted i.bounces i.deliveries) place v y q.world q.at
     (looked_turned (known events) events i.present v y q.at.member q.at.lives q.paid waited.looked) waited.same) in
     let room = c.in_ok-reserve.ensures.stays (living i.actors.items) c.self.invariant.1 in (
       rw (same, still.0) w.world,
@@ -577,7 +577,7 @@ returns-in_default-did-clause-waits g c =
     let waited = subst (λ (d : Option Did). HasStepped d told (g.D.CallFs.disk c.act.new.disk) i.mouths.items c.act.new.mouths.items i.next_pid v y c.reserve.new.self.events.items c.act.new.history.events.items i.present c.ready_at.result) is c.in_ok-did.ensures.acted in
     let own = none_asked g (goal.at.returns-in_default-did-clause-waits g c).In_default r q in
     let waits = waited_waits told (g.D.CallFs.disk c.act.new.disk) i.crew (place_of i.places) q.actors i.mouths.items c.act.new.mouths.items i.books.entries.items events c.act.new.history.events.items
-    i.present i.next_pid i.bounces place v y c.ready_at.result q.world q.at q.paid q.finds own waited in
+    i.present i.next_pid (counted i.bounces i.deliveries) place v y c.ready_at.result q.world q.at q.paid q.finds own waited in
     rw (← c.self.view_is) (λ name e.
     let same : c.copy.result ≡ name = cc in
     (sym same ∙ c.copy.ensures, subst (Waits (known events) i.present) q.name waits))
@@ -633,11 +633,11 @@ invariant_of-self-2 g c =
     let items = written_back i.actors.len stands stood many (i.actors.ok.0 ∙ sym (length-set i.actors.items place y)) in
     let entry : v.entry ≡ c.index_mut-acting.result.now.entry = c.in_ok-due.ensures.looked.stays.entry ∙ c.in_ok-pay.ensures.stays.entry in
     let w = acted_keeps told (g.D.CallFs.disk c.act.new.disk) i.crew (place_of i.places) q.actors i.mouths.items c.act.new.mouths.items i.books.entries.items events c.act.new.history.events.items
-    i.present i.next_pid i.bounces place v y c.ready_at.result q.world q.at q.paid q.finds own
+    i.present i.next_pid (counted i.bounces i.deliveries) place v y c.ready_at.result q.world q.at q.paid q.finds own
     did.ended i.next_pid acted c.note.new.books.entries.items c.saturating_add-self-inside.result c.newest-newest.result.now
     c.newest-newest.ensures (c.saturating_add-self-inside.ensures ∙ ap (λ (k : ℕ). min (i.next_pid + k) (2 ^ 32 - 1)) c.started_by.ensures)
     (λ none. ap entries_of (c.note.ensures.none (sym entry ∙ none))) (λ k e own. c.note.ensures.own k e (sym entry ∙ own)) c.child_at-child.result stood
-    (placed g (goal.at.invariant_of-self-2 g c).After-child_at-child ∙ ap (λ (o : Option ℕ). child_place i.mouths.items o i.crew (place_of i.places)) (sym (c.in_ok-due.ensures.looked.stays.wire ∙ c.in_ok-pay.ensures.stays.wire)))
+    (placed g (goal.at.invariant_of-self-2 g c).After-child_at-child ∙ ap (λ (o : Option ℕ). child_place i.mouths.items o 0 i.crew (place_of i.places)) (sym (c.in_ok-due.ensures.looked.stays.wire ∙ c.in_ok-pay.ensures.stays.wire)))
     (subst (λ (l : List Held). HasLeftIf (is_some did.ended) c.child_at-child.result l stood) (sym (q.same y)) left) in
     let len : c.len.result ≡ length i.actors.items = c.len.ensures ∙ i.actors.ok.0 in
     let grown = length-set i.actors.items place y in
@@ -666,7 +666,7 @@ returns-clause-event g c =
     let acted = acted_of g (goal.at.returns-clause-event g c).In_ok-did did c.in-Some-did.is in
     let own = none_asked g (goal.at.returns-clause-event g c).In_default r q in
     rw (← c.self.view_is) (acted_step told (g.D.CallFs.disk c.act.new.disk) i.crew (place_of i.places) q.actors i.mouths.items c.act.new.mouths.items i.books.entries.items events c.act.new.history.events.items
-    i.present i.next_pid i.bounces place v y c.ready_at.result q.world q.at q.paid q.finds own
+    i.present i.next_pid (counted i.bounces i.deliveries) place v y c.ready_at.result q.world q.at q.paid q.finds own
     i.disk c.act.new.disk c.args.actor.now did.ended q.name
     (subst (λ (pid : ℕ). HasActed did.ended told (g.D.CallFs.disk c.act.new.disk) i.mouths.items c.act.new.mouths.items pid v y events c.act.new.history.events.items i.present c.ready_at.result)
     c.self.invariant.0.pid acted))
@@ -690,7 +690,7 @@ returns-clause-idle g c =
     subst (λ (l : List Kept). HasIdled did.idle v l c.act.new.history.events.items) c.in_ok-reserve.ensures.same
     (subst (λ (d : Option Did). IfSome d (λ d. HasIdled d.idle v c.reserve.new.self.events.items c.act.new.history.events.items)) c.in-Some-did.is c.in_ok-did.ensures.idle) in
     rw (← c.self.view_is) (acted_idle told (g.D.CallFs.disk c.act.new.disk) i.crew (place_of i.places) q.actors i.mouths.items c.act.new.mouths.items i.books.entries.items events c.act.new.history.events.items
-    i.present i.next_pid i.bounces place v y c.ready_at.result q.world q.at q.paid q.finds own did.ended i.next_pid did.idle acted idled)
+    i.present i.next_pid (counted i.bounces i.deliveries) place v y c.ready_at.result q.world q.at q.paid q.finds own did.ended i.next_pid did.idle acted idled)
 
 pub returns-clause-goes_on : goal.returns-clause-goes_on
 returns-clause-goes_on g c =
@@ -709,7 +709,7 @@ returns-clause-goes_on g c =
     let own = none_asked g (goal.at.returns-clause-goes_on g c).In_default r q in
     rw (← c.self.view_is) (goes_on told (g.D.CallFs.disk c.act.new.disk) events c.act.new.history.events.items i.present i.present
     (acted_leads told (g.D.CallFs.disk c.act.new.disk) i.crew (place_of i.places) q.actors i.mouths.items c.act.new.mouths.items i.books.entries.items events c.act.new.history.events.items
-    i.present i.next_pid i.bounces place v y c.ready_at.result q.world q.at q.paid q.finds own did.ended i.next_pid acted))
+    i.present i.next_pid (counted i.bounces i.deliveries) place v y c.ready_at.result q.world q.at q.paid q.finds own did.ended i.next_pid acted))
 
 pub returns-clause-gone : goal.returns-clause-gone
 returns-clause-gone g c =
@@ -735,5 +735,5 @@ returns-clause-waiting g c =
     let acted = acted_of g (goal.at.returns-clause-waiting g c).In_ok-did did c.in-Some-did.is in
     let own = none_asked g (goal.at.returns-clause-waiting g c).In_default r q in
     rw (← c.self.view_is) (λ waits. absurd (acted_waits told (g.D.CallFs.disk c.act.new.disk) i.crew (place_of i.places) q.actors i.mouths.items c.act.new.mouths.items i.books.entries.items events c.act.new.history.events.items
-    i.present i.next_pid i.bounces place v y c.ready_at.result q.world q.at q.paid q.finds own
+    i.present i.next_pid (counted i.bounces i.deliveries) place v y c.ready_at.result q.world q.at q.paid q.finds own
     did.ended i.next_pid acted (subst (Waits (known events) i.present) (sym q.name) waits)))

@@ -1,9 +1,10 @@
-use Rattle.std.proofs.Common.{◌≡◌, ℕ, ◌<◌, ◌-◌, ◌^◌, List, [], ◌∷◌, ◌++◌, length, reverse, set, arith, Some, None, IsSomeAnd, Ok, refl, sym, ap, ◌∙◌, subst}
+use Rattle.std.proofs.Common.{◌≡◌, ℕ, ◌<◌, ◌^◌, List, [], ◌∷◌, ◌++◌, length, reverse, set, arith, Some, None, IsSomeAnd, Ok, refl, sym, ap, ◌∙◌, subst}
 use Rattle.std.proofs.lemmas.Result.{err_from_is_err_and}
 use Rattle.std.specs.List.{slice_get}
 use Rattle.mail_world.specs.declared.actor.Actor.{Actor as Held}
 use Rattle.world_events.specs.declared.event.Event.TheVariants as kept
 use Rattle.mail_world.specs.Places.{place_of}
+use Rattle.mail_world.specs.World.{counted}
 use Rattle.mail_world.specs.Inside.{among_all, known, living}
 use Rattle.mail_world.specs.Acting.{IsNoLiving}
 use Rattle.mail_world.proofs.Histories.{goes_on}
@@ -33,7 +34,7 @@ pub living-requires : goal.living-requires
 living-requires g c =
     let i = c.self.inside in
     λ k place. subst (λ (l : List Held). k < length l) (sym c.deref.ensures.value)
-    (in_range (g.D.CallFs.disk i.disk) (among_all i.crew (place_of i.places)) i.actors.items (known i.history.events.items) i.history.events.items i.present i.next_pid i.bounces c.args.actor.now c.self.invariant.0 k place)
+    (in_range (g.D.CallFs.disk i.disk) (among_all i.crew (place_of i.places)) i.actors.items (known i.history.events.items) i.history.events.items i.present i.next_pid (counted i.bounces i.deliveries) c.args.actor.now c.self.invariant.0 k place)
 
 pub returns-in_err-place-clause-gone : goal.returns-in_err-place-clause-gone
 returns-in_err-place-clause-gone g c =
@@ -47,7 +48,7 @@ returns-in_err-place-clause-gone g c =
 pub index_mut-stopped-requires : goal.index_mut-stopped-requires
 index_mut-stopped-requires g c =
     let i = c.self.inside in
-    let within = in_range (g.D.CallFs.disk i.disk) (among_all i.crew (place_of i.places)) i.actors.items (known i.history.events.items) i.history.events.items i.present i.next_pid i.bounces c.args.actor.now c.self.invariant.0 c.in_ok-place.place c.in_ok-place.ensures.ok.0 in
+    let within = in_range (g.D.CallFs.disk i.disk) (among_all i.crew (place_of i.places)) i.actors.items (known i.history.events.items) i.history.events.items i.present i.next_pid (counted i.bounces i.deliveries) c.args.actor.now c.self.invariant.0 c.in_ok-place.place c.in_ok-place.ensures.ok.0 in
     omega (arith, i.actors.ok.0)
 
 -- the actor that is stopped
@@ -58,14 +59,14 @@ standing g c =
     let i = c.self.inside in
     let place = c.in_ok-place.place in
     let ok = c.in_ok-place.ensures.ok in
-    stands_at (g.D.CallFs.disk i.disk) (among_all i.crew (place_of i.places)) i.actors.items (known i.history.events.items) i.history.events.items i.present i.next_pid i.bounces place c.args.actor.now c.index_mut-stopped.result.now
+    stands_at (g.D.CallFs.disk i.disk) (among_all i.crew (place_of i.places)) i.actors.items (known i.history.events.items) i.history.events.items i.present i.next_pid (counted i.bounces i.deliveries) place c.args.actor.now c.index_mut-stopped.result.now
     c.self.invariant.0 ok.0 (subst (λ (l : List Held). IsSomeAnd (slice_get l place) (λ x. x.ended ≡ None)) c.deref.ensures.value ok.1) c.index_mut-stopped.ensures.value
 
 pub stop-requires-clause-opens : goal.stop-requires-clause-opens
 stop-requires-clause-opens g c =
     let i = c.self.inside in
     let at = standing g (goal.at.stop-requires-clause-opens g c).After-index_mut-stopped in
-    may_end (g.D.CallFs.disk i.disk) (among_all i.crew (place_of i.places)) i.actors.items (known i.history.events.items) i.history.events.items i.present i.next_pid i.bounces c.in_ok-place.place c.index_mut-stopped.result.now c.self.invariant.0 at.0
+    may_end (g.D.CallFs.disk i.disk) (among_all i.crew (place_of i.places)) i.actors.items (known i.history.events.items) i.history.events.items i.present i.next_pid (counted i.bounces i.deliveries) c.in_ok-place.place c.index_mut-stopped.result.now c.self.invariant.0 at.0
 
 pub stop-requires-clause-room : goal.stop-requires-clause-room
 stop-requires-clause-room g c =
@@ -76,7 +77,7 @@ stop-requires-clause-room g c =
 -- what the world keeps
 keeps : (g : _) (c : After-index_mut-stopped g) →
     AreKept (g.D.CallFs.disk c.self.inside.disk) c.self.inside.crew (place_of c.self.inside.places) c.self.inside.actors.items c.self.inside.mouths.items c.self.inside.books.entries.items
-    c.self.inside.history.events.items c.self.inside.present c.self.inside.next_pid c.self.inside.bounces
+    c.self.inside.history.events.items c.self.inside.present c.self.inside.next_pid (counted c.self.inside.bounces c.self.inside.deliveries)
 keeps g c = record { world = c.self.invariant.0; booked = c.self.invariant.2; piped = c.self.invariant.3 }
 
 pub stop-requires-clause-seat : goal.stop-requires-clause-seat
@@ -84,7 +85,7 @@ stop-requires-clause-seat g c =
     let i = c.self.inside in
     let here = (goal.at.stop-requires-clause-seat g c).After-index_mut-stopped in
     let at = standing g here in
-    is_seated (g.D.CallFs.disk i.disk) i.crew (place_of i.places) i.actors.items i.mouths.items i.books.entries.items i.history.events.items i.present i.next_pid i.bounces c.in_ok-place.place c.index_mut-stopped.result.now
+    is_seated (g.D.CallFs.disk i.disk) i.crew (place_of i.places) i.actors.items i.mouths.items i.books.entries.items i.history.events.items i.present i.next_pid (counted i.bounces i.deliveries) c.in_ok-place.place c.index_mut-stopped.result.now
     (keeps g here) at.0.is at.0.lives
 
 pub note-requires : goal.note-requires
@@ -94,26 +95,26 @@ note-requires g c =
     λ k own. entry_within i.crew i.books.entries.items i.actors.items i.history.events.items c.in_ok-place.place k c.index_mut-stopped.result.now c.self.invariant.2 at.0.is own
 
 -- the place of its child, if there is one
-placed : (g : _) (c : After-child_at-child g) → c.child_at-child.result ≡ child_place c.self.inside.mouths.items c.index_mut-stopped.result.now.wire c.self.inside.crew (place_of c.self.inside.places)
+placed : (g : _) (c : After-child_at-child g) → c.child_at-child.result ≡ child_place c.self.inside.mouths.items c.index_mut-stopped.result.now.wire 0 c.self.inside.crew (place_of c.self.inside.places)
 placed g c =
     let i = c.self.inside in
-    subst (λ (l : List Mouths). c.child_at-child.result ≡ child_place l c.index_mut-stopped.result.now.wire i.crew (place_of i.places)) c.deref-2.ensures.value c.child_at-child.ensures
+    subst (λ (l : List Mouths). c.child_at-child.result ≡ child_place l c.index_mut-stopped.result.now.wire 0 i.crew (place_of i.places)) c.deref-2.ensures.value c.child_at-child.ensures
 
 -- it is within
 within : (g : _) (c : After-index_mut-stopped g) (k : ℕ) → slice_get c.self.inside.actors.items c.in_ok-place.place ≡ Some c.index_mut-stopped.result.now → c.index_mut-stopped.result.now.ended ≡ None
-    → child_place c.self.inside.mouths.items c.index_mut-stopped.result.now.wire c.self.inside.crew (place_of c.self.inside.places) ≡ Some k → k < length c.self.inside.actors.items
+    → child_place c.self.inside.mouths.items c.index_mut-stopped.result.now.wire 0 c.self.inside.crew (place_of c.self.inside.places) ≡ Some k → k < length c.self.inside.actors.items
 within g c k is lives at =
     let i = c.self.inside in
     let x = c.index_mut-stopped.result.now in
     let there = child_at i.crew (place_of i.places) i.mouths.items i.actors.items (known i.history.events.items) i.history.events.items x.name x.wire c.self.invariant.3 (c.self.invariant.3.places c.in_ok-place.place x is lives) k at in
-    in_range (g.D.CallFs.disk i.disk) (among_all i.crew (place_of i.places)) i.actors.items (known i.history.events.items) i.history.events.items i.present i.next_pid i.bounces there.name c.self.invariant.0 k there.at
+    in_range (g.D.CallFs.disk i.disk) (among_all i.crew (place_of i.places)) i.actors.items (known i.history.events.items) i.history.events.items i.present i.next_pid (counted i.bounces i.deliveries) there.name c.self.invariant.0 k there.at
 
 pub child_at-child-requires : goal.child_at-child-requires
 child_at-child-requires g c =
     let i = c.self.inside in
     let here = (goal.at.child_at-child-requires g c).After-index_mut-stopped in
     let at = standing g here in
-    subst (λ (l : List Mouths). (k : ℕ) → child_place l c.index_mut-stopped.result.now.wire i.crew (place_of i.places) ≡ Some k → k < 2 ^ 64) (sym c.deref-2.ensures.value)
+    subst (λ (l : List Mouths). (k : ℕ) → child_place l c.index_mut-stopped.result.now.wire 0 i.crew (place_of i.places) ≡ Some k → k < 2 ^ 64) (sym c.deref-2.ensures.value)
     (λ k found. let low = within g here k at.0.is at.0.lives found in omega (arith, low, i.actors.ok.0))
 
 -- the actors before and after that child is given no input any more
@@ -154,15 +155,15 @@ invariant_of-self g c =
     (c.self.invariant.3.places place x at.0.is at.0.lives) place c.child_at-child.result at.0.is (placed g (goal.at.invariant_of-self g c).After-child_at-child) left in
     let room = c.self.invariant.1 in (
       rw (items) (stopped_keeps (g.D.CallFs.disk i.disk) (g.D.CallFs.disk c.stop.new.disk) (among_all i.crew (place_of i.places)) i.actors.items c.leave.new.actors i.mouths.items c.stop.new.mouths.items events later
-          i.present i.next_pid i.bounces place x y c.self.invariant.0 at.0 over leave),
+          i.present i.next_pid (counted i.bounces i.deliveries) place x y c.self.invariant.0 at.0 over leave),
       rw (items) (c.stop.ensures.room (living c.leave.new.actors) (omega (arith, fewer, still, room))),
       rw (items) (left_booked i.crew i.actors.items c.leave.new.actors (known events) t later place x y c.note.new.books.entries.items leave
           (one_booked (among_all i.crew (place_of i.places)) i.crew i.actors.items events later place
-          x y i.books.entries.items c.note.new.books.entries.items (kept.Stop x.name) c.newest.result.now c.self.invariant.0.kept.placed c.self.invariant.2 at.0.is over.name over.entry refl over.event c.newest.ensures
+          x y i.books.entries.items c.note.new.books.entries.items (kept.Stop x.name) c.newest.result.now c.self.invariant.0.kept.placed c.self.invariant.2 at.0.is over.name over.stays.entry refl over.event c.newest.ensures
           (λ none. ap entries_of (c.note.ensures.none none)) c.note.ensures.own)),
       rw (items) (left_piped i.crew c.stop.new.mouths.items i.actors.items c.leave.new.actors (known events) t (known later) later place x y leave
-          (finish_piped i.crew (g.D.CallFs.disk i.disk) (g.D.CallFs.disk c.stop.new.disk) i.mouths.items c.stop.new.mouths.items i.actors.items events later i.present place x y
-          (kept.Stop x.name) Stopped None c.self.invariant.3 at.0.is at.0.lives m (stop_finishes x.name) tt (λ parent b other awaits. tt) over)),
+          (finish_piped i.crew (among_all i.crew (place_of i.places)) (g.D.CallFs.disk i.disk) (g.D.CallFs.disk c.stop.new.disk) i.mouths.items c.stop.new.mouths.items i.actors.items events later i.present place x y
+          (kept.Stop x.name) Stopped None c.self.invariant.0.kept c.self.invariant.3 at.0.is at.0.lives m (stop_finishes x.name) tt (λ parent b z there mail other awaits. tt) over)),
       subst (λ (l : List Kept). AreStarts i.starts i.crew (place_of i.places) (starts_of (reverse l))) (sym over.event)
           (still_starts i.starts i.crew (place_of i.places) events (kept.Stop x.name) refl c.self.invariant.4),
     )
@@ -182,7 +183,7 @@ returns-clause-goes_on g c =
     let before = i.history.events.items in
     let now_kept = c.stop.new.history.events.items in
     rw (← c.self.view_is) (goes_on old new before now_kept i.present i.present
-    (stopped_leads_on old new (among_all i.crew (place_of i.places)) i.actors.items i.mouths.items c.stop.new.mouths.items before now_kept i.present i.next_pid i.bounces
+    (stopped_leads_on old new (among_all i.crew (place_of i.places)) i.actors.items i.mouths.items c.stop.new.mouths.items before now_kept i.present i.next_pid (counted i.bounces i.deliveries)
     c.in_ok-place.place c.index_mut-stopped.result.now c.stop.new.self c.self.invariant.0 at.0 c.stop.ensures.stopped))
 
 pub returns-clause-gone : goal.returns-clause-gone

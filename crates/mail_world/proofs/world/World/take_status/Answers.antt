@@ -1,5 +1,5 @@
-use Rattle.std.proofs.Common.{◌≡◌, ℕ, ◌+◌, ◌<◌, ◌^◌, List, [], ◌∷◌, ◌++◌, length, set, Option, Some, None, get_or, refl, sym, ap, ◌∙◌, subst, arith}
-use Rattle.std.specs.Prelude.{IsSome}
+use Rattle.std.proofs.Common.{◌≡◌, ℕ, ◌+◌, ◌<◌, ◌^◌, List, [], ◌∷◌, ◌++◌, length, set, false, if◌then◌else◌, Option, Some, None, get_or, refl, sym, ap, ◌∙◌, subst, arith}
+use Rattle.std.specs.Prelude.{◌==◌, IsSome}
 use Rattle.std.specs.List.{slice_get}
 use Rattle.std.proofs.lemmas.Option.{slice_get_read, slice_get_within, get_or_from_slice_get}
 use Rattle.call_fs.specs.declared.past.GotData.{GotData}
@@ -10,30 +10,39 @@ use Rattle.mail_bytes.specs.Moments.{IsMoment}
 use Rattle.world_events.specs.declared.event.Event.{Event as Kept}
 use Rattle.world_events.specs.declared.event.Event.TheVariants as kept
 use Rattle.world_pipes.specs.declared.mouths.Mouths.{Mouths}
+use Rattle.world_pipes.specs.Mouths.{actor_of, tenant_of, ended_of}
+use Rattle.world_pipes.proofs.Slots.{slot_there}
+use Rattle.crew_pipes.specs.Seating.{due_slot}
+use Rattle.crew_pipes.proofs.Feeds.{own_tenant}
 use Rattle.mail_world.specs.declared.actor.Actor.{Actor as Held}
 use Rattle.mail_world.specs.Acting.{status_of}
 use Rattle.mail_world.specs.Books.{entries_of}
 use Rattle.mail_world.specs.Children.{IsDueOfChild, child_place}
 use Rattle.mail_world.specs.Inside.{among_all, known, living}
+use Rattle.mail_world.specs.Pipework.{Tenant}
 use Rattle.mail_world.specs.Places.{place_of}
 use Rattle.mail_world.specs.Readiness.{found_in}
-use Rattle.mail_world.specs.World.{Seen}
+use Rattle.mail_world.specs.World.{Seen, counted}
 use Rattle.mail_world.proofs.Lists.{set_same}
 use Rattle.mail_world.proofs.Living.{living_set, room_less}
-use Rattle.mail_world.proofs.Serving.{alive_lives, same_at, some_slot, parent_owes, at_setting, may_take, may_at, was_served, taken_at}
+use Rattle.mail_world.proofs.Serving.{alive_lives, same_at, parent_owes, at_setting, may_take, may_at, was_served, taken_at}
 use Rattle.mail_world.proofs.Starting.{still_starts}
 use Rattle.mail_world.proofs.Worlds.{in_range}
 use Rattle.mail_world.proofs.Statuses.{IsTaking, taking, status_own, status_waits, status_kind, status_within, status_keeps, status_booked, status_piped, status_serves}
 use Rattle.mail_world.proofs.world.World.take_status.Goals as goal
-use Rattle.mail_world.proofs.world.World.take_status.Goals.{After-setting-at, After-unwrap-parent_at, After-index, After-unwrap-wire, After-child_at, After-unwrap-child, After-index-2, In-Some, After-index_mut-parent, After-own_at-own, After-index_mut, After-put}
+use Rattle.mail_world.proofs.world.World.take_status.Goals.{After-due_slot-slot, After-setting-at, After-unwrap-parent_at, After-index, After-unwrap-wire, After-child_at, After-unwrap-child, After-index-2, In-Some, After-index_mut-parent, After-own_at-own, After-index_mut, After-put}
 
 -- what is due, and whose status it is
 due_here : (g : _) (c : After-setting-at g) →
     IsTaking c.self.inside.crew (place_of c.self.inside.places) c.self.inside.mouths.items c.self.inside.actors.items c.self.inside.history.events.items c.self.inside.present c.args.actor.now c.args.due
 due_here g c =
     let i = c.self.inside in
-    taking i.disk (g.D.CallFs.disk i.disk) i.crew (place_of i.places) i.actors.items i.mouths.items i.history.events.items i.present i.next_pid i.bounces c.args.actor.now c.args.due c.self.invariant.0 c.self.invariant.3
+    taking i.disk (g.D.CallFs.disk i.disk) i.crew (place_of i.places) i.actors.items i.mouths.items i.history.events.items i.present i.next_pid (counted i.bounces i.deliveries) c.args.actor.now c.args.due c.self.invariant.0 c.self.invariant.3
     (subst (λ (w : Seen _). IsDueOfChild w c.args.actor.now c.args.due) (sym c.self.view_is) c.requires.due) c.requires.take
+
+-- whose slot it is
+slot_is : (g : _) (c : After-due_slot-slot g) (d : ℕ) → c.args.due ≡ needs.Take (port.Status d) → c.due_slot-slot.result ≡ d
+slot_is g c d due = c.due_slot-slot.ensures ∙ ap due_slot due
 
 pub setting-at-requires : goal.setting-at-requires
 setting-at-requires g c =
@@ -44,7 +53,7 @@ pub place_among-requires : goal.place_among-requires
 place_among-requires g c =
     let i = c.self.inside in
     λ k at.
-    let within = in_range (g.D.CallFs.disk i.disk) (among_all i.crew (place_of i.places)) i.actors.items (known i.history.events.items) i.history.events.items i.present i.next_pid i.bounces c.args.actor.now c.self.invariant.0 k at in
+    let within = in_range (g.D.CallFs.disk i.disk) (among_all i.crew (place_of i.places)) i.actors.items (known i.history.events.items) i.history.events.items i.present i.next_pid (counted i.bounces i.deliveries) c.args.actor.now c.self.invariant.0 k at in
     omega (arith, within, i.actors.ok.0)
 
 pub unwrap-parent_at-requires : goal.unwrap-parent_at-requires
@@ -94,24 +103,26 @@ child_at-requires g c =
     let k = due_here g at.After-setting-at in
     let wire = at_wire g at.After-unwrap-wire k.asks.at k.wire k.asks.here.held k.asks.place k.asks.here.is k.wire_is in
     let within = k.within in
-    subst (λ (l : List Mouths). (j : ℕ) → child_place l (Some c.unwrap-wire.result) i.crew (place_of i.places) ≡ Some j → j < 2 ^ 64) (sym c.deref.ensures.value)
+    subst (λ (l : List Mouths). (j : ℕ) → child_place l (Some c.unwrap-wire.result) c.due_slot-slot.result i.crew (place_of i.places) ≡ Some j → j < 2 ^ 64) (sym c.deref.ensures.value)
     (λ j found.
-    let both : ◌≡◌ {A = Option ℕ} (Some (i.crew + k.here.at)) (Some j) = sym k.found ∙ ap (λ (n : ℕ). child_place i.mouths.items (Some n) i.crew (place_of i.places)) (sym wire) ∙ found in
+    let both : ◌≡◌ {A = Option ℕ} (Some (i.crew + k.here.at)) (Some j) = sym k.found ∙ ap (λ (n : ℕ). child_place i.mouths.items (Some n) k.slot i.crew (place_of i.places)) (sym wire)
+    ∙ ap (λ (d : ℕ). child_place i.mouths.items (Some c.unwrap-wire.result) d i.crew (place_of i.places)) (sym (slot_is g at.After-due_slot-slot k.slot k.due_is)) ∙ found in
     let same : i.crew + k.here.at ≡ j = cc in
     omega (arith, within, same, i.actors.ok.0))
 
 -- the child's place
-place_is : (g : _) (c : After-child_at g) (w at : ℕ) → c.unwrap-wire.result ≡ w → child_place c.self.inside.mouths.items (Some w) c.self.inside.crew (place_of c.self.inside.places) ≡ Some at → c.child_at.result ≡ Some at
-place_is g c w at wire found =
+place_is : (g : _) (c : After-child_at g) (w d at : ℕ) → c.unwrap-wire.result ≡ w → c.due_slot-slot.result ≡ d → child_place c.self.inside.mouths.items (Some w) d c.self.inside.crew (place_of c.self.inside.places) ≡ Some at
+    → c.child_at.result ≡ Some at
+place_is g c w d at wire slot found =
     let i = c.self.inside in
-    subst (λ (l : List Mouths). c.child_at.result ≡ child_place l (Some c.unwrap-wire.result) i.crew (place_of i.places)) c.deref.ensures.value c.child_at.ensures
-    ∙ ap (λ (n : ℕ). child_place i.mouths.items (Some n) i.crew (place_of i.places)) wire ∙ found
+    subst (λ (l : List Mouths). c.child_at.result ≡ child_place l (Some c.unwrap-wire.result) c.due_slot-slot.result i.crew (place_of i.places)) c.deref.ensures.value c.child_at.ensures
+    ∙ ap (λ (n : ℕ). child_place i.mouths.items (Some n) c.due_slot-slot.result i.crew (place_of i.places)) wire ∙ ap (λ (d : ℕ). child_place i.mouths.items (Some w) d i.crew (place_of i.places)) slot ∙ found
 
 pub unwrap-child-requires : goal.unwrap-child-requires
 unwrap-child-requires g c =
     let at = goal.at.unwrap-child-requires g c in
     let k = due_here g at.After-setting-at in
-    subst IsSome (sym (place_is g at.After-child_at k.wire _ (at_wire g at.After-unwrap-wire k.asks.at k.wire k.asks.here.held k.asks.place k.asks.here.is k.wire_is) k.found)) refl
+    subst IsSome (sym (place_is g at.After-child_at k.wire k.slot _ (at_wire g at.After-unwrap-wire k.asks.at k.wire k.asks.here.held k.asks.place k.asks.here.is k.wire_is) (slot_is g at.After-due_slot-slot k.slot k.due_is) k.found)) refl
 
 child_is : (g : _) (c : After-unwrap-child g) (at : ℕ) → c.child_at.result ≡ Some at → c.unwrap-child.result ≡ at
 child_is g c at found =
@@ -122,7 +133,7 @@ index-requires-2 g c =
     let at = goal.at.index-requires-2 g c in
     let k = due_here g at.After-setting-at in
     let within = k.within in
-    let same = child_is g at.After-unwrap-child _ (place_is g at.After-child_at k.wire _ (at_wire g at.After-unwrap-wire k.asks.at k.wire k.asks.here.held k.asks.place k.asks.here.is k.wire_is) k.found) in
+    let same = child_is g at.After-unwrap-child _ (place_is g at.After-child_at k.wire k.slot _ (at_wire g at.After-unwrap-wire k.asks.at k.wire k.asks.here.held k.asks.place k.asks.here.is k.wire_is) (slot_is g at.After-due_slot-slot k.slot k.due_is) k.found) in
     omega (arith, within, same, c.self.inside.actors.ok.0)
 
 -- who is read there
@@ -141,9 +152,9 @@ returns-in_default-clause-waits g c =
     let at = goal.at.returns-in_default-clause-waits g c in
     let i = c.self.inside in
     let k = due_here g at.After-setting-at in
-    let read = read_is g at.After-index-2 _ k.here.held (child_is g at.After-unwrap-child _ (place_is g at.After-child_at k.wire _ (at_wire g at.After-unwrap-wire k.asks.at k.wire k.asks.here.held k.asks.place k.asks.here.is k.wire_is) k.found)) k.here.is in
+    let read = read_is g at.After-index-2 _ k.here.held (child_is g at.After-unwrap-child _ (place_is g at.After-child_at k.wire k.slot _ (at_wire g at.After-unwrap-wire k.asks.at k.wire k.asks.here.held k.asks.place k.asks.here.is k.wire_is) (slot_is g at.After-due_slot-slot k.slot k.due_is) k.found)) k.here.is in
     let none : status_of k.here.held.ended k.here.held.status ≡ None = ap (λ (x : Held). status_of x.ended x.status) read ∙ sym c.status_of.ensures ∙ none_of c.status_of.result c.in_default.not-Some in
-    rw (← c.self.view_is) (λ is. (status_waits i.crew (place_of i.places) i.actors.items i.history.events.items i.present c.args.actor.now k.asks.parent k.child k.asks.is k.asks.alive (k.asks.next ∙ k.due_is) k.runs k.here none, refl))
+    rw (← c.self.view_is) (λ is. (status_waits i.crew (place_of i.places) i.actors.items i.history.events.items i.present c.args.actor.now k.asks.parent k.slot k.child k.asks.is k.asks.alive (k.asks.next ∙ k.due_is) k.runs k.here none, refl))
 
 -- the parent is read
 parent_read : (g : _) (c : After-index_mut-parent g) (n : ℕ) (x : Held) → among_all c.self.inside.crew (place_of c.self.inside.places) c.args.actor.now ≡ Some n → slice_get c.self.inside.actors.items n ≡ Some x
@@ -196,11 +207,11 @@ ready_is g c = c.setting-at.ensures.ready ∙ ap (λ (w : Seen _). found_in (kno
 
 -- what is taken
 own_is : (g : _) (c : After-own_at-own g) → c.setting-at.result.now ≡ c.self.inside.present → c.setting-at.result.ready ≡ found_in (known c.self.inside.history.events.items) c.args.actor.now
-    → c.own_at-own.result ≡ status_own c.self.inside.history.events.items c.self.inside.present c.args.actor.now c.in-Some.came
-own_is g c at ready =
+    → (d : ℕ) → c.args.due ≡ needs.Take (port.Status d) → c.own_at-own.result ≡ status_own c.self.inside.history.events.items c.self.inside.present c.args.actor.now d c.in-Some.came
+own_is g c at ready d due =
     let i = c.self.inside in
-    at_setting c.setting-at.result.now i.present c.setting-at.result.ready (found_in (known i.history.events.items) c.args.actor.now) (needs.Take (port.Status 0)) (needs.Take (port.Status 0)) c.in-Some.came c.own_at-own.result
-    c.own_at-own.ensures at ready refl
+    at_setting c.setting-at.result.now i.present c.setting-at.result.ready (found_in (known i.history.events.items) c.args.actor.now) c.args.due (needs.Take (port.Status d)) c.in-Some.came c.own_at-own.result
+    c.own_at-own.ensures at ready due
 
 came_is : (g : _) (c : In-Some g) (x : Held) → x ≡ c.index-2.result.now → status_of x.ended x.status ≡ Some c.in-Some.came
 came_is g c x read = ap (λ (x : Held). status_of x.ended x.status) read ∙ sym c.status_of.ensures ∙ c.in-Some.is
@@ -221,12 +232,12 @@ take_in-did-requires-clause-may g c =
     let a = k.asks in
     let h = k.here.held in
     let x = c.index_mut-parent.result.now in
-    let own = status_own events i.present c.args.actor.now c.in-Some.came in
+    let own = status_own events i.present c.args.actor.now k.slot c.in-Some.came in
     let paid = c.in_ok-pay_with_room.ensures.paid in
-    let ended = came_is g at.In-Some h (read_is g at.After-index-2 _ h (child_is g at.After-unwrap-child _ (place_is g at.After-child_at k.wire _ (at_wire g at.After-unwrap-wire k.asks.at k.wire k.asks.here.held k.asks.place k.asks.here.is k.wire_is) k.found)) k.here.is) in
-    may_at c.pay_with_room.new.actor.machine c.setting-at.result.now i.present c.setting-at.result.ready (found_in s c.args.actor.now) c.own_at-own.result own (now_is g at.After-setting-at) (ready_is g at.After-setting-at) (own_is g at.After-own_at-own (now_is g at.After-setting-at) (ready_is g at.After-setting-at))
+    let ended = came_is g at.In-Some h (read_is g at.After-index-2 _ h (child_is g at.After-unwrap-child _ (place_is g at.After-child_at k.wire k.slot _ (at_wire g at.After-unwrap-wire k.asks.at k.wire k.asks.here.held k.asks.place k.asks.here.is k.wire_is) (slot_is g at.After-due_slot-slot k.slot k.due_is) k.found)) k.here.is) in
+    may_at c.pay_with_room.new.actor.machine c.setting-at.result.now i.present c.setting-at.result.ready (found_in s c.args.actor.now) c.own_at-own.result own (now_is g at.After-setting-at) (ready_is g at.After-setting-at) (own_is g at.After-own_at-own (now_is g at.After-setting-at) (ready_is g at.After-setting-at) k.slot k.due_is)
     (may_take i.actors.items s events i.present c.args.actor.now a.at a.parent a.here a.is x c.pay_with_room.new.actor (parent_read g at.After-index_mut-parent a.at a.here.held a.place a.here.is).1 paid.follows paid.awaits
-    own refl refl (a.next ∙ k.due_is) (status_kind h.ended h.status c.in-Some.came ended) (status_within h.ended h.status c.in-Some.came ended))
+    own refl refl (a.next ∙ k.due_is) (status_kind k.slot h.ended h.status c.in-Some.came ended) (status_within h.ended h.status c.in-Some.came ended))
 
 pub index_mut-requires : goal.index_mut-requires
 index_mut-requires g c =
@@ -247,9 +258,14 @@ pub free-requires : goal.free-requires
 free-requires g c =
     let at = goal.at.free-requires g c in
     let k = due_here g at.After-setting-at in
+    let piped = c.self.invariant.3 in
+    let m = c.index_mut.result.now in
     let wire = at_wire g at.After-unwrap-wire k.asks.at k.wire k.asks.here.held k.asks.place k.asks.here.is k.wire_is in
-    let slots = c.self.invariant.3.slots k.wire c.index_mut.result.now (mouth_is g at.After-index_mut k.wire wire k.low) in
-    some_slot k.wire (length c.index_mut.result.now.slots.items) slots
+    let of : piped.wires c.args.actor.now ≡ Some k.wire = ap piped.wires (sym k.asks.here.name) ∙ piped.places k.asks.at k.asks.here.held k.asks.here.is k.asks.here.lives ∙ k.wire_is in
+    let runs = sym (own_tenant piped.wires c.self.inside.mouths.items (known c.self.inside.history.events.items).pipework c.args.actor.now k.wire m piped.wired of (mouth_is g at.After-index_mut k.wire wire k.low) k.slot) ∙ k.runs in
+    let low = slot_there m k.slot (subst (λ (o : Option Tenant). IsSome (actor_of o)) (sym runs) refl) in
+    let same = slot_is g at.After-due_slot-slot k.slot k.due_is in
+    omega (arith, low, same)
 
 -- the event that was put
 put_is : (g : _) (c : After-put g) (own : Own) → c.own_at-own.result ≡ own → c.put.new.self.events.items ≡ c.self.inside.history.events.items ++ kept.Act c.args.actor.now own ∷ []
@@ -275,9 +291,9 @@ invariant_of-self-2 g c =
     let read = parent_read g at.After-index_mut-parent a.at a.here.held a.place a.here.is in
     let wire = at_wire g at.After-unwrap-wire k.asks.at k.wire k.asks.here.held k.asks.place k.asks.here.is k.wire_is in
     let came = c.in-Some.came in
-    let own = status_own events i.present c.args.actor.now came in
-    let ended = came_is g at.In-Some h.held (read_is g at.After-index-2 _ h.held (child_is g at.After-unwrap-child _ (place_is g at.After-child_at k.wire _ (at_wire g at.After-unwrap-wire k.asks.at k.wire k.asks.here.held k.asks.place k.asks.here.is k.wire_is) k.found)) h.is) in
-    let same = own_is g at.After-own_at-own (now_is g at.After-setting-at) (ready_is g at.After-setting-at) in
+    let own = status_own events i.present c.args.actor.now k.slot came in
+    let ended = came_is g at.In-Some h.held (read_is g at.After-index-2 _ h.held (child_is g at.After-unwrap-child _ (place_is g at.After-child_at k.wire k.slot _ (at_wire g at.After-unwrap-wire k.asks.at k.wire k.asks.here.held k.asks.place k.asks.here.is k.wire_is) (slot_is g at.After-due_slot-slot k.slot k.due_is) k.found)) h.is) in
+    let same = own_is g at.After-own_at-own (now_is g at.After-setting-at) (ready_is g at.After-setting-at) k.slot k.due_is in
     let index = c.len.ensures ∙ ap (λ (l : List Kept). length l) c.in_ok-pay_with_room.ensures.same in
     let paid = c.in_ok-pay_with_room.ensures.paid in
     let got = was_served i.actors.items s events i.present c.args.actor.now a.at a.parent a.here a.is x z read.1 paid.follows paid.awaits
@@ -286,11 +302,13 @@ invariant_of-self-2 g c =
     let len : c.len-room.result ≡ length i.actors.items = c.len-room.ensures ∙ i.actors.ok.0 in
     let bound = living_set i.actors.items a.at y in
     let first = mouth_is g at.After-index_mut k.wire wire k.low in (
-      rw (event, read.0) (status_keeps told i.crew places i.actors.items i.mouths.items i.books.entries.items events i.present i.next_pid i.bounces c.args.actor.now a.at a.parent c.self.invariant.0 c.self.invariant.3 a.is a.alive a.here k.child k.runs h came ended (a.next ∙ k.due_is) y got.0),
+      rw (event, read.0) (status_keeps told i.crew places i.actors.items i.mouths.items i.books.entries.items events i.present i.next_pid (counted i.bounces i.deliveries) c.args.actor.now a.at a.parent c.self.invariant.0 c.self.invariant.3 a.is a.alive a.here k.slot k.child k.runs h came ended (a.next ∙ k.due_is) y got.0),
       rw (read.0) (c.put.ensures.room (living (set i.actors.items a.at y)) (room_less c.pay_with_room.new.history (c.len-room.result + 1) (living (set i.actors.items a.at y) + 1) (omega (arith, len, bound)) c.in_ok-pay_with_room.ensures.holds)),
-      rw (event, read.0) (status_booked told i.crew places i.actors.items i.mouths.items (entries_of i.books) events i.present i.next_pid i.bounces c.args.actor.now a.at a.parent c.self.invariant.0 c.self.invariant.3 a.is a.alive a.here k.child k.runs h came ended (a.next ∙ k.due_is) y got.0 c.self.invariant.2),
-      rw (event, read.0, wire) (status_piped told i.crew places i.actors.items i.mouths.items i.books.entries.items events i.present i.next_pid i.bounces c.args.actor.now a.at a.parent c.self.invariant.0 c.self.invariant.3 a.is a.alive a.here k.child k.runs h came ended (a.next ∙ k.due_is) y got.0
-          k.wire k.wire_is c.index_mut.result.now c.free.new.self first c.free.ensures.pipes c.free.ensures.tenants c.free.ensures.ended c.free.ensures.slots),
+      rw (event, read.0) (status_booked told i.crew places i.actors.items i.mouths.items (entries_of i.books) events i.present i.next_pid (counted i.bounces i.deliveries) c.args.actor.now a.at a.parent c.self.invariant.0 c.self.invariant.3 a.is a.alive a.here k.slot k.child k.runs h came ended (a.next ∙ k.due_is) y got.0 c.self.invariant.2),
+      rw (event, read.0, wire) (status_piped told i.crew places i.actors.items i.mouths.items i.books.entries.items events i.present i.next_pid (counted i.bounces i.deliveries) c.args.actor.now a.at a.parent c.self.invariant.0 c.self.invariant.3 a.is a.alive a.here k.slot k.child k.runs h came ended (a.next ∙ k.due_is) y got.0
+          k.wire k.wire_is c.index_mut.result.now c.free.new.self first c.free.ensures.pipes
+          (λ d. c.free.ensures.tenants d ∙ ap (λ (n : ℕ). if d == n then None else tenant_of c.index_mut.result.now d) (slot_is g at.After-due_slot-slot k.slot k.due_is))
+          (λ d. c.free.ensures.ended d ∙ ap (λ (n : ℕ). if d == n then false else ended_of c.index_mut.result.now d) (slot_is g at.After-due_slot-slot k.slot k.due_is)) c.free.ensures.slots),
       rw (event) (still_starts i.starts i.crew places events (kept.Act c.args.actor.now own) refl c.self.invariant.4),
     )
 
@@ -311,13 +329,13 @@ returns-clause-served g c =
     let read = parent_read g at.After-index_mut-parent a.at a.here.held a.place a.here.is in
     let wire = at_wire g at.After-unwrap-wire k.asks.at k.wire k.asks.here.held k.asks.place k.asks.here.is k.wire_is in
     let came = c.in-Some.came in
-    let own = status_own events i.present c.args.actor.now came in
-    let ended = came_is g at.In-Some h.held (read_is g at.After-index-2 _ h.held (child_is g at.After-unwrap-child _ (place_is g at.After-child_at k.wire _ (at_wire g at.After-unwrap-wire k.asks.at k.wire k.asks.here.held k.asks.place k.asks.here.is k.wire_is) k.found)) h.is) in
-    let same = own_is g at.After-own_at-own (now_is g at.After-setting-at) (ready_is g at.After-setting-at) in
+    let own = status_own events i.present c.args.actor.now k.slot came in
+    let ended = came_is g at.In-Some h.held (read_is g at.After-index-2 _ h.held (child_is g at.After-unwrap-child _ (place_is g at.After-child_at k.wire k.slot _ (at_wire g at.After-unwrap-wire k.asks.at k.wire k.asks.here.held k.asks.place k.asks.here.is k.wire_is) (slot_is g at.After-due_slot-slot k.slot k.due_is) k.found)) h.is) in
+    let same = own_is g at.After-own_at-own (now_is g at.After-setting-at) (ready_is g at.After-setting-at) k.slot k.due_is in
     let index = c.len.ensures ∙ ap (λ (l : List Kept). length l) c.in_ok-pay_with_room.ensures.same in
     let paid = c.in_ok-pay_with_room.ensures.paid in
     let got = was_served i.actors.items s events i.present c.args.actor.now a.at a.parent a.here a.is x z read.1 paid.follows paid.awaits
     y own c.take_in-did.result.idle paid.name paid.descriptors paid.ended paid.status paid.stays (taken_at z y c.own_at-own.result own _ (length events) c.take_in-did.result.idle same index c.take_in-did.ensures.taken) in
     let did = c.take_in-did.ensures.did in
-    rw (← c.self.view_is, put_is g at.After-put own same) (status_serves told i.crew places i.actors.items i.mouths.items i.books.entries.items events i.present i.next_pid i.bounces c.args.actor.now a.at a.parent c.self.invariant.0 c.self.invariant.3 a.is a.alive a.here k.child k.runs h came ended
+    rw (← c.self.view_is, put_is g at.After-put own same) (status_serves told i.crew places i.actors.items i.mouths.items i.books.entries.items events i.present i.next_pid (counted i.bounces i.deliveries) c.args.actor.now a.at a.parent c.self.invariant.0 c.self.invariant.3 a.is a.alive a.here k.slot k.child k.runs h came ended
     (a.next ∙ k.due_is) g.D.CallFs.disk i.disk refl c.take_in-did.result (did.0 ∙ index) did.1 got.1)

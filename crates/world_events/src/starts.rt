@@ -1,0 +1,83 @@
+// Who started, in the order of starts.
+ghost use Rattle.std.specs.Prelude.{◌≡◌, ◌∷◌, ◌++◌, ◌+◌, ◌-◌, ◌≤◌, ◌^◌, [], OnOk, length};
+ghost use Rattle.world_events.specs.Starts.{IsSameOrder, HasRoomFor, place_at};
+
+use mail_bytes::Memory;
+use std::alloc::Global;
+
+/// How many members a generation has.
+const MEMBERS: usize = 4;
+
+/// The actors that started, in order, each as often as it started: a member by its seat, and any other one by four more than its place
+/// among those that are no members.
+#[derive(Drop)]
+pub struct Starts {
+    order: Vec<usize>,
+    // where the newest generation stands there
+    newest: usize,
+}
+
+impl Starts {
+    /// Nobody started. Takes no memory.
+    pub fn new(alloc: Global) -> Starts
+        ensures order { result.order.items ≡ [] }
+        ensures newest { result.newest ≡ 0 }
+    {
+        Starts {
+            order: Vec::new(alloc),
+            newest: 0,
+        }
+    }
+
+    /// Makes room for so many starts.
+    pub fn make_room(&mut self, more: usize) -> Result<(), Memory>
+        ensures same { IsSameOrder self.old self.new }
+        ensures room { OnOk result (HasRoomFor self.new more) }
+    {
+        self.order.reserve(more)
+    }
+
+    /// The actor at this place among those that are no members starts. Takes no memory. The conditions: there is room, and a usize counts
+    /// it.
+    pub fn add_other(&mut self, place: usize)
+        requires room { HasRoomFor self.old 1 }
+        requires fits { place + 4 ≤ 2 ^ 64 - 1 }
+        ensures order { self.new.order.items ≡ self.old.order.items ++ (place + 4) ∷ [] }
+        ensures newest { self.new.newest ≡ self.old.newest }
+    {
+        self.order.push(place + MEMBERS).unwrap();
+    }
+
+    /// A generation starts. Takes no memory. The condition: there is room.
+    pub fn add_members(&mut self)
+        requires { HasRoomFor self.old 4 }
+        ensures order { self.new.order.items ≡ self.old.order.items ++ 0 ∷ 1 ∷ 2 ∷ 3 ∷ [] }
+        ensures newest { self.new.newest ≡ length self.old.order.items }
+    {
+        self.newest = self.order.len();
+        self.order.extend_from_slice(&[0, 1, 2, 3]).unwrap();
+    }
+
+    /// How many starts there were.
+    pub fn count(&self) -> usize
+        ensures { result ≡ length self.now.order.items }
+    {
+        self.order.len()
+    }
+
+    /// The place among all actors of the one that started at this place in the order, if it hasn't started again. So many of them are
+    /// members. The condition: at most four.
+    pub fn place_at(&self, crew: usize, at: usize) -> Option<usize>
+        requires { crew ≤ 4 }
+        ensures { result ≡ place_at self.now crew at }
+    {
+        let seat = *self.order.get(at)?;
+        if seat >= MEMBERS {
+            Some(crew + (seat - MEMBERS))
+        } else if at >= self.newest {
+            Some(seat)
+        } else {
+            None
+        }
+    }
+}
