@@ -1,27 +1,20 @@
 -- The bounces in ledgers, as the books change.
-use Rattle.std.proofs.Common.{◌≡◌, ◌≢◌, ◌⊎◌, inl, inr, ℕ, List, [], ◌∷◌, ◌++◌, Bool, true, false, Option, Some, None, option_map, option_to_list, refl, sym, ap, ◌∙◌, subst, ⊎_elim, bytes_eq, if◌then◌else◌}
+use Rattle.std.proofs.Common.{◌≡◌, ◌≢◌, ◌⊎◌, inl, inr, ℕ, List, [], ◌∷◌, Bool, true, false, Option, Some, None, refl, sym, ap, ◌∙◌, subst, ⊎_elim, if◌then◌else◌}
 use Rattle.address_rules.specs.declared.controls.Controls.{Controls}
 use Rattle.bounce_record.specs.declared.note_row.NoteRow.{NoteRow}
 use Rattle.bounce_record.specs.declared.note_row.NoteRow.TheVariants as written
 use Rattle.bounce_record.specs.declared.return_row.ReturnRow.{ReturnRow}
 use Rattle.bounce_record.specs.declared.return_row.ReturnRow.TheVariants as back
-use Rattle.call_fs.proofs.Maps.{put_cases}
 use Rattle.call_fs.specs.declared.calls.Answer.{Answer}
 use Rattle.call_fs.specs.declared.calls.Answer.TheVariants.{Done}
 use Rattle.call_fs.specs.declared.calls.CallData.{CallData}
-use Rattle.call_fs.specs.declared.calls.CallData.TheVariants.{Link}
 use Rattle.call_fs.specs.declared.past.GotData.{GotData}
 use Rattle.call_fs.specs.declared.past.GotData.TheVariants as got
 use Rattle.call_fs.specs.Disk.{Among}
-use Rattle.call_fs.specs.Maps.{put}
 use Rattle.queue_inject.specs.declared.injection.Arguments.{Arguments}
-use Rattle.queue_law.proofs.Looks.{mapped_some}
-use Rattle.queue_law.specs.Books.{Books, Child, HasQueued, Injection, IsInjected, IsLater, accept, begun, booked, booked_all, booked_on, entered_in, line_said, linked, notes_read, with_line}
+use Rattle.queue_law.specs.Books.{Books, Child, HasQueued, Injection, IsInjected, IsLater, booked, booked_all, booked_on, entered_in, line_said, notes_read}
 use Rattle.queue_law.specs.Ledgers.{Bounced, Ledger, Line, line_in}
 use Rattle.queue_law.specs.Ledgers.Line.{Delivers, Drops, Fails, Notes, Reads, Returns}
-use Rattle.queue_paths.specs.Names.{Name, parse, path}
-use Rattle.queue_paths.specs.Names.Name.{Of}
-use Rattle.queue_paths.specs.Names.Part.{Intd, Mess, Todo}
 use Rattle.send_core.specs.Booked.{booked_at, if_done, if_ok, marked_at, noted_at, reported_all, reported_by, reported_if, reported_when, returned_at}
 use Rattle.send_core.specs.declared.desk.Desk.{Desk}
 use Rattle.send_core.specs.declared.row.MarkRow.{MarkRow}
@@ -46,11 +39,15 @@ use Rattle.spawn_protocol.specs.declared.report.Report.{Report}
 use Rattle.spawn_protocol.specs.Report.{counted, read_on}
 use Rattle.std.proofs.lemmas.Bool.Decides.{eqb_tells}
 use Rattle.std.specs.Prelude.{◌==◌}
-use Rattle.world_law.specs.Bounces.{BouncesAreQueued, IsBounceOf, IsKept, IsReturned}
+use Rattle.world_law.specs.Bounces.{BouncesAreQueued, IsBounceOf, IsReturned}
+use Rattle.world_law.proofs.Columns.{Has, IsLiving, call_has, entered_has, not_entered}
+
+abbrev bounced_in : Ledger → List Bounced
+bounced_in l = l.bounced
 
 -- a bounce in the ledger of some message with these arguments
 abbrev HasBounce : Books → Arguments → Bounced → Type 0
-HasBounce b of x = (i : Injection) × IsKept b i × (i.args ≡ of) × Among x i.ledger.bounced
+HasBounce b of x = Has bounced_in b of x
 
 -- what was accepted stays so
 abbrev pub KeepsAccepted : Books → Books → Type 0
@@ -66,77 +63,12 @@ kept_returned : (controls : Controls) (b : Books) → BouncesAreQueued controls 
 kept_returned controls b B of x h =
     let w = B h.0 h.1 x h.3 in (w.accepted, subst (λ (z : Arguments). IsBounceOf controls z x.notes x.args) h.2 w.carries)
 
-pub put_some : (living : ℕ → Option Injection) (k n : ℕ) (o : Option Injection) (i : Injection) → put living k o n ≡ Some i → (o ≡ Some i) ⊎ (living n ≡ Some i)
-put_some living k n o i is = ⊎_elim
-    (λ (c : (n ≡ k) × (put living k o n ≡ o)). inl (sym c.1 ∙ is))
-    (λ (c : (n ≢ k) × (put living k o n ≡ living n)). inr (sym c.1 ∙ is))
-    (put_cases living k o n)
-
 -- A call of an injector
-
-begun_none : (a : List ℕ) (args : Arguments) (n : ℕ) (i : Injection) (x : Bounced) → ◌≡◌ {A = Option Injection} (Some (begun a args n)) (Some i) → Among x i.ledger.bounced → ⊥
-begun_none a args n i x e h = let same : i ≡ begun a args n = cc in subst (λ (j : Injection). Among x j.ledger.bounced) same h
-
-pub accepted_ledger : (a : List ℕ) (o : Option Injection) (i : Injection) → accept a o ≡ Some i → (j : Injection) × (o ≡ Some j) × (i.args ≡ j.args) × (i.ledger ≡ j.ledger)
-accepted_ledger a None i e = absurd (cc)
-accepted_ledger a (Some j) i e = let w = by (bytes_eq j.actor a) e in (j, refl, w.0, w.1)
-  where
-    by : (t : Bool) → (if t then Some (record j { accepted = true }) else Some j) ≡ Some i → (i.args ≡ j.args) × (i.ledger ≡ j.ledger)
-    by true is = let same : i ≡ record j { accepted = true } = cc in (ap (λ (k : Injection). k.args) same, ap (λ (k : Injection). k.ledger) same)
-    by false is = let same : i ≡ j = cc in (ap (λ (k : Injection). k.args) same, ap (λ (k : Injection). k.ledger) same)
-
-pub among_option : (o : Option Injection) (i : Injection) → Among i (option_to_list o) → o ≡ Some i
-among_option None i h = absurd h
-among_option (Some j) i h = ⊎_elim (λ (same : i ≡ j). ap Some (sym same)) (λ (none : ⊥). absurd none) h
-
-pub among_append : (i : Injection) (xs ys : List Injection) → Among i (xs ++ ys) → Among i xs ⊎ Among i ys
-among_append i [] ys h = inr h
-among_append i (y ∷ xs) ys h = ⊎_elim
-    (λ (e : i ≡ y). inl (inl e))
-    (λ (w : Among i (xs ++ ys)). ⊎_elim (λ (v : Among i xs). inl (inr v)) (λ (v : Among i ys). inr v) (among_append i xs ys w))
-    h
-
-module _ (b : Books) (a : List ℕ) (args of : Arguments) where
-  begun_bounces : (n : ℕ) (x : Bounced) → HasBounce (record { living = put b.living n (Some (begun a args n)); over = option_to_list (b.living n) ++ b.over }) of x → HasBounce b of x
-  begun_bounces n x h = ⊎_elim
-      (λ (w : (k : ℕ) × (put b.living n (Some (begun a args n)) k ≡ Some h.0)). ⊎_elim
-      (λ (new : Some (begun a args n) ≡ Some h.0). absurd (begun_none a args n h.0 x new h.3))
-      (λ (old : b.living w.0 ≡ Some h.0). (h.0, inl (w.0, old), h.2, h.3))
-      (put_some b.living n w.0 (Some (begun a args n)) h.0 w.1))
-      (λ (w : Among h.0 (option_to_list (b.living n) ++ b.over)). ⊎_elim
-      (λ (v : Among h.0 (option_to_list (b.living n))). (h.0, inl (n, among_option (b.living n) h.0 v), h.2, h.3))
-      (λ (v : Among h.0 b.over). (h.0, inr v, h.2, h.3))
-      (among_append h.0 (option_to_list (b.living n)) b.over w))
-      h.1
-
-  accepted_bounces : (n : ℕ) (x : Bounced) → HasBounce (record { living = put b.living n (accept a (b.living n)); over = b.over }) of x → HasBounce b of x
-  accepted_bounces n x h = ⊎_elim
-      (λ (w : (k : ℕ) × (put b.living n (accept a (b.living n)) k ≡ Some h.0)). ⊎_elim
-      (λ (new : accept a (b.living n) ≡ Some h.0).
-      let j = accepted_ledger a (b.living n) h.0 new in (j.0, inl (n, j.1), sym j.2 ∙ h.2, subst (λ (l : Ledger). Among x l.bounced) j.3 h.3))
-      (λ (old : b.living w.0 ≡ Some h.0). (h.0, inl (w.0, old), h.2, h.3))
-      (put_some b.living n w.0 (accept a (b.living n)) h.0 w.1))
-      (λ (w : Among h.0 b.over). (h.0, inr w, h.2, h.3))
-      h.1
-
-  if_bounces : (t : Bool) (c : Books) (x : Bounced) → (HasBounce c of x → HasBounce b of x) → HasBounce (if t then c else b) of x → HasBounce b of x
-  if_bounces true c x back h = back h
-  if_bounces false c x back h = h
-
-  linked_bounces : (old : List ℕ) (name : Option Name) (x : Bounced) → HasBounce (linked b a args old name) of x → HasBounce b of x
-  linked_bounces old (Some (Of Mess n)) x h = begun_bounces n x h
-  linked_bounces old (Some (Of Todo n)) x h =
-      if_bounces (bytes_eq old (path (Of Intd n))) (record { living = put b.living n (accept a (b.living n)); over = b.over }) x (accepted_bounces n x) h
-  linked_bounces old name x h = h
-
-  call_bounces : (call : CallData) (answer : Answer) (x : Bounced) → HasBounce (booked b a args call answer) of x → HasBounce b of x
-  call_bounces (Link old new) Done x h = linked_bounces old (parse new) x h
-  call_bounces call answer x h = h
 
 pub called_bounces : (controls : Controls) (b : Books) (a : List ℕ) (args : Arguments) (call : CallData) (answer : Answer) → KeepsAccepted b (booked b a args call answer)
     → BouncesAreQueued controls b → BouncesAreQueued controls (booked b a args call answer)
 called_bounces controls b a args call answer keeps B i kept x h =
-    let w = kept_returned controls b B i.args x (call_bounces b a args i.args call answer x (i, kept, refl, h)) in
+    let w = kept_returned controls b B i.args x (call_has bounced_in (λ y none. none) b a args i.args call answer x (i, kept, refl, h)) in
     record { accepted = queued_on b (booked b a args call answer) keeps x.actor x.args w.0; carries = w.1 }
 
 -- What a sender enters
@@ -153,25 +85,6 @@ line_bounced (Notes s) l x h = inl h
 line_bounced (Reads bytes) l x h = inl h
 line_bounced Drops l x h = inl h
 
--- the message of that number has these arguments
-abbrev pub IsLiving : Books → ℕ → Arguments → Type 0
-IsLiving b n of = (i : Injection) × (b.living n ≡ Some i) × (i.args ≡ of)
-
-entered_bounces : (b : Books) (n : ℕ) (line : Line) (of : Arguments) (x : Bounced) → HasBounce (entered_in b n line) of x → HasBounce b of x ⊎ (IsLineOf line x × IsLiving b n of)
-entered_bounces b n line of x h = ⊎_elim
-    (λ (w : (k : ℕ) × (put b.living n (option_map (with_line line) (b.living n)) k ≡ Some h.0)). ⊎_elim
-    (λ (new : option_map (with_line line) (b.living n) ≡ Some h.0).
-    let j = mapped_some (with_line line) (b.living n) h.0 new in
-    let args : j.0.args ≡ of = ap (λ (i : Injection). i.args) j.2 ∙ h.2 in
-    ⊎_elim
-    (λ (old : Among x j.0.ledger.bounced). inl (j.0, inl (n, j.1), args, old))
-    (λ (it : IsLineOf line x). inr (it, (j.0, j.1, args)))
-    (line_bounced line j.0.ledger x (subst (λ (i : Injection). Among x i.ledger.bounced) (sym j.2) h.3)))
-    (λ (old : b.living w.0 ≡ Some h.0). inl (h.0, inl (w.0, old), h.2, h.3))
-    (put_some b.living n w.0 (option_map (with_line line) (b.living n)) h.0 w.1))
-    (λ (w : Among h.0 b.over). inl (h.0, inr w, h.2, h.3))
-    h.1
-
 -- the end of an injector of a bounce with 0 is among them
 abbrev IsReturn : Booking → Type 0
 IsReturn (Returned n) = Unit {0}
@@ -183,8 +96,7 @@ HasReturn (e ∷ es) = IsReturn e ⊎ HasReturn es
 
 -- no bounce more
 no_line : (b : Books) (n : ℕ) (line : Line) (of : Arguments) (x : Bounced) → (IsLineOf line x → ⊥) → HasBounce (entered_in b n line) of x → HasBounce b of x
-no_line b n line of x none h =
-    ⊎_elim (λ (old : HasBounce b of x). old) (λ (it : IsLineOf line x × IsLiving b n of). absurd (none it.0)) (entered_bounces b n line of x h)
+no_line b n line of x none h = not_entered bounced_in IsLineOf line_bounced b n line of x none h
 
 said_none : (delivered : Bool) (c : Channel) (place : ℕ) (x : Bounced) → IsLineOf (line_said delivered (record { channel = c; place = place })) x → ⊥
 said_none true c place x h = h
@@ -216,7 +128,7 @@ returned_bounces None b n of x h = inl h
 returned_bounces (Some c) b n of x h = ⊎_elim
     (λ (old : HasBounce b of x). inl old)
     (λ (it : (x ≡ bounced c (notes_read (b.living n))) × IsLiving b n of). inr (c, refl, it.1, it.0))
-    (entered_bounces b n (Returns (bounced c (notes_read (b.living n)))) of x h)
+    (entered_has bounced_in IsLineOf line_bounced b n (Returns (bounced c (notes_read (b.living n)))) of x h)
 
 -- Of what a sender enters nothing is a bounce, or it is one bounce alone: that of its child, which has queued it, of the message of that number
 -- with the notes that were read last.

@@ -67,7 +67,7 @@ use Rattle.world_law.specs.Bounces.{IsKept}
 use Rattle.world_law.specs.Crew.{IsNamed}
 use Rattle.world_law.specs.Inv.{Inv}
 use Rattle.world_law.specs.Posts.{DeliveredAreCarried, PostsStand, WasDone}
-use Rattle.world_law.proofs.Bounces.{IsLiving}
+use Rattle.world_law.proofs.Columns.{IsLiving}
 use Rattle.world_law.proofs.DeliveredBooks.{HasDelivered, IsAmongThem, IsSaid, all_channel, all_delivered, call_delivered, said_at, said_heard}
 use Rattle.world_law.proofs.Histories.{always}
 use Rattle.world_law.proofs.PostHeard.{link_hears, was_delivered}
@@ -272,7 +272,8 @@ module _ (controls : Controls) (s : State) (I : Inv controls s) (P : PostsStand 
     of_said : spot.channel ≡ Local → IsSaid P.done (lane Local d.slots).slots n spot.place → IsDoneFor s (routed controls of r)
     of_said on z =
         let lives : q.books.living z.attempt.n ≡ Some living.0 = ap s.books.living (sym z.number_is) ∙ living.1 in
-        let there = routed_there controls q d.row Local d.slots I.control.no_nul I.sound ((I.fares (codes "sender") (sender began past) is).stands.lanes Local) z.slot z.attempt z.flies living.0 lives in
+        let there =
+        routed_there controls q d.row Local d.slots I.control.no_nul I.sound ((I.fares (codes "sender") (sender began past) is).stands.lanes Local) z.slot z.attempt z.flies living.0 lives in
         let address : z.attempt.address ≡ routed controls of r =
         subst (λ (args : Arguments). (y : Recipient args) → (spot_of controls args y).channel ≡ Local → (spot_of controls args y).place ≡ z.attempt.place → z.attempt.address ≡ routed controls args y)
         living.2 there r on z.place_is in
@@ -300,17 +301,20 @@ abbrev DeliveredStand : Controls → State → Type 0
 DeliveredStand controls s = (of : Arguments) (r : Recipient of) → (spot_of controls of r).channel ≡ Local → HasDelivered s.books of (spot_of controls of r) → IsDoneFor s (routed controls of r)
 
 -- by whom it is told
-said_by : (controls : Controls) (s : State) (I : Inv controls s) → PostsStand s → (a : List ℕ) (own : Own) (wrote : ℕ) (program : Program) (past : List Own) (life : Life) → life ≡ Alive → IsNamed a program
-    → s.actors a ≡ Some (record { program = program; past = past; life = life }) → next_of program past own.read own.ready ≡ own.due → ComesOf s a own.due own.came wrote
-    → (of : Arguments) (r : Recipient of) → (spot_of controls of r).channel ≡ Local → IsSaidBy program past own.read own.ready own.came s.books of (spot_of controls of r) → IsDoneFor s (routed controls of r)
+said_by : (controls : Controls) (s : State) (I : Inv controls s) → PostsStand s → (a : List ℕ) (own : Own) (wrote : ℕ) (program : Program) (past : List Own) (life : Life)
+    → life ≡ Alive → IsNamed a program → s.actors a ≡ Some (record { program = program; past = past; life = life })
+    → next_of program past own.read own.ready ≡ own.due → ComesOf s a own.due own.came wrote
+    → (of : Arguments) (r : Recipient of) → (spot_of controls of r).channel ≡ Local → IsSaidBy program past own.read own.ready own.came s.books of (spot_of controls of r)
+    → IsDoneFor s (routed controls of r)
 said_by controls s I P a own wrote (Sender since) past Alive alive named is due comes of r on said =
     said_now controls s I P own wrote since past (subst (λ (b : List ℕ). s.actors b ≡ Some (sender since past)) named is) due
     (subst (λ (b : List ℕ). ComesOf s b own.due own.came wrote) named comes) of r said.0 said.2 on said.1
 said_by controls s I P a own wrote (Sender since) past life alive named is due comes of r on said = absurd (cc)
 said_by controls s I P a own wrote program past life alive named is due comes of r on said = absurd said
 
-act_done : (controls : Controls) (s : State) (I : Inv controls s) → PostsStand s → DeliveredStand controls s → (a : List ℕ) (own : Own) (wrote : ℕ) (may : MayDo s a own wrote) → (of : Arguments) (r : Recipient of)
-    → (spot_of controls of r).channel ≡ Local → HasDelivered (acted s a own wrote (Some may.actor)).books of (spot_of controls of r) → IsDoneFor s (routed controls of r)
+act_done : (controls : Controls) (s : State) (I : Inv controls s) → PostsStand s → DeliveredStand controls s → (a : List ℕ) (own : Own) (wrote : ℕ) (may : MayDo s a own wrote)
+    → (of : Arguments) (r : Recipient of) → (spot_of controls of r).channel ≡ Local
+    → HasDelivered (acted s a own wrote (Some may.actor)).books of (spot_of controls of r) → IsDoneFor s (routed controls of r)
 act_done controls s I P D a own wrote may of r on h =
     let x = may.actor in
     ⊎_elim

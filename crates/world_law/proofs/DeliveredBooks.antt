@@ -1,5 +1,5 @@
 -- What ledgers have as delivered, as the books change; and of which reports that comes.
-use Rattle.std.proofs.Common.{◌≡◌, ◌≢◌, ◌⊎◌, inl, inr, ⊎_elim, ℕ, ◌==◌, List, [], ◌∷◌, ◌++◌, Bool, true, false, Option, Some, None, option_map, option_to_list, refl, sym, ap, ◌∙◌, subst, bytes_eq, if◌then◌else◌}
+use Rattle.std.proofs.Common.{◌≡◌, ◌≢◌, ◌⊎◌, inl, inr, ⊎_elim, ℕ, ◌==◌, List, [], ◌∷◌, Bool, true, false, Option, Some, None, option_map, refl, sym, ap, ◌∙◌, subst, if◌then◌else◌}
 use Rattle.std.proofs.lemmas.Bool.{eqb-true}
 use Rattle.bounce_record.specs.declared.note_row.NoteRow.{NoteRow}
 use Rattle.bounce_record.specs.declared.note_row.NoteRow.TheVariants as written
@@ -11,7 +11,6 @@ use Rattle.call_fs.specs.Maps.{put}
 use Rattle.call_fs.specs.declared.calls.Answer.{Answer}
 use Rattle.call_fs.specs.declared.calls.Answer.TheVariants as answer
 use Rattle.call_fs.specs.declared.calls.CallData.{CallData}
-use Rattle.call_fs.specs.declared.calls.CallData.TheVariants.{Link}
 use Rattle.call_fs.specs.declared.past.GotData.{GotData}
 use Rattle.call_fs.specs.declared.past.GotData.TheVariants as got
 use Rattle.post_law.specs.Laws.{AreHeard, IsHeard, WasDelivered}
@@ -19,12 +18,9 @@ use Rattle.post_law.specs.Posts.{Done, freed}
 use Rattle.post_law.proofs.Desks.{desks_tell, was_in}
 use Rattle.queue_inject.specs.declared.injection.Arguments.{Arguments}
 use Rattle.queue_law.proofs.Looks.{mapped_some}
-use Rattle.queue_law.specs.Books.{Books, Child, Injection, accept, begun, booked, booked_all, booked_on, entered_in, line_said, linked, notes_read, with_line}
+use Rattle.queue_law.specs.Books.{Books, Child, Injection, booked, booked_all, booked_on, entered_in, line_said, notes_read, with_line}
 use Rattle.queue_law.specs.Ledgers.{Ledger, Line, Spot, line_in}
 use Rattle.queue_law.specs.Ledgers.Line.{Delivers, Drops, Fails, Notes, Reads, Returns}
-use Rattle.queue_paths.specs.Names.{Name, parse, path}
-use Rattle.queue_paths.specs.Names.Name.{Of}
-use Rattle.queue_paths.specs.Names.Part.{Intd, Mess, Todo}
 use Rattle.send_core.specs.Booked.{booked_at, if_done, if_ok, if_zero, marked_at, noted_at, reported_all, reported_by, reported_if, reported_when, returned_at}
 use Rattle.send_core.specs.declared.desk.Desk.{Desk}
 use Rattle.send_core.specs.declared.row.MarkRow.{MarkRow}
@@ -46,54 +42,18 @@ use Rattle.send_steps.specs.declared.rows.FinishRow.TheVariants as finish
 use Rattle.send_steps.specs.Replies.{said}
 use Rattle.spawn_protocol.specs.declared.report.Report.{Report}
 use Rattle.spawn_protocol.specs.Report.{counted}
-use Rattle.world_law.specs.Bounces.{IsKept}
-use Rattle.world_law.proofs.Bounces.{IsLiving, accepted_ledger, among_append, among_option, put_some}
+use Rattle.world_law.proofs.Columns.{Has, IsLiving, call_has, entered_has, not_entered}
+
+abbrev pub delivered_in : Ledger → List Spot
+delivered_in l = l.delivered
 
 -- a recipient is delivered to, by the ledger of some message with these arguments
 abbrev pub HasDelivered : Books → Arguments → Spot → Type 0
-HasDelivered b of x = (i : Injection) × IsKept b i × (i.args ≡ of) × Among x i.ledger.delivered
+HasDelivered b of x = Has delivered_in b of x
 
 -- A call of an injector
-
-begun_none : (a : List ℕ) (args : Arguments) (n : ℕ) (i : Injection) (x : Spot) → ◌≡◌ {A = Option Injection} (Some (begun a args n)) (Some i) → Among x i.ledger.delivered → ⊥
-begun_none a args n i x e h = let same : i ≡ begun a args n = cc in subst (λ (j : Injection). Among x j.ledger.delivered) same h
-
-module _ (b : Books) (a : List ℕ) (args of : Arguments) where
-  begun_delivered : (n : ℕ) (x : Spot) → HasDelivered (record { living = put b.living n (Some (begun a args n)); over = option_to_list (b.living n) ++ b.over }) of x → HasDelivered b of x
-  begun_delivered n x h = ⊎_elim
-      (λ (w : (k : ℕ) × (put b.living n (Some (begun a args n)) k ≡ Some h.0)). ⊎_elim
-      (λ (new : Some (begun a args n) ≡ Some h.0). absurd (begun_none a args n h.0 x new h.3))
-      (λ (old : b.living w.0 ≡ Some h.0). (h.0, inl (w.0, old), h.2, h.3))
-      (put_some b.living n w.0 (Some (begun a args n)) h.0 w.1))
-      (λ (w : Among h.0 (option_to_list (b.living n) ++ b.over)). ⊎_elim
-      (λ (v : Among h.0 (option_to_list (b.living n))). (h.0, inl (n, among_option (b.living n) h.0 v), h.2, h.3))
-      (λ (v : Among h.0 b.over). (h.0, inr v, h.2, h.3))
-      (among_append h.0 (option_to_list (b.living n)) b.over w))
-      h.1
-
-  accepted_delivered : (n : ℕ) (x : Spot) → HasDelivered (record { living = put b.living n (accept a (b.living n)); over = b.over }) of x → HasDelivered b of x
-  accepted_delivered n x h = ⊎_elim
-      (λ (w : (k : ℕ) × (put b.living n (accept a (b.living n)) k ≡ Some h.0)). ⊎_elim
-      (λ (new : accept a (b.living n) ≡ Some h.0).
-      let j = accepted_ledger a (b.living n) h.0 new in (j.0, inl (n, j.1), sym j.2 ∙ h.2, subst (λ (l : Ledger). Among x l.delivered) j.3 h.3))
-      (λ (old : b.living w.0 ≡ Some h.0). (h.0, inl (w.0, old), h.2, h.3))
-      (put_some b.living n w.0 (accept a (b.living n)) h.0 w.1))
-      (λ (w : Among h.0 b.over). (h.0, inr w, h.2, h.3))
-      h.1
-
-  if_delivered : (t : Bool) (c : Books) (x : Spot) → (HasDelivered c of x → HasDelivered b of x) → HasDelivered (if t then c else b) of x → HasDelivered b of x
-  if_delivered true c x back h = back h
-  if_delivered false c x back h = h
-
-  linked_delivered : (old : List ℕ) (name : Option Name) (x : Spot) → HasDelivered (linked b a args old name) of x → HasDelivered b of x
-  linked_delivered old (Some (Of Mess n)) x h = begun_delivered n x h
-  linked_delivered old (Some (Of Todo n)) x h =
-      if_delivered (bytes_eq old (path (Of Intd n))) (record { living = put b.living n (accept a (b.living n)); over = b.over }) x (accepted_delivered n x) h
-  linked_delivered old name x h = h
-
-  pub call_delivered : (call : CallData) (told : Answer) (x : Spot) → HasDelivered (booked b a args call told) of x → HasDelivered b of x
-  call_delivered (Link old new) answer.Done x h = linked_delivered old (parse new) x h
-  call_delivered call told x h = h
+pub call_delivered : (b : Books) (a : List ℕ) (args of : Arguments) (call : CallData) (told : Answer) (x : Spot) → HasDelivered (booked b a args call told) of x → HasDelivered b of x
+call_delivered b a args of call told x h = call_has delivered_in (λ y none. none) b a args of call told x h
 
 -- What a sender enters
 
@@ -109,24 +69,8 @@ line_delivered (Reads bytes) l x h = inl h
 line_delivered (Returns y) l x h = inl h
 line_delivered Drops l x h = inl h
 
-entered_delivered : (b : Books) (n : ℕ) (line : Line) (of : Arguments) (x : Spot) → HasDelivered (entered_in b n line) of x → HasDelivered b of x ⊎ (IsDeliveryOf line x × IsLiving b n of)
-entered_delivered b n line of x h = ⊎_elim
-    (λ (w : (k : ℕ) × (put b.living n (option_map (with_line line) (b.living n)) k ≡ Some h.0)). ⊎_elim
-    (λ (new : option_map (with_line line) (b.living n) ≡ Some h.0).
-    let j = mapped_some (with_line line) (b.living n) h.0 new in
-    let args : j.0.args ≡ of = ap (λ (i : Injection). i.args) j.2 ∙ h.2 in
-    ⊎_elim
-    (λ (old : Among x j.0.ledger.delivered). inl (j.0, inl (n, j.1), args, old))
-    (λ (it : IsDeliveryOf line x). inr (it, (j.0, j.1, args)))
-    (line_delivered line j.0.ledger x (subst (λ (i : Injection). Among x i.ledger.delivered) (sym j.2) h.3)))
-    (λ (old : b.living w.0 ≡ Some h.0). inl (h.0, inl (w.0, old), h.2, h.3))
-    (put_some b.living n w.0 (option_map (with_line line) (b.living n)) h.0 w.1))
-    (λ (w : Among h.0 b.over). inl (h.0, inr w, h.2, h.3))
-    h.1
-
 no_delivery : (b : Books) (n : ℕ) (line : Line) (of : Arguments) (x : Spot) → (IsDeliveryOf line x → ⊥) → HasDelivered (entered_in b n line) of x → HasDelivered b of x
-no_delivery b n line of x none h =
-    ⊎_elim (λ (old : HasDelivered b of x). old) (λ (it : IsDeliveryOf line x × IsLiving b n of). absurd (none it.0)) (entered_delivered b n line of x h)
+no_delivery b n line of x none h = not_entered delivered_in IsDeliveryOf line_delivered b n line of x none h
 
 -- one that is entered was reported
 abbrev IsOne : Booking → Books → Arguments → Spot → Type 0
@@ -136,7 +80,7 @@ one_delivered : (child : Option Child) (e : Booking) (b : Books) (of : Arguments
 one_delivered child (Reported true c n place) b of x h = ⊎_elim
     (λ (old : HasDelivered b of x). inl old)
     (λ (it : (x ≡ record { channel = c; place = place }) × IsLiving b n of). inr (n, ap (λ (y : Spot). Reported true y.channel n y.place) it.0, it.1))
-    (entered_delivered b n (Delivers (record { channel = c; place = place })) of x h)
+    (entered_has delivered_in IsDeliveryOf line_delivered b n (Delivers (record { channel = c; place = place })) of x h)
 one_delivered child (Reported false c n place) b of x h = inl (no_delivery b n (Fails (record { channel = c; place = place })) of x (λ it. it) h)
 one_delivered child (Noted c n place) b of x h = inl (no_delivery b n (Notes (record { channel = c; place = place })) of x (λ it. it) h)
 one_delivered child (ReadNotes n notes) b of x h = inl (no_delivery b n (Reads notes) of x (λ it. it) h)
@@ -235,7 +179,8 @@ said_at row came d k c n place h = absurd h
 
 -- each that ends in the bytes of a channel is of that channel
 module _ (e : Channel) (k : Bool) (c : Channel) (n place : ℕ) where
-  if_channel : (final delivered : Bool) (a : Attempt) (later : List Booking) → (Among (Reported k c n place) later → c ≡ e) → Among (Reported k c n place) (reported_if final delivered e a later) → c ≡ e
+  if_channel : (final delivered : Bool) (a : Attempt) (later : List Booking) → (Among (Reported k c n place) later → c ≡ e)
+      → Among (Reported k c n place) (reported_if final delivered e a later) → c ≡ e
   if_channel true delivered a later rest h = ⊎_elim (λ (same : Reported k c n place ≡ Reported delivered e a.n a.place). let v : c ≡ e = cc in v) rest h
   if_channel false delivered a later rest h = rest h
 

@@ -1,12 +1,8 @@
 -- The message that a local delivery took is the one that was entered.
-use Rattle.std.proofs.Common.{◌≡◌, ◌≢◌, ⊎_elim, ℕ, List, [], ◌∷◌, ◌++◌, Bool, true, false, ◌&&◌, option_map, Option, Some, None, refl, sym, ap, ◌∙◌, subst, codes}
+use Rattle.std.proofs.Common.{◌≡◌, ◌≢◌, ℕ, List, [], ◌∷◌, ◌++◌, Bool, true, false, ◌&&◌, option_map, Option, Some, None, refl, sym, ap, ◌∙◌, subst, codes}
 use Rattle.std.proofs.lemmas.List.{append-nil, append_assoc}
 use Rattle.address_rules.specs.declared.controls.Controls.{Controls}
 use Rattle.call_fs.specs.Disk.{Disk}
-use Rattle.call_fs.specs.declared.past.GotData.{GotData}
-use Rattle.call_fs.specs.declared.past.GotData.TheVariants as got
-use Rattle.call_fs.specs.declared.past.NeedData.{NeedData}
-use Rattle.call_fs.specs.declared.past.NeedData.TheVariants as needs
 use Rattle.call_fs.specs.declared.past.Own.{Own}
 use Rattle.call_fs.specs.declared.program.Port.TheVariants as port
 use Rattle.local_deliver.specs.Deeds.{taken}
@@ -20,30 +16,26 @@ use Rattle.post_law.proofs.Senders.{senders_keep}
 use Rattle.post_law.specs.Senders.{IsFirst, is_on}
 use Rattle.post_law.proofs.Desks.{desks_tell, was_in}
 use Rattle.send_core.specs.declared.desk.Desk.{Desk}
-use Rattle.send_core.specs.Desk.{link, told, with_reader}
-use Rattle.send_core.specs.declared.row.Row.TheVariants as at
-use Rattle.send_core.specs.Table.{desk_after, due_at, row_now}
-use Rattle.send_steps.specs.declared.rows.StartRow.TheVariants as start
+use Rattle.send_core.specs.Desk.{told}
 use Rattle.send_jobs.specs.declared.attempts.Attempt.{Attempt}
 use Rattle.send_jobs.specs.declared.channels.Channel.TheVariants.{Local}
 use Rattle.send_jobs.specs.Sending.{lane}
 use Rattle.send_jobs.specs.Slots.{attempt_in}
 use Rattle.spawn_protocol.specs.declared.report.Report.{Report}
 use Rattle.spawn_protocol.specs.declared.request.Request.{Request}
-use Rattle.spawn_protocol.specs.Report.{Reader, read_on}
 use Rattle.sender_law.specs.Control.{AreControls}
-use Rattle.world_pipes.specs.Pipework.{Pipe, Yields, closed, given, mouth}
+use Rattle.world_pipes.specs.Pipework.{Pipe, closed, given, mouth}
 use Rattle.call_fs.specs.Maps.{put_at}
 use Rattle.call_fs.proofs.Maps.{put_at_other}
 use Rattle.world_events.specs.declared.event.Program.{Program}
 use Rattle.world_events.specs.declared.event.Program.TheVariants.{Cleaner, Delivery, Injector, LocalSpawner, RemoteSpawner, Sender}
-use Rattle.mail_world.specs.History.{Actor, Allowed, ComesOf, Event, IsLocalSpawner, IsSender, Legal, Life, MayDo, State, acted, after, happens, newborn, next_of, opening, report_text, stopped}
+use Rattle.mail_world.specs.History.{Actor, Allowed, Event, IsLocalSpawner, IsSender, Legal, MayDo, State, acted, after, happens, newborn, opening, report_text, stopped}
 use Rattle.mail_world.specs.History.Event.{Act, Child, End, Generation, Halt, Moment, Report as Tells, Start, Stop}
 use Rattle.mail_world.specs.History.Life.{Alive}
 use Rattle.world_law.specs.Crew.{IsNamed}
 use Rattle.world_law.specs.Entered.{HearsEntered, IsEntered, IsEnteredReport, IsEnteredTo, KReportsAreEntered}
 use Rattle.world_law.specs.Inv.{Inv}
-use Rattle.world_law.specs.Posts.{IsDeliveredTo, PostsStand, View, WasDone, desk_in, place_in, post_of, sends_in}
+use Rattle.world_law.specs.Posts.{IsDeliveredTo, PostsStand, View, WasDone, desk_in, place_in, post_of}
 use Rattle.world_law.proofs.EnteredStands.{Begins, FeedsLast, IsGivenFor, MessagesStand, NothingComes, has_message, received, sends_on}
 use Rattle.world_law.proofs.Histories.{always}
 use Rattle.world_law.proofs.EnteredFlights.{one_number}
@@ -61,7 +53,7 @@ use Rattle.world_law.proofs.Ran.{HaveRun, have_run}
 use Rattle.world_law.proofs.Starts.{is_cleaner, is_local, is_remote, is_sender}
 use Rattle.world_law.proofs.PostPipes.{names_apart}
 use Rattle.world_law.proofs.PostViews.{halves, new_keeps_done, put_seen, view_same}
-use Rattle.world_law.proofs.PostHeard.{greeting_none, link_hears, link_on, takes_at, was_delivered}
+use Rattle.world_law.proofs.PostHeard.{takes_reports, was_delivered}
 use Rattle.world_law.proofs.SendersPut.{sender}
 use Rattle.world_law.proofs.Tenants.{some_actor}
 
@@ -120,7 +112,7 @@ module _ (controls : Controls) (s : State) (I : Inv controls s) (M : MessagesSta
   report_of r (Some t) flies h = λ success. entered_in r.slot t (flies t refl) (h success)
 
   -- one report after the other
-  pub hears_entered : (rs : List Report) (left : List (Option Attempt)) (d : Desk) → (lane Local d.slots).slots ≡ left
+  hears_entered : (rs : List Report) (left : List (Option Attempt)) (d : Desk) → (lane Local d.slots).slots ≡ left
       → ((slot : ℕ) (t : Attempt) → attempt_in left slot ≡ Some t → attempt_in slots slot ≡ Some t) → AreHeard Local P.done rs left → HearsEntered s rs d
   hears_entered [] left d same old h = tt
   hears_entered (r ∷ rs) left d same old h = (
@@ -128,55 +120,6 @@ module _ (controls : Controls) (s : State) (I : Inv controls s) (M : MessagesSta
         (subst (λ (o : List (Option Attempt)). IsHeard Local P.done r (attempt_in o r.slot)) (sym same) h.0),
     hears_entered rs (freed r left) (told Local r d) (desks_tell.one Local r d ∙ ap (freed r) same) (λ slot t is. old slot t (was_in left r slot t is)) h.1,
   )
-
--- What a sender takes
-
-module _ (controls : Controls) (s : State) (I : Inv controls s) (M : MessagesStand s) where
-  abbrev posts : PostsStand s
-  posts = M.posts
-
-  module _ (own : Own) (began : ℕ) (past : List Own) (is : s.actors (codes "sender") ≡ Some (sender began past)) where
-    abbrev d : Desk
-    d = desk_after None past
-
-    abbrev reader : Reader
-    reader = (link Local d).reader
-
-    abbrev Hears : List ℕ → Type 0
-    Hears bytes = let it = read_on reader bytes in HearsEntered s it.0 (with_reader Local it.1 d)
-
-    module _ (bytes rest : List ℕ) (some : bytes ≢ []) (lies : (s.pipework.pipes (codes "sender") port.Lspawn).bytes ≡ bytes ++ rest) where
-      of_link : row_now d own.read own.ready ≡ at.TakeLink Local → Hears bytes
-      of_link row =
-          let it = read_on reader bytes in
-          let on : sends_on s ≡ true = ap (λ (o : Option Actor). sends_in o && is_on (desk_in o).row) is ∙ link_on d.row d own.read own.ready row in
-          let same : desk_in (s.actors (codes "sender")) ≡ d = ap desk_in is in
-          hears_entered controls s I M on it.0 (lane Local d.slots).slots (with_reader Local it.1 d) refl
-          (λ slot t flies. ap (λ (z : Desk). attempt_in (lane Local z.slots).slots slot) same ∙ flies)
-          (link_hears controls s I posts own began past is bytes rest some lies row)
-
-      of_greeting : row_now d own.read own.ready ≡ at.Start start.GreetLocal → Hears bytes
-      of_greeting row =
-          subst (λ (rs : List Report). HearsEntered s rs (with_reader Local (read_on reader bytes).1 d)) (sym (greeting_none controls s I posts own began past is bytes rest some lies row)) tt
-
-      of_taking : due_at (row_now d own.read own.ready) d ≡ needs.Take port.Lspawn → Hears bytes
-      of_taking due = ⊎_elim of_link of_greeting (takes_at (row_now d own.read own.ready) d due)
-
-    taken_well : (wrote : ℕ) → due_at (row_now d own.read own.ready) d ≡ own.due → ComesOf s (codes "sender") own.due own.came wrote → own.due ≡ needs.Take port.Lspawn
-        → (bytes : List ℕ) → own.came ≡ got.Took bytes → Hears bytes
-    taken_well wrote due comes taking bytes came =
-        let yields : Yields (s.pipework.pipes (codes "sender") port.Lspawn) (got.Took bytes) =
-        subst (λ (c : GotData). ComesOf s (codes "sender") (needs.Take port.Lspawn) c wrote) came (subst (λ (n : NeedData). ComesOf s (codes "sender") n own.came wrote) taking comes) in
-        of_taking bytes yields.1.0 yields.0 yields.1.1 (due ∙ taking)
-
-  by_program : (a : List ℕ) (own : Own) (wrote : ℕ) (program : Program) (past : List Own) (life : Life) (began : ℕ) → program ≡ Sender began → life ≡ Alive → IsNamed a program
-      → s.actors a ≡ Some (record { program = program; past = past; life = life }) → next_of program past own.read own.ready ≡ own.due → ComesOf s a own.due own.came wrote
-      → own.due ≡ needs.Take port.Lspawn → (bytes : List ℕ) → own.came ≡ got.Took bytes
-      → let desk = desk_after None past in let it = read_on (link Local desk).reader bytes in HearsEntered s it.0 (with_reader Local it.1 desk)
-  by_program a own wrote (Sender since) past Alive began e alive named is due comes taking bytes came =
-      taken_well own since past (subst (λ (b : List ℕ). s.actors b ≡ Some (sender since past)) named is) wrote due (subst (λ (b : List ℕ). ComesOf s b own.due own.came wrote) named comes) taking bytes came
-  by_program a own wrote (Sender since) past life began e alive named is due comes taking bytes came = absurd (cc)
-  by_program a own wrote other past life began e alive named is due comes taking bytes came = absurd (cc)
 
 -- What is held and given stands after each legal history.
 
@@ -224,7 +167,8 @@ module _ (controls : Controls) (s : State) (I : Inv controls s) (M : MessagesSta
 act_messages : (controls : Controls) (s : State) → Inv controls s → MessagesStand s → (a : List ℕ) (own : Own) (wrote : ℕ) → MayDo s a own wrote → Inv controls (happens s (Act a own wrote))
     → NothingComes (happens s (Act a own wrote)) → MessagesStand (happens s (Act a own wrote))
 act_messages controls s I M a own wrote may =
-    subst (λ (o : Option Actor). Inv controls (acted s a own wrote o) → NothingComes (acted s a own wrote o) → MessagesStand (acted s a own wrote o)) (sym may.reads.is) (by_kind may.actor.program refl)
+    subst (λ (o : Option Actor). Inv controls (acted s a own wrote o) → NothingComes (acted s a own wrote o) → MessagesStand (acted s a own wrote o)) (sym may.reads.is)
+    (by_kind may.actor.program refl)
   where
     neither : IsNeither may.actor.program → NothingComes (acted s a own wrote (Some may.actor)) → MessagesStand (acted s a own wrote (Some may.actor))
     neither it N = neither_messages controls s I M a own wrote may it N
@@ -241,15 +185,18 @@ act_messages controls s I M a own wrote may =
     by_kind (RemoteSpawner began) e J N = neither (subst IsNeither (sym e) tt) N
     by_kind (Delivery began args) e J N = neither (subst IsNeither (sym e) tt) N
 
-messages_keep : (e : Event) (controls : Controls) (s : State) → HaveRun s.actors → Inv controls s → Inv controls (happens s e) → NothingComes (happens s e) → MessagesStand s → Allowed s e → MessagesStand (happens s e)
+messages_keep : (e : Event) (controls : Controls) (s : State) → HaveRun s.actors → Inv controls s → Inv controls (happens s e) → NothingComes (happens s e)
+    → MessagesStand s → Allowed s e → MessagesStand (happens s e)
 messages_keep (Moment m) controls s R I J N M may = messages_left s (happens s (Moment m)) (record { view = refl; keeps = λ a x is. (x, is, refl, λ h. h); slots = λ d. refl })
     (λ on n m flies h. record { injection = h.injection; lives = h.lives; accepted = h.accepted; text = h.text }) (λ goes fd how h. record { opened = h.opened; held = h.held })
     (λ k it y there. ap (λ (z : Actor). received s k.name z) (some_actor y it.delivery (sym there ∙ it.is))) M N
-messages_keep (Tells slot letter text) controls s R I J N M may = messages_left s (happens s (Tells slot letter text)) (record { view = refl; keeps = λ a x is. (x, is, refl, λ h. h); slots = λ d. refl })
+messages_keep (Tells slot letter text) controls s R I J N M may =
+    messages_left s (happens s (Tells slot letter text)) (record { view = refl; keeps = λ a x is. (x, is, refl, λ h. h); slots = λ d. refl })
     (λ on n m flies h. record { injection = h.injection; lives = h.lives; accepted = h.accepted; text = h.text }) (λ goes fd how h. record { opened = h.opened; held = h.held })
     (λ k it y there.
     ap (λ (z : Actor). taken z.past ++ ((happens s (Tells slot letter text)).pipework.pipes k.name port.Input).bytes) (some_actor y it.delivery (sym there ∙ it.is))
-    ∙ ap (λ (p : Pipe). taken it.delivery.past ++ p.bytes) (away_same s.pipework.pipes (Some (mouth (codes "rspawn") (port.Program slot))) (λ pipe. closed (given (report_text letter text) pipe)) k.name port.Input refl))
+    ∙ ap (λ (p : Pipe). taken it.delivery.past ++ p.bytes)
+    (away_same s.pipework.pipes (Some (mouth (codes "rspawn") (port.Program slot))) (λ pipe. closed (given (report_text letter text) pipe)) k.name port.Input refl))
     M N
 messages_keep (Start a (Injector args)) controls s R I J N M may = messages_left s (happens s (Start a (Injector args)))
     (record {
@@ -288,8 +235,10 @@ messages_keep (Generation sender clean lspawn rspawn) controls s R I J N M may =
     let four = is_remote rspawn may.kinds.3 in
     subst (λ (p : Program). NothingComes (happens s (Generation p clean lspawn rspawn)) → MessagesStand (happens s (Generation p clean lspawn rspawn))) (sym one.1)
     (subst (λ (p : Program). NothingComes (happens s (Generation (Sender one.0) p lspawn rspawn)) → MessagesStand (happens s (Generation (Sender one.0) p lspawn rspawn))) (sym two.1)
-    (subst (λ (p : Program). NothingComes (happens s (Generation (Sender one.0) (Cleaner two.0) p rspawn)) → MessagesStand (happens s (Generation (Sender one.0) (Cleaner two.0) p rspawn))) (sym three.1)
-    (subst (λ (p : Program). NothingComes (happens s (Generation (Sender one.0) (Cleaner two.0) (LocalSpawner three.0) p)) → MessagesStand (happens s (Generation (Sender one.0) (Cleaner two.0) (LocalSpawner three.0) p))) (sym four.1)
+    (subst (λ (p : Program). NothingComes (happens s (Generation (Sender one.0) (Cleaner two.0) p rspawn)) → MessagesStand (happens s (Generation (Sender one.0) (Cleaner two.0) p rspawn)))
+    (sym three.1)
+    (subst (λ (p : Program). NothingComes (happens s (Generation (Sender one.0) (Cleaner two.0) (LocalSpawner three.0) p))
+    → MessagesStand (happens s (Generation (Sender one.0) (Cleaner two.0) (LocalSpawner three.0) p))) (sym four.1)
     (generation_messages controls s I M one.0 two.0 three.0 four.0)))) N
 messages_keep (Act a own wrote) controls s R I J N M may = act_messages controls s I M a own wrote may J N
 messages_keep (End a read ready status) controls s R I J N M may = end_messages controls s I M a read ready status may N
@@ -299,7 +248,8 @@ messages_keep (Child parent own a program) controls s R I J N M may = child_mess
 messages_always : (controls : Controls) (d : Disk) (before : List Event) → AreControls controls d → Legal d before → MessagesStand (after d before)
 messages_always controls d [] has legal = opening_holds controls d has legal
 messages_always controls d (e ∷ before) has legal =
-    messages_keep e controls (after d before) (have_run d before legal.0) (always controls d before has legal.0) (always controls d (e ∷ before) has legal) (newcomers_always controls d (e ∷ before) has legal)
+    messages_keep e controls (after d before) (have_run d before legal.0) (always controls d before has legal.0) (always controls d (e ∷ before) has legal)
+    (newcomers_always controls d (e ∷ before) has legal)
     (messages_always controls d before has legal.0) legal.1
 
 pub k_reports_are_entered : KReportsAreEntered
@@ -307,7 +257,7 @@ k_reports_are_entered controls d a own wrote before has legal x is began program
     let s = after d before in
     let I = always controls d before has legal.0 in
     let M = messages_always controls d before has legal.0 in
-    let may = legal.1 in
-    let same : may.actor ≡ x = some_actor may.actor x (sym may.reads.is ∙ is) in
-    by_program controls s I M a own wrote x.program x.past x.life began program (ap (λ (y : Actor). y.life) (sym same) ∙ may.reads.alive) (I.crew a x is) is
-    (subst (λ (y : Actor). next_of y.program y.past own.read own.ready ≡ own.due) same may.due) may.came taking bytes came
+    takes_reports controls s I M.posts (HearsEntered s) (λ z. tt)
+    (λ on rs z same h. hears_entered controls s I M on rs (lane Local z.slots).slots z refl
+    (λ slot t flies. ap (λ (l : List (Option Attempt)). attempt_in l slot) (sym same) ∙ flies) h)
+    a own wrote legal.1 x is began program taking bytes came

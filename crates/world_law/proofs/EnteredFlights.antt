@@ -27,7 +27,7 @@ use Rattle.mail_world.specs.History.Life.{Alive, Over, Stopped}
 use Rattle.world_law.specs.Inv.{Inv}
 use Rattle.world_law.specs.Posts.{PostsStand, desk_in, place_in, post_of, sends_by, sends_in, view_of}
 use Rattle.world_law.specs.Standing.{HandsStand, is_at_work}
-use Rattle.world_law.proofs.AtWork.{IsOfAttempt, held, is_busy, runs_so, works_by}
+use Rattle.world_law.proofs.AtWork.{IsOfAttempt, held, runs_held, works_by}
 use Rattle.world_law.proofs.EnteredStands.{FeedsLast, has_message, sends_on, serves_on}
 use Rattle.world_law.proofs.SendersPut.{sender}
 use Rattle.world_law.proofs.Standing.{hands_by}
@@ -92,7 +92,7 @@ module _ (s : State) (P : PostsStand s) (on : sends_on s ≡ true) where
 
     at_row : (row : Row) → p.row ≡ row → has_message row ≡ true → FeedsLast P.last row p → Works
     at_row at.Feed e has feeds = held p x on goes P.posted.fares p.request.slot p.request
-        (is_busy p x on goes P.posted.fares p.request.slot (runs_so p x on goes P.posted.fares p.request.slot feeds.0)) feeds.1
+        (runs_held p x on goes P.posted.fares p.request.slot feeds.0) feeds.1
     at_row at.OpenMess e has feeds = works at.OpenMess e refl
     at_row (at.ReadMess fd) e has feeds = works (at.ReadMess fd) e refl
     at_row (at.CloseMess fd whole) e has feeds = works (at.CloseMess fd whole) e refl

@@ -17,9 +17,7 @@ use Rattle.post_law.specs.Senders.{IsSome, Sends, is_on}
 use Rattle.queue_law.specs.Books.{Books, Child as Bouncer}
 use Rattle.send_core.specs.Booked.{booked_at}
 use Rattle.send_core.specs.declared.desk.Desk.{Desk}
-use Rattle.send_core.specs.declared.row.Row.{Row}
-use Rattle.send_core.specs.declared.row.Row.TheVariants as at
-use Rattle.send_core.specs.Table.{arrive, desk_after, due_at, moved, row_now}
+use Rattle.send_core.specs.Table.{desk_after, due_at, moved, row_now}
 use Rattle.send_jobs.specs.declared.attempts.Attempt.{Attempt}
 use Rattle.send_jobs.specs.declared.channels.Channel.TheVariants.{Local}
 use Rattle.send_jobs.specs.Sending.{lane}
@@ -38,7 +36,7 @@ use Rattle.world_law.specs.Crew.{IsNamed}
 use Rattle.world_law.specs.Entered.{IsEntered}
 use Rattle.world_law.specs.Inv.{Inv}
 use Rattle.world_law.specs.Posts.{IsDeliveryFor, PostsStand, View, desk_in, place_in, post_of, sends_in, serves_in}
-use Rattle.world_law.proofs.AtWork.{is_busy, not_free, runs_so}
+use Rattle.world_law.proofs.AtWork.{runs_not_free}
 use Rattle.world_law.proofs.EnteredBooks.{EnteredIn, entered_stays}
 use Rattle.world_law.proofs.EnteredKept.{KeepsHeld, ReceivedSame, given_for_kept, message_kept}
 use Rattle.world_law.proofs.EnteredStands.{DoneHold, FeedsLast, HoldsMessage, IsGivenFor, MessagesHold, MessagesStand, NothingComes, has_message, sends_on, serves_on}
@@ -47,6 +45,7 @@ use Rattle.world_law.proofs.PostPipes.{names_apart, programs_left}
 use Rattle.world_law.proofs.PostSends.{sender_event, sender_post, sender_posted, seen_so, sent, some_of}
 use Rattle.world_law.proofs.Received.{fed_not, received_acts}
 use Rattle.world_law.proofs.SendersPut.{sender}
+use Rattle.world_law.proofs.SpawnedSlots.{on_before as goes_on}
 
 -- What was entered stays
 
@@ -58,11 +57,6 @@ module _ (child : Option Bouncer) (b : Books) (n : ℕ) (message : List ℕ) (h 
   entered_after (needs.File call) (got.Answered told) = entered_stays n message child (booked_at (row_now keeps read ready) (got.Answered told) keeps) b h
   entered_after (needs.Take from) came = entered_stays n message child (booked_at (row_now keeps read ready) came keeps) b h
   entered_after due came = h
-
--- one with an event that is due goes on
-is_going : (row : Row) (d : Desk) (read : ℕ) (ready : Ready) (came : GotData) → MayCome (due_at (arrive row d read ready) d) came → is_on row ≡ true
-is_going (at.Ended status) d read ready came may = absurd may
-is_going row d read ready came may = refl
 
 -- An event
 
@@ -109,7 +103,7 @@ module _ (controls : Controls) (s : State) (I : Inv controls s) (M : MessagesSta
   -- It goes on before it
 
   goes : is_on d.row ≡ true
-  goes = is_going d.row d own.read own.ready own.came (subst (λ (n : NeedData). MayCome n own.came) (sym due) may)
+  goes = goes_on d own (sym due) may
 
   on_before : sends_on s ≡ true
   on_before = ap (λ (o : Option Actor). sends_in o && is_on (desk_in o).row) is ∙ goes
@@ -129,7 +123,8 @@ module _ (controls : Controls) (s : State) (I : Inv controls s) (M : MessagesSta
       record { injection = w.injection; lives = w.lives; accepted = w.accepted; text = w.text }
 
   received_then : ReceivedSame s then_state
-  received_then = received_acts controls s I (codes "sender") own wrote (sender began past) is (λ k it. fed_not controls s I (codes "sender") (sender began past) is (λ h. h) k it own.due) (λ h. absurd h)
+  received_then = received_acts controls s I (codes "sender") own wrote (sender began past) is
+      (λ k it. fed_not controls s I (codes "sender") (sender began past) is (λ h. h) k it own.due) (λ h. absurd h)
 
   -- What is forgotten: the deliveries that ended in the lowest free slot
 
@@ -196,14 +191,15 @@ module _ (controls : Controls) (s : State) (I : Inv controls s) (M : MessagesSta
 
       runs_apart : (slot : ℕ) → runs_in p.running slot ≡ true → low ≡ Some slot → ⊥
       runs_apart slot runs free =
-          not_free p before goes serves posted.fares slot (is_busy p before goes serves posted.fares slot (runs_so p before goes serves posted.fares slot runs)) (lowest_is_free flying slot free)
+          runs_not_free p before goes serves posted.fares slot runs (lowest_is_free flying slot free)
 
       hold_then : MessagesHold s P → MessagesHold then_state then_posts
       unfolding sender_event
       hold_then h = record {
         work = λ has.
             subst (λ (z : LocalPlace). HoldsMessage then_state P.tasks z.work) (sym place_then)
-            (message_kept s then_state entered_then held received_then P.tasks (λ slot k runs. (P.run slot k runs).is_for) p (h.work (ap (λ (z : LocalPlace). has_message z.work.row) (sym place_then) ∙ has)));
+            (message_kept s then_state entered_then held received_then P.tasks (λ slot k runs. (P.run slot k runs).is_for) p
+            (h.work (ap (λ (z : LocalPlace). has_message z.work.row) (sym place_then) ∙ has)));
         feeds = subst (λ (z : LocalPlace). FeedsLast sends.last z.work.row z.work) (sym place_then) (feeds_by p.row p runs_apart h.feeds);
         runs = λ slot k there runs.
             let now : runs_in p.running slot ≡ true = ap (λ (z : LocalPlace). runs_in z.work.running slot) (sym place_then) ∙ runs in
@@ -217,7 +213,8 @@ module _ (controls : Controls) (s : State) (I : Inv controls s) (M : MessagesSta
           let old = among_left low x P.done among in
           given_then x.task (P.was x old).is_for x.slot (not_lowest low x P.done among) (h.was x old);
       gone = λ x among slot runs.
-          h.gone x (among_left low x P.done among) slot (sym (programs_left s.pipework (codes "sender") own.due own.came slot (names_apart (codes "sender") (codes "lspawn") refl)) ∙ runs);
+          h.gone x (among_left low x P.done among) slot
+          (sym (programs_left s.pipework (codes "sender") (codes "lspawn") own.due own.came slot (names_apart (codes "sender") (codes "lspawn") refl)) ∙ runs);
     }
 
   event_messages : KeepsHeld s then_state → NothingComes then_state → MessagesStand then_state

@@ -130,7 +130,7 @@ module _ (controls : Controls) (now : ℕ) (q : Queue) (lives later : Bool) (x :
       (errands_by w is)))
 
 -- a pipe that is shut has its bytes
-bytes_shut : (t : Bool) (p : Pipe) → (if t then closed p else p).bytes ≡ p.bytes
+pub bytes_shut : (t : Bool) (p : Pipe) → (if t then closed p else p).bytes ≡ p.bytes
 bytes_shut true p = refl
 bytes_shut false p = refl
 

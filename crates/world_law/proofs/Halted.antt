@@ -66,7 +66,7 @@ place_halted : (o : Option Actor) → place_in (option_map stopped o) ≡ place_
 place_halted None = refl
 place_halted (Some x) = refl
 
-stopped_dead : (life : Life) → is_alive (cut_off life) ≡ false
+pub stopped_dead : (life : Life) → is_alive (cut_off life) ≡ false
 stopped_dead Alive = refl
 stopped_dead (Over status) = refl
 stopped_dead Stopped = refl

@@ -60,6 +60,7 @@ use Rattle.world_law.proofs.Remotes.{remotes_keep}
 use Rattle.world_law.proofs.Safe.{inv_is_safe}
 use Rattle.world_law.proofs.SendersEvents.{senders_keep}
 use Rattle.world_law.proofs.Starts.{generations_keep, starts_keep}
+use Rattle.world_law.proofs.Tenants.{some_actor}
 
 -- an event of an actor, by the program that it runs
 act_keeps : (a : List ℕ) (own : Own) (wrote : ℕ) (controls : Controls) (s : State) → Inv controls s → (may : MayDo s a own wrote) → (program : Program) → may.actor.program ≡ program
@@ -131,13 +132,10 @@ module _ (controls : Controls) (s : State) (I : Inv controls s) (a : List ℕ) (
         alone = w.alone;
       }
 
-same_actor : (x y : Actor) → ◌≡◌ {A = Option Actor} (Some x) (Some y) → x ≡ y
-same_actor x y e = cc
-
 pub attempts_are_sound : AttemptsAreSound
 attempts_are_sound controls d a own wrote before has legal x is start program ch text given =
     let may = legal.1 in
-    let same : may.actor ≡ x = same_actor may.actor x (sym may.reads.is ∙ is) in
+    let same : may.actor ≡ x = some_actor may.actor x (sym may.reads.is ∙ is) in
     subst (λ (y : Actor). IsAttempt (after d before) y.past ch text) same
     (attempted controls (after d before) (always controls d before has legal.0) a own wrote may start (ap (λ (y : Actor). y.program) same ∙ program) ch text given)
 
@@ -187,12 +185,13 @@ module _ (controls : Controls) (s : State) (I : Inv controls s) (a : List ℕ) (
 pub bounces_are_read_last : BouncesAreReadLast
 bounces_are_read_last controls d a own wrote before has legal x is start program n due ch =
     let may = legal.1 in
-    let same : may.actor ≡ x = same_actor may.actor x (sym may.reads.is ∙ is) in
+    let same : may.actor ≡ x = some_actor may.actor x (sym may.reads.is ∙ is) in
     read_last controls (after d before) (always controls d before has legal.0) a own wrote may start (ap (λ (y : Actor). y.program) same ∙ program) n due ch
 
 -- Drops
 
-delivery_fares : (controls : Controls) (now : ℕ) (q : Queue) (a : List ℕ) (program : Program) (past : List Own) (life : Life) (start : ℕ) (args : LocalArgs) → program ≡ Delivery start args → life ≡ Alive
+delivery_fares : (controls : Controls) (now : ℕ) (q : Queue) (a : List ℕ) (program : Program) (past : List Own) (life : Life) (start : ℕ) (args : LocalArgs)
+    → program ≡ Delivery start args → life ≡ Alive
     → FaresBy controls now q a program past life → DeliveryFares q a args past Alive
 delivery_fares controls now q a (Delivery began words) past Alive start args is alive F = let same : words ≡ args = cc in subst (λ (z : LocalArgs). DeliveryFares q a z past Alive) same F
 delivery_fares controls now q a (Delivery began words) past life start args is alive F = absurd (cc)
@@ -217,6 +216,6 @@ module _ (controls : Controls) (s : State) (I : Inv controls s) (a : List ℕ) (
 pub drops_are_whole : DropsAreWhole
 drops_are_whole controls d a own wrote before has legal x is start args program from to due =
     let may = legal.1 in
-    let same : may.actor ≡ x = same_actor may.actor x (sym may.reads.is ∙ is) in
+    let same : may.actor ≡ x = some_actor may.actor x (sym may.reads.is ∙ is) in
     subst (λ (y : Actor). (message : List ℕ) × (message_in (taken y.past) ≡ Some message) × IsWhole (after d before).disk from (maildir_text args message)) same
     (linked_whole controls (after d before) (always controls d before has legal.0) a own wrote may start args (ap (λ (y : Actor). y.program) same ∙ program) from to due)

@@ -1,65 +1,33 @@
 -- What the local spawner holds is of attempts in flight.
-use Rattle.std.proofs.Common.{◌≡◌, ⊎_elim, ℕ, ◌+◌, ◌≤◌, List, [], ◌∷◌, ◌++◌, Bool, true, false, Option, Some, None, refl, sym, ap, ◌∙◌, subst, arith, codes}
-use Rattle.std.specs.Prelude.{flat_map}
-use Rattle.std.proofs.lemmas.List.{append-nil}
+use Rattle.std.proofs.Common.{◌≡◌, ℕ, ◌≤◌, List, true, Option, Some, None, refl, sym, ap, ◌∙◌, subst, codes}
 use Rattle.call_fs.specs.Disk.{Among}
 use Rattle.call_fs.specs.declared.past.Own.{Own}
 use Rattle.call_fs.specs.declared.program.Port.TheVariants as port
 use Rattle.local_spawn.specs.Table.{place_after as local_after}
-use Rattle.post_law.specs.Posts.{AreLast, Fares, IsTaskFor, Post, Posted, Task, Waits, busy, goes_at, in_hand, reports, told_of}
+use Rattle.post_law.specs.Posts.{Fares, IsTaskFor, Post, Posted, Task, goes_at, in_hand}
 use Rattle.post_law.specs.Senders.{is_on}
-use Rattle.post_law.proofs.Sums.{own_one}
 use Rattle.send_core.specs.declared.desk.Desk.{Desk}
 use Rattle.send_core.specs.Table.{desk_after}
 use Rattle.send_jobs.specs.declared.attempts.Attempt.{Attempt}
 use Rattle.send_jobs.specs.declared.channels.Channel.TheVariants as channel
 use Rattle.send_jobs.specs.Sending.{lane}
 use Rattle.send_jobs.specs.Slots.{attempt_in}
-use Rattle.spawn_protocol.specs.declared.inbox.Intake.{Intake}
-use Rattle.spawn_protocol.specs.declared.inbox.Intake.TheVariants as intake
 use Rattle.spawn_protocol.specs.declared.request.Request.{Request}
-use Rattle.spawn_protocol.specs.Request.{request_text}
 use Rattle.spawner_parts.specs.declared.place.Place.{Place}
 use Rattle.spawner_parts.specs.declared.row.Row.{Row}
 use Rattle.spawner_parts.specs.declared.row.Row.TheVariants as at
 use Rattle.spawner_parts.specs.Asked.{runs_in}
-use Rattle.spawner_parts.specs.Counts.{asked, one}
 use Rattle.world_events.specs.declared.event.Program.TheVariants.{LocalSpawner, Sender}
 use Rattle.mail_world.specs.History.{Actor, State, after}
 use Rattle.mail_world.specs.History.Life.{Alive}
 use Rattle.world_law.specs.Posts.{PostsStand, View, desk_in, place_in, post_of, sends_in, serves_in, view_of}
 use Rattle.world_law.specs.Standing.{HandsStand, HoldsFlights, IsOfFlight, RequestsAreOfFlights, goes_on}
-use Rattle.world_law.proofs.AtWork.{IsOfAttempt, held, is_busy, runs_so, works_by}
+use Rattle.world_law.proofs.AtWork.{IsOfAttempt, held, runs_held, waiting, waiting_text, works_by}
 use Rattle.world_law.proofs.Histories.{always}
 use Rattle.world_law.proofs.PostKept.{posts_always}
 use Rattle.world_law.proofs.PostServes.{spawner}
 use Rattle.world_law.proofs.SendersPut.{sender}
 use Rattle.world_law.proofs.Standing.{hands_by}
-
--- Counting
-
-pub among_asked : (r : Request) (waits : List Request) → Among r waits → 1 ≤ asked r.slot waits
-among_asked r [] among = absurd among
-among_asked r (w ∷ waits) among = ⊎_elim
-    (λ (same : r ≡ w). let here : one r.slot w.slot ≡ 1 = own_one r.slot w.slot (ap (λ (z : Request). z.slot) same) in first (one r.slot w.slot) (asked r.slot waits) here)
-    (λ (later : Among r waits). second (one r.slot w.slot) (asked r.slot waits) (among_asked r waits later))
-    among
-  where
-    first : (o n : ℕ) → o ≡ 1 → 1 ≤ o + n
-    first o n e = omega (arith, e)
-
-    second : (o n : ℕ) → 1 ≤ n → 1 ≤ o + n
-    second o n low = omega (arith, low)
-
-pub among_last : (last : ℕ → Option Request) (r : Request) (waits : List Request) → Among r waits → AreLast last waits → last r.slot ≡ Some r
-among_last last r [] among h = absurd among
-among_last last r (w ∷ waits) among h = ⊎_elim
-    (λ (same : r ≡ w). ap (λ (z : Request). last z.slot) same ∙ h.0 ∙ ap Some (sym same))
-    (λ (later : Among r waits). among_last last r waits later h.2)
-    among
-
-pub asked_sum : (a b t : ℕ) → 1 ≤ a → 1 ≤ a + (b + t)
-asked_sum a b t low = omega (arith, low)
 
 module _ (s : State) (d : Desk) (H : HandsStand s d) (p : Place) (x : Post) (lives : x.lives ≡ true) (slots : x.slots ≡ (lane channel.Local d.slots).slots) (goes : goes_at x.serves p.row ≡ true)
     (F : Fares channel.Local p x) where
@@ -70,27 +38,19 @@ module _ (s : State) (d : Desk) (H : HandsStand s d) (p : Place) (x : Post) (liv
       record { attempt = w.attempt; flies = flying; recipient = w.asks.0; mess = w.asks.1; stays = (H.flies channel.Local slot w.attempt flying).stays }
 
   unread : (r : Request) → Among r F.waits → IsOfFlight s d r.slot r
-  unread r among =
-      of_flight r.slot r (held p x lives goes F r.slot r (asked_sum (asked r.slot F.waits) (busy (goes_at x.serves p.row) p.row p r.slot) (told_of r.slot (reports x)) (among_asked r F.waits among))
-      (among_last x.last r F.waits among F.lasts))
+  unread r among = of_flight r.slot r (waiting p x lives goes F r among)
 
   run_by : (slot : ℕ) (t : Option Task) (o : Option Request) → x.last slot ≡ o → IsTaskFor t o → 1 ≤ in_hand F.waits p x slot → (r : Request) × IsOfFlight s d slot r
   run_by slot (Some t) (Some r) last is some = (r, of_flight slot r (held p x lives goes F slot r some last))
   run_by slot t o last is some = absurd is
 
   runs_of : (slot : ℕ) → runs_in p.running slot ≡ true → (r : Request) × IsOfFlight s d slot r
-  runs_of slot is = run_by slot (x.tasks slot) (x.last slot) refl (F.run goes slot is) (is_busy p x lives goes F slot (runs_so p x lives goes F slot is))
-
-  text_by : (g : Bool) (i : Intake) (given : List ℕ) → g ≡ true → i ≡ intake.Open → Waits g i true p.inbox.ahead given F.waits → p.inbox.ahead ++ given ≡ flat_map request_text F.waits
-  text_by true intake.Open given on is h = h.text ∙ ap (λ (t : List ℕ). flat_map request_text F.waits ++ t) (h.whole refl) ∙ append-nil (flat_map request_text F.waits)
-  text_by true intake.Ended given on is h = absurd (cc)
-  text_by true intake.TooLong given on is h = absurd (cc)
-  text_by false i given on is h = absurd (cc)
+  runs_of slot is = run_by slot (x.tasks slot) (x.last slot) refl (F.run goes slot is) (runs_held p x lives goes F slot is)
 
   holds : HoldsFlights s d p x.asked
   holds = record {
     waits = F.waits;
-    text = λ is. text_by (goes_at x.serves p.row) p.inbox.intake x.asked goes is (subst (λ (b : Bool). Waits (goes_at x.serves p.row) p.inbox.intake b p.inbox.ahead x.asked F.waits) lives F.asks);
+    text = λ is. waiting_text p x lives goes F is;
     unread = unread;
     work = λ is. of_flight p.request.slot p.request (works_by p x lives goes F p.row refl is (F.stands goes));
     runs = runs_of;
@@ -98,7 +58,8 @@ module _ (s : State) (d : Desk) (H : HandsStand s d) (p : Place) (x : Post) (liv
 
 -- Both as they are seen
 
-module _ (s : State) (P : PostsStand s) (first third : ℕ) (past own : List Own) (is : s.actors (codes "sender") ≡ Some (sender first past)) (there : s.actors (codes "lspawn") ≡ Some (spawner third own)) where
+module _ (s : State) (P : PostsStand s) (first third : ℕ) (past own : List Own) (is : s.actors (codes "sender") ≡ Some (sender first past))
+    (there : s.actors (codes "lspawn") ≡ Some (spawner third own)) where
   abbrev d : Desk
   d = desk_after None past
 

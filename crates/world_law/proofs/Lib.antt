@@ -12,6 +12,8 @@ pub mod Tenants
 pub mod Held
 -- an end and a stop
 pub mod Gone
+-- a column of the ledgers
+pub mod Columns
 -- the bounces in ledgers
 pub mod Bounces
 -- texts that end at a mark
@@ -82,7 +84,7 @@ pub mod Led
 pub mod Leaves
 -- the commands under way at a cleaner
 pub mod UnderWay
--- the pipes between the sender and the local spawner
+-- the pipes between the sender and a spawner
 pub mod PostPipes
 -- what an event leaves of what lies between them
 pub mod PostViews
@@ -157,8 +159,6 @@ pub mod SpawnedSlots
 pub mod SpawnedHand
 -- what stands between the sender and a spawner
 pub mod SpawnedViews
--- the pipes between the sender and the remote spawner
-pub mod RemotePipes
 -- events of actors
 pub mod SpawnedEvents
 -- what a spawner has in hand is of messages in S5

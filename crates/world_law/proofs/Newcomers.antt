@@ -23,7 +23,7 @@ use Rattle.world_law.proofs.EnteredStands.{NothingComes}
 use Rattle.world_law.proofs.Histories.{always}
 use Rattle.world_law.proofs.MessageSteps.{IsNoFeed, input_left}
 use Rattle.world_law.proofs.Pipes.{away_same}
-use Rattle.world_law.proofs.PostEvents.{bytes_shut}
+use Rattle.world_law.proofs.Gone.{bytes_shut}
 
 -- who isn't there after one was put there is another one, and wasn't there before
 put_none : (m : List ℕ → Option Actor) (a : List ℕ) (x : Actor) (b : List ℕ) → put_at m a (Some x) b ≡ None → (b ≢ a) × (m b ≡ None)
@@ -81,7 +81,8 @@ newcomers_keep (Generation sender clean lspawn rspawn) controls s I N may = λ b
     let t = put_none s.actors (codes "sender") _ b u.1 in
     fresh_none (is_member b) (s.pipework.pipes b port.Input) (N b t.1 apart)
 newcomers_keep (Report slot letter text) controls s I N may = λ b gone apart.
-    ap (λ (p : Pipe). p.bytes) (away_same s.pipework.pipes (Some (mouth (codes "rspawn") (port.Program slot))) (λ pipe. closed (given (report_text letter text) pipe)) b port.Input refl) ∙ N b gone apart
+    ap (λ (p : Pipe). p.bytes) (away_same s.pipework.pipes (Some (mouth (codes "rspawn") (port.Program slot))) (λ pipe. closed (given (report_text letter text) pipe)) b port.Input refl)
+    ∙ N b gone apart
 newcomers_keep (End a read ready status) controls s I N may = ends controls s I N a (Over status) (s.actors a) refl
 newcomers_keep (Stop a) controls s I N may = ends controls s I N a Stopped (s.actors a) refl
 newcomers_keep (Moment m) controls s I N may = λ b gone apart. N b gone apart

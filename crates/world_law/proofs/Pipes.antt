@@ -24,7 +24,7 @@ away_same pipes None change a p away = refl
 away_same pipes (Some to) change a p away = off_by (bytes_eq a to.actor) (is_port p to.port) (change (pipes a p)) (pipes a p) away
 
 -- another actor's pipe
-else_by : (t u : Bool) (x y : Pipe) → t ≡ false → (if t && u then x else y) ≡ y
+pub else_by : (t u : Bool) (x y : Pipe) → t ≡ false → (if t && u then x else y) ≡ y
 else_by true u x y e = absurd (cc)
 else_by false u x y e = refl
 
@@ -36,7 +36,8 @@ module _ (w : Pipework) (a : List ℕ) (apart : (d : ℕ) (b : List ℕ) → w.p
   tenant_same (Some (Runs b)) e = record {
     given = ap (λ (x : Pipe). x.bytes) (else_by (bytes_eq (codes "clean") b) (is_port port.Input port.Input) (change (w.pipes (codes "clean") port.Input)) (w.pipes (codes "clean") port.Input)
         (other_text (codes "clean") b (λ same. apart d b e (sym same))));
-    answers = ap (λ (x : Pipe). x.bytes) (off_by (bytes_eq (codes "sender") b) (is_port port.Clean port.Input) (change (w.pipes (codes "sender") port.Clean)) (w.pipes (codes "sender") port.Clean) refl);
+    answers = ap (λ (x : Pipe). x.bytes)
+        (off_by (bytes_eq (codes "sender") b) (is_port port.Clean port.Input) (change (w.pipes (codes "sender") port.Clean)) (w.pipes (codes "sender") port.Clean) refl);
   }
 
   pub input_same : IsSameLink w (record { pipes = put_pipe w.pipes (input_of (w.programs a d)) change; programs = w.programs; slots = w.slots })
@@ -81,7 +82,8 @@ module _ (w : Pipework) (a : List ℕ) (apart : Contains members a → ⊥) wher
       (other_text a (codes "clean") (no_member (codes "clean") refl)) (other_text a (codes "lspawn") (no_member (codes "lspawn") refl))
       (other_text a (codes "rspawn") (no_member (codes "rspawn") refl))
 
-  printed_to : (bytes : List ℕ) (to : Option Mouth) → IsAway to port.Input → IsAway to port.Clean → IsSameLink w (record { pipes = put_pipe w.pipes to (given bytes); programs = w.programs; slots = w.slots })
+  printed_to : (bytes : List ℕ) (to : Option Mouth) → IsAway to port.Input → IsAway to port.Clean
+      → IsSameLink w (record { pipes = put_pipe w.pipes to (given bytes); programs = w.programs; slots = w.slots })
   printed_to bytes to input clean = record {
     given = ap (λ (x : Pipe). x.bytes) (away_same w.pipes to (given bytes) (codes "clean") port.Input input);
     answers = ap (λ (x : Pipe). x.bytes) (away_same w.pipes to (given bytes) (codes "sender") port.Clean clean);

@@ -1,10 +1,11 @@
--- Events of others than the sender and the local spawner, and their ends.
+-- Events of others than the sender and a spawner, and their ends.
 use Rattle.std.specs.Prelude.{Contains}
 use Rattle.std.proofs.Common.{◌≡◌, ◌≢◌, ℕ, List, ◌∷◌, Bool, true, false, Option, Some, None, refl, sym, ap, ◌∙◌, subst, codes, if◌then◌else◌}
 use Rattle.actor_names.specs.MailNames.{members}
 use Rattle.address_rules.specs.declared.controls.Controls.{Controls}
 use Rattle.call_fs.specs.Maps.{put_at}
 use Rattle.call_fs.proofs.Maps.{put_at_other, put_at_same}
+use Rattle.call_fs.specs.declared.past.ChildData.{ChildData}
 use Rattle.call_fs.specs.declared.past.GotData.{GotData}
 use Rattle.call_fs.specs.declared.past.NeedData.{NeedData}
 use Rattle.call_fs.specs.declared.past.NeedData.TheVariants as needs
@@ -14,6 +15,10 @@ use Rattle.call_fs.specs.declared.calls.CallData.TheVariants as call
 use Rattle.call_fs.specs.declared.program.Port.TheVariants as port
 use Rattle.call_fs.specs.declared.program.Ready.{Ready}
 use Rattle.local_deliver.specs.Table.{place_after as delivery_after}
+use Rattle.local_spawn.specs.declared.place.Place.{Place as LocalPlace}
+use Rattle.local_spawn.specs.declared.row.Row.{Row as LocalRow}
+use Rattle.local_spawn.specs.declared.row.Row.TheVariants as local
+use Rattle.local_spawn.specs.Table.{due_at as local_due, place_after as local_after, program_of}
 use Rattle.post_law.specs.Posts.{Posted}
 use Rattle.post_law.specs.Senders.{IsFirst}
 use Rattle.post_law.proofs.Asks.{losses_keep}
@@ -21,30 +26,46 @@ use Rattle.queue_clean.specs.declared.row.Row.{Row as CleanRow}
 use Rattle.queue_clean.specs.declared.row.Row.TheVariants as clean
 use Rattle.queue_clean.specs.Table.{due_at as clean_due, is_old, pid_path, place_after as clean_after, search_after}
 use Rattle.queue_inject.proofs.Acts.{IsAlone, next_alone}
-use Rattle.remote_spawn.specs.Table.{due_from as remote_due, place_after as remote_after}
-use Rattle.spawner_parts.specs.declared.place.Place.{Place as SpawnPlace}
-use Rattle.spawner_parts.specs.declared.row.Row.{Row as SpawnRow}
-use Rattle.spawner_parts.specs.declared.row.Row.TheVariants as spawn
-use Rattle.spawner_parts.specs.Table.{row_now as spawn_now}
-use Rattle.world_pipes.specs.Pipework.{Pipe, closed, is_writer, pipes_after, programs_after, writer}
+use Rattle.remote_spawn.specs.Table.{place_after as remote_after, program_of as remote_program}
+use Rattle.send_jobs.specs.declared.channels.Channel.{Channel}
+use Rattle.send_jobs.specs.declared.channels.Channel.TheVariants as channel
+use Rattle.send_jobs.specs.Channels.{port_of}
+use Rattle.spawner_parts.specs.declared.place.Place.{Place}
+use Rattle.spawner_parts.specs.declared.row.Row.{Row}
+use Rattle.spawner_parts.specs.declared.row.Row.TheVariants as work_at
+use Rattle.spawner_parts.specs.Table.{due_at as work_due, row_now as work_now}
+use Rattle.world_pipes.specs.Pipework.{is_writer, pipes_after, programs_after, writer}
 use Rattle.world_pipes.specs.Pipework.Tenant.{Runs}
 use Rattle.world_events.specs.declared.event.Program.{Program}
 use Rattle.world_events.specs.declared.event.Program.TheVariants.{Injector, Cleaner, Sender, LocalSpawner, RemoteSpawner, Delivery}
-use Rattle.mail_world.specs.History.{Actor, Life, State, acted, finished, next_of}
+use Rattle.mail_world.specs.History.{Actor, IsSender, Life, State, acted, finished, next_of}
 use Rattle.mail_world.specs.History.Life.{Alive, Over}
 use Rattle.mail_world.proofs.Members.{member_contained}
 use Rattle.world_law.specs.Crew.{IsNamed, is_alive}
 use Rattle.world_law.specs.Inv.{Inv}
 use Rattle.world_law.specs.Posts.{PostsStand, View, desk_in, place_in, post_of, sends_by, sends_in, serves_by, serves_in, view_of}
+use Rattle.world_law.specs.Spawned.{spawner_name}
 use Rattle.world_law.proofs.Deliveries.{IsDelivering, row_delivers}
+use Rattle.world_law.proofs.Gone.{bytes_shut}
 use Rattle.world_law.proofs.PostPipes.{IsCalm, asked_left, names_apart, programs_left, told_left}
 use Rattle.world_law.proofs.PostViews.{KeepsDone, Leaves, halves, posts_left, put_keeps_done, put_seen, task_kept, view_same, was_kept}
 
--- a program that is neither side
+-- a program that is neither the sender nor the local spawner
 abbrev pub IsNeither : Program → Type 0
 IsNeither (Sender since) = ⊥
 IsNeither (LocalSpawner since) = ⊥
 IsNeither program = Unit {0}
+
+-- neither the sender nor the remote one
+abbrev pub IsNoRemote : Program → Type 0
+IsNoRemote (Sender since) = ⊥
+IsNoRemote (RemoteSpawner since) = ⊥
+IsNoRemote program = Unit {0}
+
+-- neither the sender nor the spawner of a channel
+abbrev pub IsOther : Channel → Program → Type 0
+IsOther channel.Local program = IsNeither program
+IsOther channel.Remote program = IsNoRemote program
 
 -- it is seen as nobody
 pub neither_seen : (program : Program) → IsNeither program → (past : List Own) (life : Life) → halves (Some (record { program = program; past = past; life = life })) ≡ halves None
@@ -55,84 +76,114 @@ neither_seen (Delivery since args) it past life = refl
 neither_seen (Sender since) it past life = absurd it
 neither_seen (LocalSpawner since) it past life = absurd it
 
--- What it gives
+-- What it gives: only the sender gives to spawners
 
-judged_calm : (old : Bool) (unlink : CallData) (name : List ℕ) → IsCalm (if old then needs.File unlink else search_after name)
-judged_calm true unlink name = tt
-judged_calm false unlink name = tt
+abbrev pub IsMild : NeedData → Type 0
+IsMild (needs.Give port.Lspawn bytes) = ⊥
+IsMild (needs.Give port.Rspawn bytes) = ⊥
+IsMild due = Unit {0}
 
-clean_calm : (row : CleanRow) (name : List ℕ) (now : ℕ) → IsCalm (clean_due row name now)
-clean_calm (clean.JudgePid moment) name now = judged_calm (is_old moment now) (call.Unlink (pid_path name)) name
-clean_calm row name now = tt
+mild_judged : (old : Bool) (unlink : CallData) (name : List ℕ) → IsMild (if old then needs.File unlink else search_after name)
+mild_judged true unlink name = tt
+mild_judged false unlink name = tt
 
-remote_calm : (row : SpawnRow) (p : SpawnPlace) → IsCalm (remote_due row p)
-remote_calm spawn.Start p = tt
-remote_calm row p = tt
+mild_clean : (row : CleanRow) (name : List ℕ) (now : ℕ) → IsMild (clean_due row name now)
+mild_clean (clean.JudgePid moment) name now = mild_judged (is_old moment now) (call.Unlink (pid_path name)) name
+mild_clean row name now = tt
 
-alone_calm : (due : NeedData) → IsAlone due → IsCalm due
-alone_calm (needs.Give p bytes) alone = absurd alone
-alone_calm due alone = tt
+mild_work : (program : ChildData) (row : Row) (p : Place) → IsMild (work_due program row p)
+mild_work program work_at.Start p = tt
+mild_work program row p = tt
 
-delivering_calm : (due : NeedData) → IsDelivering due → IsCalm due
-delivering_calm (needs.Give port.Lspawn bytes) it = it
-delivering_calm due it = tt
+mild_local : (row : LocalRow) (ready : Ready) (p : LocalPlace) → IsMild (local_due row ready p)
+mild_local local.Serves ready p = mild_work (program_of p) (work_now p.work ready) p.work
+mild_local row ready p = tt
 
-neither_calm : (program : Program) → IsNeither program → (past : List Own) (now : ℕ) (ready : Ready) → IsCalm (next_of program past now ready)
-neither_calm (Injector args) it past now ready = alone_calm (next_of (Injector args) past now ready) (next_alone args past now ready)
-neither_calm (Cleaner since) it past now ready = let p = clean_after past in clean_calm p.row p.name now
-neither_calm (RemoteSpawner since) it past now ready = let p = remote_after past in remote_calm (spawn_now p ready) p
-neither_calm (Delivery since args) it past now ready = let p = delivery_after args past in delivering_calm (next_of (Delivery since args) past now ready) (row_delivers args p.row p)
-neither_calm (Sender since) it past now ready = absurd it
-neither_calm (LocalSpawner since) it past now ready = absurd it
+mild_alone : (due : NeedData) → IsAlone due → IsMild due
+mild_alone (needs.Give p bytes) alone = absurd alone
+mild_alone due alone = tt
 
--- no member runs in a slot
-pub tenant_not : (controls : Controls) (s : State) → Inv controls s → (a : List ℕ) (d : ℕ) (b : List ℕ) → s.pipework.programs a d ≡ Some (Runs b) → b ≢ codes "lspawn"
-tenant_not controls s I a d b runs same = (I.tenants a d (Runs b) runs).apart (subst (λ (n : List ℕ). Contains members n) (sym same) (member_contained (codes "lspawn") refl))
+mild_delivering : (due : NeedData) → IsDelivering due → IsMild due
+mild_delivering (needs.Give port.Lspawn bytes) it = it
+mild_delivering (needs.Give port.Rspawn bytes) it = it
+mild_delivering due it = tt
+
+pub mild : (program : Program) → (IsSender program → ⊥) → (past : List Own) (now : ℕ) (ready : Ready) → IsMild (next_of program past now ready)
+mild (Injector args) apart past now ready = mild_alone (next_of (Injector args) past now ready) (next_alone args past now ready)
+mild (Cleaner since) apart past now ready = let p = clean_after past in mild_clean p.row p.name now
+mild (LocalSpawner since) apart past now ready = let p = local_after past in mild_local p.row ready p
+mild (RemoteSpawner since) apart past now ready = let p = remote_after past in mild_work (remote_program p.request) (work_now p ready) p
+mild (Delivery since args) apart past now ready = let p = delivery_after args past in mild_delivering (next_of (Delivery since args) past now ready) (row_delivers args p.row p)
+mild (Sender since) apart past now ready = absurd (apart tt)
+
+pub calm : (c : Channel) (due : NeedData) → IsMild due → IsCalm c due
+calm channel.Local (needs.Give port.Lspawn bytes) it = it
+calm channel.Remote (needs.Give port.Rspawn bytes) it = it
+calm c due it = tt
+
+-- a spawner is a member
+spawner_member : (c : Channel) → Contains members (spawner_name c)
+spawner_member channel.Local = member_contained (codes "lspawn") refl
+spawner_member channel.Remote = member_contained (codes "rspawn") refl
+
+-- and no member runs in a slot
+pub tenant_not : (controls : Controls) (s : State) → Inv controls s → (c : Channel) (a : List ℕ) (d : ℕ) (b : List ℕ) → s.pipework.programs a d ≡ Some (Runs b) → b ≢ spawner_name c
+tenant_not controls s I c a d b runs same = (I.tenants a d (Runs b) runs).apart (subst (λ (n : List ℕ). Contains members n) (sym same) (spawner_member c))
 
 -- by its name it is neither side; an injector may have any name, but gives and takes nothing
-pub record IsAside (s : State) (a : List ℕ) (due : NeedData) (came : GotData) (wrote : ℕ) : Type 0 where
-  pub told : (pipes_after s.pipework a due came wrote (codes "sender") port.Lspawn).bytes ≡ (s.pipework.pipes (codes "sender") port.Lspawn).bytes
-  pub asked : (pipes_after s.pipework a due came wrote (codes "lspawn") port.Input).bytes ≡ (s.pipework.pipes (codes "lspawn") port.Input).bytes
-  pub slots : (slot : ℕ) → programs_after s.pipework.programs a due came (codes "lspawn") slot ≡ s.pipework.programs (codes "lspawn") slot
+pub record IsAside (c : Channel) (s : State) (a : List ℕ) (due : NeedData) (came : GotData) (wrote : ℕ) : Type 0 where
+  pub told : (pipes_after s.pipework a due came wrote (codes "sender") (port_of c)).bytes ≡ (s.pipework.pipes (codes "sender") (port_of c)).bytes
+  pub asked : (pipes_after s.pipework a due came wrote (spawner_name c) port.Input).bytes ≡ (s.pipework.pipes (spawner_name c) port.Input).bytes
+  pub slots : (slot : ℕ) → programs_after s.pipework.programs a due came (spawner_name c) slot ≡ s.pipework.programs (spawner_name c) slot
 
-alone_aside : (s : State) (a : List ℕ) (due : NeedData) (came : GotData) (wrote : ℕ) → IsAlone due → IsAside s a due came wrote
-alone_aside s a (needs.File c) came wrote alone = record { told = refl; asked = refl; slots = λ slot. refl }
-alone_aside s a (needs.Ended status) came wrote alone = record { told = refl; asked = refl; slots = λ slot. refl }
-alone_aside s a needs.Wait came wrote alone = record { told = refl; asked = refl; slots = λ slot. refl }
-alone_aside s a due came wrote alone = absurd alone
+alone_aside : (c : Channel) (s : State) (a : List ℕ) (due : NeedData) (came : GotData) (wrote : ℕ) → IsAlone due → IsAside c s a due came wrote
+alone_aside c s a (needs.File it) came wrote alone = record { told = refl; asked = refl; slots = λ slot. refl }
+alone_aside c s a (needs.Ended status) came wrote alone = record { told = refl; asked = refl; slots = λ slot. refl }
+alone_aside c s a needs.Wait came wrote alone = record { told = refl; asked = refl; slots = λ slot. refl }
+alone_aside c s a due came wrote alone = absurd alone
 
-named_aside : (controls : Controls) (s : State) → Inv controls s → (a : List ℕ) (due : NeedData) (came : GotData) (wrote : ℕ) → IsCalm due → a ≢ codes "lspawn" → a ≢ codes "sender"
-    → IsAside s a due came wrote
-named_aside controls s I a due came wrote calm apart other = record {
-  told = told_left s.pipework a due came wrote apart other;
-  asked = asked_left s.pipework a (tenant_not controls s I a) due came wrote calm apart;
-  slots = λ slot. programs_left s.pipework a due came slot apart;
-}
+at_name : (a b name : List ℕ) → a ≡ name → name ≢ b → a ≢ b
+at_name a b name is apart same = apart (sym is ∙ same)
 
-at_name : (a name : List ℕ) → a ≡ name → name ≢ codes "lspawn" → name ≢ codes "sender" → (a ≢ codes "lspawn") × (a ≢ codes "sender")
-at_name a name is apart other = (λ same. apart (sym is ∙ same), λ same. other (sym is ∙ same))
+clean_apart : (c : Channel) → codes "clean" ≢ spawner_name c
+clean_apart channel.Local = names_apart (codes "clean") (codes "lspawn") refl
+clean_apart channel.Remote = names_apart (codes "clean") (codes "rspawn") refl
 
-no_member : (a : List ℕ) → (Contains members a → ⊥) → (a ≢ codes "lspawn") × (a ≢ codes "sender")
-no_member a apart = (
-  λ same. apart (subst (λ (n : List ℕ). Contains members n) (sym same) (member_contained (codes "lspawn") refl)),
-  λ same. apart (subst (λ (n : List ℕ). Contains members n) (sym same) (member_contained (codes "sender") refl)),
-)
+module _ (controls : Controls) (s : State) (I : Inv controls s) where
+  named_aside : (c : Channel) (a : List ℕ) (due : NeedData) (came : GotData) (wrote : ℕ) → IsMild due → a ≢ spawner_name c → a ≢ codes "sender" → IsAside c s a due came wrote
+  named_aside c a due came wrote it apart other = record {
+    told = told_left s.pipework a c due came wrote apart other;
+    asked = asked_left s.pipework a c (tenant_not controls s I c a) due came wrote (calm c due it) apart;
+    slots = λ slot. programs_left s.pipework a (spawner_name c) due came slot apart;
+  }
 
-neither_aside : (controls : Controls) (s : State) → Inv controls s → (a : List ℕ) (program : Program) → IsNeither program → IsNamed a program → (past : List Own) (read : ℕ) (ready : Ready) (came : GotData) (wrote : ℕ)
-    → IsAside s a (next_of program past read ready) came wrote
-neither_aside controls s I a (Injector args) it named past read ready came wrote =
-    alone_aside s a (next_of (Injector args) past read ready) came wrote (next_alone args past read ready)
-neither_aside controls s I a (Cleaner since) it named past read ready came wrote =
-    let w = at_name a (codes "clean") named (names_apart (codes "clean") (codes "lspawn") refl) (names_apart (codes "clean") (codes "sender") refl) in
-    named_aside controls s I a (next_of (Cleaner since) past read ready) came wrote (neither_calm (Cleaner since) it past read ready) w.0 w.1
-neither_aside controls s I a (RemoteSpawner since) it named past read ready came wrote =
-    let w = at_name a (codes "rspawn") named (names_apart (codes "rspawn") (codes "lspawn") refl) (names_apart (codes "rspawn") (codes "sender") refl) in
-    named_aside controls s I a (next_of (RemoteSpawner since) past read ready) came wrote (neither_calm (RemoteSpawner since) it past read ready) w.0 w.1
-neither_aside controls s I a (Delivery since args) it named past read ready came wrote =
-    let w = no_member a named in
-    named_aside controls s I a (next_of (Delivery since args) past read ready) came wrote (neither_calm (Delivery since args) it past read ready) w.0 w.1
-neither_aside controls s I a (Sender since) it named past read ready came wrote = absurd it
-neither_aside controls s I a (LocalSpawner since) it named past read ready came wrote = absurd it
+  other_aside : (c : Channel) (a : List ℕ) (program : Program) → IsOther c program → IsNamed a program → (past : List Own) (read : ℕ) (ready : Ready) (came : GotData) (wrote : ℕ)
+      → IsAside c s a (next_of program past read ready) came wrote
+  other_aside c a (Injector args) it named past read ready came wrote = alone_aside c s a (next_of (Injector args) past read ready) came wrote (next_alone args past read ready)
+  other_aside c a (Cleaner since) it named past read ready came wrote =
+      named_aside c a (next_of (Cleaner since) past read ready) came wrote (mild (Cleaner since) (λ none. none) past read ready)
+      (at_name a (spawner_name c) (codes "clean") named (clean_apart c)) (at_name a (codes "sender") (codes "clean") named (names_apart (codes "clean") (codes "sender") refl))
+  other_aside channel.Local a (RemoteSpawner since) it named past read ready came wrote =
+      named_aside channel.Local a (next_of (RemoteSpawner since) past read ready) came wrote (mild (RemoteSpawner since) (λ none. none) past read ready)
+      (at_name a (codes "lspawn") (codes "rspawn") named (names_apart (codes "rspawn") (codes "lspawn") refl))
+      (at_name a (codes "sender") (codes "rspawn") named (names_apart (codes "rspawn") (codes "sender") refl))
+  other_aside channel.Remote a (LocalSpawner since) it named past read ready came wrote =
+      named_aside channel.Remote a (next_of (LocalSpawner since) past read ready) came wrote (mild (LocalSpawner since) (λ none. none) past read ready)
+      (at_name a (codes "rspawn") (codes "lspawn") named (names_apart (codes "lspawn") (codes "rspawn") refl))
+      (at_name a (codes "sender") (codes "lspawn") named (names_apart (codes "lspawn") (codes "sender") refl))
+  other_aside c a (Delivery since args) it named past read ready came wrote =
+      named_aside c a (next_of (Delivery since args) past read ready) came wrote (mild (Delivery since args) (λ none. none) past read ready)
+      (λ same. named (subst (λ (n : List ℕ). Contains members n) (sym same) (spawner_member c)))
+      (λ same. named (subst (λ (n : List ℕ). Contains members n) (sym same) (member_contained (codes "sender") refl)))
+  other_aside channel.Local a (LocalSpawner since) it named past read ready came wrote = absurd it
+  other_aside channel.Remote a (RemoteSpawner since) it named past read ready came wrote = absurd it
+  other_aside channel.Local a (Sender since) it named past read ready came wrote = absurd it
+  other_aside channel.Remote a (Sender since) it named past read ready came wrote = absurd it
+
+  pub acts_aside : (c : Channel) (a : List ℕ) (own : Own) (wrote : ℕ) (x : Actor) → s.actors a ≡ Some x → IsOther c x.program
+      → next_of x.program x.past own.read own.ready ≡ own.due → IsAside c s a own.due own.came wrote
+  acts_aside c a own wrote x is it due =
+      subst (λ (d : NeedData). IsAside c s a d own.came wrote) due (other_aside c a x.program it (I.crew a x is) x.past own.read own.ready own.came wrote)
 
 -- An event of it
 
@@ -140,8 +191,7 @@ pub neither_leaves : (controls : Controls) (s : State) → Inv controls s → (a
     → next_of x.program x.past own.read own.ready ≡ own.due → Leaves s (acted s a own wrote (Some x))
 neither_leaves controls s I a own wrote x is it due =
     let y : Actor = record { program = x.program; past = own ∷ x.past; life = x.life } in
-    let aside : IsAside s a own.due own.came wrote =
-    subst (λ (d : NeedData). IsAside s a d own.came wrote) due (neither_aside controls s I a x.program it (I.crew a x is) x.past own.read own.ready own.came wrote) in
+    let aside : IsAside channel.Local s a own.due own.came wrote = acts_aside controls s I channel.Local a own wrote x is it due in
     let seen : halves (Some y) ≡ halves (s.actors a) = neither_seen x.program it (own ∷ x.past) x.life ∙ sym (neither_seen x.program it x.past x.life) ∙ ap halves (sym is) in
     record {
       view = view_same s.actors (put_at s.actors a (Some y)) s.pipework (acted s a own wrote (Some x)).pipework
@@ -155,10 +205,6 @@ pub neither_acts : (controls : Controls) (s : State) → Inv controls s → Post
 neither_acts controls s I P a own wrote x is it due = posts_left s (acted s a own wrote (Some x)) (neither_leaves controls s I a own wrote x is it due) P
 
 -- An end or a stop
-
-pub bytes_shut : (t : Bool) (p : Pipe) → (if t then closed p else p).bytes ≡ p.bytes
-bytes_shut true p = refl
-bytes_shut false p = refl
 
 module _ (s : State) (P : PostsStand s) (a : List ℕ) (x : Actor) (is : s.actors a ≡ Some x) (alive : x.life ≡ Alive) (life : Life) (dead : is_alive life ≡ false) where
   abbrev gone : Actor

@@ -1,5 +1,5 @@
 -- What the sender hears of the local spawner: each report is of an attempt in flight, and a K report of one that was carried out.
-use Rattle.std.proofs.Common.{◌≡◌, ◌≢◌, ◌⊎◌, inl, inr, ⊎_elim, ℕ, List, [], ◌∷◌, ◌++◌, true, Option, Some, None, refl, sym, ap, ◌∙◌, subst, codes}
+use Rattle.std.proofs.Common.{◌≡◌, ◌≢◌, ◌⊎◌, inl, inr, ⊎_elim, ℕ, List, [], ◌∷◌, ◌++◌, true, ◌&&◌, Option, Some, None, refl, sym, ap, ◌∙◌, subst, codes}
 use Rattle.address_rules.specs.declared.controls.Controls.{Controls}
 use Rattle.call_fs.specs.declared.past.GotData.{GotData}
 use Rattle.call_fs.specs.declared.past.GotData.TheVariants as got
@@ -32,12 +32,13 @@ use Rattle.sender_law.proofs.Awaits.{Begins, point_begins}
 use Rattle.world_pipes.specs.Pipework.{Yields}
 use Rattle.world_events.specs.declared.event.Program.{Program}
 use Rattle.world_events.specs.declared.event.Program.TheVariants.{Sender}
-use Rattle.mail_world.specs.History.{Actor, ComesOf, Life, State, after, next_of}
+use Rattle.mail_world.specs.History.{Actor, ComesOf, Life, MayDo, State, after, next_of}
 use Rattle.mail_world.specs.History.Life.{Alive}
 use Rattle.world_law.specs.Crew.{IsNamed}
 use Rattle.world_law.specs.Headline.{EndsWell}
 use Rattle.world_law.specs.Inv.{Inv}
-use Rattle.world_law.specs.Posts.{HearsWell, IsDeliveredTo, IsReportOf, KReportsAreCarried, PostsStand, WasDone}
+use Rattle.world_law.specs.Posts.{HearsWell, IsDeliveredTo, IsReportOf, KReportsAreCarried, PostsStand, WasDone, desk_in, sends_in}
+use Rattle.world_law.proofs.EnteredStands.{sends_on}
 use Rattle.world_law.proofs.Histories.{always}
 use Rattle.world_law.proofs.PostKept.{posts_always}
 use Rattle.world_law.proofs.PostSends.{sender_first, sender_post, sender_posted}
@@ -53,7 +54,7 @@ start_takes (start.Control f reading) d due = absurd (subst IsAway due (control_
 start_takes (start.GreetRemote limit) d due = absurd (cc)
 start_takes row d due = absurd (subst IsAway due (start_away row d refl))
 
-pub takes_at : (row : Row) (d : Desk) → due_at row d ≡ needs.Take port.Lspawn → (row ≡ at.TakeLink Local) ⊎ (row ≡ at.Start start.GreetLocal)
+takes_at : (row : Row) (d : Desk) → due_at row d ≡ needs.Take port.Lspawn → (row ≡ at.TakeLink Local) ⊎ (row ≡ at.Start start.GreetLocal)
 takes_at (at.TakeLink Local) d due = inl refl
 takes_at (at.TakeLink Remote) d due = absurd (cc)
 takes_at (at.Start row) d due = inr (start_takes row d due)
@@ -68,7 +69,7 @@ link_heard : (row : Row) (d : Desk) (read : ℕ) (ready : Ready) (reader : Reade
 link_heard (at.Start row) d read ready reader is = absurd (cc)
 link_heard row d read ready reader is = refl
 
-pub link_on : (row : Row) (d : Desk) (read : ℕ) (ready : Ready) → arrive row d read ready ≡ at.TakeLink Local → is_on row ≡ true
+link_on : (row : Row) (d : Desk) (read : ℕ) (ready : Ready) → arrive row d read ready ≡ at.TakeLink Local → is_on row ≡ true
 link_on (at.Ended status) d read ready is = absurd (cc)
 link_on row d read ready is = refl
 
@@ -122,34 +123,50 @@ module _ (controls : Controls) (s : State) (I : Inv controls s) (P : PostsStand 
     abbrev post : Post
     post = sender_post s P began past is
 
-    abbrev Hears : List ℕ → Type 0
-    Hears bytes = let it = read_on reader bytes in HearsWell s it.0 (with_reader Local it.1 d)
-
     module _ (bytes rest : List ℕ) (some : bytes ≢ []) (lies : (s.pipework.pipes (codes "sender") port.Lspawn).bytes ≡ bytes ++ rest) where
       -- reports
       pub link_hears : row_now d own.read own.ready ≡ at.TakeLink Local → AreHeard Local P.done (read_on reader bytes).0 (lane Local d.slots).slots
       link_hears row =
           (hears_keep reader bytes rest post (sender_posted s P began past is) (link_on d.row d own.read own.ready row) (link_heard d.row d own.read own.ready reader row) lies).each
 
-      of_link : row_now d own.read own.ready ≡ at.TakeLink Local → Hears bytes
-      of_link row = let it = read_on reader bytes in hears_well it.0 (lane Local d.slots).slots (with_reader Local it.1 d) refl (link_hears row)
-
       -- or the first byte, which ends none
-      pub greeting_none : row_now d own.read own.ready ≡ at.Start start.GreetLocal → (read_on reader bytes).0 ≡ []
+      greeting_none : row_now d own.read own.ready ≡ at.Start start.GreetLocal → (read_on reader bytes).0 ≡ []
       greeting_none row =
           let at_row : d.row ≡ at.Start start.GreetLocal = greet_row d.row d own.read own.ready row in
           let quiet : IsQuiet d = subst (λ (z : Row). IsFirst z d) at_row (sender_first s P began past is) refl in
           let byte = (greets_keep bytes rest post (sender_posted s P began past is) (ap is_on at_row) (ap (λ (z : Row). heard_at z Local reader) at_row) lies some).byte in
           λ i. (read_on (quiet.unread Local i) (byte i)).0
 
-      of_greeting : row_now d own.read own.ready ≡ at.Start start.GreetLocal → Hears bytes
-      of_greeting row = subst (λ (rs : List Report). HearsWell s rs (with_reader Local (read_on reader bytes).1 d)) (sym (greeting_none row)) tt
+-- So a sender hears something, if it does of each report and of none.
 
-      of_taking : due_at (row_now d own.read own.ready) d ≡ needs.Take port.Lspawn → Hears bytes
-      of_taking due = ⊎_elim of_link of_greeting (takes_at (row_now d own.read own.ready) d due)
+module _ (controls : Controls) (s : State) (I : Inv controls s) (P : PostsStand s) (Hears : List Report → Desk → Type 0) (silent : (z : Desk) → Hears [] z)
+    (each : sends_on s ≡ true → (rs : List Report) (z : Desk) → (lane Local z.slots).slots ≡ (lane Local (desk_in (s.actors (codes "sender"))).slots).slots
+    → AreHeard Local P.done rs (lane Local z.slots).slots → Hears rs z) where
+  module _ (own : Own) (began : ℕ) (past : List Own) (is : s.actors (codes "sender") ≡ Some (sender began past)) where
+    abbrev desk : Desk
+    desk = desk_after None past
 
-    taken_well : (wrote : ℕ) → due_at (row_now d own.read own.ready) d ≡ own.due → ComesOf s (codes "sender") own.due own.came wrote → own.due ≡ needs.Take port.Lspawn
-        → (bytes : List ℕ) → own.came ≡ got.Took bytes → Hears bytes
+    abbrev Heard : List ℕ → Type 0
+    Heard bytes = let it = read_on (link Local desk).reader bytes in Hears it.0 (with_reader Local it.1 desk)
+
+    module _ (bytes rest : List ℕ) (some : bytes ≢ []) (lies : (s.pipework.pipes (codes "sender") port.Lspawn).bytes ≡ bytes ++ rest) where
+      of_link : row_now desk own.read own.ready ≡ at.TakeLink Local → Heard bytes
+      of_link row =
+          let it = read_on (link Local desk).reader bytes in
+          let on : sends_on s ≡ true = ap (λ (o : Option Actor). sends_in o && is_on (desk_in o).row) is ∙ link_on desk.row desk own.read own.ready row in
+          each on it.0 (with_reader Local it.1 desk) (ap (λ (o : Option Actor). (lane Local (desk_in o).slots).slots) (sym is))
+          (link_hears controls s I P own began past is bytes rest some lies row)
+
+      of_greeting : row_now desk own.read own.ready ≡ at.Start start.GreetLocal → Heard bytes
+      of_greeting row =
+          let after_it = with_reader Local (read_on (link Local desk).reader bytes).1 desk in
+          subst (λ (rs : List Report). Hears rs after_it) (sym (greeting_none controls s I P own began past is bytes rest some lies row)) (silent after_it)
+
+      of_taking : due_at (row_now desk own.read own.ready) desk ≡ needs.Take port.Lspawn → Heard bytes
+      of_taking due = ⊎_elim of_link of_greeting (takes_at (row_now desk own.read own.ready) desk due)
+
+    taken_well : (wrote : ℕ) → due_at (row_now desk own.read own.ready) desk ≡ own.due → ComesOf s (codes "sender") own.due own.came wrote → own.due ≡ needs.Take port.Lspawn
+        → (bytes : List ℕ) → own.came ≡ got.Took bytes → Heard bytes
     taken_well wrote due comes taking bytes came =
         let yields : Yields (s.pipework.pipes (codes "sender") port.Lspawn) (got.Took bytes) =
         subst (λ (c : GotData). ComesOf s (codes "sender") (needs.Take port.Lspawn) c wrote) came (subst (λ (n : NeedData). ComesOf s (codes "sender") n own.came wrote) taking comes) in
@@ -158,18 +175,25 @@ module _ (controls : Controls) (s : State) (I : Inv controls s) (P : PostsStand 
   by_program : (a : List ℕ) (own : Own) (wrote : ℕ) (program : Program) (past : List Own) (life : Life) (began : ℕ) → program ≡ Sender began → life ≡ Alive → IsNamed a program
       → s.actors a ≡ Some (record { program = program; past = past; life = life }) → next_of program past own.read own.ready ≡ own.due → ComesOf s a own.due own.came wrote
       → own.due ≡ needs.Take port.Lspawn → (bytes : List ℕ) → own.came ≡ got.Took bytes
-      → let desk = desk_after None past in let it = read_on (link Local desk).reader bytes in HearsWell s it.0 (with_reader Local it.1 desk)
+      → let keeps = desk_after None past in let it = read_on (link Local keeps).reader bytes in Hears it.0 (with_reader Local it.1 keeps)
   by_program a own wrote (Sender since) past Alive began e alive named is due comes taking bytes came =
-      taken_well own since past (subst (λ (b : List ℕ). s.actors b ≡ Some (sender since past)) named is) wrote due (subst (λ (b : List ℕ). ComesOf s b own.due own.came wrote) named comes) taking bytes came
+      taken_well own since past (subst (λ (b : List ℕ). s.actors b ≡ Some (sender since past)) named is) wrote due
+      (subst (λ (b : List ℕ). ComesOf s b own.due own.came wrote) named comes) taking bytes came
   by_program a own wrote (Sender since) past life began e alive named is due comes taking bytes came = absurd (cc)
   by_program a own wrote other past life began e alive named is due comes taking bytes came = absurd (cc)
+
+  pub takes_reports : (a : List ℕ) (own : Own) (wrote : ℕ) → MayDo s a own wrote → (x : Actor) → s.actors a ≡ Some x → (began : ℕ) → x.program ≡ Sender began
+      → own.due ≡ needs.Take port.Lspawn → (bytes : List ℕ) → own.came ≡ got.Took bytes
+      → let keeps = desk_after None x.past in let it = read_on (link Local keeps).reader bytes in Hears it.0 (with_reader Local it.1 keeps)
+  takes_reports a own wrote may x is began program taking bytes came =
+      let same : may.actor ≡ x = some_actor may.actor x (sym may.reads.is ∙ is) in
+      by_program a own wrote x.program x.past x.life began program (ap (λ (y : Actor). y.life) (sym same) ∙ may.reads.alive) (I.crew a x is) is
+      (subst (λ (y : Actor). next_of y.program y.past own.read own.ready ≡ own.due) same may.due) may.came taking bytes came
 
 pub k_reports_are_carried : KReportsAreCarried
 k_reports_are_carried controls d a own wrote before has legal x is began program taking bytes came =
     let s = after d before in
     let I = always controls d before has legal.0 in
     let P = posts_always controls d before has legal.0 in
-    let may = legal.1 in
-    let same : may.actor ≡ x = some_actor may.actor x (sym may.reads.is ∙ is) in
-    by_program controls s I P a own wrote x.program x.past x.life began program (ap (λ (y : Actor). y.life) (sym same) ∙ may.reads.alive) (I.crew a x is) is
-    (subst (λ (y : Actor). next_of y.program y.past own.read own.ready ≡ own.due) same may.due) may.came taking bytes came
+    takes_reports controls s I P (HearsWell s) (λ z. tt) (λ on rs z same h. hears_well controls s I P rs (lane Local z.slots).slots z refl h)
+    a own wrote legal.1 x is began program taking bytes came

@@ -1,6 +1,6 @@
 -- Each event keeps what lies between the sender and the local spawner, which so holds after each legal history.
 use Rattle.std.specs.Prelude.{Contains}
-use Rattle.std.proofs.Common.{◌≡◌, ◌≢◌, ⊎_elim, ℕ, List, [], ◌∷◌, Bool, true, false, ◌&&◌, Option, Some, None, option_map, refl, sym, ap, ◌∙◌, subst, codes}
+use Rattle.std.proofs.Common.{◌≡◌, ◌≢◌, ℕ, List, [], ◌∷◌, Bool, true, false, ◌&&◌, Option, Some, None, option_map, refl, sym, ap, ◌∙◌, subst, codes}
 use Rattle.address_rules.specs.declared.controls.Controls.{Controls}
 use Rattle.call_fs.specs.Disk.{Disk}
 use Rattle.call_fs.specs.Maps.{put_at}
@@ -20,26 +20,29 @@ use Rattle.post_law.proofs.Senders.{senders_keep}
 use Rattle.queue_inject.proofs.Acts.{IsAlone, next_alone}
 use Rattle.send_core.specs.declared.desk.Desk.{Desk}
 use Rattle.send_core.specs.Table.{begun}
+use Rattle.send_jobs.specs.declared.channels.Channel.TheVariants as channel
 use Rattle.sender_law.specs.Control.{AreControls}
-use Rattle.world_pipes.specs.Pipework.{is_member, no_pipework, with_child}
+use Rattle.world_pipes.specs.Pipework.{no_pipework, with_child}
 use Rattle.world_pipes.specs.Pipework.Tenant.{Runs}
 use Rattle.world_events.specs.declared.event.Program.{Program}
 use Rattle.world_events.specs.declared.event.Program.TheVariants.{Injector, Cleaner, Sender, LocalSpawner, RemoteSpawner, Delivery}
-use Rattle.mail_world.specs.History.{Actor, Allowed, Event, IsLocalSpawner, IsProgramOf, IsSender, Legal, Life, MayBear, MayDo, MayRun, State, acted, after, bears, begins, cut_off, happens, newborn, next_of, opening, slot_by, stopped}
+use Rattle.mail_world.specs.History.{Actor, Allowed, Event, IsLocalSpawner, IsProgramOf, IsSender, Legal, Life, MayBear, MayDo, MayRun, State}
+use Rattle.mail_world.specs.History.{acted, after, bears, begins, cut_off, happens, newborn, next_of, opening, slot_by, stopped}
 use Rattle.mail_world.specs.History.Event.{Start, Act, Child, Generation, Report, End, Stop, Moment, Halt}
 use Rattle.mail_world.specs.History.Life.{Alive, Over, Stopped}
-use Rattle.mail_world.proofs.Members.{four_lspawn, four_other, four_sender, member_contained, whether}
+use Rattle.mail_world.proofs.Members.{four_lspawn, four_other, four_sender, member_contained}
 use Rattle.world_law.specs.Crew.{IsNamed, is_alive}
 use Rattle.world_law.specs.Inv.{Inv}
 use Rattle.world_law.specs.Posts.{PostsStand, View, WasDone, desk_in, place_in, post_of, sends_by, sends_in, serves_by, serves_in, view_of}
+use Rattle.world_law.proofs.Halted.{stopped_dead}
 use Rattle.world_law.proofs.Histories.{always}
 use Rattle.world_law.proofs.PostEvents.{IsNeither, ends_leave, neither_acts, neither_seen}
-use Rattle.world_law.proofs.PostPipes.{asked_output, child_left, names_apart, told_output}
+use Rattle.world_law.proofs.PostPipes.{asked_output, names_apart, slots_left, told_output}
 use Rattle.world_law.proofs.PostSends.{sender_acts, sender_moves}
 use Rattle.world_law.proofs.PostServes.{spawner_acts, spawner_bears}
 use Rattle.world_law.proofs.PostViews.{Leaves, halves, new_keeps_done, posts_left, put_seen, view_same}
 use Rattle.world_law.proofs.Ran.{born_comes}
-use Rattle.world_law.proofs.Starts.{is_cleaner, is_local, is_remote, is_sender}
+use Rattle.world_law.proofs.Starts.{is_cleaner, is_local, is_remote, is_sender, no_member}
 
 -- At the start nobody is there
 
@@ -78,16 +81,17 @@ child_neither (child.Forward uid room) pid (Injector args) it = tt
 child_neither (child.Local slot words uid) pid (Delivery start args) it = tt
 child_neither asked pid program it = absurd it
 
-pub bears_leaves : (s : State) (parent : List ℕ) → parent ≢ codes "lspawn" → (own : Own) (a : List ℕ) (program : Program) → IsNeither program → s.actors a ≡ None → Leaves s (bears s parent own a program)
+pub bears_leaves : (s : State) (parent : List ℕ) → parent ≢ codes "lspawn" → (own : Own) (a : List ℕ) (program : Program) → IsNeither program → s.actors a ≡ None
+    → Leaves s (bears s parent own a program)
 bears_leaves s parent apart own a program it new =
     let y : Actor = newborn program in
     let seen : halves (Some y) ≡ halves (s.actors a) = neither_seen program it [] Alive ∙ sym (ap halves new) in
     record {
       view = view_same s.actors (put_at s.actors a (Some y)) s.pipework (with_child s.pipework parent (slot_by own.due) a)
           (put_seen halves s.actors a y (codes "sender") seen) (put_seen halves s.actors a y (codes "lspawn") seen)
-          (told_output s.pipework parent (slot_by own.due)) (asked_output s.pipework parent (slot_by own.due));
+          (told_output s.pipework channel.Local parent (slot_by own.due)) (asked_output s.pipework channel.Local parent (slot_by own.due));
       keeps = new_keeps_done s.actors a y new;
-      slots = λ slot. child_left s.pipework.programs parent (slot_by own.due) (Some (Runs a)) slot apart;
+      slots = λ slot. slots_left s.pipework.programs parent (codes "lspawn") (slot_by own.due) (Some (Runs a)) slot apart;
     }
 
 module _ (controls : Controls) (s : State) (I : Inv controls s) (P : PostsStand s) (parent : List ℕ) (own : Own) (a : List ℕ) (program : Program) (may : MayBear s parent own a program) where
@@ -121,7 +125,8 @@ module _ (controls : Controls) (s : State) (I : Inv controls s) (P : PostsStand 
   bears_by (LocalSpawner began) e named =
       spawner_bears controls s I P parent own x may.reads.is may.reads.alive (subst IsLocalSpawner (sym e) tt) may.due may.asked may.starts may.pid may.came a may.new program may.is
   bears_by (Injector args) e named =
-      let due : next_of (Injector args) x.past own.read own.ready ≡ needs.Start may.asked = subst (λ (p : Program). next_of p x.past own.read own.ready ≡ needs.Start may.asked) e (may.due ∙ may.starts) in
+      let due : next_of (Injector args) x.past own.read own.ready ≡ needs.Start may.asked =
+      subst (λ (p : Program). next_of p x.past own.read own.ready ≡ needs.Start may.asked) e (may.due ∙ may.starts) in
       let none : ⊥ = subst IsAlone due (next_alone args x.past own.read own.ready) in
       absurd none
   bears_by (Cleaner began) e named = by_neither (subst IsNeither (sym e) tt) (λ same. names_apart (codes "clean") (codes "lspawn") refl (sym named ∙ same))
@@ -135,13 +140,8 @@ module _ (controls : Controls) (s : State) (I : Inv controls s) (P : PostsStand 
 
 -- A generation starts: nothing that was done is lost
 
-no_member : (a : List ℕ) → (Contains members a → ⊥) → is_member a ≡ false
-no_member a apart = ⊎_elim
-    (λ (is : is_member a ≡ true). absurd (apart (member_contained a is)))
-    (λ (other : is_member a ≡ false). other)
-    (whether (is_member a))
-
-pub generation_done : (controls : Controls) (s : State) → Inv controls s → (sender clean lspawn rspawn : Program) (x : Done) → WasDone s x → WasDone (happens s (Generation sender clean lspawn rspawn)) x
+pub generation_done : (controls : Controls) (s : State) → Inv controls s → (sender clean lspawn rspawn : Program) (x : Done) → WasDone s x
+    → WasDone (happens s (Generation sender clean lspawn rspawn)) x
 generation_done controls s I sender clean lspawn rspawn x h =
     let apart : Contains members x.task.name → ⊥ = subst (λ (z : Program). IsNamed x.task.name z) h.is_for.program (I.crew x.task.name h.is_for.delivery h.is_for.is) in
     record {
@@ -206,11 +206,6 @@ generations_stand controls s I P sender clean lspawn rspawn may =
 
 -- The machine stops: both sides are gone
 
-dead_cut : (life : Life) → is_alive (cut_off life) ≡ false
-dead_cut Alive = refl
-dead_cut (Over status) = refl
-dead_cut Stopped = refl
-
 dead_sends : (program : Program) (life : Life) → is_alive life ≡ false → sends_by program life ≡ false
 dead_sends (Sender since) life dead = dead
 dead_sends program life dead = refl
@@ -221,11 +216,11 @@ dead_serves program life dead = refl
 
 pub sends_halted : (o : Option Actor) → sends_in (option_map stopped o) ≡ false
 sends_halted None = refl
-sends_halted (Some x) = dead_sends x.program (cut_off x.life) (dead_cut x.life)
+sends_halted (Some x) = dead_sends x.program (cut_off x.life) (stopped_dead x.life)
 
 serves_halted : (o : Option Actor) → serves_in (option_map stopped o) ≡ false
 serves_halted None = refl
-serves_halted (Some x) = dead_serves x.program (cut_off x.life) (dead_cut x.life)
+serves_halted (Some x) = dead_serves x.program (cut_off x.life) (stopped_dead x.life)
 
 desk_halted : (o : Option Actor) → desk_in (option_map stopped o) ≡ desk_in o
 desk_halted None = refl

@@ -244,10 +244,10 @@ module _ (controls : Controls) (s : State) (I : Inv controls s) (P : PostsStand 
   there = put_at_other s.actors name (Some (sender began (own ∷ past))) (codes "lspawn") no_sender
 
   told_then : (then_state.pipework.pipes name port.Lspawn).bytes ≡ told_on Local own.due own.came before.told
-  told_then = told_sent s.pipework own.due own.came wrote
+  told_then = told_sent s.pipework Local own.due own.came wrote
 
   asked_then : (then_state.pipework.pipes (codes "lspawn") port.Input).bytes ≡ asked_on Local own.due own.came wrote before.asked
-  asked_then = asked_sent s.pipework (tenant_not controls s I name) own.due own.came wrote
+  asked_then = asked_sent s.pipework Local (tenant_not controls s I Local name) own.due own.came wrote
 
   pub seen_then : view_of then_state.actors then_state.pipework ≡ afterwards
   seen_then = λ i. record {
@@ -269,7 +269,7 @@ module _ (controls : Controls) (s : State) (I : Inv controls s) (P : PostsStand 
     done = P.done;
     posted = subst (λ (v : View). Posted (post_of v P.tasks sent.last P.done)) (sym seen_then) sent.keeps;
     first = subst (λ (v : View). IsFirst v.desk.row v.desk) (sym seen_then) sent.first;
-    run = λ slot k h. task_kept s then_state keeps slot k (programs_left s.pipework name own.due own.came slot not_lspawn) (P.run slot k h);
+    run = λ slot k h. task_kept s then_state keeps slot k (programs_left s.pipework name (codes "lspawn") own.due own.came slot not_lspawn) (P.run slot k h);
     was = λ x among. was_kept s then_state keeps x (P.was x among);
   }
 

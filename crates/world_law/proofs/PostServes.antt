@@ -23,6 +23,7 @@ use Rattle.local_steps.specs.Arguments.{local_args}
 use Rattle.post_law.specs.Posts.{Done, IsOffered, Post, Posted, Task, asked_by, done_by, entered, task_of, tasks_by, told_by, works}
 use Rattle.post_law.specs.Senders.{IsFirst}
 use Rattle.post_law.proofs.Spawners.{spawners_keep}
+use Rattle.send_jobs.specs.declared.channels.Channel.TheVariants as channel
 use Rattle.spawner_parts.specs.declared.row.Row.{Row as WorkRow}
 use Rattle.spawner_parts.specs.declared.row.Row.TheVariants as work_at
 use Rattle.spawner_parts.specs.Table.{row_now}
@@ -59,7 +60,7 @@ local_due (at.CloseUsers fd whole) ready p = tt
 local_due at.Serves ready p = serves_due (row_now p.work ready) p
 local_due at.OutOfMemory ready p = tt
 
-due_calm : (due : NeedData) → IsLocalDue due → IsCalm due
+due_calm : (due : NeedData) → IsLocalDue due → IsCalm channel.Local due
 due_calm (needs.Give port.Lspawn bytes) it = it
 due_calm due it = tt
 
@@ -138,7 +139,7 @@ was_now s due came wrote tasks x now comes runs = ⊎_elim
     taken = subst (λ (n : NeedData). ComesOf s (codes "lspawn") n came wrote) now.due_is comes
 
 -- what comes of a taking lay in its pipe
-offered_by : (pipe : Pipe) (came : GotData) → Yields pipe came → IsOffered pipe.bytes came
+pub offered_by : (pipe : Pipe) (came : GotData) → Yields pipe came → IsOffered pipe.bytes came
 offered_by pipe (got.Took bytes) y = y.1
 offered_by pipe came y = tt
 
@@ -212,10 +213,10 @@ module _ (controls : Controls) (s : State) (I : Inv controls s) (P : PostsStand 
   there = put_at_other s.actors name (Some (spawner began (own ∷ past))) (codes "sender") no_sender
 
   told_then : (then_state.pipework.pipes (codes "sender") port.Lspawn).bytes ≡ told_by own.due own.came wrote before.told
-  told_then = told_spawned s.pipework own.due own.came wrote
+  told_then = told_spawned s.pipework channel.Local own.due own.came wrote
 
   asked_then : (then_state.pipework.pipes name port.Input).bytes ≡ asked_by own.due own.came before.asked
-  asked_then = asked_spawned s.pipework (tenant_not controls s I name) own.due own.came wrote (due_calm own.due it_is)
+  asked_then = asked_spawned s.pipework channel.Local (tenant_not controls s I channel.Local name) own.due own.came wrote (due_calm own.due it_is)
 
   pub seen_then : view_of then_state.actors then_state.pipework ≡ afterwards
   seen_then = λ i. record {
@@ -274,7 +275,7 @@ module _ (controls : Controls) (s : State) (I : Inv controls s) (P : PostsStand 
     pub seen_borne : view_of borne.actors borne.pipework ≡ afterwards
     seen_borne = view_same then_state.actors borne.actors then_state.pipework borne.pipework
         (put_seen halves then_state.actors a delivery (codes "sender") seen_delivery) (put_seen halves then_state.actors a delivery name seen_delivery)
-        (told_output then_state.pipework name (slot_by own.due)) (asked_output then_state.pipework name (slot_by own.due)) ∙ seen_then
+        (told_output then_state.pipework channel.Local name (slot_by own.due)) (asked_output then_state.pipework channel.Local name (slot_by own.due)) ∙ seen_then
 
     pub keeps_borne : KeepsDone s.actors borne.actors
     keeps_borne = then_done s.actors then_state.actors borne.actors keeps (new_keeps_done then_state.actors a delivery gone)
@@ -351,8 +352,8 @@ acts_by controls s I P a wrote (LocalSpawner began) past Alive own it named aliv
 acts_by controls s I P a wrote (LocalSpawner began) past life own it named alive is due comes = absurd (cc)
 acts_by controls s I P a wrote other past life own it named alive is due comes = absurd it
 
-pub spawner_acts : (controls : Controls) (s : State) → Inv controls s → PostsStand s → (a : List ℕ) (own : Own) (wrote : ℕ) (x : Actor) → s.actors a ≡ Some x → x.life ≡ Alive → IsLocalSpawner x.program
-    → next_of x.program x.past own.read own.ready ≡ own.due → ComesOf s a own.due own.came wrote → PostsStand (acted s a own wrote (Some x))
+pub spawner_acts : (controls : Controls) (s : State) → Inv controls s → PostsStand s → (a : List ℕ) (own : Own) (wrote : ℕ) (x : Actor) → s.actors a ≡ Some x → x.life ≡ Alive
+    → IsLocalSpawner x.program → next_of x.program x.past own.read own.ready ≡ own.due → ComesOf s a own.due own.came wrote → PostsStand (acted s a own wrote (Some x))
 spawner_acts controls s I P a own wrote x is alive it due comes = acts_by controls s I P a wrote x.program x.past x.life own it (I.crew a x is) alive is due comes
 
 -- what it starts is a delivery
@@ -360,7 +361,8 @@ pub local_asked : (asked : ChildData) → IsLocalDue (needs.Start asked) → (sl
 local_asked (child.Local slot words uid) it = (slot, words, uid, refl)
 local_asked asked it = absurd it
 
-pub delivery_is : (slot : ℕ) (words : DeliveryWordsData) (uid pid : ℕ) (program : Program) → IsProgramOf (child.Local slot words uid) pid program → (start : ℕ) × (program ≡ Delivery start (local_args words uid pid))
+pub delivery_is : (slot : ℕ) (words : DeliveryWordsData) (uid pid : ℕ) (program : Program) → IsProgramOf (child.Local slot words uid) pid program
+    → (start : ℕ) × (program ≡ Delivery start (local_args words uid pid))
 delivery_is slot words uid pid (Delivery start args) it = (start, ap (Delivery start) it)
 delivery_is slot words uid pid program it = absurd it
 

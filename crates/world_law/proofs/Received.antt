@@ -33,7 +33,7 @@ use Rattle.world_law.specs.Posts.{IsDeliveryFor}
 use Rattle.world_law.proofs.EnteredKept.{ReceivedSame}
 use Rattle.world_law.proofs.MessageSteps.{IsNoFeed, away_left, gives_left, input_left, no_feed_part, taken_same}
 use Rattle.world_law.proofs.Pipes.{away_same, no_member}
-use Rattle.world_law.proofs.PostEvents.{bytes_shut}
+use Rattle.world_law.proofs.Gone.{bytes_shut}
 use Rattle.world_law.proofs.Tenants.{some_actor}
 
 -- An event of the delivery itself: what it takes of its input it has taken

@@ -1,5 +1,5 @@
 -- What the sender's givings and takings leave of the two pipes to and from its cleaner, and of the slots.
-use Rattle.std.proofs.Common.{◌≡◌, ◌≢◌, ℕ, ◌==◌, List, Bool, true, false, ◌&&◌, Option, Some, None, refl, ap, bytes_eq, codes, if◌then◌else◌}
+use Rattle.std.proofs.Common.{◌≡◌, ◌≢◌, ℕ, ◌==◌, List, false, ◌&&◌, Some, refl, ap, bytes_eq, codes}
 use Rattle.std.specs.Prelude.{take}
 use Rattle.call_fs.specs.declared.past.GotData.{GotData}
 use Rattle.call_fs.specs.declared.past.GotData.TheVariants as got
@@ -10,6 +10,7 @@ use Rattle.world_pipes.specs.Pipework.{Pipe, Pipework, Tenant, child_output, clo
 use Rattle.world_pipes.specs.Pipework.Tenant.{Runs}
 use Rattle.world_law.proofs.Moved.{IsSameLink}
 use Rattle.world_law.proofs.Pipes.{away_same, child_away, input_same}
+use Rattle.world_law.proofs.Tenants.{not_freed}
 
 -- no program more runs in a slot
 abbrev pub NoTenantMore : Pipework → Pipework → Type 0
@@ -57,12 +58,8 @@ module _ (w : Pipework) (apart : (a : List ℕ) (d : ℕ) (b : List ℕ) → w.p
   }
   takes_same wrote p came it = record { given = refl; answers = refl }
 
-  put_slots : (t : Bool) (o : Option Tenant) (x : Tenant) → (if t then None else o) ≡ Some x → o ≡ Some x
-  put_slots true o x is = absurd (cc)
-  put_slots false o x is = is
-
   -- a taking frees a slot at most
   pub takes_slots : (wrote : ℕ) (p : Port) (came : GotData) → NoTenantMore w (pipework_after w (codes "sender") (needs.Take p) came wrote)
-  takes_slots wrote (port.Status d) (got.Ended status) a e t is = put_slots (bytes_eq a (codes "sender") && (e == d)) (w.programs a e) t is
-  takes_slots wrote (port.Status d) got.Crashed a e t is = put_slots (bytes_eq a (codes "sender") && (e == d)) (w.programs a e) t is
+  takes_slots wrote (port.Status d) (got.Ended status) a e t is = not_freed (bytes_eq a (codes "sender") && (e == d)) (w.programs a e) t is
+  takes_slots wrote (port.Status d) got.Crashed a e t is = not_freed (bytes_eq a (codes "sender") && (e == d)) (w.programs a e) t is
   takes_slots wrote p came a e t is = is

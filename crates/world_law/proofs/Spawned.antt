@@ -8,7 +8,6 @@ use Rattle.call_fs.proofs.Maps.{put_at_other}
 use Rattle.call_fs.specs.declared.past.ChildData.{ChildData}
 use Rattle.call_fs.specs.declared.past.ChildData.TheVariants as child
 use Rattle.call_fs.specs.declared.past.GotData.{GotData}
-use Rattle.call_fs.specs.declared.past.GotData.TheVariants as got
 use Rattle.call_fs.specs.declared.past.NeedData.{NeedData}
 use Rattle.call_fs.specs.declared.past.NeedData.TheVariants as needs
 use Rattle.call_fs.specs.declared.past.Own.{Own}
@@ -32,7 +31,6 @@ use Rattle.spawn_protocol.specs.declared.request.Request.{Request}
 use Rattle.spawner_parts.specs.declared.place.Place.{Place}
 use Rattle.spawner_parts.specs.declared.row.Row.{Row}
 use Rattle.spawner_parts.specs.declared.row.Row.TheVariants as at
-use Rattle.world_pipes.specs.Pipework.{Pipe, Yields}
 use Rattle.world_events.specs.declared.event.Program.{Program}
 use Rattle.world_events.specs.declared.event.Program.TheVariants.{Injector, Cleaner, Sender, LocalSpawner, RemoteSpawner, Delivery}
 use Rattle.mail_world.specs.History.{Actor, Allowed, ComesOf, Event, IsProgramOf, IsSender, Legal, Life, MayBear, MayDo, MayRun, State, acted, after, bears, cut_off, happens, opening, stopped}
@@ -46,19 +44,18 @@ use Rattle.world_law.specs.Posts.{desk_by, desk_in, sends_in}
 use Rattle.world_law.specs.Spawned.{HoldsStanding, IsSpawner, RequestsStand, spawner_name, stands_after, started_after}
 use Rattle.world_law.specs.Standing.{IsOut}
 use Rattle.world_law.proofs.Flights.{flights_stand}
+use Rattle.world_law.proofs.Halted.{stopped_dead}
 use Rattle.world_law.proofs.Histories.{always}
+use Rattle.world_law.proofs.PostEvents.{IsOther}
 use Rattle.world_law.proofs.PostSends.{some_of}
-use Rattle.world_law.proofs.SpawnedEvents.{IsOther, StandsIn, bears_stand, begins_stand, ends_stand, other_acts, sender_acts, spawner_acts}
+use Rattle.world_law.proofs.PostServes.{offered_by}
+use Rattle.world_law.proofs.SpawnedEvents.{StandsIn, bears_stand, begins_stand, ends_stand, other_acts, sender_acts, spawner_acts}
 use Rattle.world_law.proofs.SpawnedHand.{holds}
 use Rattle.world_law.proofs.SpawnedRests.{rests_if, shown, shown_goes}
 use Rattle.world_law.proofs.SpawnedViews.{Held, Sight, Stands, begins, first_sight, gone, nobody, post_held, side_by, side_in, sight_of}
 use Rattle.world_law.proofs.Starts.{is_cleaner, is_local, is_remote, is_sender}
 
 -- An event of an actor, with what comes of a taking
-
-yields_offered : (pipe : Pipe) (came : GotData) → Yields pipe came → IsOffered pipe.bytes came
-yields_offered pipe (got.Took bytes) y = y.1
-yields_offered pipe came y = tt
 
 module _ (controls : Controls) (s : State) (I : Inv controls s) (c : Channel) (S : StandsIn c s) (a : List ℕ) (own : Own) (wrote : ℕ) where
   link_some : ComesOf s a own.due own.came wrote → own.due ≡ needs.Take (port_of c) → IsSome own.came (s.pipework.pipes a (port_of c)).bytes
@@ -69,7 +66,7 @@ module _ (controls : Controls) (s : State) (I : Inv controls s) (c : Channel) (S
       by channel.Remote h = some_of (s.pipework.pipes a port.Rspawn) own.came h
 
   input_offered : ComesOf s a own.due own.came wrote → own.due ≡ needs.Take port.Input → IsOffered (s.pipework.pipes a port.Input).bytes own.came
-  input_offered comes e = yields_offered (s.pipework.pipes a port.Input) own.came (subst (λ (n : NeedData). ComesOf s a n own.came wrote) e comes)
+  input_offered comes e = offered_by (s.pipework.pipes a port.Input) own.came (subst (λ (n : NeedData). ComesOf s a n own.came wrote) e comes)
 
 acts_by : (controls : Controls) (s : State) → Inv controls s → (c : Channel) → StandsIn c s → (a : List ℕ) (own : Own) (wrote : ℕ) (may : MayDo s a own wrote) (program : Program)
     → may.actor.program ≡ program
@@ -175,11 +172,6 @@ generations_stand c s sender clean lspawn rspawn may =
 
 -- The machine stops
 
-dead_cut : (life : Life) → is_alive (cut_off life) ≡ false
-dead_cut Alive = refl
-dead_cut (Over status) = refl
-dead_cut Stopped = refl
-
 dead_serves : (c : Channel) (program : Program) (past : List Own) (life : Life) → is_alive life ≡ false → (side_by c program past life).serves ≡ false
 dead_serves channel.Local (LocalSpawner since) past life dead = dead
 dead_serves channel.Remote (RemoteSpawner since) past life dead = dead
@@ -192,7 +184,7 @@ nobody_serves channel.Remote = refl
 
 serves_halted : (c : Channel) (o : Option Actor) → (side_in c (option_map stopped o)).serves ≡ false
 serves_halted c None = nobody_serves c
-serves_halted c (Some x) = dead_serves c x.program x.past (cut_off x.life) (dead_cut x.life)
+serves_halted c (Some x) = dead_serves c x.program x.past (cut_off x.life) (stopped_dead x.life)
 
 halts_stand : (c : Channel) (s t : State) → t.actors ≡ (λ a. option_map stopped (s.actors a)) → StandsIn c t
 halts_stand c s t are =
@@ -276,7 +268,8 @@ from_shown : (s : State) (started : ℕ → Option Request) (given : List ℕ) (
 from_shown s started given channel.Local past h = from_shown_at s started given (local_after past).work.row (local_after past).work h
 from_shown s started given channel.Remote past h = from_shown_at s started given (remote_after past).row (remote_after past) h
 
-module _ (s : State) (c : Channel) (S : StandsIn c s) (past : List Own) (is : side_in c (s.actors (spawner_name c)) ≡ record { spawner = spawner_at c past; serves = true; started = started_after c past })
+module _ (s : State) (c : Channel) (S : StandsIn c s) (past : List Own)
+    (is : side_in c (s.actors (spawner_name c)) ≡ record { spawner = spawner_at c past; serves = true; started = started_after c past })
     (stands : (t : Attempt) → IsOut (desk_in (s.actors (codes "sender"))) c t → state_of s.disk t.n ≡ S5) where
   abbrev v : Sight
   v = record {

@@ -1,62 +1,36 @@
 -- Events of actors: each keeps what stands between the sender and the spawner of a channel.
-use Rattle.std.specs.Prelude.{Contains}
-use Rattle.std.proofs.Common.{◌≡◌, ◌≢◌, ℕ, ◌≤◌, List, [], ◌∷◌, Bool, true, false, Option, Some, None, refl, sym, ap, ◌∙◌, subst, arith, codes, if◌then◌else◌}
-use Rattle.actor_names.specs.MailNames.{members}
+use Rattle.std.proofs.Common.{◌≡◌, ℕ, ◌≤◌, List, [], ◌∷◌, Bool, true, false, Option, Some, None, refl, sym, ap, ◌∙◌, subst, arith, codes}
 use Rattle.address_rules.specs.declared.controls.Controls.{Controls}
 use Rattle.call_fs.specs.Maps.{put_at}
 use Rattle.call_fs.specs.Program.{MayCome}
 use Rattle.call_fs.proofs.Maps.{put_at_other, put_at_same}
-use Rattle.call_fs.specs.declared.calls.CallData.{CallData}
-use Rattle.call_fs.specs.declared.calls.CallData.TheVariants as call
-use Rattle.call_fs.specs.declared.past.ChildData.{ChildData}
-use Rattle.call_fs.specs.declared.past.GotData.{GotData}
-use Rattle.call_fs.specs.declared.past.NeedData.{NeedData}
 use Rattle.call_fs.specs.declared.past.NeedData.TheVariants as needs
 use Rattle.call_fs.specs.declared.past.Own.{Own}
 use Rattle.call_fs.specs.declared.program.Port.TheVariants as port
-use Rattle.call_fs.specs.declared.program.Ready.{Ready}
-use Rattle.local_deliver.specs.Table.{place_after as delivery_after}
-use Rattle.local_spawn.specs.declared.place.Place.{Place as LocalPlace}
-use Rattle.local_spawn.specs.declared.row.Row.{Row as LocalRow}
-use Rattle.local_spawn.specs.declared.row.Row.TheVariants as local
-use Rattle.local_spawn.specs.Table.{due_at as local_due, place_after as local_after, program_of}
 use Rattle.mail_bytes.specs.Moments.{IsMoment}
-use Rattle.post_law.specs.Posts.{IsOffered, asked_by, due_of, told_by}
-use Rattle.post_law.specs.Senders.{AsksFor, IsSome, asked_on, told_on}
-use Rattle.queue_clean.specs.declared.row.Row.{Row as CleanRow}
-use Rattle.queue_clean.specs.declared.row.Row.TheVariants as clean
-use Rattle.queue_clean.specs.Table.{due_at as clean_due, is_old, pid_path, place_after as clean_after, search_after}
-use Rattle.queue_inject.proofs.Acts.{IsAlone, next_alone}
-use Rattle.remote_spawn.specs.Table.{place_after as remote_after, program_of as remote_program}
+use Rattle.post_law.specs.Posts.{IsOffered, due_of}
+use Rattle.post_law.specs.Senders.{AsksFor, IsSome}
 use Rattle.send_core.specs.declared.desk.Desk.{Desk}
 use Rattle.send_core.specs.Table.{desk_after, due_at, port_of, row_now}
 use Rattle.send_jobs.specs.declared.channels.Channel.{Channel}
 use Rattle.send_jobs.specs.declared.channels.Channel.TheVariants as channel
 use Rattle.sender_law.proofs.Asking.{requests_are_texts}
-use Rattle.spawner_parts.specs.declared.place.Place.{Place}
-use Rattle.spawner_parts.specs.declared.row.Row.{Row}
-use Rattle.spawner_parts.specs.declared.row.Row.TheVariants as work_at
-use Rattle.spawner_parts.specs.Table.{due_at as work_due, row_now as work_now}
-use Rattle.world_pipes.specs.Pipework.{Pipe, Pipework, closed, is_writer, pipes_after, with_child, writer}
-use Rattle.world_pipes.specs.Pipework.Tenant.{Runs}
+use Rattle.world_pipes.specs.Pipework.{Pipework, is_writer, with_child, writer}
 use Rattle.world_events.specs.declared.event.Program.{Program}
-use Rattle.world_events.specs.declared.event.Program.TheVariants.{Injector, Cleaner, Sender, LocalSpawner, RemoteSpawner, Delivery}
+use Rattle.world_events.specs.declared.event.Program.TheVariants.{Sender, LocalSpawner, RemoteSpawner}
 use Rattle.mail_world.specs.History.{Actor, IsSender, Life, State, acted, bears, finished, newborn, next_of, slot_by}
 use Rattle.mail_world.specs.History.Life.{Alive}
 use Rattle.mail_world.specs.Untouched.{queue}
-use Rattle.mail_world.proofs.Members.{member_contained}
 use Rattle.world_law.specs.Crew.{IsNamed, is_alive}
 use Rattle.world_law.specs.Fares.{SenderFares}
 use Rattle.world_law.specs.Inv.{Inv}
 use Rattle.world_law.specs.Posts.{desk_in, sends_by, sends_in}
 use Rattle.world_law.specs.Spawned.{IsSpawner, spawner_name}
-use Rattle.world_law.proofs.Deliveries.{IsDelivering, row_delivers}
-use Rattle.world_law.proofs.PostEvents.{IsNeither, tenant_not}
-use Rattle.world_law.proofs.PostPipes.{IsCalm, asked_left, asked_output, asked_sent, asked_spawned, names_apart, told_left, told_output, told_sent, told_spawned}
+use Rattle.world_law.proofs.Gone.{bytes_shut}
+use Rattle.world_law.proofs.PostEvents.{IsAside, IsMild, IsOther, acts_aside, calm, mild, tenant_not}
+use Rattle.world_law.proofs.PostPipes.{asked_output, asked_sent, asked_spawned, not_spawner, told_output, told_sent, told_spawned}
 use Rattle.world_law.proofs.PostSends.{asks_for}
 use Rattle.world_law.proofs.PostViews.{put_seen}
-use Rattle.world_law.proofs.RemotePipes.{IsCalm as IsCalmFar, asked_left as far_asked_left, asked_output as far_asked_output, asked_sent as far_asked_sent, asked_spawned as far_asked_spawned}
-use Rattle.world_law.proofs.RemotePipes.{told_left as far_told_left, told_output as far_told_output, told_sent as far_told_sent, told_spawned as far_told_spawned}
 use Rattle.world_law.proofs.SendersPut.{sender}
 use Rattle.world_law.proofs.SpawnedViews.{Sight, Stands, gone as none_serves, lost, sender_stands, side_by, side_in, side_worked, sight_of, sight_sent, sight_worked, works}
 
@@ -74,16 +48,6 @@ pub sight_same : (c : Channel) (old new : List ℕ → Option Actor) (v w : Pipe
     → sight_of c new w ≡ sight_of c old v
 sight_same c old new v w sends spawner told asked = λ i. record { desk = (sends i).0; sends = (sends i).1; side = spawner i; told = told i; asked = asked i }
 
--- a program that is neither the sender nor this spawner
-abbrev pub IsNoRemote : Program → Type 0
-IsNoRemote (Sender since) = ⊥
-IsNoRemote (RemoteSpawner since) = ⊥
-IsNoRemote program = Unit {0}
-
-abbrev pub IsOther : Channel → Program → Type 0
-IsOther channel.Local program = IsNeither program
-IsOther channel.Remote program = IsNoRemote program
-
 pub other_sender : (c : Channel) (program : Program) → IsOther c program → (past : List Own) (life : Life) → sender_in (Some (record { program = program; past = past; life = life })) ≡ sender_in None
 other_sender channel.Local (Sender since) it past life = absurd it
 other_sender channel.Remote (Sender since) it past life = absurd it
@@ -95,138 +59,17 @@ other_side channel.Remote (RemoteSpawner since) it past life = absurd it
 other_side channel.Local program it past life = refl
 other_side channel.Remote program it past life = refl
 
--- What it gives: only the sender gives to spawners
-
-abbrev IsMild : NeedData → Type 0
-IsMild (needs.Give port.Lspawn bytes) = ⊥
-IsMild (needs.Give port.Rspawn bytes) = ⊥
-IsMild due = Unit {0}
-
-mild_judged : (old : Bool) (unlink : CallData) (name : List ℕ) → IsMild (if old then needs.File unlink else search_after name)
-mild_judged true unlink name = tt
-mild_judged false unlink name = tt
-
-mild_clean : (row : CleanRow) (name : List ℕ) (now : ℕ) → IsMild (clean_due row name now)
-mild_clean (clean.JudgePid moment) name now = mild_judged (is_old moment now) (call.Unlink (pid_path name)) name
-mild_clean row name now = tt
-
-mild_work : (program : ChildData) (row : Row) (p : Place) → IsMild (work_due program row p)
-mild_work program work_at.Start p = tt
-mild_work program row p = tt
-
-mild_local : (row : LocalRow) (ready : Ready) (p : LocalPlace) → IsMild (local_due row ready p)
-mild_local local.Serves ready p = mild_work (program_of p) (work_now p.work ready) p.work
-mild_local row ready p = tt
-
-mild_alone : (due : NeedData) → IsAlone due → IsMild due
-mild_alone (needs.Give p bytes) alone = absurd alone
-mild_alone due alone = tt
-
-mild_delivering : (due : NeedData) → IsDelivering due → IsMild due
-mild_delivering (needs.Give port.Lspawn bytes) it = it
-mild_delivering (needs.Give port.Rspawn bytes) it = it
-mild_delivering due it = tt
-
-mild : (program : Program) → (IsSender program → ⊥) → (past : List Own) (now : ℕ) (ready : Ready) → IsMild (next_of program past now ready)
-mild (Injector args) apart past now ready = mild_alone (next_of (Injector args) past now ready) (next_alone args past now ready)
-mild (Cleaner since) apart past now ready = let p = clean_after past in mild_clean p.row p.name now
-mild (LocalSpawner since) apart past now ready = let p = local_after past in mild_local p.row ready p
-mild (RemoteSpawner since) apart past now ready = let p = remote_after past in mild_work (remote_program p.request) (work_now p ready) p
-mild (Delivery since args) apart past now ready = let p = delivery_after args past in mild_delivering (next_of (Delivery since args) past now ready) (row_delivers args p.row p)
-mild (Sender since) apart past now ready = absurd (apart tt)
-
-local_calm : (due : NeedData) → IsMild due → IsCalm due
-local_calm (needs.Give port.Lspawn bytes) it = it
-local_calm due it = tt
-
-remote_calm : (due : NeedData) → IsMild due → IsCalmFar due
-remote_calm (needs.Give port.Rspawn bytes) it = it
-remote_calm due it = tt
-
--- no member runs in a slot
-tenant_apart : (controls : Controls) (s : State) → Inv controls s → (c : Channel) (a : List ℕ) (d : ℕ) (b : List ℕ) → s.pipework.programs a d ≡ Some (Runs b) → b ≢ spawner_name c
-tenant_apart controls s I channel.Local a d b runs = tenant_not controls s I a d b runs
-tenant_apart controls s I channel.Remote a d b runs = λ same.
-    (I.tenants a d (Runs b) runs).apart (subst (λ (n : List ℕ). Contains members n) (sym same) (member_contained (codes "rspawn") refl))
-
-record IsAside (c : Channel) (s : State) (a : List ℕ) (due : NeedData) (came : GotData) (wrote : ℕ) : Type 0 where
-  told : (pipes_after s.pipework a due came wrote (codes "sender") (port_of c)).bytes ≡ (s.pipework.pipes (codes "sender") (port_of c)).bytes
-  asked : (pipes_after s.pipework a due came wrote (spawner_name c) port.Input).bytes ≡ (s.pipework.pipes (spawner_name c) port.Input).bytes
-
-alone_aside : (c : Channel) (s : State) (a : List ℕ) (due : NeedData) (came : GotData) (wrote : ℕ) → IsAlone due → IsAside c s a due came wrote
-alone_aside c s a (needs.File it) came wrote alone = record { told = refl; asked = refl }
-alone_aside c s a (needs.Ended status) came wrote alone = record { told = refl; asked = refl }
-alone_aside c s a needs.Wait came wrote alone = record { told = refl; asked = refl }
-alone_aside c s a due came wrote alone = absurd alone
-
-named_aside : (controls : Controls) (s : State) → Inv controls s → (c : Channel) (a : List ℕ) (due : NeedData) (came : GotData) (wrote : ℕ) → IsMild due → a ≢ spawner_name c → a ≢ codes "sender"
-    → IsAside c s a due came wrote
-named_aside controls s I channel.Local a due came wrote it apart other = record {
-  told = told_left s.pipework a due came wrote apart other;
-  asked = asked_left s.pipework a (tenant_apart controls s I channel.Local a) due came wrote (local_calm due it) apart;
-}
-named_aside controls s I channel.Remote a due came wrote it apart other = record {
-  told = far_told_left s.pipework a due came wrote apart other;
-  asked = far_asked_left s.pipework a (tenant_apart controls s I channel.Remote a) due came wrote (remote_calm due it) apart;
-}
-
-at_name : (c : Channel) (a name : List ℕ) → a ≡ name → name ≢ spawner_name c → name ≢ codes "sender" → (a ≢ spawner_name c) × (a ≢ codes "sender")
-at_name c a name is apart other = (λ same. apart (sym is ∙ same), λ same. other (sym is ∙ same))
-
-clean_apart : (c : Channel) → codes "clean" ≢ spawner_name c
-clean_apart channel.Local = names_apart (codes "clean") (codes "lspawn") refl
-clean_apart channel.Remote = names_apart (codes "clean") (codes "rspawn") refl
-
-spawner_member : (c : Channel) → Contains members (spawner_name c)
-spawner_member channel.Local = member_contained (codes "lspawn") refl
-spawner_member channel.Remote = member_contained (codes "rspawn") refl
-
-not_spawner : (c : Channel) → codes "sender" ≢ spawner_name c
-not_spawner channel.Local = names_apart (codes "sender") (codes "lspawn") refl
-not_spawner channel.Remote = names_apart (codes "sender") (codes "rspawn") refl
-
-other_aside : (controls : Controls) (s : State) → Inv controls s → (c : Channel) (a : List ℕ) (program : Program) → IsOther c program → IsNamed a program
-    → (past : List Own) (read : ℕ) (ready : Ready) (came : GotData) (wrote : ℕ)
-    → IsAside c s a (next_of program past read ready) came wrote
-other_aside controls s I c a (Injector args) it named past read ready came wrote = alone_aside c s a (next_of (Injector args) past read ready) came wrote (next_alone args past read ready)
-other_aside controls s I c a (Cleaner since) it named past read ready came wrote =
-    let w = at_name c a (codes "clean") named (clean_apart c) (names_apart (codes "clean") (codes "sender") refl) in
-    named_aside controls s I c a (next_of (Cleaner since) past read ready) came wrote (mild (Cleaner since) (λ none. none) past read ready) w.0 w.1
-other_aside controls s I channel.Local a (RemoteSpawner since) it named past read ready came wrote =
-    let w = at_name channel.Local a (codes "rspawn") named (names_apart (codes "rspawn") (codes "lspawn") refl) (names_apart (codes "rspawn") (codes "sender") refl) in
-    named_aside controls s I channel.Local a (next_of (RemoteSpawner since) past read ready) came wrote (mild (RemoteSpawner since) (λ none. none) past read ready) w.0 w.1
-other_aside controls s I channel.Remote a (LocalSpawner since) it named past read ready came wrote =
-    let w = at_name channel.Remote a (codes "lspawn") named (names_apart (codes "lspawn") (codes "rspawn") refl) (names_apart (codes "lspawn") (codes "sender") refl) in
-    named_aside controls s I channel.Remote a (next_of (LocalSpawner since) past read ready) came wrote (mild (LocalSpawner since) (λ none. none) past read ready) w.0 w.1
-other_aside controls s I c a (Delivery since args) it named past read ready came wrote =
-    named_aside controls s I c a (next_of (Delivery since args) past read ready) came wrote (mild (Delivery since args) (λ none. none) past read ready)
-    (λ same. named (subst (λ (n : List ℕ). Contains members n) (sym same) (spawner_member c)))
-    (λ same. named (subst (λ (n : List ℕ). Contains members n) (sym same) (member_contained (codes "sender") refl)))
-other_aside controls s I channel.Local a (LocalSpawner since) it named past read ready came wrote = absurd it
-other_aside controls s I channel.Remote a (RemoteSpawner since) it named past read ready came wrote = absurd it
-other_aside controls s I channel.Local a (Sender since) it named past read ready came wrote = absurd it
-other_aside controls s I channel.Remote a (Sender since) it named past read ready came wrote = absurd it
-
 pub other_acts : (controls : Controls) (s : State) → Inv controls s → (c : Channel) → StandsIn c s → (a : List ℕ) (own : Own) (wrote : ℕ) (x : Actor) → s.actors a ≡ Some x → IsOther c x.program
     → next_of x.program x.past own.read own.ready ≡ own.due → StandsIn c (acted s a own wrote (Some x))
 other_acts controls s I c S a own wrote x is it due =
     let y : Actor = record { program = x.program; past = own ∷ x.past; life = x.life } in
-    let aside : IsAside c s a own.due own.came wrote =
-    subst (λ (d : NeedData). IsAside c s a d own.came wrote) due (other_aside controls s I c a x.program it (I.crew a x is) x.past own.read own.ready own.came wrote) in
+    let aside : IsAside c s a own.due own.came wrote = acts_aside controls s I c a own wrote x is it due in
     let sends : sender_in (Some y) ≡ sender_in (s.actors a) = other_sender c x.program it (own ∷ x.past) x.life ∙ sym (other_sender c x.program it x.past x.life) ∙ ap sender_in (sym is) in
     let side : side_in c (Some y) ≡ side_in c (s.actors a) = other_side c x.program it (own ∷ x.past) x.life ∙ sym (other_side c x.program it x.past x.life) ∙ ap (side_in c) (sym is) in
     subst (Stands c) (sym (sight_same c s.actors (put_at s.actors a (Some y)) s.pipework (acted s a own wrote (Some x)).pipework
     (put_seen sender_in s.actors a y (codes "sender") sends) (put_seen (side_in c) s.actors a y (spawner_name c) side) aside.told aside.asked)) S
 
 -- A child starts
-
-told_birth : (c : Channel) (w : Pipework) (parent : List ℕ) (d : ℕ) (a : List ℕ) → ((with_child w parent d a).pipes (codes "sender") (port_of c)).bytes ≡ (w.pipes (codes "sender") (port_of c)).bytes
-told_birth channel.Local w parent d a = told_output w parent d
-told_birth channel.Remote w parent d a = far_told_output w parent d
-
-asked_birth : (c : Channel) (w : Pipework) (parent : List ℕ) (d : ℕ) (a : List ℕ) → ((with_child w parent d a).pipes (spawner_name c) port.Input).bytes ≡ (w.pipes (spawner_name c) port.Input).bytes
-asked_birth channel.Local w parent d a = asked_output w parent d
-asked_birth channel.Remote w parent d a = far_asked_output w parent d
 
 pub begins_stand : (c : Channel) (s : State) → StandsIn c s → (a : List ℕ) (program : Program) → IsOther c program → s.actors a ≡ None → (w : Pipework)
     → (w.pipes (codes "sender") (port_of c)).bytes ≡ (s.pipework.pipes (codes "sender") (port_of c)).bytes
@@ -242,21 +85,13 @@ begins_stand c s S a program it new w told asked =
 pub bears_stand : (c : Channel) (s : State) → StandsIn c s → (parent : List ℕ) (own : Own) (a : List ℕ) (program : Program) → IsOther c program → s.actors a ≡ None
     → StandsIn c (bears s parent own a program)
 bears_stand c s S parent own a program it new =
-    begins_stand c s S a program it new (with_child s.pipework parent (slot_by own.due) a) (told_birth c s.pipework parent (slot_by own.due) a) (asked_birth c s.pipework parent (slot_by own.due) a)
+    begins_stand c s S a program it new (with_child s.pipework parent (slot_by own.due) a)
+    (told_output s.pipework c parent (slot_by own.due)) (asked_output s.pipework c parent (slot_by own.due))
 
 -- An event of the sender
 
-sent_told : (c : Channel) (w : Pipework) (due : NeedData) (came : GotData) (wrote : ℕ)
-    → (pipes_after w (codes "sender") due came wrote (codes "sender") (port_of c)).bytes ≡ told_on c due came (w.pipes (codes "sender") (port_of c)).bytes
-sent_told channel.Local w due came wrote = told_sent w due came wrote
-sent_told channel.Remote w due came wrote = far_told_sent w due came wrote
-
-sent_asked : (controls : Controls) (s : State) → Inv controls s → (c : Channel) (due : NeedData) (came : GotData) (wrote : ℕ)
-    → (pipes_after s.pipework (codes "sender") due came wrote (spawner_name c) port.Input).bytes ≡ asked_on c due came wrote (s.pipework.pipes (spawner_name c) port.Input).bytes
-sent_asked controls s I channel.Local due came wrote = asked_sent s.pipework (tenant_apart controls s I channel.Local (codes "sender")) due came wrote
-sent_asked controls s I channel.Remote due came wrote = far_asked_sent s.pipework (tenant_apart controls s I channel.Remote (codes "sender")) due came wrote
-
-module _ (controls : Controls) (s : State) (I : Inv controls s) (c : Channel) (S : StandsIn c s) (own : Own) (wrote began : ℕ) (past : List Own) (is : s.actors (codes "sender") ≡ Some (sender began past))
+module _ (controls : Controls) (s : State) (I : Inv controls s) (c : Channel) (S : StandsIn c s) (own : Own) (wrote began : ℕ) (past : List Own)
+    (is : s.actors (codes "sender") ≡ Some (sender began past))
     (soon : own.read ≤ s.now) (due : due_at (row_now (desk_after None past) own.read own.ready) (desk_after None past) ≡ own.due)
     (may : MayCome own.due own.came) (takes : own.due ≡ needs.Take (port_of c) → IsSome own.came (s.pipework.pipes (codes "sender") (port_of c)).bytes) where
   abbrev before_sent : Sight
@@ -301,8 +136,8 @@ module _ (controls : Controls) (s : State) (I : Inv controls s) (c : Channel) (S
     desk = desk_in (sender_here i);
     sends = sends_in (sender_here i);
     side = side_in c (spawner_there i);
-    told = sent_told c s.pipework own.due own.came wrote i;
-    asked = sent_asked controls s I c own.due own.came wrote i;
+    told = told_sent s.pipework c own.due own.came wrote i;
+    asked = asked_sent s.pipework c (tenant_not controls s I c (codes "sender")) own.due own.came wrote i;
   }
 
   sender_event : StandsIn c then_sent
@@ -329,18 +164,6 @@ sender_acts controls s I c S a own wrote x is alive it soon due may takes = send
 
 -- An event of the spawner
 
-worked_told : (c : Channel) (w : Pipework) (due : NeedData) (came : GotData) (wrote : ℕ)
-    → (pipes_after w (spawner_name c) due came wrote (codes "sender") (port_of c)).bytes ≡ told_by due came wrote (w.pipes (codes "sender") (port_of c)).bytes
-worked_told channel.Local w due came wrote = told_spawned w due came wrote
-worked_told channel.Remote w due came wrote = far_told_spawned w due came wrote
-
-worked_asked : (controls : Controls) (s : State) → Inv controls s → (c : Channel) (due : NeedData) (came : GotData) (wrote : ℕ) → IsMild due
-    → (pipes_after s.pipework (spawner_name c) due came wrote (spawner_name c) port.Input).bytes ≡ asked_by due came (s.pipework.pipes (spawner_name c) port.Input).bytes
-worked_asked controls s I channel.Local due came wrote it =
-    asked_spawned s.pipework (tenant_apart controls s I channel.Local (codes "lspawn")) due came wrote (local_calm due it)
-worked_asked controls s I channel.Remote due came wrote it =
-    far_asked_spawned s.pipework (tenant_apart controls s I channel.Remote (codes "rspawn")) due came wrote (remote_calm due it)
-
 -- what it does is due
 record Works (c : Channel) (program : Program) (past : List Own) (life : Life) (own : Own) : Type 0 where
   due : own.due ≡ due_of (side_by c program past life).spawner own.ready
@@ -359,7 +182,8 @@ works_by channel.Local program past life own it alive due = absurd it
 works_by channel.Remote program past life own it alive due = absurd it
 
 module _ (controls : Controls) (s : State) (I : Inv controls s) (c : Channel) (S : StandsIn c s) (own : Own) (wrote : ℕ) (x : Actor) (is : s.actors (spawner_name c) ≡ Some x)
-    (W : Works c x.program x.past x.life own) (may : MayCome own.due own.came) (offered : own.due ≡ needs.Take port.Input → IsOffered (s.pipework.pipes (spawner_name c) port.Input).bytes own.came) where
+    (W : Works c x.program x.past x.life own) (may : MayCome own.due own.came)
+    (offered : own.due ≡ needs.Take port.Input → IsOffered (s.pipework.pipes (spawner_name c) port.Input).bytes own.came) where
   abbrev before_worked : Sight
   before_worked = record {
     desk = desk_in (s.actors (codes "sender"));
@@ -395,8 +219,8 @@ module _ (controls : Controls) (s : State) (I : Inv controls s) (c : Channel) (S
     desk = desk_in (sender_there i);
     sends = sends_in (sender_there i);
     side = side_then i;
-    told = worked_told c s.pipework own.due own.came wrote i;
-    asked = worked_asked controls s I c own.due own.came wrote W.mild_due i;
+    told = told_spawned s.pipework c own.due own.came wrote i;
+    asked = asked_spawned s.pipework c (tenant_not controls s I c (spawner_name c)) own.due own.came wrote (calm c own.due W.mild_due) i;
   }
 
   spawner_event : StandsIn c then_worked
@@ -419,10 +243,6 @@ spawner_acts controls s I c S a own wrote x is alive it due may offered =
     (subst (λ (b : List ℕ). own.due ≡ needs.Take port.Input → IsOffered (s.pipework.pipes b port.Input).bytes own.came) named offered))
 
 -- An end or a stop
-
-bytes_shut : (t : Bool) (p : Pipe) → (if t then closed p else p).bytes ≡ p.bytes
-bytes_shut true p = refl
-bytes_shut false p = refl
 
 dead_side : (c : Channel) (program : Program) → IsSpawner c program → (past : List Own) (life : Life) → is_alive life ≡ false → (side_by c program past life).serves ≡ false
 dead_side channel.Local (LocalSpawner since) it past life dead = dead

@@ -1,6 +1,7 @@
 -- What stands between the sender and the spawner of a channel, also once the sender is lost: what the spawner has in hand then is as if the
 -- sender lived on, with the attempts in its slots that it had out.
-use Rattle.std.proofs.Common.{◌≡◌, ◌≢◌, ◌⊎◌, inl, inr, ⊎_elim, ℕ, List, [], ◌++◌, length, set, take, drop, Bool, true, false, ◌&&◌, Option, Some, None, refl, sym, ap, ◌∙◌, subst, append_assoc, take-append-drop, codes}
+use Rattle.std.proofs.Common.{◌≡◌, ◌≢◌, inl, inr, ⊎_elim, ℕ, List, [], ◌++◌, length, set, take, drop, Bool, true, false, ◌&&◌}
+use Rattle.std.proofs.Common.{Option, Some, None, refl, sym, ap, ◌∙◌, subst, append_assoc, take-append-drop, codes}
 use Rattle.std.proofs.lemmas.Bool.{cases_eq}
 use Rattle.std.proofs.lemmas.List.{append-nil, get_or-set_other, get_or-set_same}
 use Rattle.std.specs.Prelude.{Contains}
@@ -52,8 +53,9 @@ use Rattle.world_law.specs.Crew.{is_alive}
 use Rattle.world_law.specs.Posts.{desk_in, sends_in}
 use Rattle.world_law.specs.Spawned.{spawner_name, started_after, started_by}
 use Rattle.world_law.specs.Standing.{IsOut}
+use Rattle.world_law.proofs.AtWork.{runs_not_free}
+use Rattle.world_law.proofs.Forgets.{lowest_is_free}
 use Rattle.world_law.proofs.PostSends.{stays_late}
-use Rattle.world_law.proofs.SpawnedHand.{running_flies}
 use Rattle.world_law.proofs.SpawnedRests.{due_text, goes_no_more, rested, rested_runs, rests_if, rests_posted, shown, shows_going, stays_so, work_shown}
 use Rattle.world_law.proofs.SpawnedRuns.{IsTied, tied_works}
 use Rattle.world_law.proofs.SpawnedSlots.{Change, changes, gives_late, on_before}
@@ -428,7 +430,8 @@ module _ (c : Channel) (v : Sight) (h : Held c v) (own : Own) (wrote : ℕ) (sen
       subst Posted same h.posted
 
   alive : post_held (shown v.side.spawner) v.asked (lane c v.desk.slots).slots (heard_at v.desk.row c (link c v.desk).reader) (v.told ++ h.unsaid) h.tasks h.last h.done
-      ≡ record (post_held (shown v.side.spawner) v.asked (lane c v.desk.slots).slots (heard_at v.desk.row c (link c v.desk).reader) (v.told ++ h.unsaid) h.tasks h.last h.done) { lives = is_on v.desk.row }
+      ≡ record (post_held (shown v.side.spawner) v.asked (lane c v.desk.slots).slots (heard_at v.desk.row c (link c v.desk).reader) (v.told ++ h.unsaid) h.tasks h.last h.done)
+      { lives = is_on v.desk.row }
   alive = λ i. record post { lives = sym row_on i }
 
   tied : IsTied (work_of (shown v.side.spawner)) (lane c v.desk.slots).slots v.side.started
@@ -446,10 +449,7 @@ module _ (c : Channel) (v : Sight) (h : Held c v) (own : Own) (wrote : ℕ) (sen
   -- nothing runs in a free slot
   idle : (low : ℕ) → lowest (lane c v.desk.slots).slots ≡ Some low → goes_at true (work_of (shown v.side.spawner)).row ≡ true → runs_in (work_of (shown v.side.spawner)).running low ≡ true → ⊥
   idle low free goes run =
-      let w = running_flies post posted refl refl goes low run in
-      let least : IsLeastFree (lane c v.desk.slots).slots (Some low) = subst (IsLeastFree (lane c v.desk.slots).slots) free (lowest_is_least (lane c v.desk.slots).slots) in
-      let both : ◌≡◌ {A = Option Attempt} None (Some w.0) = sym least.1 ∙ w.1 in
-      absurd (cc)
+      runs_not_free (work_of (shown v.side.spawner)) post refl goes posted.fares low run (lowest_is_free (lane c v.desk.slots).slots low free)
 
   tied_by : Change c v.desk (moved v.desk own) own.due own.came → is_on (moved v.desk own).row ≡ true → IsTied (work_of (shown v.side.spawner)) (lane c (moved v.desk own).slots).slots v.side.started
   tied_by (Still same asked) still goes slot t run there = tied goes slot t run (sym (same slot) ∙ there)
@@ -471,7 +471,8 @@ module _ (c : Channel) (v : Sight) (h : Held c v) (own : Own) (wrote : ℕ) (sen
       let asks = asked_on c own.due own.came wrote v.asked in
       let told = told_on c own.due own.came v.told ++ h.unsaid in
       let told_same : told_on c own.due own.came (v.told ++ h.unsaid) ≡ told = took_more c own.due own.came v.told h.unsaid takes in
-      let same : record (post_held (shown v.side.spawner) asks then_slots then_holds (told_on c own.due own.came (v.told ++ h.unsaid)) h.tasks sent.last h.done) { lives = is_on (moved v.desk own).row }
+      let same : record (post_held (shown v.side.spawner) asks then_slots then_holds (told_on c own.due own.came (v.told ++ h.unsaid)) h.tasks sent.last h.done)
+      { lives = is_on (moved v.desk own).row }
       ≡ post_held (shown v.side.spawner) (asks ++ []) then_slots then_holds told h.tasks sent.last h.done =
       λ i. record (post_held (shown v.side.spawner) (sym (append-nil asks) i) then_slots then_holds (told_same i) h.tasks sent.last h.done) { lives = still i } in
       record {

@@ -1,5 +1,5 @@
 -- What the local spawner gives to the deliveries in its slots, and who runs there.
-use Rattle.std.proofs.Common.{◌≡◌, ◌⊎◌, inl, inr, ⊎_elim, ℕ, ◌==◌, List, ◌++◌, Bool, true, false, ◌&&◌, if◌then◌else◌, Option, Some, None, refl, sym, ap, ◌∙◌, codes}
+use Rattle.std.proofs.Common.{◌≡◌, ◌⊎◌, inl, inr, ⊎_elim, ℕ, ◌==◌, List, ◌++◌, Bool, true, ◌&&◌, if◌then◌else◌, Option, Some, None, refl, sym, ap, ◌∙◌, codes}
 use Rattle.address_rules.specs.declared.controls.Controls.{Controls}
 use Rattle.call_fs.specs.declared.past.ChildData.TheVariants as child
 use Rattle.call_fs.specs.declared.past.GotData.{GotData}
@@ -23,6 +23,7 @@ use Rattle.mail_world.specs.History.{State}
 use Rattle.world_law.specs.Inv.{Inv, IsChild}
 use Rattle.world_law.proofs.MessageSteps.{IsNoFeed}
 use Rattle.world_law.proofs.PostServes.{StartsNone}
+use Rattle.world_law.proofs.Tenants.{not_freed}
 
 -- What it gives to a delivery
 
@@ -56,15 +57,11 @@ fed_pipe w a b d bytes runs =
 
 -- Who runs in its slots
 
-freed_ran : (t : Bool) (o : Option Tenant) (u : Tenant) → (if t then None else o) ≡ Some u → o ≡ Some u
-freed_ran true o u e = absurd (cc)
-freed_ran false o u e = e
-
 -- who runs there still ran before
 pub ran_before : (programs : List ℕ → ℕ → Option Tenant) (due : NeedData) (came : GotData) → StartsNone due came → (slot : ℕ) (u : Tenant)
     → programs_after programs (codes "lspawn") due came (codes "lspawn") slot ≡ Some u → programs (codes "lspawn") slot ≡ Some u
-ran_before programs (needs.Take (port.Status d)) (got.Ended status) none slot u e = freed_ran (slot == d) (programs (codes "lspawn") slot) u e
-ran_before programs (needs.Take (port.Status d)) got.Crashed none slot u e = freed_ran (slot == d) (programs (codes "lspawn") slot) u e
+ran_before programs (needs.Take (port.Status d)) (got.Ended status) none slot u e = not_freed (slot == d) (programs (codes "lspawn") slot) u e
+ran_before programs (needs.Take (port.Status d)) got.Crashed none slot u e = not_freed (slot == d) (programs (codes "lspawn") slot) u e
 ran_before programs (needs.Start asked) (got.Started pid) none slot u e = absurd none
 ran_before programs (needs.Start (child.Local d words uid)) came none slot u e = e
 ran_before programs (needs.Start (child.Remote d domain sender recipient)) came none slot u e = e

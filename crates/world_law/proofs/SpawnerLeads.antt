@@ -19,7 +19,7 @@ use Rattle.local_spawn.specs.declared.place.Place.{Place as LocalPlace}
 use Rattle.local_spawn.specs.declared.row.Row.{Row as LocalRow}
 use Rattle.local_spawn.specs.declared.row.Row.TheVariants as local
 use Rattle.local_spawn.specs.Deliveries.{netstring}
-use Rattle.local_spawn.specs.Table.{due_at as local_due_at, due_from, readied_by, users_closed, users_opened, users_opened_by, users_read, users_read_by}
+use Rattle.local_spawn.specs.Table.{due_at as local_due_at, due_from, readied_by}
 use Rattle.post_law.specs.Posts.{Task}
 use Rattle.post_law.proofs.Sums.{not_running}
 use Rattle.post_law.proofs.Works.{arrives}
@@ -33,7 +33,8 @@ use Rattle.spawner_parts.specs.declared.place.Place.{Place}
 use Rattle.spawner_parts.specs.declared.row.Row.{Row}
 use Rattle.spawner_parts.specs.declared.row.Row.TheVariants as at
 use Rattle.spawner_parts.specs.Asked.{is_bad, runs_in}
-use Rattle.spawner_parts.specs.Table.{answers, arrive, bad_request, exited, fed, gave, heeded, launched, next_request, no_memory, opened_by, opens, printed, read_by, read_row, reports, row_now, took, unable}
+use Rattle.spawner_parts.specs.Table.{answers, arrive, bad_request, exited, fed, gave, heeded, launched, next_request, no_memory, opened_by}
+use Rattle.spawner_parts.specs.Table.{opens, printed, read_by, read_row, reports, row_now, took, unable}
 use Rattle.mail_world.specs.History.{State}
 use Rattle.world_law.specs.Entered.{IsEntered}
 use Rattle.world_law.proofs.EnteredStands.{HoldsMessage, HoldsText, has_message, reads}
@@ -194,27 +195,3 @@ module _ (t : State) (tasks : ℕ → Option Task) where
 -- what it holds of the message at a row
 pub text_at : (s : State) (tasks : ℕ → Option Task) (p : Place) (row : Row) → p.row ≡ row → (h : HoldsMessage s tasks p) → HoldsText s tasks h.n h.message row p
 text_at s tasks p row e h = subst (λ (z : Row). HoldsText s tasks h.n h.message z p) e h.holds
-
--- Its start leaves its work
-
-opened_works_by : (it : Answer) (p : LocalPlace) → (users_opened_by it p).work ≡ p.work
-opened_works_by (answer.Opened fd) p = refl
-opened_works_by (answer.Refused why.NotThere) p = refl
-opened_works_by (answer.Refused why.Memory) p = refl
-opened_works_by it p = refl
-
-pub opened_works : (came : GotData) (p : LocalPlace) → (users_opened came p).work ≡ p.work
-opened_works (got.Answered told) p = opened_works_by told.answer p
-opened_works came p = refl
-
-read_works_by : (fd : Fd) (it : Answer) (bytes : List ℕ) (p : LocalPlace) → (users_read_by fd it bytes p).work ≡ p.work
-read_works_by fd (answer.Count count) bytes p = refl
-read_works_by fd it bytes p = refl
-
-pub read_works : (fd : Fd) (came : GotData) (p : LocalPlace) → (users_read fd came p).work ≡ p.work
-read_works fd (got.Answered told) p = read_works_by fd told.answer told.bytes p
-read_works fd came p = refl
-
-pub closed_works : (whole : Bool) (p : LocalPlace) → (users_closed whole p).work ≡ p.work
-closed_works true p = refl
-closed_works false p = refl

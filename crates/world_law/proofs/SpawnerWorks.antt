@@ -51,8 +51,10 @@ use Rattle.world_law.proofs.EnteredStands.{Begins, HoldsMessage, has_message, re
 use Rattle.world_law.proofs.MessageSteps.{HasFile, IsReadOn, has_file, read_on_so}
 use Rattle.world_law.proofs.PostServes.{spawner, starts_none}
 use Rattle.world_law.proofs.Received.{books_same}
+use Rattle.world_law.proofs.SpawnedRuns.{closed_work, opened_work, read_work}
 use Rattle.world_law.proofs.Spawners.{answered}
-use Rattle.world_law.proofs.SpawnerLeads.{IsAsked, Leads, at_none, at_row, closed_works, exited_leads, fed_leads, gave_leads, launched_leads, opened_leads, opened_works, printed_leads, read_leads, read_works, readied_leads, text_at, took_leads}
+use Rattle.world_law.proofs.SpawnerLeads.{IsAsked, Leads, at_none, at_row, exited_leads, fed_leads, gave_leads, launched_leads}
+use Rattle.world_law.proofs.SpawnerLeads.{opened_leads, printed_leads, read_leads, readied_leads, text_at, took_leads}
 
 -- Its file calls
 
@@ -233,9 +235,9 @@ module _ (controls : Controls) (s : State) (I : Inv controls s) (own : Own) (wro
 
     by_local : (row : LocalRow) → HoldsUsers q name row p.row → Comes (local_due_at row own.ready here)
         → Goes (local_due_at row own.ready here) (local_act row own.ready own.came here).work
-    by_local local.OpenUsers h c = greets (local_due_at local.OpenUsers own.ready here) (users_opened own.came here).work (opened_works own.came here) h
-    by_local (local.ReadUsers fd) h c = greets (local_due_at (local.ReadUsers fd) own.ready here) (users_read fd own.came here).work (read_works fd own.came here) h.1
-    by_local (local.CloseUsers fd whole) h c = greets (local_due_at (local.CloseUsers fd whole) own.ready here) (users_closed whole here).work (closed_works whole here) h.1
+    by_local local.OpenUsers h c = greets (local_due_at local.OpenUsers own.ready here) (users_opened own.came here).work (opened_work own.came here) h
+    by_local (local.ReadUsers fd) h c = greets (local_due_at (local.ReadUsers fd) own.ready here) (users_read fd own.came here).work (read_work fd own.came here) h.1
+    by_local (local.CloseUsers fd whole) h c = greets (local_due_at (local.CloseUsers fd whole) own.ready here) (users_closed whole here).work (closed_work whole here) h.1
     by_local local.Serves h c = by_row (row_now p own.ready) refl c
     by_local local.OutOfMemory h c = absurd c
 

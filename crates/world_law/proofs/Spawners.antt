@@ -33,7 +33,8 @@ use Rattle.spawner_parts.specs.declared.place.Place.{Place}
 use Rattle.spawner_parts.specs.declared.row.Row.{Row}
 use Rattle.spawner_parts.specs.declared.row.Row.TheVariants as at
 use Rattle.spawner_parts.specs.Asked.{is_bad, runs_in}
-use Rattle.spawner_parts.specs.Table.{IsKind, IsReadied, Kind, act, arrive, bad_request, closed, due_at, ended_by, gave, greeting, heeded, is_asked, launched, next_request, none_runs, opened_by, opens, printed, read_by, reports, resting, row_now, took, turning}
+use Rattle.spawner_parts.specs.Table.{IsKind, IsReadied, Kind, act, arrive, bad_request, closed, due_at, ended_by, gave, greeting}
+use Rattle.spawner_parts.specs.Table.{heeded, is_asked, launched, next_request, none_runs, opened_by, opens, printed, read_by, reports, resting, row_now, took, turning}
 use Rattle.spawner_parts.specs.Table.IsReadied.{IsAnswered, IsGiven}
 use Rattle.delivery_law.proofs.Stay.{drops_stay}
 use Rattle.queue_law.specs.Numbers.{Queue}
@@ -53,6 +54,7 @@ use Rattle.mail_world.specs.Untouched.{queue}
 use Rattle.world_law.specs.Crew.{IsNamed}
 use Rattle.world_law.specs.Fares.{FaresBy, SpawnerHolds}
 use Rattle.world_law.specs.Inv.{ChildBy, Inv}
+use Rattle.world_law.specs.Spawned.{spawner_name}
 use Rattle.world_law.proofs.Moved.{IsSameLink, IsSeenAs, moved_keeps, with_one}
 use Rattle.world_law.proofs.Pipes.{input_same}
 use Rattle.world_law.proofs.Stepped.{stepped, stepped_keeps}
@@ -173,15 +175,11 @@ module _ (q : Queue) (a : List ℕ) (read wrote : ℕ) (p : Place) where
 
 -- The two spawners
 
-abbrev pub spawner_of : Channel → List ℕ
-spawner_of channel.Local = codes "lspawn"
-spawner_of channel.Remote = codes "rspawn"
-
 abbrev pub runs_as : Channel → ℕ → Program
 runs_as channel.Local began = LocalSpawner began
 runs_as channel.Remote began = RemoteSpawner began
 
-named : (c : Channel) (began : ℕ) → IsNamed (spawner_of c) (runs_as c began)
+named : (c : Channel) (began : ℕ) → IsNamed (spawner_name c) (runs_as c began)
 named channel.Local began = refl
 named channel.Remote began = refl
 
@@ -211,10 +209,10 @@ pub record IsApart (v w : Pipework) : Type 0 where
 
 module _ (w : Pipework) (wrote : ℕ) where
   abbrev Then : Channel → NeedData → GotData → Type 0
-  Then c due came = IsApart w (pipework_after w (spawner_of c) due came wrote)
+  Then c due came = IsApart w (pipework_after w (spawner_name c) due came wrote)
 
   -- a report or the first byte goes to the sender
-  output_same : (c : Channel) (bytes : List ℕ) → IsSameLink w (record { pipes = gives w (spawner_of c) port.Output bytes; programs = w.programs; slots = w.slots })
+  output_same : (c : Channel) (bytes : List ℕ) → IsSameLink w (record { pipes = gives w (spawner_name c) port.Output bytes; programs = w.programs; slots = w.slots })
   output_same channel.Local bytes = record { given = refl; answers = refl }
   output_same channel.Remote bytes = record { given = refl; answers = refl }
 
@@ -225,17 +223,17 @@ module _ (w : Pipework) (wrote : ℕ) where
 
   -- it takes requests, and of a program what that printed, and its status, which frees a slot
   own_same : (c : Channel) (p : Port) (change : Pipe → Pipe) (programs : List ℕ → ℕ → Option Tenant)
-      → IsSameLink w (record { pipes = put_pipe w.pipes (Some (mouth (spawner_of c) p)) change; programs = programs; slots = w.slots })
+      → IsSameLink w (record { pipes = put_pipe w.pipes (Some (mouth (spawner_name c) p)) change; programs = programs; slots = w.slots })
   own_same channel.Local p change programs = record { given = refl; answers = refl }
   own_same channel.Remote p change programs = record { given = refl; answers = refl }
 
-  takes_same : (c : Channel) (p : Port) (came : GotData) → IsSameLink w (pipework_after w (spawner_of c) (needs.Take p) came wrote)
-  takes_same c p (got.Took bytes) = own_same c p (taken bytes) (programs_after w.programs (spawner_of c) (needs.Take p) (got.Took bytes))
+  takes_same : (c : Channel) (p : Port) (came : GotData) → IsSameLink w (pipework_after w (spawner_name c) (needs.Take p) came wrote)
+  takes_same c p (got.Took bytes) = own_same c p (taken bytes) (programs_after w.programs (spawner_name c) (needs.Take p) (got.Took bytes))
   takes_same c p came = record { given = refl; answers = refl }
 
-  takes_slots : (c : Channel) (p : Port) (came : GotData) → RunsNoMore w (pipework_after w (spawner_of c) (needs.Take p) came wrote)
-  takes_slots c (port.Status d) (got.Ended status) b e t is = slot_put (bytes_eq b (spawner_of c) && (e == d)) b (w.programs b e) None t (λ both. inl refl) is
-  takes_slots c (port.Status d) got.Crashed b e t is = slot_put (bytes_eq b (spawner_of c) && (e == d)) b (w.programs b e) None t (λ both. inl refl) is
+  takes_slots : (c : Channel) (p : Port) (came : GotData) → RunsNoMore w (pipework_after w (spawner_name c) (needs.Take p) came wrote)
+  takes_slots c (port.Status d) (got.Ended status) b e t is = slot_put (bytes_eq b (spawner_name c) && (e == d)) b (w.programs b e) None t (λ both. inl refl) is
+  takes_slots c (port.Status d) got.Crashed b e t is = slot_put (bytes_eq b (spawner_name c) && (e == d)) b (w.programs b e) None t (λ both. inl refl) is
   takes_slots c p came b e t is = inl is
 
   pub took_from : (c : Channel) (p : Port) (came : GotData) → Then c (needs.Take p) came
@@ -253,10 +251,10 @@ module _ (w : Pipework) (wrote : ℕ) where
   started channel.Remote asked came it = absurd it
 
   -- what it gives to a program no member takes
-  fed : (c : Channel) → ((d : ℕ) (b : List ℕ) → w.programs (spawner_of c) d ≡ Some (Runs b) → b ≢ codes "clean") → (d : ℕ) (bytes : List ℕ) (came : GotData)
+  fed : (c : Channel) → ((d : ℕ) (b : List ℕ) → w.programs (spawner_name c) d ≡ Some (Runs b) → b ≢ codes "clean") → (d : ℕ) (bytes : List ℕ) (came : GotData)
       → Then c (needs.Give (port.Program d) bytes) came
-  fed c apart d bytes got.Gave = record { link = input_same w (spawner_of c) apart d (λ pipe. closed_pipe (given_pipe bytes pipe)); none = λ b e t is. inl is }
-  fed c apart d bytes got.Failed = record { link = input_same w (spawner_of c) apart d (λ pipe. closed_pipe (given_pipe (take wrote bytes) pipe)); none = λ b e t is. inl is }
+  fed c apart d bytes got.Gave = record { link = input_same w (spawner_name c) apart d (λ pipe. closed_pipe (given_pipe bytes pipe)); none = λ b e t is. inl is }
+  fed c apart d bytes got.Failed = record { link = input_same w (spawner_name c) apart d (λ pipe. closed_pipe (given_pipe (take wrote bytes) pipe)); none = λ b e t is. inl is }
   fed c apart d bytes came = record { link = record { given = refl; answers = refl }; none = λ b e t is. inl is }
 
 -- An event
@@ -287,19 +285,19 @@ module _ (s : State) (wrote : ℕ) (began : ℕ) (past : List Own) (own : Own) w
   spawner c events = record { program = runs_as c began; past = events; life = Alive }
 
   abbrev pub then_state : Channel → NeedData → GotData → State
-  then_state c due came = acted s (spawner_of c) (doing due came) wrote (Some (spawner c past))
+  then_state c due came = acted s (spawner_name c) (doing due came) wrote (Some (spawner c past))
 
   -- what is no file call changes pipes alone
   acted_moves : (c : Channel) (due : NeedData) (came : GotData) → IsNoFile due
-      → then_state c due came ≡ with_one s (spawner_of c) (spawner c (doing due came ∷ past)) (pipework_after s.pipework (spawner_of c) due came wrote)
+      → then_state c due came ≡ with_one s (spawner_name c) (spawner c (doing due came ∷ past)) (pipework_after s.pipework (spawner_name c) due came wrote)
   acted_moves channel.Local (needs.File call) came calm = absurd calm
   acted_moves channel.Local due came calm = refl
   acted_moves channel.Remote (needs.File call) came calm = absurd calm
   acted_moves channel.Remote due came calm = refl
 
-  module _ (controls : Controls) (I : Inv controls s) (c : Channel) (is : s.actors (spawner_of c) ≡ Some (spawner c past)) where
+  module _ (controls : Controls) (I : Inv controls s) (c : Channel) (is : s.actors (spawner_name c) ≡ Some (spawner c past)) where
     abbrev name : List ℕ
-    name = spawner_of c
+    name = spawner_name c
 
     abbrev q : Queue
     q = queue s I.role
@@ -323,7 +321,7 @@ module _ (s : State) (wrote : ℕ) (began : ℕ) (past : List Own) (own : Own) w
     -- a file call, which only reads
     read_state : (d : Channel) (call : CallData) (told : Told)
         → then_state d (needs.File call) (got.Answered told)
-        ≡ stepped s (spawner_of d) (called_queue q (spawner_of d) own.read call told.answer wrote I.role) (spawner d (doing (needs.File call) (got.Answered told) ∷ past))
+        ≡ stepped s (spawner_name d) (called_queue q (spawner_name d) own.read call told.answer wrote I.role) (spawner d (doing (needs.File call) (got.Answered told) ∷ past))
     read_state channel.Local call told = refl
     read_state channel.Remote call told = refl
 
@@ -374,7 +372,8 @@ module _ (s : State) (wrote : ℕ) (began : ℕ) (past : List Own) (own : Own) w
       by_row (at.ReadMess fd) came e h comes =
           called (at.ReadMess fd) (call.ReadAt fd (length p.message) PIECE) e tt (λ told fits. read_holds q name own.read wrote p fd (length p.message) told.answer told.bytes fits h) came comes
       by_row (at.CloseMess fd whole) came e h comes =
-          called (at.CloseMess fd whole) (call.Close fd) e h.1.held (λ told fits. closed_holds (called_queue q name own.read (call.Close fd) told.answer wrote I.role) name kind good whole p) came comes
+          called (at.CloseMess fd whole) (call.Close fd) e h.1.held
+          (λ told fits. closed_holds (called_queue q name own.read (call.Close fd) told.answer wrote I.role) name kind good whole p) came comes
       by_row at.Start came e h comes = starting came e
       by_row at.Feed came e h comes =
           went at.Feed (needs.Give (port.Program p.request.slot) p.message) came e tt (next_holds q name p) (fed s.pipework wrote c (tenant_other s I.tenants name) p.request.slot p.message came)

@@ -23,7 +23,7 @@ use Rattle.world_law.specs.Inv.{ChildBy, Inv, IsChild, IsTenantOf}
 use Rattle.world_law.specs.Laws.{GenerationsKeep, StartsKeep}
 use Rattle.world_law.proofs.Begins.{none_asked}
 use Rattle.world_law.proofs.Moved.{IsSeenAs, moved_keeps}
-use Rattle.world_law.proofs.Tenants.{GoesOn, KeepsChildren, child_kept_of}
+use Rattle.world_law.proofs.Tenants.{GoesOn, KeepsChildren, child_kept_of, not_freed}
 
 -- One program starts
 
@@ -40,7 +40,7 @@ starts_keep a program controls s I may = started_runs controls s I a program may
 
 -- Four start together
 
-no_member : (a : List ℕ) → (Contains members a → ⊥) → is_member a ≡ false
+pub no_member : (a : List ℕ) → (Contains members a → ⊥) → is_member a ≡ false
 no_member a apart = ⊎_elim
     (λ (is : is_member a ≡ true). absurd (apart (member_contained a is)))
     (λ (other : is_member a ≡ false). other)
@@ -112,13 +112,9 @@ module _ (controls : Controls) (s : State) (I : Inv controls s) (first second th
   still_there : KeepsChildren s.actors four
   still_there o x apart is = (x, same_other o apart ∙ is, refl)
 
-  no_more_by : (member : Bool) (o : Option Tenant) (t : Tenant) → (if member then None else o) ≡ Some t → o ≡ Some t
-  no_more_by true o t is = absurd (cc)
-  no_more_by false o t is = is
-
   fed_then : (o : List ℕ) (program : Program) (past : List Own) (life : Life) → ChildBy s o program past life → ChildBy then_state o program past life
   fed_then o program past life h =
-      child_kept_of s then_state still_there I.tenants o (λ d t is. inl (no_more_by (is_member o) (s.pipework.programs o d) t is)) program past life h
+      child_kept_of s then_state still_there I.tenants o (λ d t is. inl (not_freed (is_member o) (s.pipework.programs o d) t is)) program past life h
 
   generation_keeps : Inv controls (happens s (Generation (Sender first) (Cleaner second) (LocalSpawner third) (RemoteSpawner last)))
   unfolding put_at

@@ -29,6 +29,11 @@ use Rattle.world_law.specs.Inv.{Bears, ChildBy, ChildrenFare, FedBy, HasSlot, Is
 pub some_actor : (x y : Actor) → ◌≡◌ {A = Option Actor} (Some x) (Some y) → x ≡ y
 some_actor x y e = cc
 
+-- what runs in a slot that may have been freed ran there before
+pub not_freed : (t : Bool) (o : Option Tenant) (x : Tenant) → (if t then None else o) ≡ Some x → o ≡ Some x
+not_freed true o x is = absurd (cc)
+not_freed false o x is = is
+
 -- each actor that was there runs the same program
 abbrev pub KeepsPrograms : (List ℕ → Option Actor) → (List ℕ → Option Actor) → Type 0
 KeepsPrograms old new = (a : List ℕ) (x : Actor) → old a ≡ Some x → (y : Actor) × (new a ≡ Some y) × (y.program ≡ x.program)
@@ -101,7 +106,8 @@ RunsNoMoreOf v w a = (d : ℕ) (t : Tenant) → w.programs a d ≡ Some t → (v
 abbrev pub RunsNoMore : Pipework → Pipework → Type 0
 RunsNoMore v w = (a : List ℕ) → RunsNoMoreOf v w a
 
-pub tenants_kept : (s t : State) → KeepsPrograms s.actors t.actors → KeepsSlots s t → RunsNoMore s.pipework t.pipework → ((a : List ℕ) (d : ℕ) (u : Tenant) → s.pipework.programs a d ≡ Some u → IsTenantOf s a d u)
+pub tenants_kept : (s t : State) → KeepsPrograms s.actors t.actors → KeepsSlots s t → RunsNoMore s.pipework t.pipework
+    → ((a : List ℕ) (d : ℕ) (u : Tenant) → s.pipework.programs a d ≡ Some u → IsTenantOf s a d u)
     → (a : List ℕ) (d : ℕ) (u : Tenant) → t.pipework.programs a d ≡ Some u → IsTenantOf t a d u
 tenants_kept s t keeps slots no_more tenants a d u is = ⊎_elim
     (λ (there : s.pipework.programs a d ≡ Some u). tenant_kept s t keeps slots a d u (tenants a d u there))
