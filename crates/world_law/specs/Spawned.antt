@@ -60,7 +60,8 @@ pub record IsOfStanding (s : State) (r : Request) : Type 0 where
   pub stays : state_of s.disk number ≡ S5
 
 -- So is each request that the spawner hasn't read or taken up, the one at work, and the one of what runs in each slot. Of the last request
--- that it hasn't read some bytes may be missing: a sender that gave it in part gives no more.
+-- that it hasn't read some bytes may be missing: a sender that gave it in part gives no more. After a field that is too long the spawner reads
+-- no more, and nothing is said of what lies unread.
 pub record HoldsStanding (s : State) (p : Place) (started : ℕ → Option Request) (given : List ℕ) : Type 0 where
   pub waits : List Request
   pub missing : List ℕ

@@ -163,7 +163,8 @@ is_at_work (spawn.CloseMess fd whole) = true
 is_at_work spawn.Start = true
 is_at_work row = false
 
--- So is each request that the local spawner hasn't read or taken up, the one at work, and what runs in each slot.
+-- So is each request that the local spawner hasn't read or taken up, the one at work, and what runs in each slot. After a field that is too long
+-- it reads no more, and nothing is said of what lies unread.
 pub record HoldsFlights (s : State) (d : Desk) (p : Place) (given : List ℕ) : Type 0 where
   pub waits : List Request
   pub text : p.inbox.intake ≡ intake.Open → p.inbox.ahead ++ given ≡ flat_map request_text waits

@@ -191,13 +191,15 @@ pub fn flights_stand()
 {}
 
 /// While the sender and the local spawner live, each request that this one hasn't read or taken up, the one at work, and what runs in each
-/// slot is of the attempt in flight in its slot: for its recipient, and of its message, which is in S5.
+/// slot is of the attempt in flight in its slot: for its recipient, and of its message, which is in S5. Nothing is said of what is left
+/// unread after a field that is too long.
 pub fn requests_are_of_flights()
     ensures { RequestsAreOfFlights }
 {}
 
 /// While a spawner lives, the local or the remote one, each request that it hasn't read or taken up, the one at work, and what runs in each
-/// slot is of a message in S5. So it is also once the sender has ended or was stopped, until a new generation starts.
+/// slot is of a message in S5. So it is also once the sender has ended or was stopped. Nothing is said of what is left unread after a field
+/// that is too long, of which a spawner takes nothing.
 pub fn requests_stand()
     ensures { RequestsStand }
 {}
