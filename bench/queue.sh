@@ -36,7 +36,7 @@ echo
 grep -c mkdir "$work/calls" | sed 's/$/ directories were looked for before (mkdir)/'
 # the number of a new file is that of its open file (fstat); closes come with the end
 made=$(sed 's/(.*//' "$work/listed" | grep -vx -e fstat -e newfstatat -e statx -e close | sed 's/at$//' | tr '\n' ' ')
-if [ "$made" = "open link open fsync unlink write fsync open write fsync link open fsync " ]; then
+if [ "$made" = "open open link fsync unlink write fsync open write fsync open link fsync " ]; then
   echo "they are the nine of the injector's table, the sync of a directory after each link, and what tells a new file's number"
 else
   echo "they aren't the nine of the injector's table: $made"

@@ -43,10 +43,14 @@ row 100 '' 'usage\n' /dev/null queue "$work/envelope" "$queue" --uid 4294967296
 
 # scripts
 printf 'show\n' > "$work/show"
+printf 'stepp a\n' > "$work/first"
 printf 'show\nstepp a\n' > "$work/stepp"
 row 0 'pid 0\n' '' "$work/show" play
 row 0 '' '' /dev/null play
+row 91 'script 1\n' '' "$work/first" play
 row 91 'script 2\n' '' "$work/stepp" play
+row 100 '' 'usage\n' "$work/show" play x
+row 100 '' 'usage\n' "$work/show" play "$(printf '\377')"
 row 54 '' '' "$work" play # a directory can't be read
 
 # an output that fails
@@ -78,8 +82,27 @@ for step in $(seq 20); do
 done
 [ "$lacking" -gt 0 ] || { echo "differs: no limit left it without memory"; bad=1; }
 
-# messages
+# one message: its only name in todo is the number of the message file, and both files are whole
 printf 'hi\n' > "$work/message"
+before=$(date +%s)
+"$program" queue "$work/envelope" "$work/one" < "$work/message" > "$work/out" 2> "$work/err" &
+pid=$!
+status=0
+wait "$pid" || status=$?
+after=$(date +%s)
+say 0 '' '' "$status" "queue one message"
+number=$(ls "$work/one/todo")
+file=$work/one/mess/$((number % 23))/$number
+[ "$(stat -c %i "$file")" = "$number" ] || { echo "differs: the number of the message file"; bad=1; }
+[ -z "$(ls "$work/one/pid")" ] || { echo "differs: a name is left in pid"; bad=1; }
+printf 'u0\0p%d\0Fa@x\0Tb@y\0' "$pid" | cmp -s - "$work/one/todo/$number" || { echo "differs: the envelope"; bad=1; }
+dated=0
+for moment in $(seq "$before" "$after"); do
+  { LC_ALL=C date -u -d "@$moment" "+Received: (qmail $pid invoked by uid 0); %-d %b %Y %H:%M:%S -0000"; echo hi; } | cmp -s - "$file" && dated=1
+done
+[ "$dated" = 1 ] || { echo "differs: the message, or its first line"; bad=1; }
+
+# messages
 row 0 '' '' "$work/message" queue "$work/envelope" "$queue"
 row 91 '' '' "$work/message" queue "$work/bad" "$queue"
 row 54 '' '' "$work/message" queue "$work/nosuch" "$queue"

@@ -8,7 +8,7 @@ use mail_bytes::ByteText;
 pub struct DeliveryWordsData {
     /// The user to whom the message is delivered.
     pub user: ByteText,
-    /// The user's home directory, by its absolute name.
+    /// The user's home directory, as users/assign names it: with `/` before it a path of the machine.
     pub home: ByteText,
     /// The recipient's address up to its last `@`.
     pub local: ByteText,

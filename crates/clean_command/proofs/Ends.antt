@@ -1,9 +1,10 @@
 -- Why a cleaner that was run ended so.
-use Rattle.std.proofs.Common.{◌≡◌, ◌⊎◌, inl, inr, ℕ, List, [], ◌∷◌, refl, sym, ap, ◌∙◌, subst, ⊎_elim, arith}
+use Rattle.std.proofs.Common.{◌≡◌, ◌⊎◌, inl, inr, ℕ, List, [], ◌∷◌, ◌++◌, refl, sym, ◌∙◌, subst, ⊎_elim, arith}
 use Rattle.call_fs.specs.declared.program.Ready.{Ready}
 use Rattle.call_fs.specs.declared.past.NeedData.{NeedData}
-use Rattle.call_fs.specs.declared.past.NeedData.TheVariants.{Ended}
-use Rattle.call_fs.specs.Past.{IsRunBy}
+use Rattle.call_fs.specs.declared.past.NeedData.TheVariants.{Ended, Give}
+use Rattle.call_fs.specs.declared.program.Port.{Port}
+use Rattle.call_fs.specs.Past.{IsRunBy, Table}
 use Rattle.call_fs.specs.declared.past.GotData.{GotData}
 use Rattle.call_fs.specs.declared.past.Own.{Own}
 use Rattle.program_runner.specs.Outside.{Outside, TakesEnd, FailsToTake, FailsToGive}
@@ -12,7 +13,7 @@ use Rattle.call_fs.specs.declared.program.TheConstants.{INPUT_READY}
 use Rattle.program_runner.specs.Runs.{HasEvent, HasRun, IsRunning, most_turns}
 use Rattle.queue_clean.specs.Table.{Next}
 use Rattle.clean_command.specs.Cleaned.{HasCleaned, StillRuns, AreAnswered}
-use Rattle.queue_clean.specs.Causes.{EndsWith, IsEnded}
+use Rattle.queue_clean.specs.Causes.{EndsWith, IsAnswered, IsEnded}
 use Rattle.queue_clean.specs.Causes.EndsWith.{InputEnded, GiveFailed, TakeFailed}
 
 -- the last event of a past that ended so
@@ -58,9 +59,25 @@ for_all possible old new status all r = record {
 abbrev pub HaveCauses : Type 0
 HaveCauses = (args : Unit {0}) (past : List Own) (now : ℕ) (ready : Ready) (status : ℕ) → IsRunBy (Next args) past → Next args past now ready ≡ Ended status → IsEnded past status
 
+-- what a run did up to an event is a run
+run_to : (next : Table) (later rest past : List Own) → later ++ rest ≡ past → IsRunBy next past → IsRunBy next rest
+run_to next [] rest past is run = subst (IsRunBy next) (sym is) run
+run_to next (event ∷ later) rest [] is run = absurd (cc)
+run_to next (event ∷ later) rest (other ∷ past) is run = let same : later ++ rest ≡ past = cc in run_to next later rest past same run.0
+
+-- why each answer is given
+abbrev pub HaveAnswers : Type 0
+HaveAnswers = (args : Unit {0}) (before : List Own) (now : ℕ) (ready : Ready) (port : Port) (bytes : List ℕ) → IsRunBy (Next args) before → Next args before now ready ≡ Give port bytes
+    → IsAnswered before port bytes
+
+are_answered : HaveAnswers → (past : List Own) → IsRunBy (Next tt) past → AreAnswered past
+are_answered answers past run later before event port bytes is due =
+    let to = run_to (Next tt) later (event ∷ before) past is run in
+    answers tt before event.read event.ready port bytes to.0 (to.1.0 ∙ due)
+
 -- the whole run
 pub cleaned : (possible : Unit {0} → Type 0) (old new : Outside) (status : ℕ) → ((args : Unit {0}) → possible args)
-    → HasRun Next possible INPUT_READY old.last status old new → HaveCauses → ((past : List Own) → AreAnswered past) → HasCleaned old new status
+    → HasRun Next possible INPUT_READY old.last status old new → HaveCauses → HaveAnswers → HasCleaned old new status
 cleaned possible old new status all r causes answers =
     let ran = for_all possible old new status all r in
     let why = causes tt ran.past ran.last INPUT_READY status (ran.run tt tt) (ran.ends tt tt) in
@@ -69,7 +86,7 @@ cleaned possible old new status all r causes answers =
     record {
       ran = ran;
       why = why;
-      answers = answers ran.past;
+      answers = are_answered answers ran.past (ran.run tt tt);
       ended = λ is. let took = at_0 ran.past status e is in (took, subst (λ (o : Outside). OnTold o.left (λ left. left ≡ [])) (sym rest) (ran.did.over took));
       output = λ is. subst (λ (o : Outside). Rose old.output_faults o.output_faults) (sym rest) (ran.did.output_cause (at_53 ran.past status e is));
       input = λ is. subst (λ (o : Outside). Rose old.input_faults o.input_faults) (sym rest) (ran.did.input_cause (at_54 ran.past status e is));

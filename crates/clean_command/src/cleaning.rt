@@ -12,8 +12,8 @@ use std::alloc::Global;
 /// Runs the cleaner over this disk until its input ends, and answers its exit status. It takes commands, each a text that
 /// ends with a NUL, and gives one byte for each, as qmail-clean(8).
 ///
-/// 0: the input ended. 53: the output failed, and has counted that. 54: the input failed, and has counted that. 51: it was
-/// still running after 18,446,744,073,709,551,615 turns.
+/// 0: the input ended. 53: the output failed, and has counted that. 54: the input failed, and has counted that. 51: it
+/// hasn't ended after 18,446,744,073,709,551,615 turns, each of them done as in a run that goes on.
 pub fn clean<D: CallFs, M: Source, O: Sink, K: Clock>(
     alloc: Global,
     disk: &mut D,

@@ -61,31 +61,27 @@ pub fn open_file<S: System>(system: &S, path: &str, how: How) -> Result<S::File,
 }
 
 /// Gives a file a second name, and waits until that is on the disk. A directory has none, and no name takes its place.
-/// After a failed wait the name may be there.
+/// The directory of the new name is opened before the link, so that a system without room for one more open file refuses
+/// before the name is there. After a failed wait the name may be there.
 pub fn link_file<S: System>(system: &S, old: &str, new: &str) -> Result<(), FsError>
     ensures { ¬ (IsErrOf result FsError.Memory) }
 {
+    let dir = match system.open(directory_of(new), How::Read) {
+        Ok(dir) => dir,
+        Err(why) => return Err(missing_or_fault(why.kind())),
+    };
     match system.link(old, new) {
-        Ok(()) => sync_directory(system, directory_of(new)),
+        Ok(()) => or_fault(system.sync(&dir)),
         Err(why) => Err(refused(why.kind(), is_dir(system, old) || is_dir(system, new))),
     }
 }
 
-/// The path of the directory that a path lies in.
+/// The path of the directory that a path lies in, with the `/` at its end, by which nothing but a directory is opened.
 fn directory_of(path: &str) -> &str {
-    match path.rsplit_once('/') {
-        Some(("", _)) => "/",
-        Some((dir, _)) => dir,
-        None => ".",
+    match path.trim_end_matches(|letter| letter != '/') {
+        "" => "./",
+        dir => dir,
     }
-}
-
-/// Waits until the names of a directory are on the disk.
-fn sync_directory<S: System>(system: &S, path: &str) -> Result<(), FsError>
-    ensures { OnErr result (IsErrOf result FsError.Fault) }
-{
-    let dir = or_fault(system.open(path, How::Read))?;
-    or_fault(system.sync(&dir))
 }
 
 /// Takes a name away.

@@ -1,6 +1,6 @@
 -- What a delivery has done, at each row.
 use Rattle.std.proofs.Common.{◌≡◌, ℕ, List, [], ◌∷◌, ◌++◌, length, take, Bool, true, false, Option, Some, None, refl, sym, ap, ◌∙◌, subst, append_assoc}
-use Rattle.std.specs.Prelude.{if◌then◌else◌, nat_lt, ◌==◌}
+use Rattle.std.specs.Prelude.{if◌then◌else◌, nat_lt, ◌==◌, bytes_eq, codes}
 use Rattle.std.specs.Option.{option_map}
 use Rattle.std.proofs.lemmas.Bool.{false≢true}
 use Rattle.std.proofs.lemmas.Bool.Decides.{Decides-eqb}
@@ -62,12 +62,13 @@ use Rattle.local_deliver.specs.declared.row.Wanted.{Wanted}
 use Rattle.local_deliver.specs.declared.row.Wanted.TheVariants as wanted
 use Rattle.local_deliver.specs.Carried.{AreDrops, IsCarried, IsDropLink, IsInjected, Reaches, of_choice, of_file}
 use Rattle.local_deliver.specs.Carried.AreDrops.{NoDrops}
-use Rattle.local_deliver.specs.Deeds.{Exited, LinkMade, linked_by, links_by, told_names}
+use Rattle.local_deliver.specs.Deeds.{Exited, LinkMade, added, host_of, linked_by, links_by, me_name, told_names}
 use Rattle.local_deliver.specs.Drops.{Drop, begun_drop, drop_arguments, end_drop, moved_drop}
 use Rattle.local_deliver.specs.Failures.{status_of, text_of}
 use Rattle.local_deliver.specs.Table.{Next, act, begins_lines, by_default, closed, command_failed, dropped, dropped_by, drops_by, due_at, due_by_drop, file_wanted, follows, forward_failed, forwarded, gave, goes_on, hosted, hosted_by, input_ended, instructed, last_step, line_done, lines_done, looks, named, opened, place_after, read_on, step_of, takes}
 use Rattle.local_deliver.proofs.Coming.{by_fit}
 use Rattle.local_deliver.proofs.Deeds.{Deeds, deeds_by, deeds_of}
+use Rattle.local_deliver.proofs.MeNames.{no_me}
 use Rattle.local_deliver.proofs.DropSteps.{IsNoDrop, is_over, told_row}
 use Rattle.local_deliver.proofs.Reaching.{ends, past_command, past_maildir, stops, more_drops, no_drops, none_by_command, one_by_maildir}
 
@@ -98,14 +99,38 @@ abbrev pub facts : Place → Facts
 facts p = record { message = p.message; host = p.host; names = p.names; course = p.course }
 
 -- the message is known, and no line was done
-pub record Before (d : Deeds) (p : Facts) : Type 0 where
+pub record Known (d : Deeds) (p : Facts) : Type 0 where
   pub input : message_in d.taken ≡ Some p.message
   pub names : d.names ≡ p.names
   pub clean : Clean d
 
+-- nothing was read yet
+pub record Early (d : Deeds) (p : Facts) (read : List ℕ) : Type 0 where
+  pub input : message_in d.taken ≡ Some p.message
+  pub names : d.names ≡ p.names
+  pub clean : Clean d
+  pub me : d.me ≡ None
+  pub none : read ≡ []
+
+-- control/me is read
+pub record AtHost (d : Deeds) (p : Facts) (read : List ℕ) : Type 0 where
+  pub input : message_in d.taken ≡ Some p.message
+  pub names : d.names ≡ p.names
+  pub clean : Clean d
+  pub me : d.me ≡ Some read
+  pub opened : bytes_eq d.opened me_name ≡ true
+
+-- the host is known too
+pub record Before (d : Deeds) (p : Facts) : Type 0 where
+  pub input : message_in d.taken ≡ Some p.message
+  pub names : d.names ≡ p.names
+  pub clean : Clean d
+  pub host : host_of d.me ≡ Some p.host
+
 -- the instructions are known
 pub record Instructed (args : LocalArgs) (d : Deeds) (p : Facts) (lines : List Line) : Type 0 where
   pub input : message_in d.taken ≡ Some p.message
+  pub host : host_of d.me ≡ Some p.host
   pub names : d.names ≡ p.names
   pub told : of_choice args (chosen_by args d.names) d.bytes ≡ Some lines
 
@@ -137,6 +162,7 @@ pub record Carried (args : LocalArgs) (d : Deeds) : Type 0 where
   pub lines : List Line
   pub reached : List Line
   pub input : message_in d.taken ≡ Some message
+  pub host_is : host_of d.me ≡ Some host
   pub told : of_choice args (chosen_by args d.names) d.bytes ≡ Some lines
   pub reaches : Reaches lines d.exits reached
   pub drops : AreDrops args host message reached d.links
@@ -208,14 +234,15 @@ pub record AtFile (args : LocalArgs) (d : Deeds) (p : Facts) : Type 0 where
 pub record AtBytes (args : LocalArgs) (d : Deeds) (p : Facts) (read : List ℕ) : Type 0 where
   pub file : AtFile args d p
   pub bytes : d.bytes ≡ read
+  pub other : bytes_eq d.opened me_name ≡ false
 
 abbrev pub Inv : LocalArgs → Deeds → Row → Place → Type 0
-Inv args d at.TakeInput p = (d.taken ≡ p.message) × (d.names ≡ p.names) × Clean d
-Inv args d (at.Open wanted.Host) p = Before d (facts p)
-Inv args d (at.Open wanted.Instructions) p = AtFile args d (facts p) × (p.read ≡ [])
-Inv args d (at.Read wanted.Host fd) p = Before d (facts p)
+Inv args d at.TakeInput p = (d.taken ≡ p.message) × (d.names ≡ p.names) × Clean d × (d.me ≡ None) × (p.read ≡ [])
+Inv args d (at.Open wanted.Host) p = Early d (facts p) p.read
+Inv args d (at.Open wanted.Instructions) p = AtFile args d (facts p) × (p.read ≡ []) × (bytes_eq p.name me_name ≡ false)
+Inv args d (at.Read wanted.Host fd) p = AtHost d (facts p) p.read
 Inv args d (at.Read wanted.Instructions fd) p = AtBytes args d (facts p) p.read
-Inv args d (at.Close wanted.Host fd went) p = Before d (facts p)
+Inv args d (at.Close wanted.Host fd went) p = AtHost d (facts p) p.read
 Inv args d (at.Close wanted.Instructions fd went) p = AtBytes args d (facts p) p.read
 Inv args d at.NextName p = Before d (facts p)
 Inv args d at.Drop p = AtSome args d p p.dropping
@@ -248,6 +275,7 @@ module _ (args : LocalArgs) (now : ℕ) (d : Deeds) where
     lines = lines;
     reached = lines_of p.course;
     input = over.known.input;
+    host_is = over.known.host;
     told = over.known.told;
     reaches = over.reaches;
     drops = over.drops;
@@ -299,7 +327,7 @@ module _ (args : LocalArgs) (now : ℕ) (d : Deeds) where
 
   begun_with : (p : Place) (lines : List Line) → Before d (facts p) → of_choice args (chosen_by args p.names) d.bytes ≡ Some lines → Holds args d (goes_on args now (record p { course = begun_course lines }))
   begun_with p lines b told = goes (record p { course = begun_course lines }) lines (record {
-    known = record { input = b.input; names = b.names; told = ap (λ n. of_choice args (chosen_by args n) d.bytes) b.names ∙ told };
+    known = record { input = b.input; host = b.host; names = b.names; told = ap (λ n. of_choice args (chosen_by args n) d.bytes) b.names ∙ told };
     more = λ exited reached r. subst (λ x. Reaches lines (x ++ exited) reached) (sym b.clean.exits) r;
     drops = subst (AreDrops args p.host p.message []) (sym b.clean.links) NoDrops;
     alone = record { starts = b.clean.starts; feeds = b.clean.feeds; statuses = b.clean.statuses };
@@ -319,7 +347,7 @@ module _ (args : LocalArgs) (now : ℕ) (d : Deeds) where
   followed : (p : Place) → Before d (facts p) → (o : Option Chosen) → chosen_by args p.names ≡ o → Holds args d (follows args now o p)
   followed p b None e = tt
   followed p b (Some chosen.Default) e = defaults p b (ap (λ o. of_choice args o d.bytes) e)
-  followed p b (Some (chosen.File place)) e = (record { before = record { input = b.input; names = b.names; clean = b.clean }; place = place; chosen = e }, refl)
+  followed p b (Some (chosen.File place)) e = (record { before = record { input = b.input; names = b.names; clean = b.clean; host = b.host }; place = place; chosen = e }, refl, no_me args p.names place e)
 
   told_lines : (p : Place) → AtBytes args d (facts p) p.read → (bytes : List ℕ) → p.read ≡ bytes → Holds args d (instructed args now bytes p)
   told_lines p f [] e = defaults p f.file.before (ap (λ o. of_choice args o d.bytes) f.file.chosen ∙ ap (of_file args) (f.bytes ∙ e))
@@ -327,26 +355,26 @@ module _ (args : LocalArgs) (now : ℕ) (d : Deeds) where
 
   looked : (p : Place) → Before d (facts p) → Holds args d (looks args p)
   looked p b = elim (is_name args.home) as (λ t. Holds args d (if t then record p { row = at.NextName } else record p { row = at.Fail failure.Home })) [
-    | true ↦ record { input = b.input; names = b.names; clean = b.clean }
+    | true ↦ record { input = b.input; names = b.names; clean = b.clean; host = b.host }
     | false ↦ tt
   ]
 
-  names_host : (host : List ℕ) (p : Place) → Before d (facts p) → Holds args d (hosted args host p)
-  names_host host p b = elim (is_looping (delivered_to args) p.message) as
+  names_host : (host : List ℕ) (p : Place) → Known d (facts p) → host_of d.me ≡ Some host → Holds args d (hosted args host p)
+  names_host host p b e = elim (is_looping (delivered_to args) p.message) as
       (λ t. Holds args d (if t then record p { row = at.Fail failure.Looping } else looks args (record p { host = host }))) [
         | true ↦ tt
-        | false ↦ looked (record p { host = host }) (record { input = b.input; names = b.names; clean = b.clean })
+        | false ↦ looked (record p { host = host }) (record { input = b.input; names = b.names; clean = b.clean; host = e })
       ]
 
-  names_by : (o : Option (List ℕ)) (p : Place) → Before d (facts p) → Holds args d (hosted_by args o p)
-  names_by None p b = tt
-  names_by (Some host) p b = names_host host p b
+  names_by : (o : Option (List ℕ)) (p : Place) → Known d (facts p) → host_of d.me ≡ o → Holds args d (hosted_by args o p)
+  names_by None p b e = tt
+  names_by (Some host) p b e = names_host host p b e
 
   -- the next work was done
   made_line : (p : Place) (lines : List Line) (path : List ℕ) (made : List LinkMade) (it : LinkMade) → work_of p.course.ahead ≡ ToMaildir path → Under args d (facts p) lines made
       → d.links ≡ made ++ it ∷ [] → IsDropLink args p.host p.message path it → Holds args d (line_done args now p)
   made_line p lines path made it e u all is = goes (record p { course = passed p.course }) lines (record {
-    known = record { input = u.known.input; names = u.known.names; told = u.known.told };
+    known = record { input = u.known.input; host = u.known.host; names = u.known.names; told = u.known.told };
     more = λ exited reached r.
         subst (Reaches lines (d.exits ++ exited)) (sym (append_assoc p.course.done (up_to_work p.course.ahead) reached))
         (u.more exited (up_to_work p.course.ahead ++ reached) (past_maildir p.course.ahead path exited reached e r));
@@ -359,7 +387,7 @@ module _ (args : LocalArgs) (now : ℕ) (d : Deeds) where
 module _ (args : LocalArgs) (now : ℕ) (d after : Deeds) (p : Place) (code : ℕ) (r : AtRun args d p) where
   ran_zero : after ≡ record d { exits = d.exits ++ (p.text, 0) ∷ [] } → Holds args after (line_done args now p)
   ran_zero is = subst (λ x. Holds args x (line_done args now p)) (sym is) (goes args now (record d { exits = d.exits ++ (p.text, 0) ∷ [] }) (record p { course = passed p.course }) r.lines (record {
-    known = record { input = r.under.known.input; names = r.under.known.names; told = r.under.known.told };
+    known = record { input = r.under.known.input; host = r.under.known.host; names = r.under.known.names; told = r.under.known.told };
     more = λ exited reached h.
         subst (λ x. Reaches r.lines x ((p.course.done ++ up_to_work p.course.ahead) ++ reached)) (sym (append_assoc d.exits ((p.text, 0) ∷ []) exited))
         (subst (Reaches r.lines (d.exits ++ (p.text, 0) ∷ exited)) (sym (append_assoc p.course.done (up_to_work p.course.ahead) reached))
@@ -372,7 +400,7 @@ module _ (args : LocalArgs) (now : ℕ) (d after : Deeds) (p : Place) (code : �
   ran_last : after ≡ record d { exits = d.exits ++ (p.text, 99) ∷ [] } → Holds args after (lines_done args now p)
   ran_last is = subst (λ x. Holds args x (lines_done args now p)) (sym is)
       (finished args now (record d { exits = d.exits ++ (p.text, 99) ∷ [] }) (record p { course = cut p.course }) r.lines (record {
-        known = record { input = r.under.known.input; names = r.under.known.names; told = r.under.known.told };
+        known = record { input = r.under.known.input; host = r.under.known.host; names = r.under.known.names; told = r.under.known.told };
         reaches = subst (Reaches r.lines (d.exits ++ (p.text, 99) ∷ [])) (sym (append-nil (p.course.done ++ up_to_work p.course.ahead)))
             (r.under.more ((p.text, 99) ∷ []) (up_to_work p.course.ahead) (stops p.course.ahead p.text r.work));
         drops = subst (λ ls. AreDrops args p.host p.message ls d.links) (sym (append-nil (p.course.done ++ up_to_work p.course.ahead)))
@@ -476,7 +504,7 @@ went_on args now e p it None ended is h isnt = subst (λ row. Inv args e row (re
     made = h.made;
     path = h.path;
     moment = h.moment;
-    under = record { known = record { input = h.under.known.input; names = h.under.known.names; told = h.under.known.told }; more = h.under.more; drops = h.under.drops; alone = h.under.alone };
+    under = record { known = record { input = h.under.known.input; host = h.under.known.host; names = h.under.known.names; told = h.under.known.told }; more = h.under.more; drops = h.under.drops; alone = h.under.alone };
     work = h.work;
     names = h.names;
     linked = h.linked;
@@ -499,7 +527,7 @@ module _ (args : LocalArgs) (now : ℕ) (d : Deeds) (p : Place) (it : Drop) (h :
 
   kept : (links : List LinkMade) → Under args (record d { links = links }) (facts p) h.lines h.made
   kept links = record {
-    known = record { input = h.under.known.input; names = h.under.known.names; told = h.under.known.told };
+    known = record { input = h.under.known.input; host = h.under.known.host; names = h.under.known.names; told = h.under.known.told };
     more = h.under.more;
     drops = h.under.drops;
     alone = record { starts = h.under.alone.starts; feeds = h.under.alone.feeds; statuses = h.under.alone.statuses };
@@ -522,7 +550,7 @@ module _ (args : LocalArgs) (now : ℕ) (d : Deeds) (p : Place) (it : Drop) (h :
 
   made_drop : (attempt : Attempt) (told : Told) → d.links ≡ h.made ++ ((pair_at it.names attempt).tmp, (pair_at it.names attempt).new) ∷ [] → Holds args d (line_done args now (record p { dropping = None }))
   made_drop attempt told all = made_line args now d (record p { dropping = None }) h.lines h.path h.made ((pair_at it.names attempt).tmp, (pair_at it.names attempt).new) h.work
-      (record { known = record { input = h.under.known.input; names = h.under.known.names; told = h.under.known.told }; more = h.under.more; drops = h.under.drops; alone = h.under.alone })
+      (record { known = record { input = h.under.known.input; host = h.under.known.host; names = h.under.known.names; told = h.under.known.told }; more = h.under.more; drops = h.under.drops; alone = h.under.alone })
       all (record { moment = h.moment; attempt = attempt; from = ap (λ n. (pair_at n attempt).tmp) h.names; to = ap (λ n. (pair_at n attempt).new) h.names })
 
 -- at each row of the drop
@@ -573,10 +601,10 @@ module _ (args : LocalArgs) (now : ℕ) (d : Deeds) (p : Place) where
 
   at_end : (o : Option (List ℕ)) → message_in p.message ≡ o → Inv args d at.TakeInput p → Holds args d (input_ended o p)
   at_end None e h = tt
-  at_end (Some message) e h = record { input = ap message_in h.0 ∙ e; names = h.1; clean = h.2 }
+  at_end (Some message) e h = record { input = ap message_in h.0 ∙ e; names = h.1; clean = h.2; me = h.3; none = h.4 }
 
   at_input : (got : GotData) → Inv args d at.TakeInput p → Step at.TakeInput got
-  at_input (came.Took bytes) h = (ap (λ t. t ++ bytes) h.0, h.1, record { links = h.2.links; exits = h.2.exits; starts = h.2.starts; feeds = h.2.feeds; statuses = h.2.statuses })
+  at_input (came.Took bytes) h = (ap (λ t. t ++ bytes) h.0, h.1, record { links = h.2.links; exits = h.2.exits; starts = h.2.starts; feeds = h.2.feeds; statuses = h.2.statuses }, h.3, h.4)
   at_input came.End h = at_end (message_in p.message) refl h
   at_input (came.Answered told) h = tt
   at_input (came.Ended status) h = tt
@@ -587,40 +615,64 @@ module _ (args : LocalArgs) (now : ℕ) (d : Deeds) (p : Place) where
   at_input came.Memory h = tt
 
   -- reading and searching leave all but what was read and told
-  still : (bytes : List ℕ) → Before d (facts p) → Before (record d { bytes = bytes }) (facts p)
-  still bytes b = record { input = b.input; names = b.names; clean = record { links = b.clean.links; exits = b.clean.exits; starts = b.clean.starts; feeds = b.clean.feeds; statuses = b.clean.statuses } }
+  abbrev seen : (opened bytes : List ℕ) → Option (List ℕ) → Deeds
+  seen opened bytes me = record d { opened = opened; bytes = bytes; me = me }
 
-  at_open : (what : Wanted) (name : List ℕ) (told : Answer) (bytes : List ℕ) → Inv args d (at.Open what) p → IsAnswerTo (call.Open name how.Read) told
+  clean_seen : (opened bytes : List ℕ) (me : Option (List ℕ)) → Clean d → Clean (seen opened bytes me)
+  clean_seen opened bytes me c = record { links = c.links; exits = c.exits; starts = c.starts; feeds = c.feeds; statuses = c.statuses }
+
+  still : (opened bytes : List ℕ) (me : Option (List ℕ)) → me ≡ d.me → Before d (facts p) → Before (seen opened bytes me) (facts p)
+  still opened bytes me same b = record { input = b.input; names = b.names; clean = clean_seen opened bytes me b.clean; host = ap host_of same ∙ b.host }
+
+  reads_me : (opened bytes read : List ℕ) (me : Option (List ℕ)) → me ≡ Some read → bytes_eq opened me_name ≡ true → Known d (facts p) → AtHost (seen opened bytes me) (facts p) read
+  reads_me opened bytes read me is same b = record { input = b.input; names = b.names; clean = clean_seen opened bytes me b.clean; me = is; opened = same }
+
+  at_open : (what : Wanted) (name : List ℕ) → name ≡ file_wanted what p → (told : Answer) (bytes : List ℕ) → Inv args d (at.Open what) p → IsAnswerTo (call.Open name how.Read) told
       → Holds args (deeds_by d (needs.File (call.Open name how.Read)) (came.Answered (record { answer = told; bytes = bytes }))) (opened args what told p)
-  at_open wanted.Host name (answer.Opened fd) bytes h fit = still [] h
-  at_open wanted.Instructions name (answer.Opened fd) bytes h fit = record {
-    file = record { before = still [] h.0.before; place = h.0.place; chosen = h.0.chosen };
-    bytes = sym h.1;
-  }
-  at_open wanted.Host name (answer.Refused why.NotThere) bytes h fit = names_host args now d _ p h
-  at_open wanted.Instructions name (answer.Refused why.NotThere) bytes h fit = tt
-  at_open what name (answer.Refused why.Fault) bytes h fit = tt
-  at_open what name (answer.Refused why.Memory) bytes h fit = no_success args d 51 refl
-  at_open what name told bytes h fit = absurd fit
+  at_open wanted.Host name is (answer.Opened fd) bytes h fit =
+      let same : bytes_eq name me_name ≡ true = ap (λ n. bytes_eq n me_name) is in
+      reads_me name [] p.read (if bytes_eq name me_name then Some [] else d.me) (ap (λ t. if t then Some [] else d.me) same ∙ ap Some (sym h.none)) same
+      (record { input = h.input; names = h.names; clean = h.clean })
+  at_open wanted.Instructions name is (answer.Opened fd) bytes h fit =
+      let other : bytes_eq name me_name ≡ false = ap (λ n. bytes_eq n me_name) is ∙ h.2 in
+      record {
+        file = record { before = still name [] (if bytes_eq name me_name then Some [] else d.me) (ap (λ t. if t then Some [] else d.me) other) h.0.before; place = h.0.place; chosen = h.0.chosen };
+        bytes = sym h.1;
+        other = other;
+      }
+  at_open wanted.Host name is (answer.Refused why.NotThere) bytes h fit =
+      names_host args now d (codes "localhost") p (record { input = h.input; names = h.names; clean = h.clean }) (ap host_of h.me)
+  at_open wanted.Instructions name is (answer.Refused why.NotThere) bytes h fit = tt
+  at_open what name is (answer.Refused why.Fault) bytes h fit = tt
+  at_open what name is (answer.Refused why.Memory) bytes h fit = no_success args d 51 refl
+  at_open what name is told bytes h fit = absurd fit
+
+  -- what a piece adds to what was read of control/me
+  abbrev more_me : List ℕ → Option (List ℕ)
+  more_me bytes = if bytes_eq d.opened me_name then added d.me bytes else d.me
 
   at_read : (what : Wanted) (fd : Fd) (from : ℕ) (told : Answer) (bytes : List ℕ) → Inv args d (at.Read what fd) p → IsAnswerTo (call.ReadAt fd from 8192) told
       → Holds args (deeds_by d (needs.File (call.ReadAt fd from 8192)) (came.Answered (record { answer = told; bytes = bytes }))) (read_on what fd told bytes p)
   at_read wanted.Host fd from (answer.Count count) bytes h fit =
-      elim (nat_lt (length bytes) 8192) as (λ t. Inv args (record d { bytes = d.bytes ++ bytes }) (if t then at.Close wanted.Host fd reading.Whole else at.Read wanted.Host fd)
-      (record p { row = (if t then at.Close wanted.Host fd reading.Whole else at.Read wanted.Host fd); read = p.read ++ bytes })) [ true ↦ still (d.bytes ++ bytes) h | false ↦ still (d.bytes ++ bytes) h ]
+      let next : AtHost (seen d.opened (d.bytes ++ bytes) (more_me bytes)) (facts p) (p.read ++ bytes) =
+      reads_me d.opened (d.bytes ++ bytes) (p.read ++ bytes) (more_me bytes) (ap (λ t. if t then added d.me bytes else d.me) h.opened ∙ ap (λ o. added o bytes) h.me) h.opened
+      (record { input = h.input; names = h.names; clean = h.clean }) in
+      elim (nat_lt (length bytes) 8192) as (λ t. Inv args (seen d.opened (d.bytes ++ bytes) (more_me bytes)) (if t then at.Close wanted.Host fd reading.Whole else at.Read wanted.Host fd)
+      (record p { row = (if t then at.Close wanted.Host fd reading.Whole else at.Read wanted.Host fd); read = p.read ++ bytes })) [ true ↦ next | false ↦ next ]
   at_read wanted.Instructions fd from (answer.Count count) bytes h fit =
-      let next : AtBytes args (record d { bytes = d.bytes ++ bytes }) (facts p) (p.read ++ bytes) = record {
-        file = record { before = still (d.bytes ++ bytes) h.file.before; place = h.file.place; chosen = h.file.chosen };
+      let next : AtBytes args (seen d.opened (d.bytes ++ bytes) (more_me bytes)) (facts p) (p.read ++ bytes) = record {
+        file = record { before = still d.opened (d.bytes ++ bytes) (more_me bytes) (ap (λ t. if t then added d.me bytes else d.me) h.other) h.file.before; place = h.file.place; chosen = h.file.chosen };
         bytes = ap (λ t. t ++ bytes) h.bytes;
+        other = h.other;
       } in
-      elim (nat_lt (length bytes) 8192) as (λ t. Inv args (record d { bytes = d.bytes ++ bytes }) (if t then at.Close wanted.Instructions fd reading.Whole else at.Read wanted.Instructions fd)
+      elim (nat_lt (length bytes) 8192) as (λ t. Inv args (seen d.opened (d.bytes ++ bytes) (more_me bytes)) (if t then at.Close wanted.Instructions fd reading.Whole else at.Read wanted.Instructions fd)
       (record p { row = (if t then at.Close wanted.Instructions fd reading.Whole else at.Read wanted.Instructions fd); read = p.read ++ bytes })) [ true ↦ next | false ↦ next ]
   at_read wanted.Host fd from (answer.Refused why.Fault) bytes h fit = h
   at_read wanted.Instructions fd from (answer.Refused why.Fault) bytes h fit = h
   at_read what fd from told bytes h fit = absurd fit
 
   at_close : (what : Wanted) (fd : Fd) (went : Reading) → Inv args d (at.Close what fd went) p → Holds args d (closed args now what went p)
-  at_close wanted.Host fd reading.Whole h = names_by args now d (host_in p.read) p h
+  at_close wanted.Host fd reading.Whole h = names_by args now d (host_in p.read) p (record { input = h.input; names = h.names; clean = h.clean }) (ap host_of h.me)
   at_close wanted.Instructions fd reading.Whole h = told_lines args now d p h p.read refl
   at_close what fd reading.Fault h = tt
   at_close what fd reading.Memory h = no_success args d 51 refl
@@ -631,6 +683,7 @@ module _ (args : LocalArgs) (now : ℕ) (d : Deeds) (p : Place) where
     input = b.input;
     names = ap (λ n. n ++ name ∷ []) b.names;
     clean = record { links = b.clean.links; exits = b.clean.exits; starts = b.clean.starts; feeds = b.clean.feeds; statuses = b.clean.statuses };
+    host = b.host;
   }
   at_names dir after answer.NoName bytes b fit = followed args now d p b (chosen_by args p.names) refl
   at_names dir after (answer.Refused why.NotThere) bytes b fit = tt
@@ -651,7 +704,7 @@ module _ (args : LocalArgs) (now : ℕ) (d : Deeds) (p : Place) where
   abbrev over_with : (starts : List ChildData) (feeds : List (List ℕ)) (statuses : List ℕ) → AtInjection args d p → AtInjection args (record d { starts = starts; feeds = feeds; statuses = statuses }) p
   over_with starts feeds statuses i = record {
     lines = i.lines;
-    over = record { known = record { input = i.over.known.input; names = i.over.known.names; told = i.over.known.told }; reaches = i.over.reaches; drops = i.over.drops };
+    over = record { known = record { input = i.over.known.input; host = i.over.known.host; names = i.over.known.names; told = i.over.known.told }; reaches = i.over.reaches; drops = i.over.drops };
     it = i.it;
     is = i.is;
     text = i.text;
@@ -724,6 +777,7 @@ module _ (args : LocalArgs) (now : ℕ) (d : Deeds) (p : Place) where
     lines = c.lines;
     reached = c.reached;
     input = c.input;
+    host_is = c.host_is;
     told = c.told;
     reaches = c.reaches;
     drops = c.drops;
@@ -753,7 +807,7 @@ module _ (args : LocalArgs) (now : ℕ) (d : Deeds) (p : Place) where
 
   step : (row : Row) (got : GotData) → p.row ≡ row → Inv args d row p → MayCome (due_at args row p) got → Step row got
   step at.TakeInput got is h may = at_input got h
-  step (at.Open what) got is h may = by_fit (call.Open (file_wanted what p) how.Read) (Step (at.Open what)) got may (λ told fit. at_open what (file_wanted what p) told.answer told.bytes h fit)
+  step (at.Open what) got is h may = by_fit (call.Open (file_wanted what p) how.Read) (Step (at.Open what)) got may (λ told fit. at_open what (file_wanted what p) refl told.answer told.bytes h fit)
   step (at.Read what fd) got is h may = by_fit (call.ReadAt fd (length p.read) 8192) (Step (at.Read what fd)) got may (λ told fit. at_read what fd (length p.read) told.answer told.bytes h fit)
   step (at.Close what fd went) got is h may = by_fit (call.Close fd) (Step (at.Close what fd went)) got may (λ told fit. at_close what fd went h)
   step at.NextName got is h may =
@@ -769,7 +823,7 @@ module _ (args : LocalArgs) (now : ℕ) (d : Deeds) (p : Place) where
 
 -- after each run
 pub holds : (args : LocalArgs) (past : List Own) → IsRunBy (Next args) past → Holds args (deeds_of past) (place_after args past)
-holds args [] run = (refl, refl, record { links = refl; exits = refl; starts = refl; feeds = refl; statuses = refl })
+holds args [] run = (refl, refl, record { links = refl; exits = refl; starts = refl; feeds = refl; statuses = refl }, refl, refl)
 holds args (event ∷ before) run =
     let p : Place = place_after args before in
     let may = subst (λ x. MayCome x event.came) (sym run.1.0) run.1.1 in
@@ -821,6 +875,7 @@ carried_out args past now ready run due =
       lines = c.lines;
       reached = c.reached;
       input = c.input;
+      host_is = c.host_is;
       told = c.told;
       reaches = c.reaches;
       drops = c.drops;

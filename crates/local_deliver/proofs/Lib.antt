@@ -12,6 +12,8 @@ pub mod Standing
 pub mod Deeds
 -- lines that are reached
 pub mod Reaching
+-- no file of instructions is control/me
+pub mod MeNames
 -- what a delivery has done
 pub mod Carrying
 -- what holds of the drop at work

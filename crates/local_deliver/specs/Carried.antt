@@ -24,7 +24,7 @@ use Rattle.local_steps.specs.Texts.{maildir_text}
 use Rattle.maildir_drop.specs.declared.row.Attempt.{Attempt}
 use Rattle.maildir_drop.specs.Laws.{IsWhole}
 use Rattle.maildir_drop.specs.Names.{names_of, pair_at}
-use Rattle.local_deliver.specs.Deeds.{Exited, LinkMade, bytes_read, exits, feeds, links, starts, statuses, taken, told_names}
+use Rattle.local_deliver.specs.Deeds.{Exited, LinkMade, bytes_read, exits, feeds, host_read, links, starts, statuses, taken, told_names}
 use Rattle.local_deliver.specs.Drops.{drop_arguments}
 
 -- The instructions, by the names of the home and the bytes of the chosen file
@@ -82,14 +82,15 @@ IsInjected args (Some it) past =
     (starts past ≡ ForwardChild args.uid it.room ∷ []) × ((feeds past ≡ it.text ∷ []) × (statuses past ≡ 0 ∷ []))
 
 -- The instructions were carried out: each maildir line up to the first command with status 99, or to the end, has its link, in
--- order; each command there exited with 0 or 99; and the forwards there are the recipients of one injection of the
--- message that went well.
+-- order, under the name of the host that control/me names; each command there exited with 0 or 99; and the forwards there are the
+-- recipients of one injection of the message that went well.
 pub record IsCarried (args : LocalArgs) (past : List Own) : Type 0 where
   pub message : List ℕ
   pub host : List ℕ
   pub lines : List Line
   pub reached : List Line
   pub input : message_in (taken past) ≡ Some message
+  pub host_is : host_read past ≡ Some host
   pub told : instructions args past ≡ Some lines
   pub reaches : Reaches lines (exits past) reached
   pub drops : AreDrops args host message reached (links past)

@@ -1,5 +1,5 @@
 -- What a local delivery met and did, by its past alone.
-use Rattle.std.specs.Prelude.{ℕ, List, [], ◌∷◌, ◌++◌}
+use Rattle.std.specs.Prelude.{ℕ, List, [], ◌∷◌, ◌++◌, Option, Some, None, bytes_eq, codes, if◌then◌else◌}
 use Rattle.call_fs.specs.declared.calls.Answer.{Answer}
 use Rattle.call_fs.specs.declared.calls.Answer.TheVariants as answer
 use Rattle.call_fs.specs.declared.calls.CallData.{CallData}
@@ -11,6 +11,7 @@ use Rattle.call_fs.specs.declared.past.NeedData.{NeedData}
 use Rattle.call_fs.specs.declared.past.NeedData.TheVariants as needs
 use Rattle.call_fs.specs.declared.past.Own.{Own}
 use Rattle.call_fs.specs.declared.program.Port.TheVariants as port
+use Rattle.local_steps.specs.Host.{host_in}
 
 -- the bytes of its input
 abbrev pub taken_by : List ℕ → NeedData → GotData → List ℕ
@@ -47,6 +48,48 @@ read_by old due got = old
 abbrev pub bytes_read : List Own → List ℕ
 bytes_read [] = []
 bytes_read (event ∷ before) = read_by (bytes_read before) event.due event.came
+
+-- the name of the file that was opened last
+abbrev pub opened_by : List ℕ → CallData → Answer → List ℕ
+opened_by old (call.Open name how) (answer.Opened fd) = name
+opened_by old c told = old
+
+abbrev pub opens_by : List ℕ → NeedData → GotData → List ℕ
+opens_by old (needs.File c) (came.Answered told) = opened_by old c told.answer
+opens_by old due got = old
+
+abbrev pub last_opened : List Own → List ℕ
+last_opened [] = []
+last_opened (event ∷ before) = opens_by (last_opened before) event.due event.came
+
+-- What was read of control/me, by the file that was opened last before; none if it wasn't opened.
+abbrev pub me_name : List ℕ
+me_name = codes "control/me"
+
+abbrev pub added : Option (List ℕ) → List ℕ → Option (List ℕ)
+added None bytes = None
+added (Some old) bytes = Some (old ++ bytes)
+
+abbrev pub me_by : (opened : List ℕ) → Option (List ℕ) → CallData → Answer → List ℕ → Option (List ℕ)
+me_by opened old (call.Open name how) (answer.Opened fd) bytes = if bytes_eq name me_name then Some [] else old
+me_by opened old (call.ReadAt fd from most) (answer.Count count) bytes = if bytes_eq opened me_name then added old bytes else old
+me_by opened old c told bytes = old
+
+abbrev pub me_with : (opened : List ℕ) → Option (List ℕ) → NeedData → GotData → Option (List ℕ)
+me_with opened old (needs.File c) (came.Answered told) = me_by opened old c told.answer told.bytes
+me_with opened old due got = old
+
+abbrev pub me_read : List Own → Option (List ℕ)
+me_read [] = None
+me_read (event ∷ before) = me_with (last_opened before) (me_read before) event.due event.came
+
+-- the host that it names; `localhost` without that file
+abbrev pub host_of : Option (List ℕ) → Option (List ℕ)
+host_of None = Some (codes "localhost")
+host_of (Some bytes) = host_in bytes
+
+abbrev pub host_read : List Own → Option (List ℕ)
+host_read past = host_of (me_read past)
 
 -- the links that were made, in order: from this name to that one
 abbrev pub LinkMade : Type 0

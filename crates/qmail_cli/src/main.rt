@@ -5,48 +5,39 @@
 //! the call's; if memory runs out before the call it is 51.
 #![tactic(auto)]
 
-mod host_clock;
-mod late_file;
-mod reader_source;
-mod status;
-#[cfg(test)]
-mod tests;
-mod unread;
-mod writer_sink;
-
 use call_fs::CallFs;
 use command_words::places;
-use host_clock::HostClock;
 use host_fs::HostFs;
-use late_file::LateFile;
+use host_streams::{HostClock, LateFile, ReaderSource, WriterSink, status_of, unread_words};
 use mail_bytes::Memory;
 use mem_fs::MemFs;
 use outside::{MemPosts, MemSpawner, OpenGate, Source};
 use qmail_top::qmail;
-use reader_source::ReaderSource;
-use status::status_of;
 use std::alloc::Global;
 use std::env;
 use std::process::ExitCode;
-#[cfg(test)]
-use std::test::Fail;
-use unread::unread_words;
-use writer_sink::WriterSink;
 
-/// The program's entry, with the exit status that `program` tells.
+/// The program's entry.
 fn main(rt: HostRuntime) -> ExitCode {
-    program(&rt)
+    ExitCode::from(status_of(run(&rt, rt.alloc())))
 }
 
-/// All that the program does, and its exit status.
-fn program(rt: &HostRuntime) -> ExitCode {
-    ExitCode::from(status_of(run(rt, rt.alloc())))
-}
-
-/// Calls `qmail` with the words of the command line and standard input.
+/// Calls `qmail` with the words of the command line and standard input, over the places that the words name.
 fn run(rt: &HostRuntime, alloc: Global) -> Result<u8, Memory> {
     let words = words_of(rt, alloc)?;
-    run_words(rt, alloc, &words, &mut ReaderSource::new(rt.stdin()))
+    let places = places(alloc, &words)?;
+    let mut message = ReaderSource::new(rt.stdin());
+    let mut envelope = ReaderSource::new(LateFile::new(rt, places.env));
+    Ok(match places.dir {
+        Some(dir) => {
+            let mut disk = HostFs::open(rt, alloc, dir.as_slice())?;
+            run_over(rt, alloc, &words, &mut disk, &mut message, &mut envelope)
+        }
+        None => {
+            let mut disk = MemFs::new(alloc, Vec::new(alloc), Vec::new(alloc))?;
+            run_over(rt, alloc, &words, &mut disk, &mut message, &mut envelope)
+        }
+    })
 }
 
 /// The words after the program's name. If one isn't UTF-8 there are none, which is no command; `Err` if memory runs out.
@@ -55,27 +46,6 @@ fn words_of(rt: &HostRuntime, alloc: Global) -> Result<Vec<String>, Memory> {
         Ok(words) => words.skip(1).collect(alloc),
         Err(why) => unread_words(alloc, why.kind()),
     }
-}
-
-/// Calls `qmail` with these words and this message, over the places that the words name.
-fn run_words<M: Source>(
-    rt: &HostRuntime,
-    alloc: Global,
-    words: &[String],
-    message: &mut M,
-) -> Result<u8, Memory> {
-    let places = places(alloc, words)?;
-    let mut envelope = ReaderSource::new(LateFile::new(rt, places.env));
-    Ok(match places.dir {
-        Some(dir) => {
-            let mut disk = HostFs::open(rt, alloc, dir.as_slice())?;
-            run_over(rt, alloc, words, &mut disk, message, &mut envelope)
-        }
-        None => {
-            let mut disk = MemFs::new(alloc, Vec::new(alloc), Vec::new(alloc))?;
-            run_over(rt, alloc, words, &mut disk, message, &mut envelope)
-        }
-    })
 }
 
 /// Calls `qmail` over this disk.
@@ -101,19 +71,4 @@ fn run_over<D: CallFs, M: Source, E: Source>(
         &mut MemSpawner::new(alloc, Vec::new(alloc), Vec::new(alloc)),
         &OpenGate,
     )
-}
-
-// The tests of the program's streams start their own executable again, with words that begin with the test's name; so
-// they are named as commands are. `tests/streams.rt` says how.
-
-#[cfg(test)]
-#[test]
-fn play(rt: HostRuntime) -> Result<ExitCode, Fail> {
-    tests::streams::check(rt, &tests::streams::PLAY)
-}
-
-#[cfg(test)]
-#[test]
-fn nosuch(rt: HostRuntime) -> Result<ExitCode, Fail> {
-    tests::streams::check(rt, &tests::streams::NOSUCH)
 }

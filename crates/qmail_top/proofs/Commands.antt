@@ -10,7 +10,7 @@ use Rattle.mem_fs.proofs.InTurn.{told_weaker}
 use Rattle.mail_world.specs.History.{Legal}
 use Rattle.sender_law.proofs.Exist.{controls_exist}
 use Rattle.world_law.proofs.Alone.{stays_safe}
-use Rattle.world_law.proofs.Histories.{headline}
+use Rattle.world_law.proofs.Promise.{headline}
 use Rattle.qmail_top.specs.SafePlays.{IsSafePrefixAtMost, PrintsSafely}
 use Rattle.qmail_top.specs.Command.{Counted, HasReason, status_of, IsReading, IsChecked}
 use Rattle.scenario.specs.Deeds.{history_of}

@@ -32,7 +32,8 @@ IsAudit words = (dir : List ℕ) × Reads (map string_bytes words) (Audit dir)
 abbrev pub IsClean : List (String Global) → Type 0
 IsClean words = (dir : List ℕ) × Reads (map string_bytes words) (Clean dir)
 
--- The command `clean` was run; or there was no memory for its words, and nothing was done.
+-- The command `clean` was run, to its end or as far as a run goes; or there was no memory for its words, and nothing was done. 51 says one of
+-- the last two.
 abbrev pub WasCleaned : Around → Around → ℕ → Type 0
 WasCleaned old new status = WasRun old new status ⊎ ((status ≡ MEMORY) × (new ≡ old))
 

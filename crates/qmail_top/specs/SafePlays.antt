@@ -5,15 +5,16 @@ use Rattle.mail_world.specs.Waiting.{HasNoGeneration}
 use Rattle.scenario.specs.Deeds.{history_of}
 use Rattle.scenario.specs.Text.{IsPrefix, Prints}
 use Rattle.sender_law.specs.Control.{AreControls}
-use Rattle.world_law.specs.Headline.{EachSafe, StaysSafe}
+use Rattle.world_law.specs.Headline.{EachPromised, StaysSafe}
 
--- The script with these bytes prints this. The control files of the disk that it begins with say these controls, and each prefix of the
--- history that it plays is safe by them. If no generation was started, the same holds whatever they say, with each accepted message in todo.
+-- The script with these bytes prints this. The control files of the disk that it begins with say these controls, and the promise holds by them
+-- of each prefix of the history that it plays. If no generation was started, each is safe whatever they say, with each accepted message in
+-- todo.
 pub record PrintsSafely (script text : List ℕ) : Type 0 where
   pub prints : Prints script text
   pub controls : Controls
   pub has : AreControls controls prints.played.disk
-  pub safe : EachSafe controls prints.played.disk (history_of prints.played.deeds)
+  pub safe : EachPromised controls prints.played.disk (history_of prints.played.deeds)
   pub alone : HasNoGeneration (history_of prints.played.deeds) → StaysSafe prints.played.disk (history_of prints.played.deeds)
 
 -- nothing, or a prefix of the text of the script with these bytes

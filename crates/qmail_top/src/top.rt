@@ -35,8 +35,8 @@ use std::alloc::Global;
 /// missing. It only searches for names.
 ///
 /// `clean` runs the cleaner over the queue on `disk`, with commands from `message`; `out` gets a byte for each. It goes on
-/// as long as `message` does. 0: `message` ended. 51: out of memory, before anything was done. 53: `out` failed. 54:
-/// `message` failed. It is the program of qmail-clean(8).
+/// as long as `message` does. 0: `message` ended. 51: out of memory, before anything was done, or it hasn't ended after
+/// 18,446,744,073,709,551,615 turns. 53: `out` failed. 54: `message` failed. It is the program of qmail-clean(8).
 ///
 /// Other words write the line `usage` to `log`, with exit status 100. What a command doesn't use stays untouched.
 pub fn qmail<
@@ -108,7 +108,7 @@ pub fn qmail<
         → ¬ (Rose (M.faults message.old) (M.faults message.new)) → ¬ (Rose (O.faults out.old) (O.faults out.new))
         → (result ≡ DONE) ⊎ (result ≡ MEMORY)) }
 
-    // What `play` prints: the text of the script, whose history is legal, and safe at each prefix by the controls of its
+    // What `play` prints: the text of the script, whose history is legal, and as promised at each prefix by the controls of its
     // disk; or a prefix of that text; or the number of the first bad line; and nothing before the script was read to its
     // end, or is too long.
     ensures prints { IsPlay words.now → OnTold (M.left message.old) (λ script. result ≡ DONE

@@ -366,13 +366,18 @@ module _ (controls : Controls) (now : ℕ) (a : List ℕ) (q : Queue) (G : Sound
         by_role (q.role stat.number) refl right.0 right.1
       where
         by_role : (role : Role) → q.role stat.number ≡ role → IsPidRole start role → IsRecent (q.disk.files stat.number) role
-            → (start ≤ stat.moment) ⊎ IsOldName q (Pid pid start seq)
+            → (start ≤ stat.moment) ⊎ IsOldName q (Pid pid start seq) stat.moment
         by_role (AsMessage actor args) is' suits recent = inl (let w = told.moment_is in omega (arith, suits, recent, w))
         by_role (AsPart k n) is' suits recent = absurd suits
         by_role (AsDrop o) is' suits recent = absurd suits
         by_role AsOld is' suits recent =
             let there : q.disk.names (path (Pid pid start seq)) ≡ Some stat.number = ap q.disk.names (sym (path-parse text (Pid pid start seq) e)) ∙ told.number in
-            inr (record { file = entry q.disk.files stat.number; there = find_some q.disk.names q.disk.files (Pid pid start seq) stat.number there; made = is' })
+            inr (record {
+              file = entry q.disk.files stat.number;
+              there = find_some q.disk.names q.disk.files (Pid pid start seq) stat.number there;
+              made = is';
+              written = sym told.moment_is;
+            })
 
     stat_pid : (p : Place) → Rests controls now q (waiting p) → IsOnePart p.name → Steps at.StatPid p (Stat (pid_path p.name))
     stat_pid p h one (answer.Stat stat) fits =
@@ -480,7 +485,7 @@ module _ (controls : Controls) (now : ℕ) (a : List ℕ) (q : Queue) (G : Sound
               let suits : args.start ≡ start = subst (IsPidRole start) his (G.suits (Pid pid start seq) (entry q.disk.files i) its).0 in
               ⊎_elim
               (λ (le : start ≤ moment). omega (arith, suits, le, old, soon'))
-              (λ (was : IsOldName q (Pid pid start seq)).
+              (λ (was : IsOldName q (Pid pid start seq) moment).
               let w = was.there in
               let it = its in
               let v : entry q.disk.files i ≡ was.file = cc in

@@ -68,6 +68,10 @@ module _ (q : Queue) (contents : ℕ → List ℕ) (survives : AllSurvive q.disk
   unfolding after_file
   after_number y = refl
 
+  pub after_moment : (y : Entry) → (after_file y).file.moment ≡ y.file.moment
+  unfolding after_file
+  after_moment y = refl
+
   pub still_absent : (x : Name) → look q x ≡ None → look (after_halt contents q) x ≡ None
   still_absent x h = find_none q.disk.names _ x (not_found q.disk.names q.disk.files x h)
 

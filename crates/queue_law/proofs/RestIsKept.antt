@@ -21,7 +21,7 @@ use Rattle.queue_law.specs.Steps.{Elsewhere, Foreign, after_halt}
 use Rattle.queue_law.specs.Cleaners.{number_at, Needs, Rests, waiting, StandsAt, CleanerStands, IsBeside, RestIsKept}
 use Rattle.queue_law.proofs.Frame.{about_same}
 use Rattle.queue_law.proofs.Foreigners.{foreign_elsewhere}
-use Rattle.queue_law.proofs.Halts.{after_file, after_number, still_absent, still_there, still_synced}
+use Rattle.queue_law.proofs.Halts.{after_file, after_moment, after_number, still_absent, still_there, still_synced}
 use Rattle.queue_law.proofs.Rests.{closed_later, closed_far, judged_far}
 use Rattle.queue_law.proofs.Cleaners.{stands_frame}
 
@@ -125,10 +125,11 @@ module _ (q : Queue) (contents : ℕ → List ℕ) (survives : AllSurvive q.disk
   judged_halt : (x : Option Name) (moment : ℕ) → IsJudged q x moment → IsJudged (after_halt contents q) x moment
   judged_halt (Some (Pid p s k)) moment h = ⊎_elim
       (λ start. inl start)
-      (λ (old : IsOldName q (Pid p s k)). inr (record {
+      (λ (old : IsOldName q (Pid p s k) moment). inr (record {
         file = after_file q contents survives old.file;
         there = still_there q contents survives (Pid p s k) old.file old.there;
         made = ap q.role (after_number q contents survives old.file) ∙ old.made;
+        written = after_moment q contents survives old.file ∙ old.written;
       }))
       h
   judged_halt (Some (Of part n)) moment h = absurd h

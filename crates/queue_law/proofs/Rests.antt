@@ -62,10 +62,11 @@ module _ (now : ℕ) (a : List ℕ) (m : Option ℕ) (q r : Queue) (E : Elsewher
       → (x : Option Name) (moment : ℕ) → IsJudged q x moment → IsJudged r x moment
   judged_far far (Some (Pid p s k)) moment h = ⊎_elim
       (λ start. inl start)
-      (λ (old : IsOldName q (Pid p s k)). inr (record {
+      (λ (old : IsOldName q (Pid p s k) moment). inr (record {
         file = old.file;
         there = E.looks (Pid p s k) (λ c. far old.file.number (c old.file old.there) (Pid p s k) old.file old.there old.made refl) ∙ old.there;
         made = E.roles (Pid p s k) old.file old.there ∙ old.made;
+        written = old.written;
       }))
       h
   judged_far far (Some (Of part n)) moment h = absurd h

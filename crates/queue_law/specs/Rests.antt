@@ -30,17 +30,18 @@ pub record RestsAs (now : ℕ) (q : Queue) (n : ℕ) (P : About → Type 0) : Ty
   pub closed : IsClosed now q n
   pub rest : P (about q n)
 
--- no injector that moves made the file of this name
-pub record IsOldName (q : Queue) (x : Name) : Type 0 where
+-- no injector that moves made the file of this name, and it was written last at this moment
+pub record IsOldName (q : Queue) (x : Name) (moment : ℕ) : Type 0 where
   pub file : Entry
   pub there : look q x ≡ Some file
   pub made : q.role file.number ≡ AsOld
+  pub written : file.file.moment ≡ moment
 
 -- What a cleaner was told of a name in `pid`: it tells a start that is no later than this moment, or its file was there at
--- the beginning. So once 36 hours have gone since that moment, no injector that may still call has it. Other names are none of
--- the queue's.
+-- the beginning and was written last at this moment. So once 36 hours have gone since that moment, no injector that may still
+-- call has it. Other names are none of the queue's.
 abbrev pub IsJudged : Queue → Option Name → ℕ → Type 0
-IsJudged q (Some (Pid pid start seq)) moment = (start ≤ moment) ⊎ IsOldName q (Pid pid start seq)
+IsJudged q (Some (Pid pid start seq)) moment = (start ≤ moment) ⊎ IsOldName q (Pid pid start seq) moment
 IsJudged q (Some (Of part n)) moment = ⊥
 IsJudged q None moment = Unit {0}
 

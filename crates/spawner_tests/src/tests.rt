@@ -1,3 +1,4 @@
 mod local;
 mod remote;
 mod steps;
+mod users;

@@ -1,9 +1,11 @@
 -- The injection of a delivery's forwards is from whom it forwards, to the addresses of its lines.
-use Rattle.std.proofs.Common.{◌≡◌, ℕ, List, [], ◌∷◌, ◌++◌, Bool, true, false, refl, sym, subst, codes, if◌then◌else◌}
+use Rattle.std.proofs.Common.{◌≡◌, ℕ, List, [], ◌∷◌, ◌++◌, Bool, true, false, Some, refl, sym, ap, ◌∙◌, subst, codes, if◌then◌else◌}
 use Rattle.std.proofs.lemmas.List.Elements.{All-append}
 use Rattle.address_rules.specs.Nuls.{HasNoNul}
+use Rattle.address_rules.specs.declared.controls.Controls.{Controls}
+use Rattle.call_fs.specs.Disk.{Disk}
 use Rattle.call_fs.specs.declared.past.Own.{Own}
-use Rattle.local_deliver.specs.Carried.{IsCarried, IsInjected as HasOne}
+use Rattle.local_deliver.specs.Carried.{AreDrops, IsCarried, IsInjected as HasOne}
 use Rattle.local_deliver.specs.Deeds.{feeds, statuses, told_names}
 use Rattle.local_steps.specs.declared.arguments.LocalArgs.{LocalArgs}
 use Rattle.local_steps.specs.Forwarding.{envelope, forward_sender, forwards, has_default_owner, has_owner, injection_of, injection_to, net_text, owner_sender}
@@ -13,11 +15,16 @@ use Rattle.post_law.proofs.Told.{words as plain_text}
 use Rattle.queue_inject.specs.declared.injection.Arguments.{Arguments}
 use Rattle.queue_law.specs.Books.{Books, Injection, IsInjected, IsValid}
 use Rattle.world_events.specs.declared.event.Program.{Program}
-use Rattle.mail_world.specs.History.{after}
+use Rattle.world_events.specs.declared.event.Program.TheVariants.{Delivery}
+use Rattle.sender_law.specs.Control.{AreControls}
+use Rattle.mail_world.specs.History.{Actor, Event, Legal, after}
+use Rattle.mail_world.specs.History.Life.{Over}
+use Rattle.world_law.specs.Carried.{Carried, WereInjected}
 use Rattle.world_law.specs.Deliveries.{ForwardsAreAddressed, IsCarriedOut, IsForwardOf, IsForwarded, IsForwardedTo}
 use Rattle.world_law.specs.Headline.{EndsWell}
+use Rattle.world_law.proofs.CarriedLinks.{links_are}
 use Rattle.world_law.proofs.Envelopes.{ArePlain, addressed}
-use Rattle.world_law.proofs.Histories.{headline}
+use Rattle.world_law.proofs.Histories.{safe_always}
 use Rattle.world_law.proofs.Inputs.{two_texts}
 use Rattle.world_law.proofs.PlainDeliveries.{HasPlainArgs, IsPlainBy, all_plain}
 use Rattle.world_law.proofs.PlainLines.{forwards_plain}
@@ -61,6 +68,21 @@ module _ (b : Books) (valid : (q : Injection) → IsInjected b q → q.accepted 
   one_each message (address ∷ more) each one forwarded =
       forward_of message (address ∷ more) each (forwarded (net_text (forward_text args message) ++ net_text (envelope from (address ∷ more))) one.1.0 one.1.1)
 
+  -- and it is all that was started and given
+  injected_each : (message : List ℕ) (addresses : List (List ℕ)) → ArePlain addresses → HasOne args (injection_to args (told_names past) message addresses) past
+      → ((input : List ℕ) → feeds past ≡ input ∷ [] → statuses past ≡ 0 ∷ [] → IsForwarded b input) → WereInjected b args past message addresses
+  unfolding forward_of
+  injected_each message [] each one forwarded = one
+  injected_each message (address ∷ more) each one forwarded =
+      let h = forwarded (net_text (forward_text args message) ++ net_text (envelope from (address ∷ more))) one.1.0 one.1.1 in
+      record {
+        it = forward_of message (address ∷ more) each h;
+        room = _;
+        started = one.0;
+        gave = one.1.0 ∙ ap (λ (t : List ℕ). t ∷ []) h.input_is;
+        ended = one.1.1;
+      }
+
   one_of : (message : List ℕ) (lines : List Line) → HasOne args (injection_of args (told_names past) message lines) past → HasOne args (injection_to args (told_names past) message (forwards lines)) past
   unfolding injection_of
   one_of message lines h = h
@@ -70,9 +92,44 @@ module _ (b : Books) (valid : (q : Injection) → IsInjected b q → q.accepted 
       let c : IsCarried args past = out.carried in
       one_each c.message (forwards c.reached) (forwards_plain args past c.lines _ c.reached c.told c.reaches) (one_of c.message c.reached c.injected) out.forwarded
 
+  all_injected : (out : IsCarriedOut b args past) → WereInjected b args past out.carried.message (forwards out.carried.reached)
+  all_injected out =
+      let c : IsCarried args past = out.carried in
+      injected_each c.message (forwards c.reached) (forwards_plain args past c.lines _ c.reached c.told c.reaches) (one_of c.message c.reached c.injected) out.forwarded
+
+-- a delivery that ended with 0 has carried out its instructions
+module _ (controls : Controls) (d : Disk) (before : List Event) (has : AreControls controls d) (legal : Legal d before) (a : List ℕ) (x : Actor) (is : (after d before).actors a ≡ Some x)
+    (start : ℕ) (args : LocalArgs) (program : x.program ≡ Delivery start args) (over : x.life ≡ Over 0) where
+  pub carried_out : IsCarriedOut (after d before).books args x.past
+  carried_out = subst (λ (p : Program). EndsWell (after d before).books a p x.past) program ((safe_always controls d before has legal).ends a x is over)
+
+  plain_args : HasPlainArgs args
+  plain_args = subst (λ (p : Program). IsPlainBy p) program (all_plain d before legal a x is)
+
+  carried_so : (message : List ℕ) × Carried d before a args x.past message
+  carried_so =
+      let c = carried_out.carried in
+      let L = links_are controls d has before legal a x is start args program in (
+        c.message,
+        record {
+          input = c.input;
+          host = c.host;
+          host_is = c.host_is;
+          lines = c.lines;
+          told = c.told;
+          reached = c.reached;
+          reaches = c.reaches;
+          drops = subst (AreDrops args c.host c.message c.reached) (sym L.pairs) c.drops;
+          whole = λ it among. L.whole it among c.message c.input;
+          injected = all_injected (after d before).books (safe_always controls d before has legal).valid args x.past plain_args carried_out;
+        },
+      )
+
+pub deliveries_are_carried : (controls : Controls) (d : Disk) (before : List Event) → AreControls controls d → Legal d before → (a : List ℕ) (x : Actor) → (after d before).actors a ≡ Some x
+    → (start : ℕ) (args : LocalArgs) → x.program ≡ Delivery start args → x.life ≡ Over 0 → (message : List ℕ) × Carried d before a args x.past message
+deliveries_are_carried controls d before has legal a x is start args program over = carried_so controls d before has legal a x is start args program over
+
 pub forwards_are_addressed : ForwardsAreAddressed
 forwards_are_addressed controls d before has legal a x is start args program over =
-    let S = headline controls d [] before has legal in
-    let out : IsCarriedOut (after d before).books args x.past = subst (λ (p : Program). EndsWell (after d before).books a p x.past) program (S.ends a x is over) in
-    let plain : HasPlainArgs args = subst (λ (p : Program). IsPlainBy p) program (all_plain d before legal a x is) in
-    (out.carried, forwarded_to (after d before).books S.valid args x.past plain out)
+    let out = carried_out controls d before has legal a x is start args program over in
+    (out.carried, forwarded_to (after d before).books (safe_always controls d before has legal).valid args x.past (plain_args controls d before has legal a x is start args program over) out)

@@ -3,7 +3,7 @@ use Rattle.std.proofs.Common.{◌≡◌, ⊎_elim, ℕ, ◌+◌, ◌≤◌, List
 use Rattle.std.specs.Prelude.{flat_map}
 use Rattle.std.proofs.lemmas.List.{append-nil}
 use Rattle.call_fs.specs.Disk.{Among}
-use Rattle.post_law.specs.Posts.{AreLast, At, Fares, IsAskedFor, Post, Waits, busy, goes_at, in_hand, most, owed_at, reports, told_of}
+use Rattle.post_law.specs.Posts.{AreLast, At, Fares, HasPlainFields, IsAskedFor, Post, Waits, busy, goes_at, in_hand, most, owed_at, reports, told_of}
 use Rattle.post_law.proofs.Sums.{own_one}
 use Rattle.send_jobs.specs.declared.attempts.Attempt.{Attempt}
 use Rattle.send_jobs.specs.declared.channels.Channel.{Channel}
@@ -63,6 +63,13 @@ among_last last r (w ∷ waits) among h = ⊎_elim
     (λ (later : Among r waits). among_last last r waits later h.2)
     among
 
+among_plain : (last : ℕ → Option Request) (r : Request) (waits : List Request) → Among r waits → AreLast last waits → HasPlainFields r
+among_plain last r [] among h = absurd among
+among_plain last r (w ∷ waits) among h = ⊎_elim
+    (λ (same : r ≡ w). subst HasPlainFields (sym same) h.1)
+    (λ (later : Among r waits). among_plain last r waits later h.2)
+    among
+
 text_by : (g : Bool) (i : Intake) (ahead given : List ℕ) (waits : List Request) → g ≡ true → i ≡ intake.Open → Waits g i true ahead given waits
     → ahead ++ given ≡ flat_map request_text waits
 text_by true intake.Open ahead given waits on is h = h.text ∙ ap (λ (t : List ℕ). flat_map request_text waits ++ t) (h.whole refl) ∙ append-nil (flat_map request_text waits)
@@ -105,6 +112,9 @@ module _ {c : Channel} (p : Place) (x : Post) (lives : x.lives ≡ true) (goes :
   waiting r among =
       held r.slot r (asked_sum (asked r.slot F.waits) (busy (goes_at x.serves p.row) p.row p r.slot) (told_of r.slot (reports x)) (among_asked r F.waits among))
       (among_last x.last r F.waits among F.lasts)
+
+  pub waiting_plain : (r : Request) → Among r F.waits → HasPlainFields r
+  waiting_plain r among = among_plain x.last r F.waits among F.lasts
 
   pub waiting_text : p.inbox.intake ≡ intake.Open → p.inbox.ahead ++ x.asked ≡ flat_map request_text F.waits
   waiting_text is = text_by (goes_at x.serves p.row) p.inbox.intake p.inbox.ahead x.asked F.waits goes is

@@ -201,6 +201,7 @@ pub record IsSaid (done : List Done) (slots : List (Option Attempt)) (n place : 
   pub place_is : place ≡ attempt.place
   pub it : Done
   pub among : Among it done
+  pub slot_is : it.slot ≡ slot
   pub recipient_is : it.task.recipient ≡ attempt.address
 
 module _ (done : List Done) (n place : ℕ) where
@@ -215,7 +216,7 @@ module _ (done : List Done) (n place : ℕ) where
       let number : n ≡ a.n = cc in
       let here : place ≡ a.place = cc in
       let w : WasDelivered done r.slot a.address = heard (eqb-true (counted r.letter) 75 (letter ∙ sym yes)) in
-      record { slot = r.slot; attempt = a; flies = flies; number_is = number; place_is = here; it = w.it; among = w.among; recipient_is = w.recipient_is })
+      record { slot = r.slot; attempt = a; flies = flies; number_is = number; place_is = here; it = w.it; among = w.among; slot_is = w.slot_is; recipient_is = w.recipient_is })
       rest
       h
   said_if false k r a slots later letter flies heard rest h = rest h
@@ -241,6 +242,7 @@ module _ (done : List Done) (n place : ℕ) where
         place_is = w.place_is;
         it = w.it;
         among = w.among;
+        slot_is = w.slot_is;
         recipient_is = w.recipient_is;
       })
       h

@@ -23,7 +23,7 @@ module _ {A : Type 0} where
   still_among [] x y h = absurd h
   still_among (z ∷ xs) x y h = ⊎_elim (λ (same : x ≡ z). inl same) (λ (w : Among x xs). inr (still_among xs x y w)) h
 
-  among_cases : (xs : List A) (x y : A) → Among x (xs ++ y ∷ []) → Among x xs ⊎ (x ≡ y)
+  pub among_cases : (xs : List A) (x y : A) → Among x (xs ++ y ∷ []) → Among x xs ⊎ (x ≡ y)
   among_cases [] x y h = ⊎_elim (λ (same : x ≡ y). inr same) (λ (none : ⊥). absurd none) h
   among_cases (z ∷ xs) x y h = ⊎_elim
       (λ (same : x ≡ z). inl (inl same))

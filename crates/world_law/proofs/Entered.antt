@@ -9,19 +9,14 @@ use Rattle.local_deliver.specs.Deeds.{taken}
 use Rattle.local_spawn.specs.Deliveries.{netstring}
 use Rattle.local_steps.specs.Inputs.{message_in}
 use Rattle.local_steps.proofs.Netstrings.{written}
-use Rattle.post_law.specs.Laws.{AreHeard, IsHeard, WasDelivered}
-use Rattle.post_law.specs.Posts.{Done, IsAskedFor, Posted, Task, freed}
+use Rattle.post_law.specs.Posts.{Done, IsAskedFor, Posted, Task}
 use Rattle.post_law.proofs.Asks.{starts_posted}
 use Rattle.post_law.proofs.Senders.{senders_keep}
 use Rattle.post_law.specs.Senders.{IsFirst, is_on}
-use Rattle.post_law.proofs.Desks.{desks_tell, was_in}
-use Rattle.send_core.specs.declared.desk.Desk.{Desk}
-use Rattle.send_core.specs.Desk.{told}
 use Rattle.send_jobs.specs.declared.attempts.Attempt.{Attempt}
 use Rattle.send_jobs.specs.declared.channels.Channel.TheVariants.{Local}
 use Rattle.send_jobs.specs.Sending.{lane}
 use Rattle.send_jobs.specs.Slots.{attempt_in}
-use Rattle.spawn_protocol.specs.declared.report.Report.{Report}
 use Rattle.spawn_protocol.specs.declared.request.Request.{Request}
 use Rattle.sender_law.specs.Control.{AreControls}
 use Rattle.world_pipes.specs.Pipework.{Pipe, closed, given, mouth}
@@ -33,9 +28,9 @@ use Rattle.mail_world.specs.History.{Actor, Allowed, Event, IsLocalSpawner, IsSe
 use Rattle.mail_world.specs.History.Event.{Act, Child, End, Generation, Halt, Moment, Report as Tells, Start, Stop}
 use Rattle.mail_world.specs.History.Life.{Alive}
 use Rattle.world_law.specs.Crew.{IsNamed}
-use Rattle.world_law.specs.Entered.{HearsEntered, IsEntered, IsEnteredReport, IsEnteredTo, KReportsAreEntered}
+use Rattle.world_law.specs.Entered.{IsEntered}
 use Rattle.world_law.specs.Inv.{Inv}
-use Rattle.world_law.specs.Posts.{IsDeliveredTo, PostsStand, View, WasDone, desk_in, place_in, post_of}
+use Rattle.world_law.specs.Posts.{PostsStand, View, WasDone, desk_in, place_in, post_of}
 use Rattle.world_law.proofs.EnteredStands.{Begins, FeedsLast, IsGivenFor, MessagesStand, NothingComes, has_message, received, sends_on}
 use Rattle.world_law.proofs.Histories.{always}
 use Rattle.world_law.proofs.EnteredFlights.{one_number}
@@ -53,7 +48,6 @@ use Rattle.world_law.proofs.Ran.{HaveRun, have_run}
 use Rattle.world_law.proofs.Starts.{is_cleaner, is_local, is_remote, is_sender}
 use Rattle.world_law.proofs.PostPipes.{names_apart}
 use Rattle.world_law.proofs.PostViews.{halves, new_keeps_done, put_seen, view_same}
-use Rattle.world_law.proofs.PostHeard.{takes_reports, was_delivered}
 use Rattle.world_law.proofs.SendersPut.{sender}
 use Rattle.world_law.proofs.Tenants.{some_actor}
 
@@ -89,37 +83,16 @@ module _ (controls : Controls) (s : State) (I : Inv controls s) (M : MessagesSta
   abbrev slots : List (Option Attempt)
   slots = (lane Local (desk_in (s.actors (codes "sender"))).slots).slots
 
-  given_in : (x : Done) (t : Attempt) → attempt_in slots x.slot ≡ Some t → IsGivenFor s x.task.name (attempt_in slots x.slot) (P.last x.slot) → IsGivenTo s x.task.name t.n
+  pub given_in : (x : Done) (t : Attempt) → attempt_in slots x.slot ≡ Some t → IsGivenFor s x.task.name (attempt_in slots x.slot) (P.last x.slot) → IsGivenTo s x.task.name t.n
   given_in x t flies h =
       given_to s x.task.name t (P.last x.slot) (P.posted.fares.flies on x.slot t flies) (subst (λ (o : Option Attempt). IsGivenFor s x.task.name o (P.last x.slot)) flies h)
 
-  entered_by : (x : Done) (t : Attempt) → WasDone s x → x.task.recipient ≡ t.address → IsGivenTo s x.task.name t.n → IsEnteredTo s t
-  unfolding was_delivered
-  entered_by x t was recipient h =
-      let to : IsDeliveredTo s t.address = was_delivered controls s I P x t.address was recipient in
-      let it = to.carried.carried in
-      let begun = taken_begins (taken to.delivery.past) (s.pipework.pipes x.task.name port.Input).bytes (netstring h.message) (h.begins to.delivery to.is) in
-      let same : it.message ≡ h.message = all_of (taken to.delivery.past) h.message it.message begun it.input in
-      record { to = to; message = h.message; took = it.input ∙ ap Some same; is = h.is }
-
-  entered_in : (slot : ℕ) (t : Attempt) → attempt_in slots slot ≡ Some t → WasDelivered P.done slot t.address → IsEnteredTo s t
-  entered_in slot t flies h =
-      entered_by h.it t (P.was h.it h.among) h.recipient_is
-      (given_in h.it t (ap (attempt_in slots) h.slot_is ∙ flies) ((M.done on).was h.it h.among))
-
-  report_of : (r : Report) (o : Option Attempt) → ((t : Attempt) → o ≡ Some t → attempt_in slots r.slot ≡ Some t) → IsHeard Local P.done r o → IsEnteredReport s r o
-  report_of r None flies h = h
-  report_of r (Some t) flies h = λ success. entered_in r.slot t (flies t refl) (h success)
-
-  -- one report after the other
-  hears_entered : (rs : List Report) (left : List (Option Attempt)) (d : Desk) → (lane Local d.slots).slots ≡ left
-      → ((slot : ℕ) (t : Attempt) → attempt_in left slot ≡ Some t → attempt_in slots slot ≡ Some t) → AreHeard Local P.done rs left → HearsEntered s rs d
-  hears_entered [] left d same old h = tt
-  hears_entered (r ∷ rs) left d same old h = (
-    report_of r (attempt_in (lane Local d.slots).slots r.slot) (λ t is. old r.slot t (ap (λ (o : List (Option Attempt)). attempt_in o r.slot) (sym same) ∙ is))
-        (subst (λ (o : List (Option Attempt)). IsHeard Local P.done r (attempt_in o r.slot)) (sym same) h.0),
-    hears_entered rs (freed r left) (told Local r d) (desks_tell.one Local r d ∙ ap (freed r) same) (λ slot t is. old slot t (was_in left r slot t is)) h.1,
-  )
+  -- what it took is that message
+  pub took_entered : (x : Done) (was : WasDone s x) (n : ℕ) → IsGivenTo s x.task.name n → (m : List ℕ) → message_in (taken was.is_for.delivery.past) ≡ Some m → IsEntered s n m
+  took_entered x was n h m input =
+      let begun = taken_begins (taken was.is_for.delivery.past) (s.pipework.pipes x.task.name port.Input).bytes (netstring h.message) (h.begins was.is_for.delivery was.is_for.is) in
+      let same : m ≡ h.message = all_of (taken was.is_for.delivery.past) h.message m begun input in
+      record { injection = h.is.injection; lives = h.is.lives; accepted = h.is.accepted; text = same ∙ h.is.text }
 
 -- What is held and given stands after each legal history.
 
@@ -187,11 +160,11 @@ act_messages controls s I M a own wrote may =
 
 messages_keep : (e : Event) (controls : Controls) (s : State) → HaveRun s.actors → Inv controls s → Inv controls (happens s e) → NothingComes (happens s e)
     → MessagesStand s → Allowed s e → MessagesStand (happens s e)
-messages_keep (Moment m) controls s R I J N M may = messages_left s (happens s (Moment m)) (record { view = refl; keeps = λ a x is. (x, is, refl, λ h. h); slots = λ d. refl })
+messages_keep (Moment m) controls s R I J N M may = messages_left s (happens s (Moment m)) (record { view = refl; keeps = λ a x is. (x, is, refl, λ h. h); homes = λ a x is. refl; slots = λ d. refl })
     (λ on n m flies h. record { injection = h.injection; lives = h.lives; accepted = h.accepted; text = h.text }) (λ goes fd how h. record { opened = h.opened; held = h.held })
     (λ k it y there. ap (λ (z : Actor). received s k.name z) (some_actor y it.delivery (sym there ∙ it.is))) M N
 messages_keep (Tells slot letter text) controls s R I J N M may =
-    messages_left s (happens s (Tells slot letter text)) (record { view = refl; keeps = λ a x is. (x, is, refl, λ h. h); slots = λ d. refl })
+    messages_left s (happens s (Tells slot letter text)) (record { view = refl; keeps = λ a x is. (x, is, refl, λ h. h); homes = λ a x is. refl; slots = λ d. refl })
     (λ on n m flies h. record { injection = h.injection; lives = h.lives; accepted = h.accepted; text = h.text }) (λ goes fd how h. record { opened = h.opened; held = h.held })
     (λ k it y there.
     ap (λ (z : Actor). taken z.past ++ ((happens s (Tells slot letter text)).pipework.pipes k.name port.Input).bytes) (some_actor y it.delivery (sym there ∙ it.is))
@@ -203,6 +176,7 @@ messages_keep (Start a (Injector args)) controls s R I J N M may = messages_left
       view = view_same s.actors (put_at s.actors a (Some (newborn (Injector args)))) s.pipework s.pipework (put_seen halves s.actors a (newborn (Injector args)) (codes "sender") seen)
           (put_seen halves s.actors a (newborn (Injector args)) (codes "lspawn") seen) refl refl;
       keeps = new_keeps_done s.actors a (newborn (Injector args)) may.new;
+      homes = λ b z there. refl;
       slots = λ slot. refl;
     })
     (λ on n m flies h. record { injection = h.injection; lives = h.lives; accepted = h.accepted; text = h.text }) (λ goes fd how h. record { opened = h.opened; held = h.held })
@@ -245,19 +219,9 @@ messages_keep (End a read ready status) controls s R I J N M may = end_messages 
 messages_keep (Stop a) controls s R I J N M may = stop_messages controls s I M a may N
 messages_keep (Child parent own a program) controls s R I J N M may = child_messages controls s I M R parent own a program may J N
 
-messages_always : (controls : Controls) (d : Disk) (before : List Event) → AreControls controls d → Legal d before → MessagesStand (after d before)
+pub messages_always : (controls : Controls) (d : Disk) (before : List Event) → AreControls controls d → Legal d before → MessagesStand (after d before)
 messages_always controls d [] has legal = opening_holds controls d has legal
 messages_always controls d (e ∷ before) has legal =
     messages_keep e controls (after d before) (have_run d before legal.0) (always controls d before has legal.0) (always controls d (e ∷ before) has legal)
     (newcomers_always controls d (e ∷ before) has legal)
     (messages_always controls d before has legal.0) legal.1
-
-pub k_reports_are_entered : KReportsAreEntered
-k_reports_are_entered controls d a own wrote before has legal x is began program taking bytes came =
-    let s = after d before in
-    let I = always controls d before has legal.0 in
-    let M = messages_always controls d before has legal.0 in
-    takes_reports controls s I M.posts (HearsEntered s) (λ z. tt)
-    (λ on rs z same h. hears_entered controls s I M on rs (lane Local z.slots).slots z refl
-    (λ slot t flies. ap (λ (l : List (Option Attempt)). attempt_in l slot) (sym same) ∙ flies) h)
-    a own wrote legal.1 x is began program taking bytes came

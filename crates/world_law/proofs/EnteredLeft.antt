@@ -31,7 +31,7 @@ module _ (s t : State) (L : Leaves s t) (entered : sends_on s ≡ true → (n : 
     posted = subst (λ (v : View). Posted (post_of v P.tasks P.last P.done)) (sym L.view) P.posted;
     first = subst (λ (v : View). IsFirst v.desk.row v.desk) (sym L.view) P.first;
     run = λ slot k is. task_kept s t L.keeps slot k (L.slots slot) (P.run slot k is);
-    was = λ x among. was_kept s t L.keeps x (P.was x among);
+    was = λ x among. was_kept s t L.keeps L.homes x (P.was x among);
   }
 
   desk_same : desk_in (t.actors (codes "sender")) ≡ desk_in (s.actors (codes "sender"))

@@ -1,5 +1,5 @@
 -- Each event keeps what holds of the whole system, which so holds after each legal history; and each giving to a spawner is an attempt.
-use Rattle.std.proofs.Common.{◌≡◌, inl, inr, ⊎_elim, ℕ, List, [], ◌∷◌, Option, Some, None, refl, sym, ap, ◌∙◌, subst, arith, IsSomeAnd}
+use Rattle.std.proofs.Common.{◌≡◌, inl, inr, ⊎_elim, ℕ, List, [], ◌∷◌, Some, None, refl, sym, ap, ◌∙◌, subst, arith}
 use Rattle.address_rules.specs.declared.controls.Controls.{Controls}
 use Rattle.call_fs.specs.Disk.{Among, Disk}
 use Rattle.call_fs.specs.declared.calls.CallData.TheVariants.{Link}
@@ -30,19 +30,16 @@ use Rattle.send_jobs.specs.declared.channels.Channel.{Channel}
 use Rattle.sender_law.specs.Control.{AreControls}
 use Rattle.sender_law.proofs.Arrive.{arrived}
 use Rattle.sender_law.proofs.Asking.{requests_are_texts}
-use Rattle.world_events.specs.declared.event.Event.{Event as Kept}
 use Rattle.world_events.specs.declared.event.Program.{Program}
 use Rattle.world_events.specs.declared.event.Program.TheVariants.{Injector, Cleaner, Sender, LocalSpawner, RemoteSpawner, Delivery}
 use Rattle.mail_world.specs.History.{Actor, Event, IsCleaner, IsDelivery, IsLocalSpawner, IsRemoteSpawner, IsSender, Legal, Life, MayDo, MayRun, State, after, happens, next_of}
 use Rattle.mail_world.specs.History.Event.{Start, Act, Child, Generation, Report, End, Stop, Moment, Halt}
 use Rattle.mail_world.specs.History.Life.{Alive}
 use Rattle.mail_world.specs.Untouched.{queue}
-use Rattle.mail_world.specs.World.{IsHistory}
-use Rattle.mail_world.proofs.Waiting.{legal_before}
 use Rattle.world_law.specs.Bounces.{BouncesAreAccepted, BouncesAreReadLast, IsAddressed, IsBounceOf, IsByBounce, IsNamedInBounce, ReturnedRecipientsAreNamed}
 use Rattle.world_law.specs.Deliveries.{DropsAreWhole}
 use Rattle.world_law.specs.Fares.{DeliveryFares, FaresBy, SenderFares}
-use Rattle.world_law.specs.Headline.{AttemptsAreSound, EachSafe, Headline, IsAttempt, WorldsAreSafe}
+use Rattle.world_law.specs.Headline.{AttemptsAreSound, IsAttempt, Safe}
 use Rattle.world_law.specs.Inv.{Inv}
 use Rattle.world_law.specs.Laws.{Always, IsKeptBy}
 use Rattle.world_law.proofs.Begins.{inv_begins}
@@ -87,17 +84,9 @@ pub always : Always
 always controls d [] has legal = inv_begins controls d has legal
 always controls d (e ∷ before) has legal = event_keeps e controls (after d before) (always controls d before has legal.0) legal.1
 
-pub headline : Headline
-headline controls d later before has legal = inv_is_safe controls (after d before) (always controls d before has (legal_before d later before legal))
-
-happened_safe : (controls : Controls) (opening : Disk) (told : Option Disk) (events : List Kept) (present : ℕ) (h : List Event) → AreControls controls opening
-    → IsSomeAnd told (λ now. IsHistory opening now events present h) → EachSafe controls opening h
-happened_safe controls opening None events present h has happened = absurd happened
-happened_safe controls opening (Some now) events present h has happened = λ later before same.
-    headline controls opening later before has (subst (Legal opening) (sym same) happened.legal)
-
-pub worlds_are_safe : WorldsAreSafe
-worlds_are_safe controls opening w h has happened = happened_safe controls opening w.disk w.events w.present h has happened
+-- so each state is safe
+pub safe_always : (controls : Controls) (d : Disk) (before : List Event) → AreControls controls d → Legal d before → Safe controls (after d before)
+safe_always controls d before has legal = inv_is_safe controls (after d before) (always controls d before has legal)
 
 -- Attempts
 
@@ -125,6 +114,7 @@ module _ (controls : Controls) (s : State) (I : Inv controls s) (a : List ℕ) (
         attempt = w.attempt;
         slot = w.slot;
         injection = w.injection;
+        next_is = w.next_is;
         reads = w.reads;
         lives = w.lives;
         free = w.free;
@@ -145,7 +135,7 @@ bounces_are_accepted controls d before has legal i h x among =
     (λ (lives : (after d before).books.living i.number ≡ Some i). inl (i.number, lives))
     (λ (over : Among i (after d before).books.over). inr over)
     h) x among in
-    let valid = (headline controls d [] before has legal).valid returned.accepted.0 returned.accepted.1 returned.accepted.4 in
+    let valid = (safe_always controls d before has legal).valid returned.accepted.0 returned.accepted.1 returned.accepted.4 in
     (returned, bounce_addressed controls has.no_nul i.args x.notes x.args (subst IsValid returned.accepted.3 valid) returned.carries)
 
 pub returned_recipients_are_named : ReturnedRecipientsAreNamed
@@ -190,7 +180,7 @@ bounces_are_read_last controls d a own wrote before has legal x is start program
 
 -- Drops
 
-delivery_fares : (controls : Controls) (now : ℕ) (q : Queue) (a : List ℕ) (program : Program) (past : List Own) (life : Life) (start : ℕ) (args : LocalArgs)
+pub delivery_fares : (controls : Controls) (now : ℕ) (q : Queue) (a : List ℕ) (program : Program) (past : List Own) (life : Life) (start : ℕ) (args : LocalArgs)
     → program ≡ Delivery start args → life ≡ Alive
     → FaresBy controls now q a program past life → DeliveryFares q a args past Alive
 delivery_fares controls now q a (Delivery began words) past Alive start args is alive F = let same : words ≡ args = cc in subst (λ (z : LocalArgs). DeliveryFares q a z past Alive) same F
@@ -198,7 +188,7 @@ delivery_fares controls now q a (Delivery began words) past life start args is a
 delivery_fares controls now q a other past life start args is alive F = absurd (cc)
 
 -- what is due to a delivery
-delivery_due : (program : Program) (past : List Own) (read : ℕ) (ready : Ready) (start : ℕ) (args : LocalArgs) (due : NeedData) → program ≡ Delivery start args → next_of program past read ready ≡ due
+pub delivery_due : (program : Program) (past : List Own) (read : ℕ) (ready : Ready) (start : ℕ) (args : LocalArgs) (due : NeedData) → program ≡ Delivery start args → next_of program past read ready ≡ due
     → DeliversNext args past read ready ≡ due
 delivery_due program past read ready start args due is next = subst (λ (p : Program). next_of p past read ready ≡ due) is next
 

@@ -20,9 +20,9 @@ use Rattle.spawner_parts.specs.Asked.{runs_in}
 use Rattle.world_events.specs.declared.event.Program.TheVariants.{LocalSpawner, Sender}
 use Rattle.mail_world.specs.History.{Actor, State, after}
 use Rattle.mail_world.specs.History.Life.{Alive}
-use Rattle.world_law.specs.Posts.{PostsStand, View, desk_in, place_in, post_of, sends_in, serves_in, view_of}
-use Rattle.world_law.specs.Standing.{HandsStand, HoldsFlights, IsOfFlight, RequestsAreOfFlights, goes_on}
-use Rattle.world_law.proofs.AtWork.{IsOfAttempt, held, runs_held, waiting, waiting_text, works_by}
+use Rattle.world_law.specs.Posts.{IsTaskIn, PostsStand, View, desk_in, place_in, post_of, sends_in, serves_in, view_of}
+use Rattle.world_law.specs.Standing.{HandsStand, HoldsFlights, IsOfFlight, RequestsAreOfFlights, RunsForFlight, goes_on}
+use Rattle.world_law.proofs.AtWork.{IsOfAttempt, held, runs_held, waiting, waiting_plain, waiting_text, works_by}
 use Rattle.world_law.proofs.Histories.{always}
 use Rattle.world_law.proofs.PostKept.{posts_always}
 use Rattle.world_law.proofs.PostServes.{spawner}
@@ -30,7 +30,7 @@ use Rattle.world_law.proofs.SendersPut.{sender}
 use Rattle.world_law.proofs.Standing.{hands_by}
 
 module _ (s : State) (d : Desk) (H : HandsStand s d) (p : Place) (x : Post) (lives : x.lives ≡ true) (slots : x.slots ≡ (lane channel.Local d.slots).slots) (goes : goes_at x.serves p.row ≡ true)
-    (F : Fares channel.Local p x) where
+    (F : Fares channel.Local p x) (run : (slot : ℕ) (t : Task) → x.tasks slot ≡ Some t → IsTaskIn s slot t) where
   -- what is in hand is of the attempt in flight in its slot
   of_flight : (slot : ℕ) (r : Request) → IsOfAttempt x slot r → IsOfFlight s d slot r
   of_flight slot r w =
@@ -40,17 +40,34 @@ module _ (s : State) (d : Desk) (H : HandsStand s d) (p : Place) (x : Post) (liv
   unread : (r : Request) → Among r F.waits → IsOfFlight s d r.slot r
   unread r among = of_flight r.slot r (waiting p x lives goes F r among)
 
-  run_by : (slot : ℕ) (t : Option Task) (o : Option Request) → x.last slot ≡ o → IsTaskFor t o → 1 ≤ in_hand F.waits p x slot → (r : Request) × IsOfFlight s d slot r
-  run_by slot (Some t) (Some r) last is some = (r, of_flight slot r (held p x lives goes F slot r some last))
-  run_by slot t o last is some = absurd is
+  -- so is the delivery that runs there
+  for_flight : (slot : ℕ) (t : Task) (r : Request) → IsTaskIn s slot t → t.recipient ≡ r.recipient → IsOfFlight s d slot r → RunsForFlight s d slot
+  for_flight slot t r h same w = record {
+    name = t.name;
+    runs = h.runs;
+    delivery = h.is_for.delivery;
+    is = h.is_for.is;
+    start = h.is_for.start;
+    args = h.is_for.args;
+    program = h.is_for.program;
+    attempt = w.attempt;
+    flies = w.flies;
+    recipient = sym w.recipient ∙ (sym same ∙ h.is_for.recipient);
+    stays = w.stays;
+  }
 
-  runs_of : (slot : ℕ) → runs_in p.running slot ≡ true → (r : Request) × IsOfFlight s d slot r
-  runs_of slot is = run_by slot (x.tasks slot) (x.last slot) refl (F.run goes slot is) (runs_held p x lives goes F slot is)
+  run_by : (slot : ℕ) (t : Option Task) (o : Option Request) → x.tasks slot ≡ t → x.last slot ≡ o → IsTaskFor t o → 1 ≤ in_hand F.waits p x slot → RunsForFlight s d slot
+  run_by slot (Some t) (Some r) task last is some = for_flight slot t r (run slot t task) is.1 (of_flight slot r (held p x lives goes F slot r some last))
+  run_by slot t o task last is some = absurd is
+
+  runs_of : (slot : ℕ) → runs_in p.running slot ≡ true → RunsForFlight s d slot
+  runs_of slot is = run_by slot (x.tasks slot) (x.last slot) refl refl (F.run goes slot is) (runs_held p x lives goes F slot is)
 
   holds : HoldsFlights s d p x.asked
   holds = record {
     waits = F.waits;
     text = λ is. waiting_text p x lives goes F is;
+    plain = λ r among. waiting_plain p x lives goes F r among;
     unread = unread;
     work = λ is. of_flight p.request.slot p.request (works_by p x lives goes F p.row refl is (F.stands goes));
     runs = runs_of;
@@ -91,7 +108,7 @@ module _ (s : State) (P : PostsStand s) (first third : ℕ) (past own : List Own
   goes_so row e = refl
 
   both_hold : HandsStand s d → is_on d.row ≡ true → goes_on (local_after own).work.row ≡ true → HoldsFlights s d (local_after own).work (s.pipework.pipes (codes "lspawn") port.Input).bytes
-  both_hold H on goes = holds s d H (local_after own).work (post_of both P.tasks P.last P.done) on refl (goes_so (local_after own).work.row goes) both_posted.fares
+  both_hold H on goes = holds s d H (local_after own).work (post_of both P.tasks P.last P.done) on refl (goes_so (local_after own).work.row goes) both_posted.fares P.run
 
 sender_is : (x : Actor) (start : ℕ) → x.program ≡ Sender start → x.life ≡ Alive → x ≡ sender start x.past
 sender_is x start program alive = λ i. record { program = program i; past = x.past; life = alive i }

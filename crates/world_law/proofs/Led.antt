@@ -7,11 +7,11 @@ use Rattle.mail_world.specs.History.{Event, Legal, Opening}
 use Rattle.mail_world.specs.World.{Leads}
 use Rattle.world_events.specs.declared.event.Event.{Event as Kept}
 use Rattle.sender_law.specs.Control.{AreControls}
-use Rattle.world_law.specs.Headline.{EachSafe, IsSafeBy}
+use Rattle.world_law.specs.Headline.{EachPromised, IsSafeBy}
 use Rattle.world_law.proofs.Alone.{stays_safe}
-use Rattle.world_law.proofs.Histories.{headline}
+use Rattle.world_law.proofs.Promise.{headline}
 
-each_safe : (controls : Controls) (opening : Disk) (h : List Event) → AreControls controls opening → Legal opening h → EachSafe controls opening h
+each_safe : (controls : Controls) (opening : Disk) (h : List Event) → AreControls controls opening → Legal opening h → EachPromised controls opening h
 each_safe controls opening h has legal = λ later before same. headline controls opening later before has (subst (Legal opening) (sym same) legal)
 
 safe_by_disk : (opening : Disk) (h : List Event) → Legal opening h → IsSafeBy opening h

@@ -104,6 +104,8 @@ pub mod PostHeard
 pub mod DeliveredBooks
 -- and by which deliveries
 pub mod Delivered
+-- recipients that ledgers have as delivered were reported
+pub mod Reported
 -- what a sender has in hand, channel files, and injectors at work
 pub mod Standing
 pub mod Sweeps
@@ -149,6 +151,8 @@ pub mod EnteredChild
 pub mod Entered
 -- the names in `pid` that the cleaner takes away
 pub mod PidNames
+-- the newest event of an actor, in its history
+pub mod Newest
 -- what an event of a spawner does to what runs in its slots
 pub mod SpawnedRuns
 -- a spawner that goes no more
@@ -163,3 +167,9 @@ pub mod SpawnedViews
 pub mod SpawnedEvents
 -- what a spawner has in hand is of messages in S5
 pub mod Spawned
+-- of whom a local delivery ended with 0
+pub mod DeliveredDone
+-- the links of deliveries
+pub mod CarriedLinks
+-- the promise
+pub mod Promise

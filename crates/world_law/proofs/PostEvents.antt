@@ -197,6 +197,7 @@ neither_leaves controls s I a own wrote x is it due =
       view = view_same s.actors (put_at s.actors a (Some y)) s.pipework (acted s a own wrote (Some x)).pipework
           (put_seen halves s.actors a y (codes "sender") seen) (put_seen halves s.actors a y (codes "lspawn") seen) aside.told aside.asked;
       keeps = put_keeps_done s.actors a x y is refl (λ h. h);
+      homes = λ b z there. refl;
       slots = aside.slots;
     }
 
@@ -232,7 +233,7 @@ module _ (s : State) (P : PostsStand s) (a : List ℕ) (x : Actor) (is : s.actor
     posted = subst (λ (u : View). Posted (post_of u P.tasks P.last P.done)) (sym same) posted;
     first = subst (λ (u : View). IsFirst u.desk.row u.desk) (sym same) first;
     run = λ slot k there. task_kept s over keeps_over slot k refl (P.run slot k there);
-    was = λ d among. was_kept s over keeps_over d (P.was d among);
+    was = λ d among. was_kept s over keeps_over (λ b y there. refl) d (P.was d among);
   }
 
   pub neither_ends : IsNeither x.program → Leaves s over
@@ -242,6 +243,7 @@ module _ (s : State) (P : PostsStand s) (a : List ℕ) (x : Actor) (is : s.actor
         view = view_same s.actors over.actors s.pipework over.pipework
             (put_seen halves s.actors a gone (codes "sender") seen) (put_seen halves s.actors a gone (codes "lspawn") seen) told_shut asked_shut;
         keeps = keeps_over;
+        homes = λ b z there. refl;
         slots = λ slot. refl;
       }
 

@@ -1,5 +1,5 @@
 -- What the sender hears of the local spawner: each report is of an attempt in flight, and a K report of one that was carried out.
-use Rattle.std.proofs.Common.{◌≡◌, ◌≢◌, ◌⊎◌, inl, inr, ⊎_elim, ℕ, List, [], ◌∷◌, ◌++◌, true, ◌&&◌, Option, Some, None, refl, sym, ap, ◌∙◌, subst, codes}
+use Rattle.std.proofs.Common.{◌≡◌, ◌≢◌, ◌⊎◌, inl, inr, ⊎_elim, ℕ, List, [], ◌++◌, true, ◌&&◌, Option, Some, None, refl, sym, ap, ◌∙◌, subst, codes}
 use Rattle.address_rules.specs.declared.controls.Controls.{Controls}
 use Rattle.call_fs.specs.declared.past.GotData.{GotData}
 use Rattle.call_fs.specs.declared.past.GotData.TheVariants as got
@@ -8,22 +8,19 @@ use Rattle.call_fs.specs.declared.past.NeedData.TheVariants as needs
 use Rattle.call_fs.specs.declared.past.Own.{Own}
 use Rattle.call_fs.specs.declared.program.Port.TheVariants as port
 use Rattle.call_fs.specs.declared.program.Ready.{Ready}
-use Rattle.post_law.specs.Laws.{AreHeard, IsHeard, WasDelivered}
-use Rattle.post_law.specs.Posts.{Done, Post, freed}
+use Rattle.post_law.specs.Laws.{AreHeard}
+use Rattle.post_law.specs.Posts.{Post}
 use Rattle.post_law.specs.Senders.{IsFirst, IsQuiet, heard_at, is_on}
 use Rattle.post_law.proofs.Asks.{greets_keep}
 use Rattle.post_law.proofs.Aways.{IsAway, control_away, row_away, start_away}
-use Rattle.post_law.proofs.Desks.{desks_tell}
 use Rattle.post_law.proofs.Hears.{hears_keep}
 use Rattle.send_core.specs.declared.desk.Desk.{Desk}
 use Rattle.send_core.specs.declared.row.Row.{Row}
 use Rattle.send_core.specs.declared.row.Row.TheVariants as at
-use Rattle.send_core.specs.Desk.{link, told, with_reader}
+use Rattle.send_core.specs.Desk.{link, with_reader}
 use Rattle.send_core.specs.Table.{arrive, desk_after, due_at, row_now}
-use Rattle.send_jobs.specs.declared.attempts.Attempt.{Attempt}
 use Rattle.send_jobs.specs.declared.channels.Channel.TheVariants.{Local, Remote}
 use Rattle.send_jobs.specs.Sending.{lane}
-use Rattle.send_jobs.specs.Slots.{attempt_in}
 use Rattle.send_steps.specs.declared.rows.StartRow.{StartRow}
 use Rattle.send_steps.specs.declared.rows.StartRow.TheVariants as start
 use Rattle.spawn_protocol.specs.declared.report.Report.{Report}
@@ -32,17 +29,13 @@ use Rattle.sender_law.proofs.Awaits.{Begins, point_begins}
 use Rattle.world_pipes.specs.Pipework.{Yields}
 use Rattle.world_events.specs.declared.event.Program.{Program}
 use Rattle.world_events.specs.declared.event.Program.TheVariants.{Sender}
-use Rattle.mail_world.specs.History.{Actor, ComesOf, Life, MayDo, State, after, next_of}
+use Rattle.mail_world.specs.History.{Actor, ComesOf, Life, MayDo, State, next_of}
 use Rattle.mail_world.specs.History.Life.{Alive}
 use Rattle.world_law.specs.Crew.{IsNamed}
-use Rattle.world_law.specs.Headline.{EndsWell}
 use Rattle.world_law.specs.Inv.{Inv}
-use Rattle.world_law.specs.Posts.{HearsWell, IsDeliveredTo, IsReportOf, KReportsAreCarried, PostsStand, WasDone, desk_in, sends_in}
+use Rattle.world_law.specs.Posts.{PostsStand, desk_in, sends_in}
 use Rattle.world_law.proofs.EnteredStands.{sends_on}
-use Rattle.world_law.proofs.Histories.{always}
-use Rattle.world_law.proofs.PostKept.{posts_always}
 use Rattle.world_law.proofs.PostSends.{sender_first, sender_post, sender_posted}
-use Rattle.world_law.proofs.Safe.{inv_is_safe}
 use Rattle.world_law.proofs.SendersPut.{sender}
 use Rattle.world_law.proofs.Tenants.{some_actor}
 
@@ -69,7 +62,7 @@ link_heard : (row : Row) (d : Desk) (read : ℕ) (ready : Ready) (reader : Reade
 link_heard (at.Start row) d read ready reader is = absurd (cc)
 link_heard row d read ready reader is = refl
 
-link_on : (row : Row) (d : Desk) (read : ℕ) (ready : Ready) → arrive row d read ready ≡ at.TakeLink Local → is_on row ≡ true
+pub link_on : (row : Row) (d : Desk) (read : ℕ) (ready : Ready) → arrive row d read ready ≡ at.TakeLink Local → is_on row ≡ true
 link_on (at.Ended status) d read ready is = absurd (cc)
 link_on row d read ready is = refl
 
@@ -79,40 +72,9 @@ greet_row (at.Start row) d read ready is = is
 greet_row (at.Turn p) d read ready is = let none : ⊥ = subst Begins is (point_begins d read ready p) in absurd none
 greet_row row d read ready is = absurd (cc)
 
--- What was done
+-- What it hears
 
 module _ (controls : Controls) (s : State) (I : Inv controls s) (P : PostsStand s) where
-  unfoldable pub was_delivered : (x : Done) (address : List ℕ) → WasDone s x → x.task.recipient ≡ address → IsDeliveredTo s address
-  was_delivered x address was recipient =
-      let it : EndsWell s.books x.task.name was.is_for.delivery.program was.is_for.delivery.past =
-      (inv_is_safe controls s I).ends x.task.name was.is_for.delivery was.is_for.is was.over in
-      record {
-        name = x.task.name;
-        delivery = was.is_for.delivery;
-        is = was.is_for.is;
-        over = was.over;
-        start = was.is_for.start;
-        args = was.is_for.args;
-        program = was.is_for.program;
-        recipient = sym recipient ∙ was.is_for.recipient;
-        carried = subst (λ (z : Program). EndsWell s.books x.task.name z was.is_for.delivery.past) was.is_for.program it;
-      }
-
-  is_delivered : (slot : ℕ) (t : Attempt) → WasDelivered P.done slot t.address → IsDeliveredTo s t.address
-  is_delivered slot t h = was_delivered h.it t.address (P.was h.it h.among) h.recipient_is
-
-  report_of : (r : Report) (o : Option Attempt) → IsHeard Local P.done r o → IsReportOf s r o
-  report_of r None h = h
-  report_of r (Some t) h = λ success. is_delivered r.slot t (h success)
-
-  -- one report after the other
-  hears_well : (rs : List Report) (slots : List (Option Attempt)) (d : Desk) → (lane Local d.slots).slots ≡ slots → AreHeard Local P.done rs slots → HearsWell s rs d
-  hears_well [] slots d same h = tt
-  hears_well (r ∷ rs) slots d same h = (
-    report_of r (attempt_in (lane Local d.slots).slots r.slot) (subst (λ (o : List (Option Attempt)). IsHeard Local P.done r (attempt_in o r.slot)) (sym same) h.0),
-    hears_well rs (freed r slots) (told Local r d) (desks_tell.one Local r d ∙ ap (freed r) same) h.1,
-  )
-
   module _ (own : Own) (began : ℕ) (past : List Own) (is : s.actors (codes "sender") ≡ Some (sender began past)) where
     abbrev d : Desk
     d = desk_after None past
@@ -189,11 +151,3 @@ module _ (controls : Controls) (s : State) (I : Inv controls s) (P : PostsStand 
       let same : may.actor ≡ x = some_actor may.actor x (sym may.reads.is ∙ is) in
       by_program a own wrote x.program x.past x.life began program (ap (λ (y : Actor). y.life) (sym same) ∙ may.reads.alive) (I.crew a x is) is
       (subst (λ (y : Actor). next_of y.program y.past own.read own.ready ≡ own.due) same may.due) may.came taking bytes came
-
-pub k_reports_are_carried : KReportsAreCarried
-k_reports_are_carried controls d a own wrote before has legal x is began program taking bytes came =
-    let s = after d before in
-    let I = always controls d before has legal.0 in
-    let P = posts_always controls d before has legal.0 in
-    takes_reports controls s I P (HearsWell s) (λ z. tt) (λ on rs z same h. hears_well controls s I P rs (lane Local z.slots).slots z refl h)
-    a own wrote legal.1 x is began program taking bytes came

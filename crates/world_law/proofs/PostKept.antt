@@ -66,6 +66,7 @@ begins_left s P a program it new =
     posts_left s (begins s a program s.pipework) (record {
       view = view_same s.actors (put_at s.actors a (Some y)) s.pipework s.pipework (put_seen halves s.actors a y (codes "sender") seen) (put_seen halves s.actors a y (codes "lspawn") seen) refl refl;
       keeps = new_keeps_done s.actors a y new;
+      homes = λ b z there. refl;
       slots = λ slot. refl;
     }) P
 
@@ -91,6 +92,8 @@ bears_leaves s parent apart own a program it new =
           (put_seen halves s.actors a y (codes "sender") seen) (put_seen halves s.actors a y (codes "lspawn") seen)
           (told_output s.pipework channel.Local parent (slot_by own.due)) (asked_output s.pipework channel.Local parent (slot_by own.due));
       keeps = new_keeps_done s.actors a y new;
+      homes = λ b z there. put_at_other s.pipework.slots a (Some (record { parent = parent; number = slot_by own.due })) b
+          (λ same. let both : ◌≡◌ {A = Option Actor} None (Some z) = sym new ∙ ap s.actors (sym same) ∙ there in absurd (cc));
       slots = λ slot. slots_left s.pipework.programs parent (codes "lspawn") (slot_by own.due) (Some (Runs a)) slot apart;
     }
 
@@ -154,6 +157,7 @@ generation_done controls s I sender clean lspawn rspawn x h =
         sender = h.is_for.sender;
         recipient = h.is_for.recipient;
       };
+      in_slot = h.in_slot;
       over = h.over;
     }
 
@@ -226,30 +230,16 @@ desk_halted : (o : Option Actor) → desk_in (option_map stopped o) ≡ desk_in 
 desk_halted None = refl
 desk_halted (Some x) = refl
 
-pub halted_done : (s : State) (how : Survival) (contents : ℕ → List ℕ) (x : Done) → WasDone s x → WasDone (happens s (Halt how contents)) x
-halted_done s how contents x h = record {
-  is_for = record {
-    delivery = stopped h.is_for.delivery;
-    is = ap (option_map stopped) h.is_for.is;
-    start = h.is_for.start;
-    args = h.is_for.args;
-    program = h.is_for.program;
-    sender = h.is_for.sender;
-    recipient = h.is_for.recipient;
-  };
-  over = ap cut_off h.over;
-}
-
 pub halts_stand : (s : State) → PostsStand s → (how : Survival) (contents : ℕ → List ℕ) → PostsStand (happens s (Halt how contents))
 halts_stand s P how contents = record {
   tasks = λ slot. None;
   last = P.last;
-  done = P.done;
-  posted = losses_keep.gone (post_of (view_of (λ a. option_map stopped (s.actors a)) no_pipework) (λ slot. None) P.last P.done)
+  done = [];
+  posted = losses_keep.gone (post_of (view_of (λ a. option_map stopped (s.actors a)) no_pipework) (λ slot. None) P.last [])
       (ap (λ (b : Bool). b && is_on (desk_in (option_map stopped (s.actors (codes "sender")))).row) (sends_halted (s.actors (codes "sender")))) (serves_halted (s.actors (codes "lspawn")));
   first = subst (λ (d : Desk). IsFirst d.row d) (sym (desk_halted (s.actors (codes "sender")))) P.first;
   run = λ slot k h. absurd (cc);
-  was = λ x among. halted_done s how contents x (P.was x among);
+  was = λ x among. absurd among;
 }
 
 -- Each event
@@ -272,10 +262,10 @@ posts_keep (Act a own wrote) controls s I P may =
 posts_keep (Child parent own a program) controls s I P may = children_stand controls s I P parent own a program may
 posts_keep (Generation sender clean lspawn rspawn) controls s I P may = generations_stand controls s I P sender clean lspawn rspawn may
 posts_keep (Report slot letter text) controls s I P may =
-    posts_left s (happens s (Report slot letter text)) (record { view = refl; keeps = λ a x is. (x, is, refl, λ h. h); slots = λ d. refl }) P
+    posts_left s (happens s (Report slot letter text)) (record { view = refl; keeps = λ a x is. (x, is, refl, λ h. h); homes = λ a x is. refl; slots = λ d. refl }) P
 posts_keep (End a read ready status) controls s I P may = ends_leave controls s I P a may.actor may.reads.is may.reads.alive (Over status) refl
 posts_keep (Stop a) controls s I P may = ends_leave controls s I P a may.actor may.is may.alive Stopped refl
-posts_keep (Moment m) controls s I P may = posts_left s (happens s (Moment m)) (record { view = refl; keeps = λ a x is. (x, is, refl, λ h. h); slots = λ d. refl }) P
+posts_keep (Moment m) controls s I P may = posts_left s (happens s (Moment m)) (record { view = refl; keeps = λ a x is. (x, is, refl, λ h. h); homes = λ a x is. refl; slots = λ d. refl }) P
 posts_keep (Halt how contents) controls s I P may = halts_stand s P how contents
 
 pub posts_always : (controls : Controls) (d : Disk) (before : List Event) → AreControls controls d → Legal d before → PostsStand (after d before)

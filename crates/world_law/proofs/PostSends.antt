@@ -270,7 +270,7 @@ module _ (controls : Controls) (s : State) (I : Inv controls s) (P : PostsStand 
     posted = subst (λ (v : View). Posted (post_of v P.tasks sent.last P.done)) (sym seen_then) sent.keeps;
     first = subst (λ (v : View). IsFirst v.desk.row v.desk) (sym seen_then) sent.first;
     run = λ slot k h. task_kept s then_state keeps slot k (programs_left s.pipework name (codes "lspawn") own.due own.came slot not_lspawn) (P.run slot k h);
-    was = λ x among. was_kept s then_state keeps x (P.was x among);
+    was = λ x among. was_kept s then_state keeps (λ b y there. refl) x (P.was x among);
   }
 
 by_program : (controls : Controls) (s : State) (I : Inv controls s) → PostsStand s → (a : List ℕ) (wrote : ℕ) (program : Program) (past : List Own) (life : Life) (own : Own) → IsSender program

@@ -38,7 +38,7 @@ use Rattle.world_law.specs.Inv.{Inv}
 use Rattle.world_law.specs.Posts.{IsTaskIn, PostsStand, View, WasDone, desk_in, place_in, post_of, sends_in, serves_in, view_of}
 use Rattle.world_law.proofs.PostEvents.{neither_seen, tenant_not}
 use Rattle.world_law.proofs.PostPipes.{IsCalm, asked_output, asked_spawned, names_apart, told_output, told_spawned}
-use Rattle.world_law.proofs.PostViews.{KeepsDone, halves, new_keeps_done, put_keeps_done, put_seen, task_kept, then_done, view_same, was_kept}
+use Rattle.world_law.proofs.PostViews.{KeepsDone, KeepsSlots, halves, new_keeps_done, put_keeps_done, put_seen, task_kept, then_done, view_same, was_kept}
 use Rattle.world_law.proofs.Tenants.{some_actor}
 
 -- What is due: it gives nothing to itself, and starts deliveries alone
@@ -125,14 +125,14 @@ over_now Alive came h e = absurd h
 over_now (Over status) came h e = let both : got.Ended status ≡ got.Ended 0 = sym h ∙ e in let same : status ≡ 0 = cc in ap Over same
 over_now Stopped came h e = let both : got.Crashed ≡ got.Ended 0 = sym h ∙ e in absurd (cc)
 
-pub was_now : (s : State) (due : NeedData) (came : GotData) (wrote : ℕ) (tasks : ℕ → Option Task) (x : Done) → IsDoneNow due came tasks x → ComesOf s (codes "lspawn") due came wrote
+pub was_now : (controls : Controls) (s : State) → Inv controls s → (due : NeedData) (came : GotData) (wrote : ℕ) (tasks : ℕ → Option Task) (x : Done) → IsDoneNow due came tasks x → ComesOf s (codes "lspawn") due came wrote
     → IsTaskIn s x.slot x.task → WasDone s x
-was_now s due came wrote tasks x now comes runs = ⊎_elim
+was_now controls s I due came wrote tasks x now comes runs = ⊎_elim
     (λ (failed : came ≡ got.Failed). let both : got.Failed ≡ got.Ended 0 = sym failed ∙ now.came_is in absurd (cc))
     (λ (ends : TenantEnds s (s.pipework.programs (codes "lspawn") x.slot) came).
     let it : TenantEnds s (Some (Runs x.task.name)) came = subst (λ (o : Option Tenant). TenantEnds s o came) runs.runs ends in
     let same : runs.is_for.delivery ≡ it.0 = some_actor runs.is_for.delivery it.0 (sym runs.is_for.is ∙ it.1) in
-    record { is_for = runs.is_for; over = ap (λ (y : Actor). y.life) same ∙ over_now it.0.life came it.2 now.came_is })
+    record { is_for = runs.is_for; in_slot = (I.tenants (codes "lspawn") x.slot (Runs x.task.name) runs.runs).back; over = ap (λ (y : Actor). y.life) same ∙ over_now it.0.life came it.2 now.came_is })
     taken
   where
     taken : (came ≡ got.Failed) ⊎ TenantEnds s (s.pipework.programs (codes "lspawn") x.slot) came
@@ -246,8 +246,8 @@ module _ (controls : Controls) (s : State) (I : Inv controls s) (P : PostsStand 
         let it = task_stays s.pipework own.due own.came P.tasks (starts_none s name own.due own.came wrote it_is comes) slot k h in
         task_kept s then_state keeps slot k it.1 (P.run slot k it.0);
     was = λ x among. ⊎_elim
-        (λ (older : Among x P.done). was_kept s then_state keeps x (P.was x older))
-        (λ (now : IsDoneNow own.due own.came P.tasks x). was_kept s then_state keeps x (was_now s own.due own.came wrote P.tasks x now comes (P.run x.slot x.task now.ran)))
+        (λ (older : Among x P.done). was_kept s then_state keeps (λ b y there. refl) x (P.was x older))
+        (λ (now : IsDoneNow own.due own.came P.tasks x). was_kept s then_state keeps (λ b y there. refl) x (was_now controls s I own.due own.came wrote P.tasks x now comes (P.run x.slot x.task now.ran)))
         (done_cases own.due own.came P.tasks P.done x among);
   }
 
@@ -279,6 +279,10 @@ module _ (controls : Controls) (s : State) (I : Inv controls s) (P : PostsStand 
 
     pub keeps_borne : KeepsDone s.actors borne.actors
     keeps_borne = then_done s.actors then_state.actors borne.actors keeps (new_keeps_done then_state.actors a delivery gone)
+
+    pub homes_borne : KeepsSlots s borne
+    homes_borne b y there = put_at_other s.pipework.slots a (Some (record { parent = name; number = slot_by own.due })) b
+        (λ same. let both : ◌≡◌ {A = Option Actor} None (Some y) = sym new ∙ ap s.actors (sym same) ∙ there in absurd (cc))
 
     tasks_are : tasks_by own.due own.came a P.tasks ≡ tasks
     tasks_are = λ i. tasks_by (starts i) (came i) a P.tasks
@@ -337,7 +341,7 @@ module _ (controls : Controls) (s : State) (I : Inv controls s) (P : PostsStand 
       posted = subst (λ (v : View). Posted (post_of v tasks P.last P.done)) (sym seen_borne) borne_posted;
       first = subst (λ (v : View). IsFirst v.desk.row v.desk) (sym seen_borne) P.first;
       run = run_in;
-      was = λ x among. was_kept s borne keeps_borne x (P.was x among);
+      was = λ x among. was_kept s borne keeps_borne homes_borne x (P.was x among);
     }
 
 -- By its program

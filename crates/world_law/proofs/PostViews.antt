@@ -66,6 +66,10 @@ then_done first second third f g a x is =
     let w = g a v.0 v.1 in
     (w.0, w.1, w.2 ∙ v.2, λ (h : x.life ≡ Over 0). w.3 (v.3 h))
 
+-- so does the slot in which each was started
+abbrev pub KeepsSlots : State → State → Type 0
+KeepsSlots s t = (a : List ℕ) (x : Actor) → s.actors a ≡ Some x → t.pipework.slots a ≡ s.pipework.slots a
+
 -- Deliveries stay
 
 module _ (s t : State) (keeps : KeepsDone s.actors t.actors) where
@@ -80,9 +84,13 @@ module _ (s t : State) (keeps : KeepsDone s.actors t.actors) where
     recipient = h.recipient;
   }
 
-  pub was_kept : (x : Done) → WasDone s x → WasDone t x
+  pub was_kept : KeepsSlots s t → (x : Done) → WasDone s x → WasDone t x
   unfolding for_kept
-  was_kept x h = record { is_for = for_kept x.task h.is_for; over = (keeps x.task.name h.is_for.delivery h.is_for.is).3 h.over }
+  was_kept same x h = record {
+    is_for = for_kept x.task h.is_for;
+    in_slot = same x.task.name h.is_for.delivery h.is_for.is ∙ h.in_slot;
+    over = (keeps x.task.name h.is_for.delivery h.is_for.is).3 h.over;
+  }
 
   pub task_kept : (slot : ℕ) (k : Task) → t.pipework.programs (codes "lspawn") slot ≡ s.pipework.programs (codes "lspawn") slot → IsTaskIn s slot k → IsTaskIn t slot k
   task_kept slot k same h = record { runs = same ∙ h.runs; is_for = for_kept k h.is_for }
@@ -92,6 +100,7 @@ module _ (s t : State) (keeps : KeepsDone s.actors t.actors) where
 pub record Leaves (s t : State) : Type 0 where
   pub view : view_of t.actors t.pipework ≡ view_of s.actors s.pipework
   pub keeps : KeepsDone s.actors t.actors
+  pub homes : KeepsSlots s t
   pub slots : (slot : ℕ) → t.pipework.programs (codes "lspawn") slot ≡ s.pipework.programs (codes "lspawn") slot
 
 pub posts_left : (s t : State) → Leaves s t → PostsStand s → PostsStand t
@@ -102,5 +111,5 @@ posts_left s t L P = record {
   posted = subst (λ (v : View). Posted (post_of v P.tasks P.last P.done)) (sym L.view) P.posted;
   first = subst (λ (v : View). IsFirst v.desk.row v.desk) (sym L.view) P.first;
   run = λ slot k is. task_kept s t L.keeps slot k (L.slots slot) (P.run slot k is);
-  was = λ x among. was_kept s t L.keeps x (P.was x among);
+  was = λ x among. was_kept s t L.keeps L.homes x (P.was x among);
 }

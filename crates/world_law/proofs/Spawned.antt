@@ -260,7 +260,7 @@ alive_side channel.Remote program past life it alive = absurd it
 from_shown_at : (s : State) (started : ℕ → Option Request) (given : List ℕ) (r : Row) (base : Place) → HoldsStanding s (rests_if r (record base { row = r })) started given
     → HoldsStanding s (record base { row = r }) started given
 from_shown_at s started given (at.Ended status) base h =
-    record { waits = h.waits; missing = h.missing; text = h.text; unread = h.unread; work = λ e. let both : false ≡ true = e in absurd (cc); runs = h.runs }
+    record { waits = h.waits; missing = h.missing; text = h.text; plain = h.plain; unread = h.unread; work = λ e. let both : false ≡ true = e in absurd (cc); runs = h.runs }
 from_shown_at s started given r base h = h
 
 from_shown : (s : State) (started : ℕ → Option Request) (given : List ℕ) (c : Channel) (past : List Own) → HoldsStanding s (work_of (shown (spawner_at c past))) started given

@@ -9,7 +9,7 @@ use Rattle.spawn_protocol.specs.declared.request.Request.{Request}
 use Rattle.spawner_parts.specs.declared.place.Place.{Place}
 use Rattle.mail_world.specs.History.{State}
 use Rattle.world_law.specs.Spawned.{HoldsStanding, IsOfStanding}
-use Rattle.world_law.proofs.AtWork.{IsOfAttempt, runs_flying, waiting, waiting_text, works_by}
+use Rattle.world_law.proofs.AtWork.{IsOfAttempt, runs_flying, waiting, waiting_plain, waiting_text, works_by}
 use Rattle.world_law.proofs.SpawnedRuns.{IsTied}
 
 module _ (x : Post) (P : Posted x) (lives : x.lives ≡ true) (serves : x.serves ≡ true) (on : goes_at true (work_of x.spawner).row ≡ true) where
@@ -35,6 +35,7 @@ module _ (x : Post) (P : Posted x) (lives : x.lives ≡ true) (serves : x.serves
       waits = P.fares.waits;
       missing = missing;
       text = λ is. ap (λ (l : List ℕ). p.inbox.ahead ++ l) (sym asked_is) ∙ waiting_text p x lives goes P.fares is;
+      plain = λ r among. waiting_plain p x lives goes P.fares r among;
       unread = λ r among. of_attempt r.slot r (waiting p x lives goes P.fares r among);
       work = λ is. of_attempt p.request.slot p.request (works_by p x lives goes P.fares p.row refl is (P.fares.stands goes));
       runs = λ slot is. let w = runs_flying p x lives goes P.fares slot is in of_asked (started slot) slot w.0 w.1 (tied on slot w.0 is w.1);

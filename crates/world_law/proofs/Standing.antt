@@ -180,25 +180,29 @@ lane_sorted controls w channel.Local y (Finished h) todo is = let none = h.unsor
 lane_sorted controls w channel.Remote y (Finished h) todo is = let none = h.unsorted Remote refl in absurd (cc)
 
 pub records_are_routed : RecordsAreRouted
-records_are_routed controls d before has legal n todo ch file is records read =
+records_are_routed controls d before has legal n todo ch file is =
     let s = after d before in
     let I = always controls d before has legal in
     let q = queue s I.role in
     let y : Entry = record { number = file; file = s.disk.files file } in
     let filed : (about q n).parts (lane_part ch) ≡ Some y = find_some s.disk.names s.disk.files (Of (lane_part ch) n) file is in
     let pre = lane_sorted controls (about q n) ch y (I.sound.fine n) (find_none s.disk.names s.disk.files (Of Todo n) todo) filed in
-    let marked = lane_there controls (about q n) pre.taken.injection ch y filed (pre.lanes ch) in
-    let are = they_are (s.disk.files file).bytes records read in (
+    let marked = lane_there controls (about q n) pre.taken.injection ch y filed (pre.lanes ch) in (
       pre.taken.injection,
       pre.taken.lives,
       pre.taken.accepted,
-      records_are controls pre.taken.injection ch (s.disk.files file).bytes records I.control.no_nul pre.taken.valid pre.taken.spots marked.present are,
+      record {
+        marked = marked.present;
+        routed = λ records read.
+            records_are controls pre.taken.injection ch (s.disk.files file).bytes records I.control.no_nul pre.taken.valid pre.taken.spots marked.present
+            (they_are (s.disk.files file).bytes records read);
+      },
     )
 
 -- Injectors
 
 module _ (q : Queue) (a : List ℕ) (args : Arguments) where
-  mine_at : (row : Row) (n : ℕ) → number_at row ≡ Some n → Relies q a args row → q.role n ≡ AsMessage a args
+  pub mine_at : (row : Row) (n : ℕ) → number_at row ≡ Some n → Relies q a args row → q.role n ≡ AsMessage a args
   mine_at (at.UnlinkPid seq m fd) n e h = let same : m ≡ n = cc in subst (λ (k : ℕ). q.role k ≡ AsMessage a args) same h.mess.holds.mine
   mine_at (at.AppendMess m fd done) n e h = let same : m ≡ n = cc in subst (λ (k : ℕ). q.role k ≡ AsMessage a args) same h.holds.mine
   mine_at (at.SyncMess m fd) n e h = let same : m ≡ n = cc in subst (λ (k : ℕ). q.role k ≡ AsMessage a args) same h.holds.mine
@@ -211,7 +215,7 @@ module _ (q : Queue) (a : List ℕ) (args : Arguments) where
   mine_at row n e h = absurd (cc)
 
 -- what a living injector relies on
-relies_by : (controls : Controls) (now : ℕ) (q : Queue) (a : List ℕ) (program : Program) (past : List Own) (life : Life) (args : Arguments) → program ≡ Injector args → life ≡ Alive
+pub relies_by : (controls : Controls) (now : ℕ) (q : Queue) (a : List ℕ) (program : Program) (past : List Own) (life : Life) (args : Arguments) → program ≡ Injector args → life ≡ Alive
     → FaresBy controls now q a program past life → InTime now args → Relies q a args (row_after args past)
 relies_by controls now q a (Injector other) past Alive args is alive F soon =
     let same : other ≡ args = cc in

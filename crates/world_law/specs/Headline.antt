@@ -1,9 +1,12 @@
--- What is claimed of each state, and the headline: no accepted message is lost.
+-- What is promised of each state and of each event, and the headline: no accepted message is lost.
 use Rattle.std.specs.Prelude.{◌≡◌, ◌≢◌, ℕ, List, ◌∷◌, ◌++◌, true, Option, Some, None}
 use Rattle.address_rules.specs.declared.controls.Controls.{Controls}
-use Rattle.call_fs.specs.Disk.{Disk, IsSynced}
+use Rattle.call_fs.specs.Disk.{Among, Disk, IsSynced}
+use Rattle.call_fs.specs.declared.past.GotData.TheVariants as got
 use Rattle.call_fs.specs.declared.past.NeedData.TheVariants as needs
 use Rattle.call_fs.specs.declared.past.Own.{Own}
+use Rattle.call_fs.specs.declared.program.Port.TheVariants as port
+use Rattle.local_steps.specs.declared.arguments.LocalArgs.{LocalArgs}
 use Rattle.queue_paths.specs.Names.{path}
 use Rattle.queue_paths.specs.Names.Part.{Mess}
 use Rattle.queue_paths.specs.Names.Name.{Of}
@@ -14,6 +17,8 @@ use Rattle.channel_law.specs.Files.{IsOpen}
 use Rattle.channel_law.specs.Laws.{IsAlone}
 use Rattle.send_jobs.specs.declared.attempts.Attempt.{Attempt}
 use Rattle.send_jobs.specs.declared.channels.Channel.{Channel}
+use Rattle.send_jobs.specs.declared.channels.Channel.TheVariants.{Local}
+use Rattle.send_jobs.specs.Lanes.{next}
 use Rattle.send_jobs.specs.Sending.{lane}
 use Rattle.send_jobs.specs.Slots.{lowest}
 use Rattle.send_core.specs.Table.{desk_after, port_of}
@@ -21,7 +26,8 @@ use Rattle.send_steps.specs.Requests.{request_of, to_slot}
 use Rattle.queue_law.specs.Accounts.{Accounted}
 use Rattle.queue_law.specs.Books.{Books, HasQueued, Injection, IsInjected, IsValid}
 use Rattle.queue_law.specs.Numbers.Role.{AsOld}
-use Rattle.queue_law.specs.Routes.{Recipient, sender_of}
+use Rattle.queue_law.specs.Notes.{told_name}
+use Rattle.queue_law.specs.Routes.{Recipient, routed, sender_of, spot_of}
 use Rattle.sender_law.specs.Control.{AreControls}
 use Rattle.sender_law.specs.Views.{files_of}
 use Rattle.mail_world.specs.History.{Event, Actor, State, Legal, after}
@@ -32,6 +38,8 @@ use Rattle.mail_world.specs.Waiting.{EachWaiting, HasNoGeneration, IsBooked}
 use Rattle.mail_world.specs.World.{Happened, Seen}
 use Rattle.world_events.specs.declared.event.Program.{Program}
 use Rattle.world_events.specs.declared.event.Program.TheVariants.{Delivery, Injector, Sender}
+use Rattle.world_law.specs.Bounces.{IsByBounce, IsNamedInBounce}
+use Rattle.world_law.specs.Carried.{Carried, HearsTrue, WasCarried}
 use Rattle.world_law.specs.Deliveries.{IsCarriedOut}
 
 -- What a program's end with 0 says, after this past: an injector's, that it has an accepted injection; a delivery's, that its instructions
@@ -59,16 +67,64 @@ pub record Safe (controls : Controls) (s : State) : Type 0 where
   -- an injector's end with 0 comes only of an accepted injection, and a delivery's only of instructions that were carried out
   pub ends : (a : List ℕ) (x : Actor) → s.actors a ≡ Some x → x.life ≡ Over 0 → EndsWell s.books a x.program x.past
 
--- However the calls interleave and wherever a program or the machine stops: each prefix of a legal history is safe, with the controls of the
--- disk that it begins with. Each disk has some (the law `controls_exist` of sender_law).
-abbrev pub Headline : Type 0
-Headline = (controls : Controls) (d : Disk) (later before : List Event) → AreControls controls d → Legal d (later ++ before) → Safe controls (after d before)
+-- A request that a sender gives, also in part, is of the recipient that is next on its channel, whose record reads `T` in its channel file; the
+-- text is that of the record, for the lowest free slot; and no other attempt at that record is in flight.
+pub record IsAttempt (s : State) (past : List Own) (ch : Channel) (text : List ℕ) : Type 0 where
+  pub attempt : Attempt
+  pub slot : ℕ
+  pub injection : Injection
+  pub next_is : next (lane ch (desk_after None past).slots) ≡ Some attempt
+  pub reads : IsOpen (files_of (queue s (λ _. AsOld)) ch) attempt
+  pub lives : s.books.living attempt.n ≡ Some injection
+  pub free : lowest (lane ch (desk_after None past).slots).slots ≡ Some slot
+  pub text_is : text ≡ to_slot slot (request_of attempt.n (sender_of injection.args) attempt.address)
+  pub alone : IsAlone attempt (lane ch (desk_after None past).slots)
 
--- each prefix of a history is safe
+-- A sender did this in a history, after these events.
+pub record IsBySender (d : Disk) (h : List Event) (own : Own) (before : List Event) : Type 0 where
+  pub name : List ℕ
+  pub wrote : ℕ
+  pub later : List Event
+  pub happened : later ++ Act name own wrote ∷ before ≡ h
+  pub sender : Actor
+  pub is : (after d before).actors name ≡ Some sender
+  pub start : ℕ
+  pub program : sender.program ≡ Sender start
+
+-- The promise of the queue, for a history from an opening disk.
+pub record Promise (controls : Controls) (d : Disk) (h : List Event) : Type 0 where
+  -- the state is safe: each recipient of an accepted message is accounted for
+  pub safe : Safe controls (after d h)
+  -- who is accounted for as returned is named in an accepted injection, which is that of the bounce of the message with these notes
+  pub named : (i : Injection) → IsInjected (after d h).books i → (r : Recipient i.args) → (account : Accounted controls (after d h).disk (after d h).books i r)
+      → IsByBounce account → IsNamedInBounce controls (after d h).books i (told_name controls r.address)
+  -- who is accounted for as delivered, and is local, had this message delivered by a local delivery that was carried out
+  pub delivered : (i : Injection) → IsInjected (after d h).books i → (r : Recipient i.args) → (spot_of controls i.args r).channel ≡ Local
+      → Among (spot_of controls i.args r) i.ledger.delivered → WasCarried d h (routed controls i.args r) (entered i.args)
+  -- each giving of a sender to a spawner was an attempt: at a record that read `T`, and no other one at it was in flight
+  pub attempts : (own : Own) (before : List Event) → (it : IsBySender d h own before) → (ch : Channel) (text : List ℕ) → own.due ≡ needs.Give (port_of ch) text
+      → IsAttempt (after d before) it.sender.past ch text
+  -- each report that a sender took of the local spawner was of an attempt in flight, and each success of a delivery for it that was carried out
+  pub reports : (own : Own) (before : List Event) → (it : IsBySender d h own before) → own.due ≡ needs.Take port.Lspawn → (bytes : List ℕ) → own.came ≡ got.Took bytes
+      → HearsTrue d before it.sender.past bytes
+  -- so was each local delivery that ended with 0
+  pub carried : (name : List ℕ) (x : Actor) → (after d h).actors name ≡ Some x → (start : ℕ) (args : LocalArgs) → x.program ≡ Delivery start args → x.life ≡ Over 0
+      → (message : List ℕ) × Carried d h name args x.past message
+
+-- However the calls interleave and wherever a program or the machine stops: the promise holds of each prefix of a legal history, with the
+-- controls of the disk that it begins with. Each disk has some (the law `controls_exist` of sender_law).
+abbrev pub Headline : Type 0
+Headline = (controls : Controls) (d : Disk) (later before : List Event) → AreControls controls d → Legal d (later ++ before) → Promise controls d before
+
+-- so it holds of each prefix of this history
+abbrev pub EachPromised : Controls → Disk → List Event → Type 0
+EachPromised controls opening h = (later before : List Event) → later ++ before ≡ h → Promise controls opening before
+
+-- each prefix of a history leads to a safe state
 abbrev pub EachSafe : Controls → Disk → List Event → Type 0
 EachSafe controls opening h = (later before : List Event) → later ++ before ≡ h → Safe controls (after opening before)
 
--- If no generation was started that is so whatever the control files are, and whichever controls are meant.
+-- If no generation was started each is safe whatever the control files are, and whichever controls are meant.
 abbrev pub SafeWithoutGenerations : Type 0
 SafeWithoutGenerations = (controls : Controls) (d : Disk) (h : List Event) → Legal d h → HasNoGeneration h → EachSafe controls d h
 
@@ -77,28 +133,16 @@ pub record StaysSafe (opening : Disk) (h : List Event) : Type 0 where
   pub safe : (controls : Controls) → EachSafe controls opening h
   pub waiting : EachWaiting opening h
 
--- What holds of a history that began with this disk: each prefix is safe with the controls that the disk has; and if no generation was
+-- What holds of a history that began with this disk: the promise, of each prefix, with the controls that the disk has; and if no generation was
 -- started, each is safe whatever controls are meant, with each accepted message in todo.
 pub record IsSafeBy (opening : Disk) (h : List Event) : Type 0 where
-  pub safe : (controls : Controls) → AreControls controls opening → EachSafe controls opening h
+  pub safe : (controls : Controls) → AreControls controls opening → EachPromised controls opening h
   pub alone : HasNoGeneration h → StaysSafe opening h
 
--- So is each prefix of what happened in a world, by what its disk tells, since it began with a disk of these controls.
+-- The promise holds of each prefix of what happened in a world, by what its disk tells, since it began with a disk of these controls.
 abbrev pub WorldsAreSafe : Type 0
 WorldsAreSafe = (controls : Controls) (opening : Disk) (w : Seen (Option Disk)) (h : List Event) → AreControls controls opening → Happened {D = Option Disk} (λ told. told) opening w h
-    → EachSafe controls opening h
-
--- A request that a sender gives, also in part, is of a recipient whose record reads `T` in its channel file, with the text of that record,
--- and no other attempt at that record is in flight.
-pub record IsAttempt (s : State) (past : List Own) (ch : Channel) (text : List ℕ) : Type 0 where
-  pub attempt : Attempt
-  pub slot : ℕ
-  pub injection : Injection
-  pub reads : IsOpen (files_of (queue s (λ _. AsOld)) ch) attempt
-  pub lives : s.books.living attempt.n ≡ Some injection
-  pub free : lowest (lane ch (desk_after None past).slots).slots ≡ Some slot
-  pub text_is : text ≡ to_slot slot (request_of attempt.n (sender_of injection.args) attempt.address)
-  pub alone : IsAlone attempt (lane ch (desk_after None past).slots)
+    → EachPromised controls opening h
 
 -- Each giving of a sender to a spawner is an attempt.
 abbrev pub AttemptsAreSound : Type 0

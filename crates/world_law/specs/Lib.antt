@@ -14,13 +14,19 @@ pub mod Headline
 pub mod Laws
 -- what each event leaves as it was
 pub mod Leaves
+-- the names in `pid` that a cleaner takes away
+pub mod PidNames
 -- the commands under way at a cleaner
 pub mod UnderWay
 -- what lies between the sender and the local spawner
 pub mod Posts
+-- of which reports the ledgers have recipients as delivered
+pub mod Reported
 -- what else holds in each state
 pub mod Standing
 -- what a spawner has in hand
 pub mod Spawned
 -- the message that a local delivery took is the one entered
 pub mod Entered
+-- what a local delivery carried out
+pub mod Carried

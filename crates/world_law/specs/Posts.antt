@@ -1,39 +1,27 @@
--- What lies between the sender and the local spawner, by the state; and what the K reports tell that the sender takes of local deliveries.
-use Rattle.std.specs.Prelude.{◌≡◌, ℕ, List, [], ◌∷◌, ◌++◌, Bool, false, ◌&&◌, Option, Some, None, codes}
-use Rattle.address_rules.specs.declared.controls.Controls.{Controls}
-use Rattle.call_fs.specs.Disk.{Among, Disk}
-use Rattle.call_fs.specs.declared.past.GotData.TheVariants as got
-use Rattle.call_fs.specs.declared.past.NeedData.TheVariants as needs
+-- What lies between the sender and the local spawner, by the state.
+use Rattle.std.specs.Prelude.{◌≡◌, ℕ, List, ◌∷◌, ◌++◌, Bool, false, ◌&&◌, Option, Some, None, codes}
+use Rattle.call_fs.specs.Disk.{Among}
 use Rattle.call_fs.specs.declared.past.Own.{Own}
 use Rattle.call_fs.specs.declared.program.Port.TheVariants as port
 use Rattle.local_spawn.specs.declared.place.Place.{Place}
 use Rattle.local_spawn.specs.Table.{begun as spawner_begun, place_after}
 use Rattle.local_steps.specs.declared.arguments.LocalArgs.{LocalArgs}
-use Rattle.queue_law.specs.Books.{Injection, IsInjected}
-use Rattle.queue_law.specs.Routes.{Recipient, routed, spot_of}
 use Rattle.send_core.specs.declared.desk.Desk.{Desk}
-use Rattle.send_core.specs.Desk.{link, told, with_reader}
+use Rattle.send_core.specs.Desk.{link, told}
 use Rattle.send_core.specs.Table.{begun, desk_after}
-use Rattle.send_jobs.specs.declared.attempts.Attempt.{Attempt}
 use Rattle.send_jobs.specs.declared.channels.Channel.TheVariants.{Local}
 use Rattle.send_jobs.specs.Sending.{lane}
-use Rattle.send_jobs.specs.Slots.{attempt_in}
-use Rattle.spawn_protocol.specs.declared.report.Report.{Report}
 use Rattle.spawn_protocol.specs.declared.request.Request.{Request}
-use Rattle.spawn_protocol.specs.Report.{counted, read_on}
 use Rattle.post_law.specs.Posts.{Done, Post, Posted, Task}
 use Rattle.post_law.specs.Posts.Spawner.{Local as LocalAt}
 use Rattle.post_law.specs.Senders.{IsFirst, heard_at, is_on}
-use Rattle.sender_law.specs.Control.{AreControls}
 use Rattle.world_pipes.specs.Pipework.{Pipework}
 use Rattle.world_pipes.specs.Pipework.Tenant.{Runs}
 use Rattle.world_events.specs.declared.event.Program.{Program}
 use Rattle.world_events.specs.declared.event.Program.TheVariants.{Delivery, LocalSpawner, Sender}
-use Rattle.mail_world.specs.History.{Actor, Event, Legal, Life, State, after}
-use Rattle.mail_world.specs.History.Event.{Act}
+use Rattle.mail_world.specs.History.{Actor, Life, State}
 use Rattle.mail_world.specs.History.Life.{Over}
 use Rattle.world_law.specs.Crew.{is_alive}
-use Rattle.world_law.specs.Deliveries.{IsCarriedOut}
 
 -- Both sides, by their actors. Where there is none, or another program, it is one that begins and isn't there.
 
@@ -118,9 +106,10 @@ pub record IsTaskIn (s : State) (slot : ℕ) (t : Task) : Type 0 where
   pub runs : s.pipework.programs (codes "lspawn") slot ≡ Some (Runs t.name)
   pub is_for : IsDeliveryFor s t
 
--- or it has ended with 0
+-- or it was started in that slot and has ended with 0
 pub record WasDone (s : State) (x : Done) : Type 0 where
   pub is_for : IsDeliveryFor s x.task
+  pub in_slot : s.pipework.slots x.task.name ≡ Some (record { parent = codes "lspawn"; number = x.slot })
   pub over : is_for.delivery.life ≡ Over 0
 
 -- What holds of them after each event, with some deliveries in the slots, some requests that were given last, and some deliveries that were
@@ -133,40 +122,3 @@ pub record PostsStand (s : State) : Type 0 where
   pub first : IsFirst (desk_in (s.actors (codes "sender"))).row (desk_in (s.actors (codes "sender")))
   pub run : (slot : ℕ) (t : Task) → tasks slot ≡ Some t → IsTaskIn s slot t
   pub was : (x : Done) → Among x done → WasDone s x
-
--- K reports
-
--- A local delivery for this address has ended with 0: in its own past its instructions were carried out, and the injection of its forwards, if
--- it had any, was accepted.
-pub record IsDeliveredTo (s : State) (address : List ℕ) : Type 0 where
-  pub name : List ℕ
-  pub delivery : Actor
-  pub is : s.actors name ≡ Some delivery
-  pub over : delivery.life ≡ Over 0
-  pub start : ℕ
-  pub args : LocalArgs
-  pub program : delivery.program ≡ Delivery start args
-  pub recipient : address ≡ args.local ++ 64 ∷ args.domain
-  pub carried : IsCarriedOut s.books args delivery.past
-
--- A report is of the attempt in flight in its slot, and if it tells of a success, there is such a delivery for the attempt's recipient.
-abbrev pub IsReportOf : State → Report → Option Attempt → Type 0
-IsReportOf s r None = ⊥
-IsReportOf s r (Some t) = counted r.letter ≡ 75 → IsDeliveredTo s t.address
-
--- so is each of these, which the sender takes one after the other (as send_core's `reported_all`)
-abbrev pub HearsWell : State → List Report → Desk → Type 0
-HearsWell s [] d = Unit {0}
-HearsWell s (r ∷ rs) d = IsReportOf s r (attempt_in (lane Local d.slots).slots r.slot) × HearsWell s rs (told Local r d)
-
--- Each report that a sender takes of the local spawner is of an attempt in flight, and a K report comes of such a delivery.
-abbrev pub KReportsAreCarried : Type 0
-KReportsAreCarried = (controls : Controls) (d : Disk) (a : List ℕ) (own : Own) (wrote : ℕ) (before : List Event) → AreControls controls d
-    → Legal d (Act a own wrote ∷ before) → (x : Actor) → (after d before).actors a ≡ Some x → (start : ℕ) → x.program ≡ Sender start
-    → own.due ≡ needs.Take port.Lspawn → (bytes : List ℕ) → own.came ≡ got.Took bytes
-    → let desk = desk_after None x.past in let it = read_on (link Local desk).reader bytes in HearsWell (after d before) it.0 (with_reader Local it.1 desk)
-
--- So each recipient of a local address that is accounted for as delivered has such a delivery, for its routed address.
-abbrev pub DeliveredAreCarried : Type 0
-DeliveredAreCarried = (controls : Controls) (d : Disk) (before : List Event) → AreControls controls d → Legal d before → (i : Injection) → IsInjected (after d before).books i
-    → (r : Recipient i.args) → (spot_of controls i.args r).channel ≡ Local → Among (spot_of controls i.args r) i.ledger.delivered → IsDeliveredTo (after d before) (routed controls i.args r)

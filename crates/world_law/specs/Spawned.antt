@@ -10,6 +10,7 @@ use Rattle.call_fs.specs.declared.past.NeedData.TheVariants as needs
 use Rattle.call_fs.specs.declared.past.Own.{Own}
 use Rattle.call_fs.specs.declared.program.Port.TheVariants as port
 use Rattle.local_spawn.specs.Table.{place_after as local_after}
+use Rattle.post_law.specs.Posts.{HasPlainFields}
 use Rattle.queue_paths.specs.Names.{split_text}
 use Rattle.queue_states.specs.declared.state.State.TheVariants.{S5}
 use Rattle.queue_states.specs.States.{state_of}
@@ -60,12 +61,13 @@ pub record IsOfStanding (s : State) (r : Request) : Type 0 where
   pub stays : state_of s.disk number ≡ S5
 
 -- So is each request that the spawner hasn't read or taken up, the one at work, and the one of what runs in each slot. Of the last request
--- that it hasn't read some bytes may be missing: a sender that gave it in part gives no more. After a field that is too long the spawner reads
--- no more, and nothing is said of what lies unread.
+-- that it hasn't read some bytes may be missing: a sender that gave it in part gives no more. Their fields have no NUL, so what it hasn't read
+-- is no other requests. After a field that is too long the spawner reads no more, and nothing is said of what lies unread.
 pub record HoldsStanding (s : State) (p : Place) (started : ℕ → Option Request) (given : List ℕ) : Type 0 where
   pub waits : List Request
   pub missing : List ℕ
   pub text : p.inbox.intake ≡ intake.Open → p.inbox.ahead ++ (given ++ missing) ≡ flat_map request_text waits
+  pub plain : (r : Request) → Among r waits → HasPlainFields r
   pub unread : (r : Request) → Among r waits → IsOfStanding s r
   pub work : is_at_work p.row ≡ true → IsOfStanding s p.request
   pub runs : (slot : ℕ) → runs_in p.running slot ≡ true → (r : Request) × (started slot ≡ Some r) × IsOfStanding s r

@@ -1,15 +1,17 @@
 -- What else holds in each state of a legal history: of the numbers that a sender has in hand, of the channel files, and of injectors at work.
-use Rattle.std.specs.Prelude.{◌≡◌, ◌⊎◌, ℕ, ◌+◌, ◌<◌, List, ◌∷◌, ◌++◌, flat_map, Bool, true, false, Option, Some, None, Contains, codes}
+use Rattle.std.specs.Prelude.{◌≡◌, ◌⊎◌, ℕ, List, ◌∷◌, ◌++◌, flat_map, Bool, true, false, Option, Some, None, Contains, codes}
 use Rattle.address_rules.specs.declared.controls.Controls.{Controls}
 use Rattle.call_fs.specs.Disk.{Among, Disk, IsSynced}
 use Rattle.call_fs.specs.declared.calls.CallData.{CallData}
-use Rattle.call_fs.specs.declared.calls.CallData.TheVariants.{Link, Unlink}
+use Rattle.call_fs.specs.declared.calls.CallData.TheVariants.{Link}
 use Rattle.call_fs.specs.declared.past.NeedData.TheVariants as needs
 use Rattle.call_fs.specs.declared.past.Own.{Own}
 use Rattle.call_fs.specs.declared.program.Port.TheVariants as port
 use Rattle.channel_law.specs.Files.{IsOpen}
 use Rattle.envelope_records.specs.declared.channel.Record.{Record}
 use Rattle.local_spawn.specs.Table.{place_after as local_after}
+use Rattle.local_steps.specs.declared.arguments.LocalArgs.{LocalArgs}
+use Rattle.post_law.specs.Posts.{HasPlainFields}
 use Rattle.post_law.specs.Senders.{is_on}
 use Rattle.queue_inject.specs.declared.injection.Arguments.{Arguments}
 use Rattle.queue_inject.specs.declared.row.Row.{Row}
@@ -19,12 +21,11 @@ use Rattle.queue_inject.specs.Texts.{intd_text, message_text}
 use Rattle.queue_law.specs.Accounts.{AreOfRecipients}
 use Rattle.queue_law.specs.Books.{Injection}
 use Rattle.queue_law.specs.Injectors.{InTime}
-use Rattle.queue_law.specs.Numbers.{Role}
 use Rattle.queue_law.specs.Numbers.Role.{AsOld}
-use Rattle.queue_law.specs.Rests.{IsOldName}
-use Rattle.queue_law.specs.Routes.{lane_part}
+use Rattle.queue_law.specs.Marks.{IsMarked}
+use Rattle.queue_law.specs.Routes.{lane_part, lane_text}
 use Rattle.queue_paths.specs.Names.{path, split_text}
-use Rattle.queue_paths.specs.Names.Name.{Of, Pid}
+use Rattle.queue_paths.specs.Names.Name.{Of}
 use Rattle.queue_paths.specs.Names.Part.{Intd, Mess, Todo}
 use Rattle.queue_states.specs.declared.state.State.TheVariants.{S5}
 use Rattle.queue_states.specs.States.{state_of}
@@ -49,7 +50,8 @@ use Rattle.spawner_parts.specs.declared.row.Row.{Row as SpawnRow}
 use Rattle.spawner_parts.specs.declared.row.Row.TheVariants as spawn
 use Rattle.spawner_parts.specs.Asked.{runs_in}
 use Rattle.sender_law.specs.Views.{files_of}
-use Rattle.world_events.specs.declared.event.Program.TheVariants.{Cleaner, Injector, LocalSpawner, Sender}
+use Rattle.world_events.specs.declared.event.Program.TheVariants.{Delivery, Injector, LocalSpawner, Sender}
+use Rattle.world_pipes.specs.Pipework.Tenant.{Runs}
 use Rattle.mail_world.specs.History.{Actor, Event, Legal, State, after}
 use Rattle.mail_world.specs.History.Event.{Act}
 use Rattle.mail_world.specs.History.Life.{Alive}
@@ -77,13 +79,18 @@ HandsAlwaysStand = (controls : Controls) (d : Disk) (before : List Event) → Ar
 
 -- Channel files
 
--- After todo is gone the records of each channel file, whatever the file is read as, are those of the recipients of its message that go to that
--- channel, with their routed addresses; and one that reads `D` was reported delivered, or its note is synced.
+-- A channel file holds the text that preprocessing wrote for these recipients, except that `D` may stand at the place of one that was reported
+-- delivered, or whose note is synced. If it is read as records, then each is that of a recipient, and each recipient of the channel has one.
+pub record HoldsItsRecords (controls : Controls) (i : Injection) (ch : Channel) (bytes : List ℕ) : Type 0 where
+  pub marked : IsMarked (lane_text controls i.args ch) i.ledger ch bytes
+  pub routed : (records : List Record) → records_of bytes ≡ Some records → AreOfRecipients controls i ch records
+
+-- After todo is gone so does each channel file, for the recipients of the accepted injection of its number that go to that channel, with their
+-- routed addresses.
 abbrev pub RecordsAreRouted : Type 0
 RecordsAreRouted = (controls : Controls) (d : Disk) (before : List Event) → AreControls controls d → Legal d before → (n : ℕ) → (after d before).disk.names (path (Of Todo n)) ≡ None
     → (ch : Channel) (file : ℕ) → (after d before).disk.names (path (Of (lane_part ch) n)) ≡ Some file
-    → (records : List Record) → records_of ((after d before).disk.files file).bytes ≡ Some records
-    → (i : Injection) × ((after d before).books.living n ≡ Some i) × (i.accepted ≡ true) × AreOfRecipients controls i ch records
+    → (i : Injection) × ((after d before).books.living n ≡ Some i) × (i.accepted ≡ true) × HoldsItsRecords controls i ch ((after d before).disk.files file).bytes
 
 -- Injectors
 
@@ -163,14 +170,30 @@ is_at_work (spawn.CloseMess fd whole) = true
 is_at_work spawn.Start = true
 is_at_work row = false
 
--- So is each request that the local spawner hasn't read or taken up, the one at work, and what runs in each slot. After a field that is too long
--- it reads no more, and nothing is said of what lies unread.
+-- the delivery that runs in a slot is for the attempt in flight there, of a message in S5
+pub record RunsForFlight (s : State) (d : Desk) (slot : ℕ) : Type 0 where
+  pub name : List ℕ
+  pub runs : s.pipework.programs (codes "lspawn") slot ≡ Some (Runs name)
+  pub delivery : Actor
+  pub is : s.actors name ≡ Some delivery
+  pub start : ℕ
+  pub args : LocalArgs
+  pub program : delivery.program ≡ Delivery start args
+  pub attempt : Attempt
+  pub flies : attempt_in (lane channel.Local d.slots).slots slot ≡ Some attempt
+  pub recipient : attempt.address ≡ args.local ++ 64 ∷ args.domain
+  pub stays : state_of s.disk attempt.n ≡ S5
+
+-- So is each request that the local spawner hasn't read or taken up, the one at work, and what runs in each slot. What it hasn't read is
+-- requests whose fields have no NUL, so it is no other ones. After a field that is too long it reads no more, and nothing is said of what
+-- lies unread.
 pub record HoldsFlights (s : State) (d : Desk) (p : Place) (given : List ℕ) : Type 0 where
   pub waits : List Request
   pub text : p.inbox.intake ≡ intake.Open → p.inbox.ahead ++ given ≡ flat_map request_text waits
+  pub plain : (r : Request) → Among r waits → HasPlainFields r
   pub unread : (r : Request) → Among r waits → IsOfFlight s d r.slot r
   pub work : is_at_work p.row ≡ true → IsOfFlight s d p.request.slot p.request
-  pub runs : (slot : ℕ) → runs_in p.running slot ≡ true → (r : Request) × IsOfFlight s d slot r
+  pub runs : (slot : ℕ) → runs_in p.running slot ≡ true → RunsForFlight s d slot
 
 -- it hasn't ended
 abbrev pub goes_on : SpawnRow → Bool
@@ -183,18 +206,6 @@ RequestsAreOfFlights = (controls : Controls) (d : Disk) (before : List Event) �
     → (x : Actor) → (after d before).actors (codes "sender") ≡ Some x → x.life ≡ Alive → (start : ℕ) → x.program ≡ Sender start → is_on (desk_after None x.past).row ≡ true
     → (y : Actor) → (after d before).actors (codes "lspawn") ≡ Some y → y.life ≡ Alive → (begun : ℕ) → y.program ≡ LocalSpawner begun → goes_on (local_after y.past).work.row ≡ true
     → HoldsFlights (after d before) (desk_after None x.past) (local_after y.past).work ((after d before).pipework.pipes (codes "lspawn") port.Input).bytes
-
--- The cleaner
-
--- more than 36 hours have gone since the start that this name in `pid` tells, or its file was there at the beginning
-abbrev pub IsOutOfTime : State → (pid start seq : ℕ) → Type 0
-IsOutOfTime s pid start seq = (start + 129600 < s.now) ⊎ ((role : ℕ → Role) × IsOldName (queue s role) (Pid pid start seq))
-
--- Only then a cleaner takes such a name away.
-abbrev pub PidsAreOld : Type 0
-PidsAreOld = (controls : Controls) (d : Disk) (a : List ℕ) (own : Own) (wrote : ℕ) (before : List Event) → AreControls controls d → Legal d (Act a own wrote ∷ before)
-    → (x : Actor) → (after d before).actors a ≡ Some x → (since : ℕ) → x.program ≡ Cleaner since
-    → (pid start seq : ℕ) → own.due ≡ needs.File (Unlink (path (Pid pid start seq))) → IsOutOfTime (after d before) pid start seq
 
 -- The sweep
 

@@ -1,13 +1,14 @@
 // Laws of the whole system. Each is the contract of a function that does nothing.
 ghost use Rattle.world_law.specs.Bounces.{BouncesAreAccepted, BouncesAreReadLast, ReturnedRecipientsAreNamed};
+ghost use Rattle.world_law.specs.Carried.{DeliveredAreCarried, KReportsAreCarried};
 ghost use Rattle.world_law.specs.Deliveries.{DropsAreWhole, ForwardsAreAddressed};
-ghost use Rattle.world_law.specs.Entered.{KReportsAreEntered};
 ghost use Rattle.world_law.specs.Headline.{AttemptsAreSound, Headline, SafeWithoutGenerations, WorldsAreSafe};
 ghost use Rattle.world_law.specs.Leaves.{EventsLeave};
 ghost use Rattle.world_law.specs.Laws.{Always, ChildrenKeep, CleanersKeep, DeliveriesKeep, EndsKeep, GenerationsKeep, HaltsKeep, InjectorsKeep, InvBegins, InvIsSafe, LocalsKeep, MomentsKeep, RemotesKeep, ReportsKeep, SendersKeep, StartsKeep, StopsKeep};
-ghost use Rattle.world_law.specs.Posts.{DeliveredAreCarried, KReportsAreCarried};
+ghost use Rattle.world_law.specs.PidNames.{PidsAreOld};
+ghost use Rattle.world_law.specs.Reported.{DeliveredWereTaken, TakenAreDelivered};
 ghost use Rattle.world_law.specs.Spawned.{RequestsStand};
-ghost use Rattle.world_law.specs.Standing.{FlightsStand, HandsAlwaysStand, InjectionsAreApart, InjectionsAreInTime, LinksAreOfWholeFiles, PidsAreOld, RecordsAreRouted, RequestsAreOfFlights, SweepsAreOld};
+ghost use Rattle.world_law.specs.Standing.{FlightsStand, HandsAlwaysStand, InjectionsAreApart, InjectionsAreInTime, LinksAreOfWholeFiles, RecordsAreRouted, RequestsAreOfFlights, SweepsAreOld};
 ghost use Rattle.world_law.specs.UnderWay.{CommandsRest};
 
 /// What holds of the whole system holds at the start.
@@ -88,7 +89,9 @@ pub fn always()
     ensures { Always }
 {}
 
-/// No accepted message is lost, however the calls interleave and wherever a program or the machine stops.
+/// The promise of the queue holds after each prefix of a legal history, however the calls interleave and wherever a program or the
+/// machine stops: no accepted message is lost, each attempt is sound, each recipient that was returned is named in an accepted bounce,
+/// and each local delivery whose success was reported was carried out.
 pub fn headline()
     ensures { Headline }
 {}
@@ -114,7 +117,8 @@ pub fn attempts_are_sound()
     ensures { AttemptsAreSound }
 {}
 
-/// A command is under way at a living cleaner only where its number rests.
+/// A command is under way at a living cleaner only if its number rests: no injector is at it that may call still, and it is as the command
+/// needs.
 pub fn commands_rest()
     ensures { CommandsRest }
 {}
@@ -141,14 +145,26 @@ pub fn drops_are_whole()
 {}
 
 /// Each report that the sender takes of the local spawner is of an attempt in flight in its slot; and if it tells of a success, a delivery
-/// for the attempt's recipient has ended with 0, and in its own past its instructions were carried out.
+/// that was started in that slot, for the attempt's recipient and with the message that the accepted injection of its number entered,
+/// has ended with 0 and has carried out its instructions.
 pub fn k_reports_are_carried()
     ensures { KReportsAreCarried }
 {}
 
-/// So each local recipient that is accounted for as delivered has such a delivery, for its routed address.
+/// So each local recipient that is accounted for as delivered has such a delivery, for its routed address and of the message as entered.
 pub fn delivered_are_carried()
     ensures { DeliveredAreCarried }
+{}
+
+/// A ledger has a recipient as delivered only if a sender took a K report of it: in the life of that message the sender had given a request
+/// for the recipient's record in a slot, and the next report of that slot that it took said K.
+pub fn delivered_were_taken()
+    ensures { DeliveredWereTaken }
+{}
+
+/// And whenever a sender takes such a report, the ledger of the message has the recipient as delivered from then on.
+pub fn taken_are_delivered()
+    ensures { TakenAreDelivered }
 {}
 
 /// Of a local delivery that ended with 0 the injection of its forwards was accepted: it is from whom the delivery forwards, to just
@@ -164,8 +180,8 @@ pub fn hands_always_stand()
     ensures { HandsAlwaysStand }
 {}
 
-/// After todo is gone the records of a channel file are those of its message's recipients, with their routed addresses, and one that reads
-/// `D` was reported delivered or is noted.
+/// After todo is gone each channel file holds the text of its message's recipients that go to that channel, with their routed addresses,
+/// except that `D` may stand at the place of one that was reported delivered or is noted. If it is read as records, each is one of theirs.
 pub fn records_are_routed()
     ensures { RecordsAreRouted }
 {}
@@ -204,8 +220,9 @@ pub fn requests_stand()
     ensures { RequestsStand }
 {}
 
-/// A cleaner takes a name in `pid` away only once more than 36 hours have gone since the start that it tells, or if its file was there at
-/// the beginning.
+/// A cleaner takes a name in `pid` away only directly after a stat of it, at which its file had been written last more than 36 hours
+/// before the present moment. Then more than 36 hours have also gone since the start that the name tells, or since its file as it is now
+/// was written last; and no injector has the name that may call still.
 pub fn pids_are_old()
     ensures { PidsAreOld }
 {}
@@ -213,10 +230,4 @@ pub fn pids_are_old()
 /// A sweep gives the cleaner a message to remove only if its file was written last more than 36 hours ago.
 pub fn sweeps_are_old()
     ensures { SweepsAreOld }
-{}
-
-/// Each K report that the sender takes of the local spawner comes of a delivery that took the message of the attempt in flight, as the
-/// accepted injection of its number entered it.
-pub fn k_reports_are_entered()
-    ensures { KReportsAreEntered }
 {}

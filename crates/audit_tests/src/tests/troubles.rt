@@ -1,6 +1,7 @@
 // Calls that fail, and directories that are missing.
 use super::disks::{audit_of, directories, disk_of, owned};
 use mail_bytes::{ByteText, Memory};
+use queue_states::AuditError;
 use std::alloc::Global;
 use std::test::Fail;
 
@@ -59,4 +60,26 @@ fn told_missing(alloc: Global) -> Result<u64, Memory> {
 fn a_missing_directory_is_named(rt: HostRuntime) -> Result<(), Fail> {
     assert_eq!(rt; told_missing(rt.alloc())?, 96);
     Ok(())
+}
+
+/// Whether the error is told so.
+fn is_told(alloc: Global, why: &AuditError, text: &str) -> bool {
+    match format!(in alloc; "{why}") {
+        Ok(told) => told.as_str() == text,
+        Err(_) => false,
+    }
+}
+
+#[test]
+fn errors_are_told_in_words(rt: HostRuntime) {
+    let missing = AuditError::Missing(ByteText::new(rt.alloc()));
+    assert!(rt;
+        is_told(
+            rt.alloc(),
+            &AuditError::Fault,
+            "the queue couldn't be listed"
+        )
+    );
+    assert!(rt; is_told(rt.alloc(), &missing, "a directory of the queue is missing"));
+    assert!(rt; is_told(rt.alloc(), &AuditError::Memory, "out of memory"));
 }

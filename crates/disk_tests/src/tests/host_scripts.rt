@@ -273,60 +273,81 @@ const LINKED: &[Row<'static>] = &[
     Row(
         Call::Link(b"intd/7", b"todo/7"),
         &[Reply::Done, Reply::Done, Reply::Done],
-        "link r/intd/7 r/todo/7; open r/todo Read; sync 0; done",
+        "open r/todo/ Read; link r/intd/7 r/todo/7; sync 0; done",
     ),
     Row(
         Call::Link(b"a", b"b"),
         &[Reply::Done, Reply::Done, Reply::Done],
-        "link r/a r/b; open r Read; sync 1; done",
+        "open r/ Read; link r/a r/b; sync 1; done",
     ),
     Row(
         Call::Link(b"a", b"/b"),
         &[Reply::Done, Reply::Done, Reply::Done],
-        "link r/a /b; open / Read; sync 2; done",
+        "open / Read; link r/a /b; sync 2; done",
     ),
     Row(
         Call::Link(b"a", b"/b/c"),
         &[Reply::Done, Reply::Done, Reply::Done],
-        "link r/a /b/c; open /b Read; sync 3; done",
+        "open /b/ Read; link r/a /b/c; sync 3; done",
+    ),
+    // without the directory there is no link
+    Row(
+        Call::Link(b"a", b"b"),
+        &[FORBIDDEN],
+        "open r/ Read; Fault 1",
     ),
     Row(
         Call::Link(b"a", b"b"),
-        &[Reply::Done, FORBIDDEN],
-        "link r/a r/b; open r Read; Fault 1",
+        &[Reply::Fails(ErrorKind::Other)],
+        "open r/ Read; Fault 2",
+    ),
+    Row(
+        Call::Link(b"a", b"mess/23/1"),
+        &[MISSING],
+        "open r/mess/23/ Read; NotThere",
+    ),
+    Row(
+        Call::Link(b"a", b"todo/9/1"),
+        &[NO_DIRECTORY],
+        "open r/todo/9/ Read; NotThere",
     ),
     Row(
         Call::Link(b"a", b"b"),
         &[Reply::Done, Reply::Done, FORBIDDEN],
-        "link r/a r/b; open r Read; sync 4; Fault 2",
+        "open r/ Read; link r/a r/b; sync 4; Fault 3",
     ),
     Row(
         Call::Link(b"a", b"b"),
-        &[THERE, SEVEN, SEVEN],
-        "link r/a r/b; stat r/a; stat r/b; Exists",
+        &[Reply::Done, THERE, SEVEN, SEVEN],
+        "open r/ Read; link r/a r/b; stat r/a; stat r/b; Exists",
     ),
     Row(
         Call::Link(b"a", b"b"),
-        &[THERE, SEVEN, Reply::Directory],
-        "link r/a r/b; stat r/a; stat r/b; Fault 3",
+        &[Reply::Done, THERE, SEVEN, Reply::Directory],
+        "open r/ Read; link r/a r/b; stat r/a; stat r/b; Fault 4",
     ),
     Row(
         Call::Link(b"a", b"b"),
-        &[THERE, Reply::Directory],
-        "link r/a r/b; stat r/a; Fault 4",
+        &[Reply::Done, THERE, Reply::Directory],
+        "open r/ Read; link r/a r/b; stat r/a; Fault 5",
     ),
     Row(
         Call::Link(b"a", b"b"),
-        &[MISSING, MISSING, MISSING],
-        "link r/a r/b; stat r/a; stat r/b; NotThere",
+        &[Reply::Done, MISSING, MISSING, MISSING],
+        "open r/ Read; link r/a r/b; stat r/a; stat r/b; NotThere",
     ),
     Row(
         Call::Link(b"a", b"b"),
-        &[FORBIDDEN, SEVEN, MISSING],
-        "link r/a r/b; stat r/a; stat r/b; Fault 5",
+        &[Reply::Done, NO_DIRECTORY, MISSING, MISSING],
+        "open r/ Read; link r/a r/b; stat r/a; stat r/b; NotThere",
     ),
-    Row(Call::Link(b"a", b"b//"), &[], "Fault 6"),
-    Row(Call::Link(b"a\0", b"b"), &[], "Fault 7"),
+    Row(
+        Call::Link(b"a", b"b"),
+        &[Reply::Done, FORBIDDEN, SEVEN, MISSING],
+        "open r/ Read; link r/a r/b; stat r/a; stat r/b; Fault 6",
+    ),
+    Row(Call::Link(b"a", b"b//"), &[], "Fault 7"),
+    Row(Call::Link(b"a\0", b"b"), &[], "Fault 8"),
 ];
 
 /// The directory was changed less than two seconds ago, so it is listed at each call.

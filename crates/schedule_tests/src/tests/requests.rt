@@ -141,3 +141,23 @@ fn a_request_is_written(rt: HostRuntime) -> Result<(), Fail> {
     assert_eq!(rt; text.as_slice(), b"\x035/28\0a@x\0b@y\0".as_slice());
     Ok(())
 }
+
+/// Whether the error is told so.
+fn is_told(alloc: Global, why: &CodecError, text: &str) -> bool {
+    match format!(in alloc; "{why}") {
+        Ok(told) => told.as_str() == text,
+        Err(_) => false,
+    }
+}
+
+#[test]
+fn errors_are_told_in_words(rt: HostRuntime) {
+    assert!(rt;
+        is_told(
+            rt.alloc(),
+            &CodecError::TooLong,
+            "a field of over 4096 bytes"
+        )
+    );
+    assert!(rt; is_told(rt.alloc(), &CodecError::Memory, "out of memory"));
+}

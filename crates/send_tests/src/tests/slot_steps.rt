@@ -3,7 +3,7 @@
 use Channel::{Local, Remote};
 use envelope_records::records;
 use mail_bytes::ByteText;
-use send_jobs::{Attempt, Channel, Failure, Job, MAX_SLOTS, Mark, Slots, retry_at};
+use send_jobs::{Attempt, Channel, Failure, Job, MAX_SLOTS, Mark, OutOfRange, Slots, retry_at};
 use std::alloc::Global;
 
 /// An attempt that went out: its message, its place, whether its pass is dying, its delivery and its address.
@@ -366,4 +366,23 @@ fn retries_are_by_channel(rt: HostRuntime) {
         retry_at(Remote, 5000, 5400),
     ];
     assert_eq!(rt; retries, [5100, 5400, 6521, 6600]);
+}
+
+/// Whether the error is told so.
+fn is_told(alloc: Global, why: &OutOfRange, text: &str) -> bool {
+    match format!(in alloc; "{why}") {
+        Ok(told) => told.as_str() == text,
+        Err(_) => false,
+    }
+}
+
+#[test]
+fn errors_are_told_in_words(rt: HostRuntime) {
+    assert!(rt;
+        is_told(
+            rt.alloc(),
+            &OutOfRange(119),
+            "nothing is in flight in slot 119"
+        )
+    );
 }

@@ -1,4 +1,4 @@
-use Rattle.world_law.proofs.Delivered.{delivered_are_carried}
+use Rattle.world_law.proofs.Promise.{delivered_are_carried}
 use Rattle.world_law.proofs.laws.delivered_are_carried.Goals as goal
 
 pub returns : goal.returns

@@ -1,4 +1,4 @@
-use Rattle.world_law.proofs.Histories.{headline}
+use Rattle.world_law.proofs.Promise.{headline}
 use Rattle.world_law.proofs.laws.headline.Goals as goal
 
 pub returns : goal.returns

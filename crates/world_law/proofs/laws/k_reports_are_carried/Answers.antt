@@ -1,4 +1,4 @@
-use Rattle.world_law.proofs.PostHeard.{k_reports_are_carried}
+use Rattle.world_law.proofs.Promise.{k_reports_are_carried}
 use Rattle.world_law.proofs.laws.k_reports_are_carried.Goals as goal
 
 pub returns : goal.returns

@@ -1,5 +1,5 @@
 use Rattle.world_law.proofs.Alone.{told_safe, told_waiting}
-use Rattle.world_law.proofs.Histories.{worlds_are_safe}
+use Rattle.world_law.proofs.Promise.{worlds_are_safe}
 use Rattle.world_law.proofs.Led.{led_safe}
 use Rattle.world_law.proofs.worlds.each_world_is_safe.Goals as goal
 

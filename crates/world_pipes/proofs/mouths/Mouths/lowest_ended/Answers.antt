@@ -1,4 +1,4 @@
-use Rattle.std.proofs.Common.{false, sym, ◌∙◌, arith}
+use Rattle.std.proofs.Common.{sym, ◌∙◌, arith}
 use Rattle.world_pipes.specs.Mouths.{ended_of}
 use Rattle.world_pipes.proofs.Lowest.{up_to}
 use Rattle.world_pipes.proofs.mouths.Mouths.lowest_ended.Goals as goal

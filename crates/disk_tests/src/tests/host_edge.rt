@@ -1,0 +1,302 @@
+// Rows over real files of what only the system itself can show: what it tells of a file, its clock, symbolic links, reads
+// of a file that is open for something else, the rights of a new file, and what a link leaves open.
+use call_fs::{CallFs, Fd, FsError, How};
+use host_fs::{Facts, HostFs, System};
+use mail_bytes::NameBuf;
+use std::alloc::Global;
+use std::fs::{File, FileTimes, Metadata};
+use std::os::unix::fs::{MetadataExt, symlink};
+use std::process::Command;
+use std::time::{Duration, SystemTime, UNIX_EPOCH};
+use std::{env, fs, process};
+
+/// A disk over real files.
+type Host = HostFs<HostRuntime>;
+
+/// What is looked at.
+#[derive(Clone, Copy, Debug)]
+enum Look {
+    /// What the system tells of paths and open files, field by field.
+    Facts,
+    /// The clock.
+    Clock,
+    /// The names of a directory with symbolic links.
+    Links,
+    /// Reads of files that are open to be written.
+    Reads,
+    /// How many files are open.
+    Opens,
+}
+
+/// All of that.
+const LOOKS: [Look; 5] = [
+    Look::Facts,
+    Look::Clock,
+    Look::Links,
+    Look::Reads,
+    Look::Opens,
+];
+
+/// Whether that is so below this directory, which isn't there yet.
+fn holds(rt: &HostRuntime, root: &str, look: Look) -> bool {
+    let Ok(mut disk) = HostFs::open(rt, rt.alloc(), root.as_bytes()) else {
+        return false;
+    };
+    match look {
+        Look::Facts => are_told(rt, root),
+        Look::Clock => is_now(rt),
+        Look::Links => lists_files(rt, root, &mut disk),
+        Look::Reads => are_read(rt.alloc(), &mut disk),
+        Look::Opens => leaves_none_open(rt, &mut disk),
+    }
+}
+
+/// A path that nothing else uses; an empty one, where nothing can be made, if it can't be told.
+fn scratch(rt: &HostRuntime) -> String {
+    match told_path(rt) {
+        Some(path) => path,
+        None => String::new(rt.alloc()),
+    }
+}
+
+/// As `scratch`, if it can be told.
+fn told_path(rt: &HostRuntime) -> Option<String> {
+    let nanos = since_1970(rt)?.as_nanos();
+    let temp = env::temp_dir(rt).ok()?;
+    let (temp, pid) = (temp.as_str(), process::id(rt.process()));
+    format!(in rt.alloc(); "{temp}/edge-{pid}-{nanos}").ok()
+}
+
+/// The time since 1970 by the system's clock.
+fn since_1970(rt: &HostRuntime) -> Option<Duration> {
+    SystemTime::now(rt).ok()?.duration_since(UNIX_EPOCH).ok()
+}
+
+#[test]
+fn the_system_is_asked_for_the_right_thing(rt: HostRuntime) {
+    for look in LOOKS {
+        let root = scratch(&rt);
+        let is_so = holds(&rt, root.as_str(), look);
+        let is_gone = fs::remove_dir_all(&rt, root.as_str()).is_ok();
+        assert!(rt; is_so && is_gone, "{look:?}");
+    }
+}
+
+/// Whether these facts are those of the file, field by field.
+fn is_same(facts: Facts, found: &Metadata) -> bool {
+    facts.is_dir == found.is_dir()
+        && (facts.number, facts.length) == (found.ino(), found.len())
+        && (facts.modified, facts.modified_nanos) == (found.mtime(), found.mtime_nsec())
+        && (facts.changed, facts.changed_nanos) == (found.ctime(), found.ctime_nsec())
+}
+
+/// Whether the system tells of this path, and of what is open by it, what the file system tells.
+fn is_told(rt: &HostRuntime, path: &str) -> bool {
+    let opened = System::open(rt, path, How::Read).and_then(|file| System::fstat(rt, &file));
+    match (System::stat(rt, path), opened, fs::metadata(rt, path)) {
+        (Ok(named), Ok(opened), Ok(found)) => is_same(named, &found) && is_same(opened, &found),
+        _ => false,
+    }
+}
+
+/// Sets the time of modification of a file to one long ago, with nanoseconds, so that it isn't that of its last change.
+fn make_old(rt: &HostRuntime, path: &str) -> bool {
+    match (
+        File::open(rt, path),
+        UNIX_EPOCH.checked_add(Duration::new(1_000_000_000, 7)),
+    ) {
+        (Ok(file), Some(time)) => file.set_times(FileTimes::new().set_modified(time)).is_ok(),
+        _ => false,
+    }
+}
+
+/// Whether an old file of three bytes, a directory, and links to both are told as they are.
+fn are_told(rt: &HostRuntime, root: &str) -> bool {
+    let mut is_so = true;
+    for name in ["todo/1", "todo", "todo/2", "todo/3"] {
+        let Ok(path) = format!(in rt.alloc(); "{root}/{name}") else {
+            return false;
+        };
+        is_so = is_made(rt, name, path.as_str()) && is_told(rt, path.as_str()) && is_so;
+    }
+    is_so
+}
+
+/// Makes what stands at this path, if it isn't there.
+fn is_made(rt: &HostRuntime, name: &str, path: &str) -> bool {
+    match name {
+        "todo/1" => fs::write(rt, path, "abc").is_ok() && make_old(rt, path),
+        "todo/2" => symlink(rt, "1", path).is_ok(),
+        "todo/3" => symlink(rt, "../pid", path).is_ok(),
+        _ => true,
+    }
+}
+
+/// Whether the time that the system tells lies between two readings of its clock.
+fn is_now(rt: &HostRuntime) -> bool {
+    match (since_1970(rt), System::now(rt), since_1970(rt)) {
+        (Some(before), Ok(now), Some(after)) => before <= now && now <= after,
+        _ => false,
+    }
+}
+
+/// A name that is asked for the next one, and that one, if there is one.
+type Next = (&'static [u8], Option<&'static [u8]>);
+
+/// Of a link to a directory, one to nothing, a file and a link to that, these count as names.
+const LISTED: [Next; 3] = [(b"", Some(b"3")), (b"3", Some(b"4")), (b"4", None)];
+
+/// Whether `todo` lists its files, and links to files, alone.
+fn lists_files(rt: &HostRuntime, root: &str, disk: &mut Host) -> bool {
+    let mut is_so = true;
+    for (name, to) in [("1", "../pid"), ("2", "nothing"), ("4", "3")] {
+        let Ok(path) = format!(in rt.alloc(); "{root}/todo/{name}") else {
+            return false;
+        };
+        is_so = symlink(rt, to, path.as_str()).is_ok() && is_so;
+    }
+    is_so = disk.create_excl(rt.alloc(), 0, b"todo/3").is_ok() && is_so;
+    for (after, wanted) in LISTED {
+        is_so = is_next(disk, after, wanted) && is_so;
+    }
+    is_so
+}
+
+/// Whether the next name of `todo` after that one is this.
+fn is_next(disk: &mut Host, after: &[u8], wanted: Option<&[u8]>) -> bool {
+    let mut name = NameBuf::new();
+    match (disk.next_name(b"todo", after, &mut name), wanted) {
+        (Ok(true), Some(wanted)) => name.as_slice() == wanted,
+        (Ok(false), None) => true,
+        _ => false,
+    }
+}
+
+/// Whether a file that was just made, and one that is opened in each way, can be read.
+fn are_read(alloc: Global, disk: &mut Host) -> bool {
+    let Ok((made, _)) = disk.create_excl(alloc, 0, b"pid/1") else {
+        return false;
+    };
+    let mut is_so = disk.append(alloc, 0, made, b"abc").is_ok() && is_read(disk, made);
+    for how in [How::Read, How::Append, How::Write] {
+        is_so = match disk.open(alloc, b"pid/1", how) {
+            Ok(opened) => is_read(disk, opened) && is_so,
+            Err(_) => false,
+        };
+    }
+    is_so
+}
+
+/// Whether the three bytes are read.
+fn is_read(disk: &mut Host, fd: Fd) -> bool {
+    let mut into = [0; 4];
+    disk.read_at(fd, 0, &mut into) == Ok(3) && into == *b"abc\0"
+}
+
+/// How many files this process has open, and the listing of them.
+fn opens(rt: &HostRuntime) -> usize {
+    match fs::read_dir(rt, "/proc/self/fd") {
+        Ok(names) => names.count(),
+        Err(_) => 0,
+    }
+}
+
+/// Whether no more files are open after links, one of which is refused, and after what else opens one.
+fn leaves_none_open(rt: &HostRuntime, disk: &mut Host) -> bool {
+    let alloc = rt.alloc();
+    let before = opens(rt);
+    let Ok((fd, _)) = disk.create_excl(alloc, 0, b"pid/1") else {
+        return false;
+    };
+    let linked = [
+        disk.link(alloc, b"pid/1", b"mess/1/1"),
+        disk.link(alloc, b"pid/1", b"todo/1"),
+        disk.link(alloc, b"pid/1", b"todo/1"),
+    ];
+    let is_one_more = opens(rt) == before.saturating_add(1);
+    let is_listed = is_next(disk, b"", Some(b"1"));
+    let is_closed = disk.close(fd).is_ok();
+    let is_so = linked == [Ok(()), Ok(()), Err(FsError::Exists)] && is_listed && is_closed;
+    before > 0 && is_one_more && opens(rt) == before && is_so
+}
+
+/// The variable by which this test knows that it was started by its own shell, and where it is to work then.
+const PLACE: &str = "EDGE_PLACE";
+
+/// What the shell does: nothing is taken from the rights of new files, few files can be open, and the test starts again.
+/// If a loader was started with the test's program, as a try does, the program is the first word of that command line.
+const AGAIN: &str =
+    "umask 0; ulimit -n 24; case $1 in */ld-*) exec \"$0\" \"$2\" ;; *) exec \"$1\" \"$2\" ;; esac";
+
+#[test]
+fn rights_and_a_lack_of_descriptors(rt: HostRuntime) {
+    let is_so = match env::var(&rt, PLACE) {
+        Ok(root) => has_rights(&rt, root.as_str()) && links_none(&rt, root.as_str()),
+        Err(_) => holds_again(&rt),
+    };
+    assert!(rt; is_so);
+}
+
+/// Whether the test, started again by a shell, is content.
+fn holds_again(rt: &HostRuntime) -> bool {
+    let root = scratch(rt);
+    let is_so = is_content(rt, root.as_str()) == Some(true);
+    fs::remove_dir_all(rt, root.as_str()).is_ok() && is_so
+}
+
+/// As `holds_again`, in this directory; None if the shell can't be started.
+fn is_content(rt: &HostRuntime, root: &str) -> Option<bool> {
+    let loaded = env::current_exe(rt).ok()?;
+    let mut words = env::args(rt).ok()?;
+    let (program, name) = (words.next()?, words.next()?);
+    let mut shell = Command::new(rt.alloc(), "sh").ok()?;
+    let _ = shell.arg("-c").ok()?.arg(AGAIN).ok()?;
+    let _ = shell.arg(program.as_str()).ok()?.arg(loaded.as_str()).ok()?;
+    let _ = shell.arg(name.as_str()).ok()?.env(PLACE, root).ok()?;
+    Some(shell.output(rt).ok()?.status.success())
+}
+
+/// Whether a new file has the rights 0644.
+fn has_rights(rt: &HostRuntime, root: &str) -> bool {
+    let alloc = rt.alloc();
+    let Ok(mut disk) = HostFs::open(rt, alloc, root.as_bytes()) else {
+        return false;
+    };
+    let is_made = disk.create_excl(alloc, 0, b"pid/1").is_ok();
+    let Ok(path) = format!(in alloc; "{root}/pid/1") else {
+        return false;
+    };
+    match fs::metadata(rt, path.as_str()) {
+        Ok(found) => is_made && found.mode() & 0o7777 == 0o644,
+        Err(_) => false,
+    }
+}
+
+/// Opens files until no more can be open, and tells how many those were.
+fn open_all(rt: &HostRuntime, held: &mut Vec<File>) -> usize {
+    for _ in 0..64 {
+        match File::open(rt, "/dev/null") {
+            Ok(file) => {
+                if held.push(file).is_err() {
+                    return 64;
+                }
+            }
+            Err(_) => return held.len(),
+        }
+    }
+    64
+}
+
+/// Whether a link is a fault when no more files can be open, and leaves no name.
+fn links_none(rt: &HostRuntime, root: &str) -> bool {
+    let alloc = rt.alloc();
+    let Ok(mut disk) = HostFs::open(rt, alloc, root.as_bytes()) else {
+        return false;
+    };
+    let mut held = Vec::new(alloc);
+    let count = open_all(rt, &mut held);
+    let linked = disk.link(alloc, b"pid/1", b"todo/1");
+    held.clear();
+    let is_linked_now = disk.link(alloc, b"pid/1", b"todo/1");
+    count < 64 && linked == Err(FsError::Fault) && is_linked_now == Ok(())
+}

@@ -1,0 +1,2 @@
+-- bytes that a writer took in several writes
+mod Written

@@ -1,0 +1,22 @@
+//! The streams of a real system: sources over readers, as standard input and a file that is opened late, a sink over a
+//! writer, as standard output and standard error, the clock of the system, what stands for words of the command line that
+//! couldn't be read, and the exit status.
+//!
+//! The contract of this crate: each is what its trait in outside asks for, and counts a failure of the stream below it as
+//! one. What a real stream or clock holds no contract can say, so a source and a clock don't tell; of a writer that tells
+//! what it holds, it holds what the sink was given. The calls are those of read(2), write(2), time(2) and getpid(2).
+#![tactic(auto)]
+
+mod host_clock;
+mod late_file;
+mod reader_source;
+mod status;
+mod unread;
+mod writer_sink;
+
+pub use host_clock::HostClock;
+pub use late_file::LateFile;
+pub use reader_source::ReaderSource;
+pub use status::status_of;
+pub use unread::unread_words;
+pub use writer_sink::WriterSink;

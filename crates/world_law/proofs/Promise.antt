@@ -1,0 +1,141 @@
+-- The promise holds of each prefix of a legal history.
+use Rattle.std.proofs.Common.{◌≡◌, ℕ, List, [], ◌∷◌, true, Option, Some, None, IsSomeAnd, refl, sym, ap, ◌∙◌, subst, codes}
+use Rattle.address_rules.specs.declared.controls.Controls.{Controls}
+use Rattle.call_fs.specs.Disk.{Disk}
+use Rattle.call_fs.specs.declared.past.Own.{Own}
+use Rattle.local_deliver.specs.Deeds.{taken}
+use Rattle.local_steps.specs.Inputs.{message_in}
+use Rattle.queue_inject.specs.Texts.{entered}
+use Rattle.queue_law.specs.Routes.{routed}
+use Rattle.post_law.specs.Laws.{AreHeard, IsHeard, WasDelivered}
+use Rattle.post_law.specs.Posts.{freed}
+use Rattle.post_law.proofs.Desks.{desks_tell, was_in}
+use Rattle.send_core.specs.declared.desk.Desk.{Desk}
+use Rattle.send_core.specs.Desk.{told}
+use Rattle.send_jobs.specs.declared.attempts.Attempt.{Attempt}
+use Rattle.send_jobs.specs.declared.channels.Channel.TheVariants.{Local}
+use Rattle.send_jobs.specs.Sending.{lane}
+use Rattle.send_jobs.specs.Slots.{attempt_in}
+use Rattle.spawn_protocol.specs.declared.report.Report.{Report}
+use Rattle.sender_law.specs.Control.{AreControls}
+use Rattle.world_events.specs.declared.event.Event.{Event as Kept}
+use Rattle.mail_world.specs.History.{Event, Legal, State, after}
+use Rattle.mail_world.specs.History.Life.{Over}
+use Rattle.mail_world.specs.History.Event.{Act}
+use Rattle.mail_world.specs.World.{IsHistory}
+use Rattle.mail_world.proofs.Waiting.{legal_before}
+use Rattle.world_law.specs.Carried.{AreTrue, Carried, DeliveredAreCarried, IsTrue, KReportsAreCarried, WasCarried, WasCarriedFor}
+use Rattle.world_law.specs.Headline.{EachPromised, Headline, IsBySender, Promise, WorldsAreSafe}
+use Rattle.world_law.specs.Inv.{Inv}
+use Rattle.world_law.specs.Posts.{IsDeliveryFor, desk_in}
+use Rattle.world_law.proofs.Addressed.{deliveries_are_carried}
+use Rattle.world_law.proofs.DeliveredDone.{done_for, took_message}
+use Rattle.world_law.proofs.Entered.{given_in, messages_always, took_entered}
+use Rattle.world_law.proofs.EnteredStands.{MessagesStand, sends_on}
+use Rattle.world_law.proofs.Histories.{always, attempts_are_sound, returned_recipients_are_named, safe_always}
+use Rattle.world_law.proofs.PostHeard.{takes_reports}
+
+-- A delivery that ended with 0 was carried out, for the message that it took
+
+module _ (controls : Controls) (d : Disk) (h : List Event) (has : AreControls controls d) (legal : Legal d h) where
+  same_message : (m n : List ℕ) → ◌≡◌ {A = Option (List ℕ)} (Some m) (Some n) → m ≡ n
+  same_message m n e = cc
+
+  carried_for : (name address recipient sender message : List ℕ) (it : IsDeliveryFor (after d h) (record { name = name; sender = sender; recipient = recipient }))
+      → it.delivery.life ≡ Over 0 → recipient ≡ address → message_in (taken it.delivery.past) ≡ Some message → WasCarried d h address message
+  carried_for name address recipient sender message it over same took =
+      let w = deliveries_are_carried controls d h has legal name it.delivery it.is it.start it.args it.program over in
+      let is : w.0 ≡ message = same_message w.0 message (sym w.1.input ∙ took) in
+      record {
+        name = name;
+        delivery = it.delivery;
+        is = it.is;
+        over = over;
+        start = it.start;
+        args = it.args;
+        program = it.program;
+        recipient = sym same ∙ it.recipient;
+        carried = subst (λ (m : List ℕ). Carried d h name it.args it.delivery.past m) is w.1;
+      }
+
+  -- Reports
+
+  abbrev s : State
+  s = after d h
+
+  abbrev I : Inv controls s
+  I = always controls d h has legal
+
+  abbrev M : MessagesStand s
+  M = messages_always controls d h has legal
+
+  module _ (on : sends_on s ≡ true) where
+    abbrev slots : List (Option Attempt)
+    slots = (lane Local (desk_in (s.actors (codes "sender"))).slots).slots
+
+    carried_in : (slot : ℕ) (t : Attempt) → attempt_in slots slot ≡ Some t → WasDelivered M.posts.done slot t.address → WasCarriedFor d h slot t
+    unfolding carried_for
+    carried_in slot t flies w =
+        let was = M.posts.was w.it w.among in
+        let given = given_in controls s I M on w.it t (ap (attempt_in slots) w.slot_is ∙ flies) ((M.done on).was w.it w.among) in
+        let took = took_message controls s I w.it was in
+        record {
+          message = took.0;
+          entered = took_entered controls s I M on w.it was t.n given took.0 took.1;
+          it = carried_for w.it.task.name t.address w.it.task.recipient w.it.task.sender took.0 was.is_for was.over w.recipient_is took.1;
+          in_slot = was.in_slot ∙ ap (λ (n : ℕ). Some (record { parent = codes "lspawn"; number = n })) w.slot_is;
+        }
+
+    true_of : (r : Report) (o : Option Attempt) → ((t : Attempt) → o ≡ Some t → attempt_in slots r.slot ≡ Some t) → IsHeard Local M.posts.done r o → IsTrue d h r o
+    true_of r None flies heard = heard
+    true_of r (Some t) flies heard = λ success. carried_in r.slot t (flies t refl) (heard success)
+
+    -- one report after the other
+    all_true : (rs : List Report) (left : List (Option Attempt)) (z : Desk) → (lane Local z.slots).slots ≡ left
+        → ((slot : ℕ) (t : Attempt) → attempt_in left slot ≡ Some t → attempt_in slots slot ≡ Some t) → AreHeard Local M.posts.done rs left → AreTrue d h rs z
+    all_true [] left z same old heard = tt
+    all_true (r ∷ rs) left z same old heard = (
+      true_of r (attempt_in (lane Local z.slots).slots r.slot) (λ t is. old r.slot t (ap (λ (o : List (Option Attempt)). attempt_in o r.slot) (sym same) ∙ is))
+          (subst (λ (o : List (Option Attempt)). IsHeard Local M.posts.done r (attempt_in o r.slot)) (sym same) heard.0),
+      all_true rs (freed r left) (told Local r z) (desks_tell.one Local r z ∙ ap (freed r) same) (λ slot t is. old slot t (was_in left r slot t is)) heard.1,
+    )
+
+pub k_reports_are_carried : KReportsAreCarried
+k_reports_are_carried controls d a own wrote before has legal x is start program taking bytes came =
+    takes_reports controls (after d before) (always controls d before has legal.0) (messages_always controls d before has legal.0).posts (AreTrue d before) (λ z. tt)
+    (λ on rs z same heard. all_true controls d before has legal.0 on rs (lane Local z.slots).slots z refl
+    (λ slot t flies. ap (λ (l : List (Option Attempt)). attempt_in l slot) (sym same) ∙ flies) heard)
+    a own wrote legal.1 x is start program taking bytes came
+
+-- and whom ledgers have as delivered
+pub delivered_are_carried : DeliveredAreCarried
+delivered_are_carried controls d before has legal i here r on among =
+    let w = done_for controls d before has legal i here r on among in
+    carried_for controls d before has legal w.task.name (routed controls i.args r) w.task.recipient w.task.sender (entered i.args) w.is_for w.over w.recipient w.took
+
+-- The promise
+
+promised : (controls : Controls) (d : Disk) (h : List Event) → AreControls controls d → Legal d h → Promise controls d h
+promised controls d h has legal = record {
+  safe = safe_always controls d h has legal;
+  named = λ i here r account says. returned_recipients_are_named controls d h has legal i here r account says;
+  delivered = λ i here r on among. delivered_are_carried controls d h has legal i here r on among;
+  attempts = λ own before it ch text due. attempts_are_sound controls d it.name own it.wrote before has (legal_at own before it) it.sender it.is it.start it.program ch text due;
+  reports = λ own before it due bytes came. k_reports_are_carried controls d it.name own it.wrote before has (legal_at own before it) it.sender it.is it.start it.program due bytes came;
+  carried = λ name x is start args program over. deliveries_are_carried controls d h has legal name x is start args program over;
+}
+  where
+    legal_at : (own : Own) (before : List Event) → (it : IsBySender d h own before) → Legal d (Act it.name own it.wrote ∷ before)
+    legal_at own before it = legal_before d it.later (Act it.name own it.wrote ∷ before) (subst (Legal d) (sym it.happened) legal)
+
+pub headline : Headline
+headline controls d later before has legal = promised controls d before has (legal_before d later before legal)
+
+happened_safe : (controls : Controls) (opening : Disk) (told : Option Disk) (events : List Kept) (present : ℕ) (h : List Event) → AreControls controls opening
+    → IsSomeAnd told (λ now. IsHistory opening now events present h) → EachPromised controls opening h
+happened_safe controls opening None events present h has happened = absurd happened
+happened_safe controls opening (Some now) events present h has happened = λ later before same.
+    headline controls opening later before has (subst (Legal opening) (sym same) happened.legal)
+
+pub worlds_are_safe : WorldsAreSafe
+worlds_are_safe controls opening w h has happened = happened_safe controls opening w.disk w.events w.present h has happened

@@ -1,0 +1,150 @@
+-- What a local delivery carried out, in one statement (dot-qmail(5), maildir(5)); and of which deliveries the successes are that are
+-- reported.
+use Rattle.std.specs.Prelude.{◌≡◌, ℕ, List, [], ◌∷◌, ◌++◌, map, Option, Some, None, bytes_eq, codes, if◌then◌else◌}
+use Rattle.address_rules.specs.declared.controls.Controls.{Controls}
+use Rattle.call_fs.specs.Disk.{Among, Disk}
+use Rattle.call_fs.specs.declared.calls.Answer.{Answer}
+use Rattle.call_fs.specs.declared.calls.Answer.TheVariants as answer
+use Rattle.call_fs.specs.declared.calls.CallData.{CallData}
+use Rattle.call_fs.specs.declared.calls.CallData.TheVariants as call
+use Rattle.call_fs.specs.declared.past.ChildData.TheVariants.{Forward as ForwardChild}
+use Rattle.call_fs.specs.declared.past.GotData.{GotData}
+use Rattle.call_fs.specs.declared.past.GotData.TheVariants as came
+use Rattle.call_fs.specs.declared.past.NeedData.{NeedData}
+use Rattle.call_fs.specs.declared.past.NeedData.TheVariants as needs
+use Rattle.call_fs.specs.declared.past.Own.{Own}
+use Rattle.call_fs.specs.declared.program.Port.TheVariants as port
+use Rattle.dot_qmail.specs.declared.line.Line.{Line}
+use Rattle.local_deliver.specs.Carried.{AreDrops, Reaches, instructions}
+use Rattle.local_deliver.specs.Deeds.{LinkMade, exits, feeds, host_read, starts, statuses, taken}
+use Rattle.local_steps.specs.declared.arguments.LocalArgs.{LocalArgs}
+use Rattle.local_steps.specs.Forwarding.{forwards}
+use Rattle.local_steps.specs.Inputs.{message_in}
+use Rattle.local_steps.specs.Texts.{maildir_text}
+use Rattle.maildir_drop.specs.Laws.{IsWhole}
+use Rattle.queue_inject.specs.Texts.{entered}
+use Rattle.queue_law.specs.Books.{Books, Injection, IsInjected}
+use Rattle.queue_law.specs.Routes.{Recipient, routed, spot_of}
+use Rattle.send_core.specs.declared.desk.Desk.{Desk}
+use Rattle.send_core.specs.Desk.{link, told, with_reader}
+use Rattle.send_core.specs.Table.{desk_after}
+use Rattle.send_jobs.specs.declared.attempts.Attempt.{Attempt}
+use Rattle.send_jobs.specs.declared.channels.Channel.TheVariants.{Local}
+use Rattle.send_jobs.specs.Sending.{lane}
+use Rattle.send_jobs.specs.Slots.{attempt_in}
+use Rattle.spawn_protocol.specs.declared.report.Report.{Report}
+use Rattle.spawn_protocol.specs.Report.{counted, read_on}
+use Rattle.sender_law.specs.Control.{AreControls}
+use Rattle.world_events.specs.declared.event.Program.TheVariants.{Delivery, Sender}
+use Rattle.mail_world.specs.History.{Actor, Event, Legal, after, netstring}
+use Rattle.mail_world.specs.History.Event.{Act}
+use Rattle.mail_world.specs.History.Life.{Over}
+use Rattle.world_law.specs.Deliveries.{IsForwardOf}
+use Rattle.world_law.specs.Entered.{IsEntered}
+
+-- The links that an actor made in a history, in order: from which name to which, and the disk just before.
+
+pub record Linked : Type 0 where
+  pub from : List ℕ
+  pub to : List ℕ
+  pub disk : Disk
+
+abbrev pub linked_by : Disk → List Linked → CallData → Answer → List Linked
+linked_by d old (call.Link from to) answer.Done = old ++ record { from = from; to = to; disk = d } ∷ []
+linked_by d old c told = old
+
+abbrev pub linked_at : Disk → List Linked → NeedData → GotData → List Linked
+linked_at d old (needs.File c) (came.Answered told) = linked_by d old c told.answer
+linked_at d old due got = old
+
+abbrev pub linked_on : List ℕ → Disk → List Linked → Event → List Linked
+linked_on a d old (Act b own wrote) = if bytes_eq b a then linked_at d old own.due own.came else old
+linked_on a d old e = old
+
+abbrev pub links_in : Disk → List ℕ → List Event → List Linked
+links_in d a [] = []
+links_in d a (e ∷ before) = linked_on a (after d before).disk (links_in d a before) e
+
+abbrev pub names_of : Linked → LinkMade
+names_of it = (it.from, it.to)
+
+-- What was injected for some addresses: one injection, which was accepted, from whom the delivery forwards, to just these, of the message with
+-- its Delivered-To line; that is all that it started, gave, and took the status of.
+pub record WasInjected (b : Books) (args : LocalArgs) (past : List Own) (message : List ℕ) (addresses : List (List ℕ)) : Type 0 where
+  pub it : IsForwardOf b args past message addresses
+  pub room : ℕ
+  pub started : starts past ≡ ForwardChild args.uid room ∷ []
+  pub gave : feeds past ≡ (netstring it.words.message ++ netstring it.words.envelope) ∷ []
+  pub ended : statuses past ≡ 0 ∷ []
+
+-- for none nothing was
+abbrev pub WereInjected : Books → LocalArgs → List Own → List ℕ → List (List ℕ) → Type 0
+WereInjected b args past message [] = starts past ≡ []
+WereInjected b args past message (address ∷ more) = WasInjected b args past message (address ∷ more)
+
+-- What the delivery of this name, with these words and this past, has carried out of its instructions for a message, in a history.
+pub record Carried (d : Disk) (h : List Event) (name : List ℕ) (args : LocalArgs) (past : List Own) (message : List ℕ) : Type 0 where
+  -- the message is the one that it took
+  pub input : message_in (taken past) ≡ Some message
+  -- the host is the one that control/me names, as it read that
+  pub host : List ℕ
+  pub host_is : host_read past ≡ Some host
+  -- the instructions are those of the file that is chosen among the names of its home, as it read that, or the default ones
+  pub lines : List Line
+  pub told : instructions args past ≡ Some lines
+  -- Those that were reached are all of them, or those up to the first command that exited with 99. Each other command exited with 0.
+  pub reached : List Line
+  pub reaches : Reaches lines (exits past) reached
+  -- the links that it made are those of the maildirs among the lines that were reached, in order
+  pub drops : AreDrops args host message reached (map names_of (links_in d name h))
+  -- each of a file that just before holds the maildir's text of the message, whole and on the disk
+  pub whole : (it : Linked) → Among it (links_in d name h) → IsWhole it.disk it.from (maildir_text args message)
+  -- the addresses among the lines that were reached are, in order, the recipients of one accepted injection, and without any there was none
+  pub injected : WereInjected (after d h).books args past message (forwards reached)
+
+-- A local delivery for this address has ended with 0, and has carried out its instructions for this message.
+pub record WasCarried (d : Disk) (h : List Event) (address message : List ℕ) : Type 0 where
+  pub name : List ℕ
+  pub delivery : Actor
+  pub is : (after d h).actors name ≡ Some delivery
+  pub over : delivery.life ≡ Over 0
+  pub start : ℕ
+  pub args : LocalArgs
+  pub program : delivery.program ≡ Delivery start args
+  pub recipient : address ≡ args.local ++ 64 ∷ args.domain
+  pub carried : Carried d h name args delivery.past message
+
+-- There is one for this attempt: in its slot of the local spawner, for its recipient, and of the message that the accepted injection of its
+-- number entered.
+pub record WasCarriedFor (d : Disk) (h : List Event) (slot : ℕ) (t : Attempt) : Type 0 where
+  pub message : List ℕ
+  pub entered : IsEntered (after d h) t.n message
+  pub it : WasCarried d h t.address message
+  pub in_slot : (after d h).pipework.slots it.name ≡ Some (record { parent = codes "lspawn"; number = slot })
+
+-- A report is of the attempt in flight in its slot, and if it tells of a success, there is such a delivery.
+abbrev pub IsTrue : Disk → List Event → Report → Option Attempt → Type 0
+IsTrue d h r None = ⊥
+IsTrue d h r (Some t) = counted r.letter ≡ 75 → WasCarriedFor d h r.slot t
+
+-- so is each of these, which the sender with this desk takes one after the other
+abbrev pub AreTrue : Disk → List Event → List Report → Desk → Type 0
+AreTrue d h [] desk = Unit {0}
+AreTrue d h (r ∷ rs) desk = IsTrue d h r (attempt_in (lane Local desk.slots).slots r.slot) × AreTrue d h rs (told Local r desk)
+
+-- what a sender with this past hears of the local spawner with these bytes
+abbrev pub HearsTrue : Disk → List Event → List Own → List ℕ → Type 0
+HearsTrue d h past bytes =
+    let desk = desk_after None past in let it = read_on (link Local desk).reader bytes in AreTrue d h it.0 (with_reader Local it.1 desk)
+
+-- Each report that a sender takes of the local spawner is of an attempt in flight, and a K report comes of such a delivery.
+abbrev pub KReportsAreCarried : Type 0
+KReportsAreCarried = (controls : Controls) (d : Disk) (a : List ℕ) (own : Own) (wrote : ℕ) (before : List Event) → AreControls controls d
+    → Legal d (Act a own wrote ∷ before) → (x : Actor) → (after d before).actors a ≡ Some x → (start : ℕ) → x.program ≡ Sender start
+    → own.due ≡ needs.Take port.Lspawn → (bytes : List ℕ) → own.came ≡ came.Took bytes → HearsTrue d before x.past bytes
+
+-- Each recipient of a local address that is accounted for as delivered has a delivery for its routed address, of the message as entered.
+abbrev pub DeliveredAreCarried : Type 0
+DeliveredAreCarried = (controls : Controls) (d : Disk) (before : List Event) → AreControls controls d → Legal d before → (i : Injection) → IsInjected (after d before).books i
+    → (r : Recipient i.args) → (spot_of controls i.args r).channel ≡ Local → Among (spot_of controls i.args r) i.ledger.delivered
+    → WasCarried d before (routed controls i.args r) (entered i.args)
